@@ -1,0 +1,12 @@
+pub mod Either
+pub mod Elements
+pub mod Exact
+pub mod FirstFault
+pub mod OneReading
+pub mod ReadSteps
+pub mod Written
+pub mod Spelled
+pub mod Messages
+pub mod Writing
+pub mod Rewritten
+pub mod Found

@@ -1,0 +1,20 @@
+use Rattle.std.proofs.Common.{length, take, drop, arith, refl, ap, ◌∙◌}
+use Rattle.floor_wire.specs.Message.{message_len}
+use Rattle.floor_wire.proofs.Messages.{messages-none, takes_first}
+use Rattle.floor_wire.proofs.framer.Framer.next.Goals as goal
+
+pub returns-then-held-lt-HEADER_LEN-clause-message : goal.returns-then-held-lt-HEADER_LEN-clause-message
+returns-then-held-lt-HEADER_LEN-clause-message c =
+    let held = c.as_slice-held.ensures ∙ c.self.view_is in (messages-none _ (omega (arith, ap length held)), refl)
+
+pub returns-then-held-len-clause-message : goal.returns-then-held-len-clause-message
+returns-then-held-len-clause-message c =
+    let held = c.as_slice-held.ensures ∙ c.self.view_is in (messages-none _ (omega (arith, ap length held, ap message_len held)), refl)
+
+pub returns-clause-message : goal.returns-clause-message
+returns-clause-message c =
+    let held = c.as_slice-held.ensures ∙ c.self.view_is in
+    let len = c.announced_len-len.ensures ∙ ap message_len held in
+    takes_first c.args.self.now _ _ (omega (arith, ap length held, len))
+    (c.new.ensures ∙ c.in_ok-bytes.ensures.front ∙ ap (λ n. take n c.self.inside.held.items) len ∙ ap (λ s. take (message_len c.args.self.now) s) c.self.view_is)
+    (c.in_ok-bytes.ensures.rest.0 ∙ ap (λ n. drop n c.self.inside.held.items) len ∙ ap (λ s. drop (message_len c.args.self.now) s) c.self.view_is)

@@ -1,0 +1,14 @@
+pub mod Attributes
+pub mod AttributesCode
+pub mod AttrsFalls
+pub mod Spelling
+pub mod View
+pub mod Fault
+pub mod FirstFault
+pub mod Reading
+pub mod AttributeExamples
+pub mod Writable
+pub mod Spelled
+pub mod Message
+pub mod Header
+pub mod MessageExamples

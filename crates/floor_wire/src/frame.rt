@@ -1,0 +1,97 @@
+//! One message as it stands on the wire (RFC 8855, section 5.1).
+
+ghost use Rattle.std.specs.Prelude.{◌≡◌, ◌≤◌, ◌*◌, ◌/◌, ◌++◌, length, IfOk, List, ℕ, SomeIff};
+ghost use Rattle.floor_wire.specs.Message.{IsMessage, message_len};
+ghost use Rattle.floor_wire.specs.Header.{header_bytes};
+ghost use Rattle.floor_wire.specs.Spelling.{canon, IsWritable};
+ghost use Rattle.floor_wire.specs.View.{attributes_of};
+
+use crate::attribute::Attr;
+use crate::fits::MAX_PAYLOAD_LEN;
+use crate::header::{HEADER_LEN, Header};
+use crate::write;
+use bytes::Bytes;
+use std::alloc::{AllocError, Global};
+use std::marker::Model;
+
+/// The bytes of exactly one message.
+#[derive(Debug, Drop)]
+pub struct Frame {
+    bytes: Bytes,
+}
+
+impl Model for Frame {
+    ghost use Rattle.std.specs.Prelude.{ℕ, List};
+    ghost use Rattle.floor_wire.specs.Message.{IsMessage};
+
+    ghost Value = { List ℕ };
+
+    ghost view = { λ f. f.bytes };
+
+    ghost invariant = { λ f. IsMessage f.bytes };
+}
+
+impl Frame {
+    ghost use Rattle.floor_wire.specs.Header.{header_of};
+
+    /// A frame of these bytes, which it copies, where they are exactly one message.
+    pub fn of(alloc: Global, bytes: &[u8]) -> Result<Option<Frame>, AllocError>
+        ensures { IfOk result (λ frame. SomeIff frame (IsMessage bytes.now) bytes.now) }
+    {
+        if bytes.len() < HEADER_LEN || bytes.len() != announced_len(bytes) {
+            return Ok(None);
+        }
+        let bytes = Bytes::copy_from_slice(alloc, bytes)?;
+        Ok(Some(Frame { bytes }))
+    }
+
+    /// The message with this header and these attributes, in their one canonical spelling: version
+    /// 1, the R, F and reserved bits clear, zeros for padding, and M clear at the types 1 to 18.
+    pub fn of_attributes(
+        alloc: Global,
+        primitive: u8,
+        conference: u32,
+        transaction: u16,
+        user: u16,
+        attrs: &[Attr],
+    ) -> Result<Frame, AllocError>
+        requires writable { IsWritable (attributes_of attrs.now) }
+        requires fits { length (canon (attributes_of attrs.now)) ≤ MAX_PAYLOAD_LEN }
+        ensures { let payload = canon (attributes_of attrs.now) in
+            IfOk result (λ frame. frame ≡ header_bytes primitive (length payload / 4) conference transaction user ++ payload) }
+    {
+        let bytes = write::message(alloc, primitive, conference, transaction, user, attrs)?;
+        let bytes = Bytes::from_vec(bytes)?;
+        Ok(Frame { bytes })
+    }
+
+    pub(crate) fn new(bytes: Bytes) -> Frame
+        requires { IsMessage bytes }
+        ensures { result ≡ bytes }
+    {
+        Frame { bytes }
+    }
+
+    /// The bytes of the message, its header first.
+    pub fn bytes(&self) -> &[u8]
+        ensures same { result.now ≡ self.now }
+        ensures message { IsMessage self.now }
+    {
+        self.bytes.as_slice()
+    }
+
+    /// The fields of the message's header.
+    pub fn header(&self) -> Header
+        ensures { result ≡ header_of self.now }
+    {
+        Header::of_message(self.bytes())
+    }
+}
+
+/// How long a message is whose header begins so.
+pub(crate) fn announced_len(bytes: &[u8]) -> usize
+    requires { 4 ≤ length bytes.now }
+    ensures { result ≡ message_len bytes.now }
+{
+    HEADER_LEN + 4 * usize::from(u16::from_be_bytes([bytes[2], bytes[3]]))
+}

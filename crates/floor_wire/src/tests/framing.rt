@@ -1,0 +1,137 @@
+use super::shown::bytes;
+use crate::{Attr, Body, Frame, Framer};
+use std::test::Fail;
+
+const HELLO: &str = "200b0000 00000001 0001 000a";
+
+const FLOOR_REQUEST: &str = "20010001 00000001 0002 000a 04040001";
+
+const OTHER_VERSION: &str = "5f630002 fffffffe 1234 8765 01020304 05060708";
+
+#[test]
+fn a_framer_gives_a_message_and_keeps_the_byte_behind_it(rt: HostRuntime) -> Result<(), Fail> {
+    let hello = bytes(rt.alloc(), HELLO)?;
+    let mut framer = Framer::new(rt.alloc());
+    assert!(rt; !framer.ready());
+    framer.push(&hello)?;
+    framer.push(&[0x20])?;
+    assert!(rt; framer.ready());
+    let frame = framer.next()?.ok_or("no message")?;
+    assert_eq!(rt; frame.bytes(), hello.as_slice());
+    assert!(rt; framer.next()?.is_none());
+    assert_eq!(rt; framer.rest_len(), 1);
+    Ok(())
+}
+
+#[test]
+fn a_frame_is_exactly_one_message(rt: HostRuntime) -> Result<(), Fail> {
+    let cases = [
+        ("Hello", HELLO, true),
+        ("another version", OTHER_VERSION, true),
+        ("no byte", "", false),
+        (
+            "a header that lacks a byte",
+            "200b0000 00000001 0001 00",
+            false,
+        ),
+        ("a byte too many", "200b0000 00000001 0001 000a 20", false),
+        (
+            "a payload that lacks a byte",
+            "20010001 00000001 0002 000a 040400",
+            false,
+        ),
+    ];
+    for (name, text, is_message) in cases {
+        let whole = bytes(rt.alloc(), text)?;
+        match Frame::of(rt.alloc(), &whole)? {
+            None => assert!(rt; !is_message, "{name}"),
+            Some(frame) => {
+                assert!(rt; is_message, "{name}");
+                assert_eq!(rt; frame.bytes(), whole.as_slice(), "{name}");
+            }
+        }
+    }
+    Ok(())
+}
+
+#[test]
+fn a_header_has_the_fields_of_its_bits(rt: HostRuntime) -> Result<(), Fail> {
+    let whole = bytes(rt.alloc(), OTHER_VERSION)?;
+    let frame = Frame::of(rt.alloc(), &whole)?.ok_or("no message")?;
+    let header = frame.header();
+    assert_eq!(rt; header.version(), 2);
+    assert!(rt; header.transaction_responder());
+    assert!(rt; header.fragmentation());
+    assert_eq!(rt; header.reserved(), 7);
+    assert_eq!(rt; header.primitive(), 99);
+    assert_eq!(rt; header.payload_length(), 2);
+    assert_eq!(rt; header.conference(), 4_294_967_294);
+    assert_eq!(rt; header.transaction(), 0x1234);
+    assert_eq!(rt; header.user(), 0x8765);
+    Ok(())
+}
+
+#[test]
+fn a_written_message_has_its_header_and_attributes(rt: HostRuntime) -> Result<(), Fail> {
+    let wanted = bytes(rt.alloc(), FLOOR_REQUEST)?;
+    let floor = Attr {
+        kind: 2,
+        must: true,
+        body: Body::Num(1),
+    };
+    let frame = Frame::of_attributes(rt.alloc(), 1, 1, 2, 10, &[floor])?;
+    assert_eq!(rt; frame.bytes(), wanted.as_slice());
+    Ok(())
+}
+
+#[test]
+fn every_cut_of_three_messages_gives_the_same_messages(rt: HostRuntime) -> Result<(), Fail> {
+    let texts = [HELLO, OTHER_VERSION, FLOOR_REQUEST];
+    let mut stream = Vec::new(rt.alloc());
+    for text in texts {
+        let message = bytes(rt.alloc(), text)?;
+        stream.extend_from_slice(&message)?;
+    }
+    for first in 0..=stream.len() {
+        for second in first..=stream.len() {
+            let mut framer = Framer::new(rt.alloc());
+            let mut taken = Vec::new(rt.alloc());
+            for piece in [&stream[..first], &stream[first..second], &stream[second..]] {
+                framer.push(piece)?;
+                for _ in 0..4 {
+                    if let Some(frame) = framer.next()? {
+                        taken.push(frame)?;
+                    }
+                }
+            }
+            assert_eq!(rt; taken.len(), texts.len(), "cut at {first} and {second}");
+            for (frame, text) in taken.iter().zip(texts) {
+                let message = bytes(rt.alloc(), text)?;
+                assert_eq!(rt;
+                    frame.bytes(),
+                    message.as_slice(),
+                    "cut at {first} and {second}"
+                );
+            }
+            assert_eq!(rt; framer.rest_len(), 0, "cut at {first} and {second}");
+        }
+    }
+    Ok(())
+}
+
+#[test]
+fn ten_thousand_waiting_messages_are_taken_one_by_one(rt: HostRuntime) -> Result<(), Fail> {
+    let hello = bytes(rt.alloc(), HELLO)?;
+    let mut stream = Vec::new(rt.alloc());
+    for _ in 0..10_000 {
+        stream.extend_from_slice(&hello)?;
+    }
+    let mut framer = Framer::new(rt.alloc());
+    framer.push(&stream)?;
+    for taken in 0..10_000 {
+        let frame = framer.next()?.ok_or("no message")?;
+        assert_eq!(rt; frame.bytes(), hello.as_slice(), "after {taken}");
+    }
+    assert!(rt; framer.next()?.is_none());
+    Ok(())
+}
