@@ -1,0 +1,6 @@
+pub mod StandingTwice
+pub mod Limits
+pub mod Tables
+pub mod Plain
+pub mod Shown
+pub mod Kept

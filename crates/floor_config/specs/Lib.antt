@@ -1,0 +1,9 @@
+pub mod Doubles
+pub mod Configuration
+pub mod Names
+pub mod Outcome
+pub mod Limits
+pub mod Values
+pub mod Reading
+pub mod Building
+pub mod Demonstration

@@ -1,0 +1,15 @@
+//! What the words of the contracts mean.
+
+ghost use Rattle.std.specs.Prelude.{List, ℕ};
+ghost use Rattle.floor_config.specs.Doubles.{FindsDoubles};
+ghost use Rattle.floor_config.specs.Building.{KeptIsBuilt};
+
+/// A double is found exactly where one number stands at two places.
+pub fn doubles_are_found()
+    ensures { (numbers : List ℕ) → FindsDoubles numbers }
+{}
+
+/// Each configuration that keeps the limits is built of its own parts, as it is.
+pub fn kept_is_built()
+    ensures { KeptIsBuilt }
+{}

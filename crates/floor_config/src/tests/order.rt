@@ -1,0 +1,238 @@
+//! The order of faults, and counts.
+
+use super::fault_of;
+use crate::ConfigFault;
+use std::alloc::{AllocError, Global};
+use std::fmt::Write;
+
+#[test]
+fn of_two_faults_the_first_in_order_is_told(rt: HostRuntime) {
+    let cases = [
+        (
+            "kinds of conferences before their keys",
+            "conference = [{}, 1]",
+            ConfigFault::WrongType,
+        ),
+        (
+            "a conference's id before its limit",
+            "conference = [{limit = 0}]",
+            ConfigFault::MissingKey,
+        ),
+        (
+            "an id's kind before a limit's range",
+            "conference = [{id = \"1\", limit = 0}]",
+            ConfigFault::WrongType,
+        ),
+        (
+            "an id's range before a limit's kind",
+            "conference = [{id = -1, limit = \"4\"}]",
+            ConfigFault::OutOfRange,
+        ),
+        (
+            "a limit's range before the kind of the users",
+            "conference = [{id = 1, limit = 0, user = 1}]",
+            ConfigFault::OutOfRange,
+        ),
+        (
+            "a limit's kind before the keys of a user",
+            "conference = [{id = 1, limit = true, user = [{}]}]",
+            ConfigFault::WrongType,
+        ),
+        (
+            "kinds of users before their keys",
+            "conference = [{id = 1, user = [{}, 1]}]",
+            ConfigFault::WrongType,
+        ),
+        (
+            "a user's id before its name",
+            "conference = [{id = 1, user = [{name = 1}]}]",
+            ConfigFault::MissingKey,
+        ),
+        (
+            "a name's range before a URI's kind",
+            "conference = [{id = 1, user = [{id = 10, name = \"nnnnnnnnnnnnnnnnnnnnnnnnnnnnnnn\", uri = 1}]}]",
+            ConfigFault::OutOfRange,
+        ),
+        (
+            "a name's kind before a URI's range",
+            "conference = [{id = 1, user = [{id = 10, name = 1, uri = \"uuuuuuuuuuuuuuuuuuuuuuuuuuuuuuuuuuuuuuuuuuuuuuuuuuuuuuuuuuuuuuu\"}]}]",
+            ConfigFault::WrongType,
+        ),
+        (
+            "a URI's range before a proxy mark's kind",
+            "conference = [{id = 1, user = [{id = 10, uri = \"uuuuuuuuuuuuuuuuuuuuuuuuuuuuuuuuuuuuuuuuuuuuuuuuuuuuuuuuuuuuuuu\", proxy = 1}]}]",
+            ConfigFault::OutOfRange,
+        ),
+        (
+            "a proxy mark's kind before a port's range",
+            "conference = [{id = 1, user = [{id = 10, proxy = 1, port = 0}]}]",
+            ConfigFault::WrongType,
+        ),
+        (
+            "a port's range before the next user's id",
+            "conference = [{id = 1, user = [{id = 10, port = 0}, {}]}]",
+            ConfigFault::OutOfRange,
+        ),
+        (
+            "a later user's keys before two users with one id",
+            "conference = [{id = 1, user = [{id = 10}, {id = 10}, {}]}]",
+            ConfigFault::MissingKey,
+        ),
+        (
+            "two users with one id before the kind of the floors",
+            "conference = [{id = 1, user = [{id = 10}, {id = 10}], floor = 1}]",
+            ConfigFault::DoubleUser,
+        ),
+        (
+            "two users with one id before the keys of a floor",
+            "conference = [{id = 1, user = [{id = 10}, {id = 10}], floor = [{}]}]",
+            ConfigFault::DoubleUser,
+        ),
+        (
+            "kinds of floors before their keys",
+            "conference = [{id = 1, user = [{id = 10}], floor = [{}, 1]}]",
+            ConfigFault::WrongType,
+        ),
+        (
+            "a floor's id before its room",
+            "conference = [{id = 1, user = [{id = 10}], floor = [{room = 0}]}]",
+            ConfigFault::MissingKey,
+        ),
+        (
+            "a room's range before a chair's kind",
+            "conference = [{id = 1, user = [{id = 10}], floor = [{id = 1, room = 0, chair = \"10\"}]}]",
+            ConfigFault::OutOfRange,
+        ),
+        (
+            "a room's kind before a chair's range",
+            "conference = [{id = 1, user = [{id = 10}], floor = [{id = 1, room = \"1\", chair = -1}]}]",
+            ConfigFault::WrongType,
+        ),
+        (
+            "a chair's range before the next floor's id",
+            "conference = [{id = 1, user = [{id = 10}], floor = [{id = 1, chair = 65536}, {}]}]",
+            ConfigFault::OutOfRange,
+        ),
+        (
+            "a later floor's keys before two floors with one id",
+            "conference = [{id = 1, user = [{id = 10}], floor = [{id = 1}, {id = 1}, {}]}]",
+            ConfigFault::MissingKey,
+        ),
+        (
+            "a chair's range before two floors with one id",
+            "conference = [{id = 1, user = [{id = 10}], floor = [{id = 1}, {id = 1, chair = 65536}]}]",
+            ConfigFault::OutOfRange,
+        ),
+        (
+            "two floors with one id before a chair that is no user",
+            "conference = [{id = 1, user = [{id = 10}], floor = [{id = 1, chair = 11}, {id = 1}]}]",
+            ConfigFault::DoubleFloor,
+        ),
+        (
+            "a chair that is no user before the next conference",
+            "conference = [{id = 1, floor = [{id = 1, chair = 10}]}, {}]",
+            ConfigFault::UnknownChair,
+        ),
+        (
+            "a later conference's keys before two conferences with one id",
+            "conference = [{id = 1}, {id = 1}, {}]",
+            ConfigFault::MissingKey,
+        ),
+        (
+            "two conferences with one id before two users with one port",
+            "conference = [{id = 1, user = [{id = 10, port = 7010}]}, {id = 1, user = [{id = 10, port = 7010}]}]",
+            ConfigFault::DoubleConference,
+        ),
+    ];
+    for (name, text, wanted) in cases {
+        assert_eq!(rt; fault_of(rt.alloc(), text), Some(wanted), "{name}");
+    }
+}
+
+/// A conference with so many items of ascending ids from 0 at a key, and one item more.
+fn text_of_many(alloc: Global, key: &str, count: u32, last: &str) -> Result<String, AllocError> {
+    let mut text = String::new(alloc);
+    write!(text, "conference = [{{id = 1, {key} = [")?;
+    for id in 0..count {
+        write!(text, "{{id = {id}}}, ")?;
+    }
+    write!(text, "{last}]}}]")?;
+    Ok(text)
+}
+
+#[test]
+fn a_conference_has_at_most_256_users_and_32_floors(rt: HostRuntime) {
+    let cases = [
+        ("256 users", "user", 255, "{id = 999}", None),
+        (
+            "257 users",
+            "user",
+            256,
+            "{id = 999}",
+            Some(ConfigFault::OutOfRange),
+        ),
+        (
+            "257 users, the last without an id",
+            "user",
+            256,
+            "{}",
+            Some(ConfigFault::OutOfRange),
+        ),
+        (
+            "257 users, the last of them a number",
+            "user",
+            256,
+            "1",
+            Some(ConfigFault::WrongType),
+        ),
+        (
+            "256 users, the last without an id",
+            "user",
+            255,
+            "{}",
+            Some(ConfigFault::MissingKey),
+        ),
+        (
+            "256 users, the last with the id of the first",
+            "user",
+            255,
+            "{id = 0}",
+            Some(ConfigFault::DoubleUser),
+        ),
+        ("32 floors", "floor", 31, "{id = 999}", None),
+        (
+            "33 floors",
+            "floor",
+            32,
+            "{id = 999}",
+            Some(ConfigFault::OutOfRange),
+        ),
+        (
+            "33 floors, the last without an id",
+            "floor",
+            32,
+            "{}",
+            Some(ConfigFault::OutOfRange),
+        ),
+        (
+            "33 floors, the last of them a number",
+            "floor",
+            32,
+            "1",
+            Some(ConfigFault::WrongType),
+        ),
+        (
+            "32 floors, the last with the id of the first",
+            "floor",
+            31,
+            "{id = 0}",
+            Some(ConfigFault::DoubleFloor),
+        ),
+    ];
+    for (name, key, count, last, wanted) in cases {
+        match text_of_many(rt.alloc(), key, count, last) {
+            Ok(text) => assert_eq!(rt; fault_of(rt.alloc(), text.as_str()), wanted, "{name}"),
+            Err(_) => assert!(rt; false, "{name}: no memory"),
+        }
+    }
+}
