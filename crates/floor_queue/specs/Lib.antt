@@ -1,0 +1,6 @@
+pub use Rattle.floor_config.specs.Configuration
+pub use Rattle.floor_config.specs.Doubles
+pub mod Requested
+pub mod Order
+pub mod Queue
+pub mod Examples

@@ -1,0 +1,379 @@
+//! The ongoing floor requests of one conference (RFC 8855, sections 10, 11 and 13).
+
+ghost use Rattle.std.specs.Prelude.{◌≡◌, ◌≤◌, ◌<◌, ◌+◌, ◌↔◌, ◌==◌, ℕ, List, IfOk, OnOk, OnErr, Some, IsSome, IsTrue, length, map, filter};
+ghost use Rattle.std.specs.List.{list_any, position, position_or_len};
+ghost use Rattle.std.specs.Option.{option_copied};
+ghost use Rattle.floor_queue.specs.Order.{settle, due_numbers, holders, names, granted_if};
+ghost use Rattle.floor_queue.specs.Queue.{HasFloor, IsAddable, IsQueue, IsSettled, MaySetFloor, after_add, after_clear, after_end, after_set_floor, after_settle, empty_queue, first_floor, involves, numbers_of, position_of, request_at, with_word};
+
+use crate::request::{New, Request};
+use crate::requested_floor::{FloorStatus, RequestedFloor, RequestedFloors, Word};
+use crate::{addable, order};
+use floor_config::{Config, Floor};
+use floor_wire::Numbers;
+use std::alloc::{AllocError, AllocFailed, Global};
+use std::marker::Model;
+
+/// How many floor requests may be ongoing in one conference, so that each queue position fits the
+/// byte that it is told in (RFC 8855, section 5.2.5).
+const MOST_ONGOING: usize = 256;
+
+/// Why no floor request is added. The first that applies is answered.
+#[derive(Clone, Copy, Debug, PartialEq, Eq)]
+pub enum AddRefusal {
+    /// 256 floor requests are ongoing.
+    Full,
+    /// The number 65,535 was given, and none is given twice.
+    NoNumber,
+    /// Memory was refused.
+    Memory,
+}
+
+/// The ongoing floor requests of one conference, by ascending number. Contracts see them with the
+/// floors of the configuration and the last number that was given.
+///
+/// `add`, `set_floor`, `end` and `clear` change the requests, and `settle` grants those that are
+/// due: whoever changes settles before it asks for a `position`. All other calls read.
+#[derive(Debug, Drop)]
+pub struct Requests {
+    floors: Vec<Floor>,
+    given: u16,
+    ongoing: Vec<Request>,
+}
+
+impl Model for Requests {
+    ghost use Rattle.floor_queue.specs.Queue.{Queue, IsQueue};
+
+    ghost Value = { Queue };
+
+    ghost view = { λ q. record { floors = q.floors.items; given = q.given; ongoing = q.ongoing.items } };
+
+    ghost invariant = { λ q. IsQueue record { floors = q.floors.items; given = q.given; ongoing = q.ongoing.items } };
+}
+
+impl Requests {
+    /// No request yet, for the floors of a configuration.
+    pub fn new(alloc: Global, config: &Config) -> Result<Requests, AllocError>
+        ensures { IfOk result (λ requests. requests ≡ empty_queue config.now.floors) }
+    {
+        let floors = Vec::from_slice(alloc, config.floors())?;
+        Ok(Requests {
+            floors,
+            given: 0,
+            ongoing: Vec::new(alloc),
+        })
+    }
+
+    /// How many requests are ongoing. Takes no memory.
+    pub fn len(&self) -> usize
+        ensures { result ≡ length self.now.ongoing }
+    {
+        self.ongoing.len()
+    }
+
+    /// Whether no request is ongoing. Takes no memory.
+    pub fn is_empty(&self) -> bool
+        ensures { IsTrue result ↔ (length self.now.ongoing ≡ 0) }
+    {
+        self.ongoing.is_empty()
+    }
+
+    /// How many requests were ever added: the last number that was given. Takes no memory.
+    pub fn given(&self) -> u16
+        ensures { result ≡ self.now.given }
+    {
+        self.given
+    }
+
+    /// The ongoing requests, by ascending number. Takes no memory.
+    pub fn ongoing(&self) -> &[Request]
+        ensures value { result.now ≡ self.now.ongoing }
+        ensures kept { IsQueue self.now }
+    {
+        self.ongoing.as_slice()
+    }
+
+    /// The ongoing request with this number. Takes no memory.
+    pub fn get(&self, request: u16) -> Option<&Request>
+        ensures { option_copied result ≡ request_at self.now.ongoing request }
+    {
+        self.ongoing.iter().find(|r| r.number == request)
+    }
+
+    /// How many requests hold the floor. Takes no memory.
+    pub fn holders(&self, floor: u16) -> usize
+        ensures { result ≡ holders self.now.ongoing floor }
+    {
+        order::holders(&self.ongoing, floor)
+    }
+
+    /// Whether the request may be added: the condition of `add`. Takes no memory.
+    pub fn is_addable(&self, new: &New) -> bool
+        ensures { IsTrue result ↔ IsAddable self.now.floors new.now }
+    {
+        addable::is_addable(&self.floors, new)
+    }
+
+    /// Whether the request is ongoing and names the floor: a condition of `position`. Takes no
+    /// memory.
+    pub fn has_floor(&self, request: u16, floor: u16) -> bool
+        ensures { IsTrue result ↔ HasFloor self.now request floor }
+    {
+        match self.get(request) {
+            Some(found) => found.names(floor),
+            None => false,
+        }
+    }
+
+    /// Whether the floor's chair may say a word on the request: the condition of `set_floor`. Takes
+    /// no memory.
+    pub fn may_set_floor(&self, request: u16, floor: u16) -> bool
+        ensures { IsTrue result ↔ MaySetFloor self.now request floor }
+    {
+        match self.get(request) {
+            Some(found) => found.names(floor) && !found.is_granted,
+            None => false,
+        }
+    }
+
+    /// Whether `settle` would grant no request: a condition of `position`. Takes no memory.
+    pub fn is_settled(&self) -> bool
+        ensures { IsTrue result ↔ IsSettled self.now }
+    {
+        !order::has_due(&self.floors, &self.ongoing)
+    }
+
+    /// The queue position of the request for one of its floors: 0 where it doesn't wait (RFC 8855,
+    /// section 5.2.5). Takes no memory.
+    pub fn position(&self, request: u16, floor: u16) -> u8
+        requires asked { HasFloor self.now request floor }
+        requires settled { IsSettled self.now }
+        ensures { result ≡ position_of self.now request floor }
+    {
+        match self.get(request) {
+            Some(found) => order::position(&self.floors, &self.ongoing, found, floor),
+            None => 0,
+        }
+    }
+
+    /// The numbers of the requests that name the floor, ascending.
+    pub fn of_floor(&self, floor: u16) -> Result<Numbers, AllocError>
+        ensures { IfOk result (λ numbers.
+            numbers ≡ numbers_of (filter (λ r. names r floor) self.now.ongoing)) }
+    {
+        let alloc = *self.ongoing.allocator();
+        let numbers = numbers_of_floor(alloc, &self.ongoing, floor)?;
+        Ok(Numbers::from_vec(numbers))
+    }
+
+    /// The numbers of the requests of which the user is requester or beneficiary, ascending.
+    pub fn of_user(&self, user: u16) -> Result<Numbers, AllocError>
+        ensures { IfOk result (λ numbers.
+            numbers ≡ numbers_of (filter (λ r. involves r user) self.now.ongoing)) }
+    {
+        let alloc = *self.ongoing.allocator();
+        let numbers = numbers_of_user(alloc, &self.ongoing, user)?;
+        Ok(Numbers::from_vec(numbers))
+    }
+
+    /// Adds a request, which gets the next number. A floor without a chair is Accepted at once, one
+    /// with a chair is Pending. After a refusal nothing has changed.
+    pub fn add(&mut self, new: New) -> Result<u16, AddRefusal>
+        requires { IsAddable self.old.floors new }
+        ensures number { IfOk result (λ number. number ≡ self.old.given + 1) }
+        ensures next { OnOk result (self.new ≡ after_add self.old new) }
+
+        ensures full { (result ≡ Err AddRefusal.Full) ↔ (length self.old.ongoing ≡ 256) }
+        ensures no_number { (result ≡ Err AddRefusal.NoNumber)
+            ↔ ((length self.old.ongoing < 256) × (self.old.given ≡ 65535)) }
+        ensures err { OnErr result (self.new ≡ self.old) }
+    {
+        if self.ongoing.len() >= MOST_ONGOING {
+            return Err(AddRefusal::Full);
+        }
+        if self.given == u16::MAX {
+            return Err(AddRefusal::NoNumber);
+        }
+        let alloc = *self.ongoing.allocator();
+        let floors = first_floors(alloc, &self.floors, new.floors.as_slice())?;
+        let number = self.given + 1;
+        let request = Request {
+            number,
+            requester: new.requester,
+            beneficiary: new.beneficiary,
+            priority: new.priority,
+            info: new.info,
+            floors: RequestedFloors::from_vec(floors),
+            is_granted: false,
+        };
+        self.ongoing.push(request)?;
+        self.given = number;
+        Ok(number)
+    }
+
+    /// Stores the word of a floor's chair, which makes the floor Accepted. Takes no memory.
+    pub fn set_floor(&mut self, request: u16, floor: u16, word: Word)
+        requires { MaySetFloor self.old request floor }
+        ensures next { self.new ≡ after_set_floor self.old request floor word }
+        ensures still { (other id : ℕ) →
+            MaySetFloor self.old other id → MaySetFloor self.new other id }
+    {
+        set_floors(&mut self.ongoing, request, floor, word);
+    }
+
+    /// Takes a request out: it was cancelled, denied, released or revoked. Takes no memory.
+    pub fn end(&mut self, request: u16) -> Request
+        requires { IsSome (request_at self.old.ongoing request) }
+        ensures ended { request_at self.old.ongoing request ≡ Some result }
+        ensures next { self.new ≡ after_end self.old request }
+    {
+        let place = place_of(&self.ongoing, request);
+        self.ongoing.remove(place)
+    }
+
+    /// Takes all requests out, as at the end of the conference. Their numbers are not given again.
+    /// Takes no memory.
+    pub fn clear(&mut self)
+        ensures { self.new ≡ after_clear self.old }
+    {
+        self.ongoing.clear();
+    }
+
+    /// Grants each request that is due, and gives their numbers, ascending. After an error nothing
+    /// has changed.
+    pub fn settle(&mut self) -> Result<Numbers, AllocError>
+        ensures granted { IfOk result (λ numbers.
+            numbers ≡ due_numbers self.old.floors self.old.ongoing) }
+        ensures next { OnOk result (self.new ≡ after_settle self.old) }
+        ensures settled { OnOk result (IsSettled self.new) }
+
+        ensures err { OnErr result (self.new ≡ self.old) }
+    {
+        let alloc = *self.ongoing.allocator();
+        let numbers = order::due_numbers(alloc, &self.floors, &self.ongoing)?;
+        grant_all(&mut self.ongoing, &numbers);
+        Ok(Numbers::from_vec(numbers))
+    }
+}
+
+fn numbers_of_floor(alloc: Global, requests: &[Request], floor: u16) -> Result<Vec<u16>, AllocError>
+    ensures { IfOk result (λ numbers.
+        numbers.items ≡ numbers_of (filter (λ r. names r floor) requests.now)) }
+{
+    requests
+        .iter()
+        .filter(|r| r.names(floor))
+        .map(|r| r.number)
+        .collect(alloc)
+}
+
+fn numbers_of_user(alloc: Global, requests: &[Request], user: u16) -> Result<Vec<u16>, AllocError>
+    ensures { IfOk result (λ numbers.
+        numbers.items ≡ numbers_of (filter (λ r. involves r user) requests.now)) }
+{
+    requests
+        .iter()
+        .filter(|r| r.involves(user))
+        .map(|r| r.number)
+        .collect(alloc)
+}
+
+/// The floors of a request as it is added.
+fn first_floors(
+    alloc: Global,
+    floors: &[Floor],
+    numbers: &[u16],
+) -> Result<Vec<RequestedFloor>, AllocError>
+    ensures { IfOk result (λ requested. requested.items ≡ map (first_floor floors.now) numbers.now) }
+{
+    numbers
+        .iter()
+        .map(|floor| first_floor(floors, *floor))
+        .collect(alloc)
+}
+
+fn first_floor(floors: &[Floor], floor: u16) -> RequestedFloor
+    ensures { result ≡ first_floor floors.now floor }
+{
+    let status = if order::is_chaired(floors, floor) {
+        FloorStatus::Pending
+    } else {
+        FloorStatus::Accepted
+    };
+    RequestedFloor {
+        floor,
+        status,
+        word: None,
+    }
+}
+
+fn set_floors(requests: &mut Vec<Request>, number: u16, floor: u16, word: Word)
+    ensures { requests.new.items ≡ map (with_word number floor word) requests.old.items }
+{
+    for request in requests.iter_mut() {
+        set_floor_if(request, number, floor, word);
+    }
+}
+
+/// Stores the word, if it is on this request.
+fn set_floor_if(request: &mut Request, number: u16, floor: u16, word: Word)
+    ensures { request.new ≡ with_word number floor word request.old }
+{
+    if request.number == number {
+        request.floors.set_word(floor, word);
+    }
+}
+
+/// The place of the request with this number, and the number of requests where none has it.
+fn place_of(requests: &[Request], number: u16) -> usize
+    ensures { result ≡ position_or_len (λ r. r.number == number) requests.now }
+{
+    find_place(requests, number).unwrap_or(requests.len())
+}
+
+fn find_place(requests: &[Request], number: u16) -> Option<usize>
+    ensures { result ≡ position (λ r. r.number == number) requests.now }
+{
+    requests.iter().position(|r| r.number == number)
+}
+
+fn grant_all(requests: &mut Vec<Request>, numbers: &[u16])
+    ensures { requests.new.items
+        ≡ map (λ r. granted_if (list_any (λ n. n == r.number) numbers.now) r) requests.old.items }
+{
+    for request in requests.iter_mut() {
+        grant_if(request, numbers);
+    }
+}
+
+/// Grants the request, if its number is among these.
+fn grant_if(request: &mut Request, numbers: &[u16])
+    ensures { request.new
+        ≡ granted_if (list_any (λ n. n == request.old.number) numbers.now) request.old }
+{
+    if numbers.contains(&request.number) {
+        request.is_granted = true;
+    }
+}
+
+impl From<AllocError> for AddRefusal {
+    ghost use Rattle.std.specs.Prelude.{◌≡◌};
+    ghost use Rattle.floor_queue.specs.declared.requests.AddRefusal.TheVariants.{Memory};
+
+    ghost from_gives = { λ _ e. e ≡ Memory };
+
+    fn from(_e: AllocError) -> AddRefusal {
+        AddRefusal::Memory
+    }
+}
+
+impl<T: Drop> From<AllocFailed<T>> for AddRefusal {
+    ghost use Rattle.std.specs.Prelude.{◌≡◌};
+    ghost use Rattle.floor_queue.specs.declared.requests.AddRefusal.TheVariants.{Memory};
+
+    ghost from_gives = { λ _ e. e ≡ Memory };
+
+    fn from(_e: AllocFailed<T>) -> AddRefusal {
+        AddRefusal::Memory
+    }
+}
