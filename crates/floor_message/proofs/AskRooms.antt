@@ -1,0 +1,65 @@
+-- What is written of an Ask that fits, fits a message.
+use Rattle.std.proofs.Common.{ℕ, suc, ◌+◌, ◌*◌, ◌^◌, ◌<◌, ◌≤◌, false, List, [], ◌∷◌, ◌++◌, length, map, get_or, Option, Some, None, refl, arith, length-append}
+use Rattle.std.specs.Prelude.{All, IfSome}
+use Rattle.std.specs.Int.{w16, to_be_bytes}
+use Rattle.floor_wire.specs.Attributes as wire
+use Rattle.floor_wire.specs.Spelling.{canon, IsWritable}
+use Rattle.floor_wire.specs.View.{attributes_of}
+use Rattle.floor_wire.specs.declared.attribute.Attr.{Attr}
+use Rattle.floor_message.specs.Fits.{TextFits, FloorsFit, FloorRequestFits, VerdictsFit}
+use Rattle.floor_message.specs.Room.{FitsRoom}
+use Rattle.floor_message.specs.Written.{optional, number, octets, priority_attr, verdict_attr, ask_attrs}
+use Rattle.floor_message.specs.declared.ask.Verdict.{Verdict}
+use Rattle.floor_message.specs.declared.ask.Verdict.TheVariants.{Accepted}
+use Rattle.floor_message.specs.declared.ask.Ask.TheVariants.{FloorRequest, FloorQuery, ChairAction}
+use Rattle.floor_message.proofs.Rooms.{length-one, length-group, length-canon-append, writable_append}
+
+-- attributes that can be written, in so many bytes
+abbrev pub Takes : List Attr → ℕ → Type 0
+Takes attrs bytes = IsWritable (attributes_of attrs) × (length (canon (attributes_of attrs)) ≤ bytes)
+
+pub takes_append : (xs ys : List Attr) (m n : ℕ) → Takes xs m → Takes ys n → Takes (xs ++ ys) (m + n)
+takes_append xs ys m n p q = (writable_append xs ys p.0 q.0, omega (arith, p.1, q.1, length-canon-append xs ys))
+
+floors_take : (floors : List ℕ) → All (λ f. f < 2 ^ 16) floors → Takes (map (number 2) floors) (4 * length floors)
+floors_take [] h = (tt, omega arith)
+floors_take (f ∷ floors) h =
+    let rest = floors_take floors (λ k d l. h (suc k) d (omega arith)) in
+    ((omega arith, refl, omega arith, h 0 f (omega arith), rest.0), omega (arith, rest.1, length-append (canon (attributes_of (number 2 f ∷ []))) (canon (attributes_of (map (number 2) floors)))))
+
+beneficiary_takes : (b : Option ℕ) → IfSome b (λ n. n < 2 ^ 16) → Takes (optional (number 1) b) 4
+beneficiary_takes None h = (tt, omega arith)
+beneficiary_takes (Some n) h = ((omega arith, refl, omega arith, h, tt), omega arith)
+
+text_takes : (info : Option (List ℕ)) → IfSome info TextFits → Takes (optional (octets 8) info) 64
+text_takes None h = (tt, omega arith)
+text_takes (Some text) h = ((omega arith, refl, omega (arith, h.short), tt, tt), omega (arith, h.short, length-one 8 false (wire.octets text)))
+
+pub floor_request_fits : (b : Option ℕ) (floors : List ℕ) (priority : ℕ) (info : Option (List ℕ)) → FloorRequestFits floors priority info → IfSome b (λ n. n < 2 ^ 16)
+    → All (λ f. f < 2 ^ 16) floors → FitsRoom (ask_attrs (FloorRequest b floors priority info)) 262140
+floor_request_fits b floors priority info fits h range =
+    let written = takes_append (map (number 2) floors ++ optional (number 1) b ++ optional (octets 8) info) (priority_attr priority ∷ []) (4 * length floors + 4 + 64) 4
+    (takes_append (map (number 2) floors ++ optional (number 1) b) (optional (octets 8) info) (4 * length floors + 4) 64
+    (takes_append (map (number 2) floors) (optional (number 1) b) (4 * length floors) 4 (floors_take floors range) (beneficiary_takes b h)) (text_takes info fits.text))
+    ((omega arith, refl, omega arith, tt, tt), omega arith) in
+    record { writable = written.0; bytes = omega (arith, written.1, fits.floors_fit.few) }
+
+pub floor_query_fits : (floors : List ℕ) → FloorsFit floors → All (λ f. f < 2 ^ 16) floors → FitsRoom (ask_attrs (FloorQuery floors)) 262140
+floor_query_fits floors fits range = let written = floors_take floors range in record { writable = written.0; bytes = omega (arith, written.1, fits.few) }
+
+verdicts_take : (verdicts : List (ℕ × Verdict)) → ((k : ℕ) → k < length verdicts → (get_or verdicts k (0, Accepted)).0 < 2 ^ 16) → Takes (map verdict_attr verdicts) (8 * length verdicts)
+verdicts_take [] h = (tt, omega arith)
+verdicts_take (v ∷ verdicts) h =
+    let rest = verdicts_take verdicts (λ k l. h (suc k) (omega arith)) in (
+      (omega arith, refl, omega arith, (h 0 (omega arith), (omega arith, refl, omega arith, tt, tt)), rest.0),
+      omega (arith, rest.1, length-append (canon (attributes_of (verdict_attr v ∷ []))) (canon (attributes_of (map verdict_attr verdicts)))),
+    )
+
+pub chair_action_fits : (request : ℕ) (verdicts : List (ℕ × Verdict)) → VerdictsFit verdicts → request < 2 ^ 16 → ((k : ℕ) → k < length verdicts → (get_or verdicts k (0, Accepted)).0 < 2 ^ 16)
+    → FitsRoom (ask_attrs (ChairAction request verdicts)) 262140
+chair_action_fits request verdicts fits h range =
+    let inside = verdicts_take verdicts range in
+    record {
+      writable = (omega arith, refl, omega (arith, inside.1, fits.few, length-append (to_be_bytes w16 request) (canon (attributes_of (map verdict_attr verdicts)))), (h, inside.0), tt);
+      bytes = omega (arith, inside.1, fits.few, length-group 15 request (map verdict_attr verdicts));
+    }

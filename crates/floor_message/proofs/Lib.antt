@@ -1,0 +1,16 @@
+pub mod Answering
+pub mod AskBack
+pub mod AskRooms
+pub mod Asked
+pub mod Cutting
+pub mod Heads
+pub mod Items
+pub mod Once
+pub mod Picking
+pub mod Plain
+pub mod Rooms
+pub mod RoundTrip
+pub mod Short
+pub mod ShownRooms
+pub mod TellBack
+pub mod Telling

@@ -1,0 +1,141 @@
+-- Adding what is new leaves each once, in order of first appearance.
+use Rattle.std.proofs.Common.{◌≡◌, ℕ, Bool, true, false, not, cond, ◌&&◌, ◌||◌, List, [], ◌∷◌, ◌++◌, filter, refl, sym, ◌∙◌, ap, append_assoc}
+use Rattle.std.specs.Prelude.{◌==◌}
+use Rattle.std.specs.List.{list_any}
+use Rattle.std.proofs.lemmas.List.{append-nil}
+use Rattle.floor_message.specs.Picked.{once_by, IsOnceBy}
+use Rattle.floor_message.specs.Adding.{add_new, add_all}
+use Rattle.std.proofs.lemmas.Bool.{eqb-true}
+use Rattle.std.proofs.Common.{true≢false}
+
+-- none of the items has this number
+abbrev pub is_new : {A : Type 0} → (A → ℕ) → List A → ℕ → Bool
+is_new key seen n = not (list_any (λ z. n == key z) seen)
+
+filter_step : {A : Type 0} (p q : A → Bool) (x : A) (xs : List A) (b c : Bool) → q x ≡ b → p x ≡ c → filter p (filter q xs) ≡ filter (λ y. q y && p y) xs
+    → filter p (filter q (x ∷ xs)) ≡ filter (λ y. q y && p y) (x ∷ xs)
+filter_step p q x xs true true e f h = rw e (rw f (ap (λ l. x ∷ l) h))
+filter_step p q x xs true false e f h = rw e (rw f h)
+filter_step p q x xs false c e f h = rw e h
+
+filter_both : {A : Type 0} (p q : A → Bool) (xs : List A) → filter p (filter q xs) ≡ filter (λ y. q y && p y) xs
+filter_both p q [] = refl
+filter_both p q (x ∷ xs) = filter_step p q x xs (q x) (p x) refl refl (filter_both p q xs)
+
+filter_same : {A : Type 0} (p q : A → Bool) → ((y : A) → p y ≡ q y) → (xs : List A) → filter p xs ≡ filter q xs
+filter_same p q h [] = refl
+filter_same p q h (x ∷ xs) = rw (h x) (ap (λ l. cond (q x) (x ∷ l) l) (filter_same p q h xs))
+
+any_more : {A : Type 0} (p : A → Bool) (xs : List A) (x : A) → list_any p (xs ++ x ∷ []) ≡ (list_any p xs || p x)
+any_more p [] x = or_false (p x) where
+  or_false : (b : Bool) → (b || false) ≡ b
+  or_false true = refl
+  or_false false = refl
+any_more p (y ∷ xs) x = rw (any_more p xs x) (or_assoc (p y) (list_any p xs) (p x)) where
+  or_assoc : (a b c : Bool) → (a || (b || c)) ≡ ((a || b) || c)
+  or_assoc true b c = refl
+  or_assoc false b c = refl
+
+flip : (b c : Bool) → (not b && not c) ≡ not (c || b)
+flip true true = refl
+flip true false = refl
+flip false true = refl
+flip false false = refl
+
+new_more : {A : Type 0} (key : A → ℕ) (seen : List A) (x y : A) → (not (key y == key x) && is_new key seen (key y)) ≡ is_new key (seen ++ x ∷ []) (key y)
+new_more key seen x y = rw (any_more (λ z. key y == key z) seen x) (flip (key y == key x) (list_any (λ z. key y == key z) seen))
+
+old_kept : (b : Bool) (n : Bool) → (b ≡ true → n ≡ false) → (not b && n) ≡ n
+old_kept true n h = sym (h refl)
+old_kept false n h = refl
+
+old_same : {A : Type 0} (key : A → ℕ) (seen : List A) (m n : ℕ) → list_any (λ z. m == key z) seen ≡ true → (n == m) ≡ true → is_new key seen n ≡ false
+old_same key seen m n h e =
+    let same : n ≡ m = eqb-true n m e in
+    ap (λ k. not (list_any (λ z. k == key z) seen)) same ∙ ap not h
+
+step_old : {A : Type 0} (key : A → ℕ) (seen : List A) (x : A) (xs : List A) → list_any (λ z. key x == key z) seen ≡ true
+    → filter (λ y. is_new key seen (key y)) (once_by key (x ∷ xs)) ≡ filter (λ y. is_new key seen (key y)) (once_by key xs)
+step_old key seen x xs h =
+    let new = λ (y : _). is_new key seen (key y) in
+    ap (λ b. cond (not b) (x ∷ filter new (filter (λ y. not (key y == key x)) (once_by key xs))) (filter new (filter (λ y. not (key y == key x)) (once_by key xs)))) h
+    ∙ filter_both new (λ y. not (key y == key x)) (once_by key xs)
+    ∙ filter_same (λ y. not (key y == key x) && new y) new (λ y. old_kept (key y == key x) (new y) (λ e. old_same key seen (key x) (key y) h e)) (once_by key xs)
+
+step_new : {A : Type 0} (key : A → ℕ) (seen : List A) (x : A) (xs : List A) → list_any (λ z. key x == key z) seen ≡ false
+    → filter (λ y. is_new key seen (key y)) (once_by key (x ∷ xs)) ≡ x ∷ filter (λ y. is_new key (seen ++ x ∷ []) (key y)) (once_by key xs)
+step_new key seen x xs h =
+    let new = λ (y : _). is_new key seen (key y) in
+    ap (λ b. cond (not b) (x ∷ filter new (filter (λ y. not (key y == key x)) (once_by key xs))) (filter new (filter (λ y. not (key y == key x)) (once_by key xs)))) h
+    ∙ ap (λ l. x ∷ l) (filter_both new (λ y. not (key y == key x)) (once_by key xs)
+    ∙ filter_same (λ y. not (key y == key x) && new y) (λ y. is_new key (seen ++ x ∷ []) (key y)) (λ y. new_more key seen x y) (once_by key xs))
+
+add_case : {A : Type 0} (key : A → ℕ) (seen : List A) (x : A) (xs : List A) (b : Bool) → list_any (λ z. key x == key z) seen ≡ b
+    → ((seen : List A) → add_all key seen xs ≡ seen ++ filter (λ y. is_new key seen (key y)) (once_by key xs))
+    → add_all key (cond b seen (seen ++ x ∷ [])) xs ≡ seen ++ filter (λ y. is_new key seen (key y)) (once_by key (x ∷ xs))
+add_case key seen x xs true e h = h seen ∙ ap (λ l. seen ++ l) (sym (step_old key seen x xs e))
+add_case key seen x xs false e h = h (seen ++ x ∷ []) ∙ append_assoc seen (x ∷ []) (filter (λ y. is_new key (seen ++ x ∷ []) (key y)) (once_by key xs)) ∙ ap (λ l. seen ++ l) (sym (step_new key seen x xs e))
+
+-- the items, and then those that are new, each once
+pub add_all-is : {A : Type 0} (key : A → ℕ) (xs : List A) (seen : List A) → add_all key seen xs ≡ seen ++ filter (λ y. is_new key seen (key y)) (once_by key xs)
+add_all-is key [] seen = sym (append-nil seen)
+add_all-is key (x ∷ xs) seen =
+    ap (λ b. add_all key (cond b seen (seen ++ x ∷ [])) xs) (let r : list_any (λ z. key x == key z) seen ≡ list_any (λ z. key x == key z) seen = refl in r)
+    ∙ add_case key seen x xs (list_any (λ z. key x == key z) seen) refl (λ s. add_all-is key xs s)
+
+all_kept : {A : Type 0} (xs : List A) → filter (λ y. true) xs ≡ xs
+all_kept [] = refl
+all_kept (x ∷ xs) = ap (λ l. x ∷ l) (all_kept xs)
+
+pub once_by_added : {A : Type 0} (key : A → ℕ) (xs : List A) → add_all key [] xs ≡ once_by key xs
+once_by_added key xs = add_all-is key xs [] ∙ all_kept (once_by key xs)
+
+pub add_all_append : {A : Type 0} (key : A → ℕ) (seen xs ys : List A) → add_all key seen (xs ++ ys) ≡ add_all key (add_all key seen xs) ys
+add_all_append key seen [] ys = refl
+add_all_append key seen (x ∷ xs) ys = add_all_append key (add_new key seen x) xs ys
+
+-- nothing that passes p is there
+kept_step : {A : Type 0} (p : A → Bool) (x : A) (xs : List A) (b : Bool) → p x ≡ b → (b || list_any p xs) ≡ false → (list_any p xs ≡ false → filter (λ y. not (p y)) xs ≡ xs)
+    → cond (not b) (x ∷ filter (λ y. not (p y)) xs) (filter (λ y. not (p y)) xs) ≡ x ∷ xs
+kept_step p x xs true e h rest = absurd (true≢false h)
+kept_step p x xs false e h rest = ap (λ l. x ∷ l) (rest h)
+
+kept_all : {A : Type 0} (p : A → Bool) (xs : List A) → list_any p xs ≡ false → filter (λ y. not (p y)) xs ≡ xs
+kept_all p [] h = refl
+kept_all p (x ∷ xs) h = kept_step p x xs (p x) refl h (kept_all p xs)
+
+-- what stands once each is each once
+pub once_by_once : {A : Type 0} (key : A → ℕ) (xs : List A) → IsOnceBy key xs → once_by key xs ≡ xs
+once_by_once key [] h = refl
+once_by_once key (x ∷ xs) h = ap (λ l. x ∷ filter (λ y. not (key y == key x)) l) (once_by_once key xs h.1) ∙ ap (λ l. x ∷ l) (kept_all (λ y. key y == key x) xs h.0)
+
+none_kept_step : {A : Type 0} (p q : A → Bool) (x : A) (xs : List A) (b c : Bool) → p x ≡ b → (b || list_any p xs) ≡ false → (list_any p xs ≡ false → list_any p (filter q xs) ≡ false)
+    → list_any p (cond c (x ∷ filter q xs) (filter q xs)) ≡ false
+none_kept_step p q x xs true c e h rest = absurd (true≢false h)
+none_kept_step p q x xs false true e h rest = ap (λ b. b || list_any p (filter q xs)) e ∙ rest h
+none_kept_step p q x xs false false e h rest = rest h
+
+none_kept : {A : Type 0} (p q : A → Bool) (xs : List A) → list_any p xs ≡ false → list_any p (filter q xs) ≡ false
+none_kept p q [] h = refl
+none_kept p q (x ∷ xs) h = none_kept_step p q x xs (p x) (q x) refl h (none_kept p q xs)
+
+none_left_step : {A : Type 0} (p : A → Bool) (x : A) (xs : List A) (b : Bool) → p x ≡ b → list_any p (filter (λ y. not (p y)) xs) ≡ false
+    → list_any p (cond (not b) (x ∷ filter (λ y. not (p y)) xs) (filter (λ y. not (p y)) xs)) ≡ false
+none_left_step p x xs true e rest = rest
+none_left_step p x xs false e rest = ap (λ b. b || list_any p (filter (λ y. not (p y)) xs)) e ∙ rest
+
+none_left : {A : Type 0} (p : A → Bool) (xs : List A) → list_any p (filter (λ y. not (p y)) xs) ≡ false
+none_left p [] = refl
+none_left p (x ∷ xs) = none_left_step p x xs (p x) refl (none_left p xs)
+
+once_kept : {A : Type 0} (key : A → ℕ) (q : A → Bool) (xs : List A) → IsOnceBy key xs → IsOnceBy key (filter q xs)
+once_kept key q [] h = tt
+once_kept key q (x ∷ xs) h = elim (q x) as (λ c. IsOnceBy key (cond c (x ∷ filter q xs) (filter q xs))) [
+  | true ↦ (none_kept (λ y. key y == key x) q xs h.0, once_kept key q xs h.1)
+  | false ↦ once_kept key q xs h.1
+]
+
+-- each once stands once each
+pub once_by-once : {A : Type 0} (key : A → ℕ) (xs : List A) → IsOnceBy key (once_by key xs)
+once_by-once key [] = tt
+once_by-once key (x ∷ xs) = (none_left (λ y. key y == key x) (once_by key xs), once_kept key (λ y. not (key y == key x)) (once_by key xs) (once_by-once key xs))

@@ -1,0 +1,90 @@
+-- What is picked from a list of attributes, one more of which is looked at.
+use Rattle.std.proofs.Common.{◌≡◌, ℕ, zero, suc, ◌+◌, ◌<◌, ◌≤◌, Bool, true, false, not, cond, ◌&&◌, List, [], ◌∷◌, ◌++◌, length, drop, get_or, map, filter, sym, ◌∙◌, ap, subst, arith}
+use Rattle.std.specs.Prelude.{All, ◌==◌}
+use Rattle.std.proofs.lemmas.List.{at_drop_more, at_drop_all}
+use Rattle.floor_wire.specs.Attributes.{content_size, attributes_size, Content, num, pair, group, octets, Attributes, no_attributes, attribute}
+use Rattle.floor_wire.specs.Spelling.{IsWritable, IsWritableContent, is_known}
+use Rattle.floor_wire.specs.View.{attributes_of, content_of}
+use Rattle.floor_wire.specs.declared.attribute.Attr.{Attr}
+use Rattle.floor_message.specs.Picked.{numbers, groups, once_by, distinct, mandatory, mandatory_inside, own_mandatory}
+use Rattle.floor_message.specs.Adding.{add_all}
+use Rattle.floor_message.specs.Fields.{judged, floors_judged, overall_status}
+use Rattle.floor_message.proofs.Once.{once_by_added, add_all_append}
+
+pub numbers_done : (kind : ℕ) (attrs : List Attr) (i : ℕ) (found : List ℕ) → length attrs ≤ i
+    → add_all (λ n. n) found (numbers kind (drop i attrs)) ≡ add_all (λ n. n) [] (numbers kind attrs) → found ≡ distinct (numbers kind attrs)
+numbers_done kind attrs i found h e =
+    sym (at_drop_all (λ xs. add_all (λ n. n) found (numbers kind xs)) attrs i h) ∙ e ∙ once_by_added (λ n. n) (numbers kind attrs)
+
+pub mandatory_step : (xs : List Attr) (i : ℕ) (a : Attr) (found found2 : List ℕ) → i < length xs → a ≡ get_or xs i a
+    → found2 ≡ add_all (λ n. n) (add_all (λ n. n) found (own_mandatory a.kind a.must)) (mandatory_inside (content_of a.body))
+    → add_all (λ n. n) found2 (mandatory (attributes_of (drop (i + 1) xs))) ≡ add_all (λ n. n) found (mandatory (attributes_of (drop i xs)))
+mandatory_step xs i a found found2 h e f =
+    let rest = mandatory (attributes_of (drop (i + 1) xs)) in
+    let own = own_mandatory a.kind a.must in
+    let inside = mandatory_inside (content_of a.body) in
+    ap (λ l. add_all (λ n. n) l rest) f
+    ∙ ap (λ l. add_all (λ n. n) l rest) (sym (add_all_append (λ n. n) found own inside))
+    ∙ sym (add_all_append (λ n. n) found (own ++ inside) rest)
+    ∙ ap (λ y. add_all (λ n. n) found (mandatory (attributes_of (y ∷ drop (i + 1) xs)))) e
+    ∙ sym (at_drop_more (λ ys. add_all (λ n. n) found (mandatory (attributes_of ys))) xs i a h)
+
+-- P of each number, by cases
+abbrev Each : (ℕ → Type 0) → List ℕ → Type 0
+Each P [] = Unit {0}
+Each P (x ∷ xs) = P x × Each P xs
+
+All_of : (P : ℕ → Type 0) (xs : List ℕ) → Each P xs → (k d : ℕ) → k < length xs → P (get_or xs k d)
+All_of P [] p k d h = absurd (omega arith)
+All_of P (x ∷ xs) p zero d h = p.0
+All_of P (x ∷ xs) p (suc k) d h = All_of P xs p.1 k d (omega arith)
+
+Each_append : (P : ℕ → Type 0) (xs ys : List ℕ) → Each P xs → Each P ys → Each P (xs ++ ys)
+Each_append P [] ys p q = q
+Each_append P (x ∷ xs) ys p q = (p.0, Each_append P xs ys p.1 q)
+
+Each_filter : (P : ℕ → Type 0) (test : ℕ → Bool) (xs : List ℕ) → Each P xs → Each P (filter test xs)
+Each_filter P test [] p = p
+Each_filter P test (x ∷ xs) p = elim (test x) as (λ b. Each P (cond b (x ∷ filter test xs) (filter test xs))) [
+  | true ↦ (p.0, Each_filter P test xs p.1)
+  | false ↦ Each_filter P test xs p.1
+]
+
+Each_distinct : (P : ℕ → Type 0) (xs : List ℕ) → Each P xs → Each P (distinct xs)
+Each_distinct P [] p = p
+Each_distinct P (x ∷ xs) p = (p.0, Each_filter P (λ y. not (y == x)) (distinct xs) (Each_distinct P xs p.1))
+
+own_fits : (kind : ℕ) (must : Bool) → kind < 128 → Each (λ t. t < 128) (own_mandatory kind must)
+own_fits kind must h = elim (must && not (is_known kind)) as (λ b. Each (λ t. t < 128) (cond b (kind ∷ []) [])) [ true ↦ (h, tt) | false ↦ tt ]
+
+mutual
+  inside_fits : (c : Content) → IsWritableContent c → Each (λ t. t < 128) (mandatory_inside c)
+  inside_fits (num n) w = tt
+  inside_fits (pair a b) w = tt
+  inside_fits (group n i) w = mandatory_fits i w.1
+  inside_fits (octets os) w = tt
+
+  -- the types of attributes that can be written are below 128
+  mandatory_fits : (a : Attributes) → IsWritable a → Each (λ t. t < 128) (mandatory a)
+  mandatory_fits no_attributes w = tt
+  mandatory_fits (attribute k m c rest) w =
+      Each_append (λ t. t < 128) (own_mandatory k m ++ mandatory_inside c) (mandatory rest)
+      (Each_append (λ t. t < 128) (own_mandatory k m) (mandatory_inside c) (own_fits k m w.0) (inside_fits c w.3))
+      (mandatory_fits rest w.4)
+
+pub types_fit : (a : Attributes) → IsWritable a → All (λ t. t < 128) (distinct (mandatory a))
+types_fit a w = All_of (λ t. t < 128) (distinct (mandatory a)) (Each_distinct (λ t. t < 128) (mandatory a) (mandatory_fits a w))
+
+pub judged_done : (attrs : List Attr) (i : ℕ) (overall : _) (found : _) → length attrs ≤ i → overall ≡ overall_status attrs
+    → add_all (λ v. v.0) found (map (judged overall) (groups 17 (drop i attrs))) ≡ add_all (λ v. v.0) [] (map (judged overall) (groups 17 attrs))
+    → found ≡ floors_judged attrs
+judged_done attrs i overall found h o e =
+    sym (at_drop_all (λ xs. add_all (λ v. v.0) found (map (judged overall) (groups 17 xs))) attrs i h) ∙ e
+    ∙ once_by_added (λ v. v.0) (map (judged overall) (groups 17 attrs))
+    ∙ ap (λ v. once_by (λ w. w.0) (map (judged v) (groups 17 attrs))) o
+
+-- the body of an attribute is smaller than the list that holds it
+pub smaller_at : (xs : List Attr) (i : ℕ) (a : Attr) → i < length xs → a ≡ get_or xs i a → content_size (content_of a.body) < attributes_size (attributes_of xs)
+smaller_at [] i a h e = absurd (omega arith)
+smaller_at (x ∷ xs) zero a h e = let P : Attr → Type 0 = λ y. content_size (content_of y.body) < attributes_size (attributes_of (x ∷ xs)) in subst P (sym e) (omega arith)
+smaller_at (x ∷ xs) (suc i) a h e = omega (arith, smaller_at xs i a (omega arith) e)

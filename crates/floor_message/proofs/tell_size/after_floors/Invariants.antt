@@ -1,0 +1,7 @@
+use Rattle.std.proofs.Common.{map, take, Some}
+use Rattle.floor_message.specs.Room.{Leaves}
+use Rattle.floor_message.specs.Written.{floor_attr}
+use Rattle.floor_message.proofs.tell_size.after_floors.Given as goal
+
+abbrev pub invariant-loop-floor : goal.invariant-loop-floor
+invariant-loop-floor l = Leaves (map floor_attr (take l.floor-index l.floors)) l.initial.left (Some l.left)

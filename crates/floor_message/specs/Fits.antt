@@ -1,0 +1,71 @@
+-- Which messages can be written, so that they are read back as they were (RFC 8855, sections 5.1 to 5.3).
+use Rattle.std.specs.Prelude.{◌≡◌, ℕ, ◌*◌, ◌^◌, ◌≤◌, ◌<◌, true, List, length, All, Option, IfSome}
+use Rattle.std.specs.Str.{is_utf8}
+use Rattle.floor_message.specs.Picked.{IsOnceBy}
+use Rattle.floor_message.specs.Room.{FitsRoom}
+use Rattle.floor_message.specs.Written.{tell_attrs}
+use Rattle.floor_message.specs.declared.head.Head.{Head}
+use Rattle.floor_message.specs.declared.ask.Verdict.{Verdict}
+use Rattle.floor_message.specs.declared.ask.Ask.{Ask}
+use Rattle.floor_message.specs.declared.ask.Ask.TheVariants.{FloorRequest, FloorRelease, FloorRequestQuery, UserQuery, FloorQuery, ChairAction, Hello}
+use Rattle.floor_message.specs.declared.tell.Info.{Info}
+use Rattle.floor_message.specs.declared.tell.Tell.{Tell}
+use Rattle.floor_message.specs.declared.tell.Tell.TheVariants.{FloorRequestStatus, UserStatus, FloorStatus, ChairActionAck, HelloAck, Error}
+
+-- the priority, where there is one, is at most 4, Highest (section 5.2.4)
+abbrev pub PriorityFits : Info → Type 0
+PriorityFits i = IfSome i.priority (λ priority. priority ≤ 4)
+
+-- each priority is at most 4, and each type of attribute below 128
+abbrev pub NumbersFit : Tell → Type 0
+NumbersFit (FloorRequestStatus info) = PriorityFits info
+NumbersFit (UserStatus who infos) = All PriorityFits infos
+NumbersFit (FloorStatus floor infos) = All PriorityFits infos
+NumbersFit ChairActionAck = Unit {0}
+NumbersFit (HelloAck primitives attributes) = All (λ kind. kind < 128) attributes
+NumbersFit (Error code details) = Unit {0}
+
+-- the message from the server can be written: its numbers fit, each attribute fits its Length, and all of them the Payload Length
+pub record TellFits (tell : Tell) : Type 0 where
+  pub numbers : NumbersFit tell
+  pub attributes : FitsRoom (tell_attrs tell) (4 * 65535)
+
+-- the text is UTF-8 of 1 to 62 bytes
+pub record TextFits (text : List ℕ) : Type 0 where
+  pub utf8 : is_utf8 text ≡ true
+  pub some : 0 < length text
+  pub short : length text ≤ 62
+
+-- the floors are named once each, and are at most 60,000, so that they fit the Payload Length
+pub record FloorsFit (floors : List ℕ) : Type 0 where
+  pub once : IsOnceBy (λ floor. floor) floors
+  pub few : length floors ≤ 60000
+
+-- a FloorRequest names a floor, and has a priority of at most 4 and a text that fits
+pub record FloorRequestFits (floors : List ℕ) (priority : ℕ) (info : Option (List ℕ)) : Type 0 where
+  pub some : 0 < length floors
+  pub floors_fit : FloorsFit floors
+  pub priority_fits : priority ≤ 4
+  pub text : IfSome info TextFits
+
+-- a ChairAction names 1 to 31 floors, each once, so that they fit a group
+pub record VerdictsFit (verdicts : List (ℕ × Verdict)) : Type 0 where
+  pub some : 0 < length verdicts
+  pub few : length verdicts ≤ 31
+  pub once : IsOnceBy (λ verdict. verdict.0) verdicts
+
+-- the message from a client can be written
+abbrev pub AskFits : Ask → Type 0
+AskFits (FloorRequest beneficiary floors priority info) = FloorRequestFits floors priority info
+AskFits (FloorRelease request) = Unit {0}
+AskFits (FloorRequestQuery request) = Unit {0}
+AskFits (UserQuery beneficiary) = Unit {0}
+AskFits (FloorQuery floors) = FloorsFit floors
+AskFits (ChairAction request verdicts) = VerdictsFit verdicts
+AskFits Hello = Unit {0}
+
+-- the numbers of a head fit their fields
+pub record HeadFits (head : Head) : Type 0 where
+  pub conference : head.conference < 2 ^ 32
+  pub transaction : head.transaction < 2 ^ 16
+  pub user : head.user < 2 ^ 16

@@ -1,0 +1,27 @@
+-- PARTICIPANT-PROVIDED-INFO as it is kept (RFC 8855, section 5.2.8).
+use Rattle.std.specs.Prelude.{ℕ, zero, suc, Bool, ◌&&◌, ◌||◌, nat_le, nat_lt, List, [], ◌∷◌, length, take, slice_index, Option, Some, None, if◌then◌else◌}
+use Rattle.std.specs.Str.{is_utf8}
+
+-- no character of the text is cut at this place
+abbrev pub is_whole_at : List ℕ → ℕ → Bool
+is_whole_at text place =
+    nat_le place (length text) && (nat_le (length text) place || nat_lt (slice_index text place) 128 || nat_le 192 (slice_index text place))
+
+-- the greatest place, up to this one, at which no character of the text is cut
+abbrev pub cut_at_most : List ℕ → ℕ → ℕ
+cut_at_most text zero = 0
+cut_at_most text (suc n) = if is_whole_at text (suc n) then suc n else cut_at_most text n
+
+-- the longest front of a text of at most 62 bytes that ends at a character
+unfoldable pub shortened : List ℕ → List ℕ
+shortened text = take (cut_at_most text 62) text
+
+-- a text that is empty counts as absent
+abbrev pub unless_empty : List ℕ → Option (List ℕ)
+unless_empty [] = None
+unless_empty (b ∷ bytes) = Some (b ∷ bytes)
+
+-- what is kept of the octets, where there are any; octets that are no UTF-8 have no usable value
+abbrev pub info_kept : Option (List ℕ) → Option (Option (List ℕ))
+info_kept None = Some None
+info_kept (Some text) = if is_utf8 text then Some (unless_empty (shortened text)) else None

@@ -1,0 +1,36 @@
+//! Laws of messages. Each is the contract of a function that does nothing.
+
+ghost use Rattle.floor_message.specs.Laws.{WhatIsAskedFits, WhatIsShownFits, WrittenAskIsRead, WrittenAskIsShort, WrittenTellIsRead, WrittenTellIsShort};
+
+use floor_wire::what_is_written_is_read;
+
+/// What is written of a message from the server is read as that message, under that head.
+pub fn a_written_tell_is_read()
+    ensures { WrittenTellIsRead }
+{
+    what_is_written_is_read();
+}
+
+/// What is written of a message from a client is read as that message, under its own binding.
+pub fn a_written_ask_is_read()
+    ensures { WrittenAskIsRead }
+{
+    what_is_written_is_read();
+}
+
+/// What a message asks can be written, where it names at most 60,000 floors and 31 verdicts.
+pub fn what_is_asked_fits()
+    ensures { WhatIsAskedFits }
+{}
+
+/// What shows no more than a conference has can be written: names of at most 30 bytes, texts of at
+/// most 62, at most 8 floors of a floor request and 256 floor requests.
+pub fn what_is_shown_fits()
+    ensures { WhatIsShownFits }
+{}
+
+/// No group is written in more than 252 bytes, and no octet string with more than 253 octets.
+pub fn what_is_written_is_short()
+    ensures tell { WrittenTellIsShort }
+    ensures ask { WrittenAskIsShort }
+{}

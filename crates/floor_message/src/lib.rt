@@ -1,0 +1,53 @@
+//! The messages of a floor control server, as values and as bytes (RFC 8855, section 5.3): what a
+//! client asks, an [`Ask`], and what the server tells, a [`Tell`].
+//!
+//! It stands on `floor_wire` for headers, attributes and frames. Reading an Ask makes every check
+//! that the header and the attributes alone decide, in the order of the codes that answer them. The
+//! checks that need a conference's state are left to the caller, as is the answer itself. It does no
+//! input or output.
+#![tactic(auto)]
+
+mod ask;
+mod ask_fields;
+mod ask_reader;
+mod ask_size;
+mod ask_writer;
+mod attributes;
+mod code;
+mod floor_statuses;
+mod head;
+mod infos;
+mod kind;
+mod laws;
+mod mandatory;
+mod pick;
+mod primitive;
+mod tell;
+mod tell_reader;
+mod tell_size;
+mod tell_writer;
+mod text;
+mod verdicts;
+
+pub use ask::{Ask, AskFault, Binding, Verdict};
+pub use ask_reader::read_ask;
+pub use ask_size::ask_fits;
+pub use ask_writer::write_ask;
+pub use code::ErrorCode;
+pub use floor_statuses::FloorStatuses;
+pub use floor_wire::{Frame, Numbers, Octets};
+pub use head::Head;
+pub use infos::Infos;
+pub use laws::{
+    a_written_ask_is_read, a_written_tell_is_read, what_is_asked_fits, what_is_shown_fits,
+    what_is_written_is_short,
+};
+pub use primitive::Primitive;
+pub use tell::{Info, Tell, TellFault, Who};
+pub use tell_reader::read_tell;
+pub use tell_size::tell_fits;
+pub use tell_writer::write_tell;
+pub use verdicts::Verdicts;
+
+#[cfg(test)]
+mod tests;
