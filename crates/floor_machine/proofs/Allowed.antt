@@ -1,0 +1,102 @@
+-- What no check refuses may be done.
+use Rattle.std.proofs.Common.{◌≡◌, ◌≢◌, ℕ, zero, suc, ◌<◌, ◌≤◌, Bool, true, false, List, [], ◌∷◌, length, get_or, Option, Some, None, refl, sym, arith}
+use Rattle.std.specs.Prelude.{◌==◌, ◌||◌, ◌&&◌, not, nat_lt, nat_le, All, IsTrue, IfSome, IsSome}
+use Rattle.std.specs.List.{list_any, list_all}
+use Rattle.std.specs.Option.{option_map_or}
+use Rattle.std.proofs.lemmas.Bool.Decides.{nat_tests}
+use Rattle.std.proofs.lemmas.List.Elements.{All-nil, All-cons}
+use Rattle.floor_config.specs.Doubles.{AllDiffer}
+use Rattle.floor_queue.specs.declared.request.Request.{Request}
+use Rattle.floor_queue.specs.Queue.{is_floor, request_at}
+use Rattle.floor_message.specs.Picked.{IsOnceBy}
+use Rattle.floor_message.specs.Fits.{AskFits, FloorRequestFits, TextFits}
+use Rattle.floor_message.specs.Laws.{CountsFit}
+use Rattle.floor_message.specs.declared.ask.Ask.{Ask}
+use Rattle.floor_message.specs.declared.ask.Ask.TheVariants.{FloorRequest, FloorRelease, FloorRequestQuery, UserQuery, FloorQuery, ChairAction, Hello}
+use Rattle.floor_message.specs.declared.code.ErrorCode.{ErrorCode}
+use Rattle.floor_message.specs.declared.code.ErrorCode.TheVariants.{FloorRequestIdDoesNotExist, UnauthorizedOperation, UserDoesNotExist, InvalidFloorId, GenericError, MaximumFloorRequestsReached}
+use Rattle.floor_machine.specs.declared.judged.Judged.TheVariants.{Accepted}
+use Rattle.floor_machine.specs.Conference.{Conference, is_user, has_proxy}
+use Rattle.floor_machine.specs.Checks.{Check, when, first_of, beneficiary_of, requests_for, release_checks, refusal}
+use Rattle.floor_machine.specs.Serving.{IsServedAsk, MayServe}
+use Rattle.floor_machine.proofs.Found.{and_left, and_right}
+
+-- of six checks that none refuses by, the third and the fourth don't apply
+six : (a b c d e f : Bool) (k l m n o p : ErrorCode) → first_of (when a k ∷ when b l ∷ when c m ∷ when d n ∷ when e o ∷ when f p ∷ []) ≡ None → (c ≡ false) × (d ≡ false)
+six true b c d e f k l m n o p h = cc
+six false true c d e f k l m n o p h = cc
+six false false true d e f k l m n o p h = cc
+six false false false true e f k l m n o p h = cc
+six false false false false e f k l m n o p h = (refl, refl)
+
+not_false : (b : Bool) → not b ≡ false → b ≡ true
+not_false true h = refl
+not_false false h = cc
+
+all_true : {X : Type 0} (p : X → Bool) (xs : List X) → list_all p xs ≡ true → All (λ x. IsTrue (p x)) xs
+all_true p [] h = All-nil (λ x. IsTrue (p x))
+all_true p (x ∷ xs) h = All-cons (λ x. IsTrue (p x)) x xs (and_left (p x) (list_all p xs) h) (all_true p xs (and_right (p x) (list_all p xs) h))
+
+or_first : (a b : Bool) → (a || b) ≡ false → a ≡ false
+or_first true b h = h
+or_first false b h = refl
+
+or_second : (a b : Bool) → (a || b) ≡ false → b ≡ false
+or_second true b h = cc
+or_second false b h = h
+
+-- a number that stands in the list is found there
+not_among : (xs : List ℕ) (n : ℕ) (i : ℕ) (d : ℕ) → list_any (λ y. y == n) xs ≡ false → i < length xs → n ≢ get_or xs i d
+not_among [] n i d h within = absurd (omega arith)
+not_among (x ∷ xs) n zero d h within = λ e. differs x n (or_first _ _ h) e
+  where
+    differs : (x n : ℕ) → (x == n) ≡ false → n ≢ x
+    differs x n h e = grind (arith, nat_tests)
+not_among (x ∷ xs) n (suc i) d h within = not_among xs n i d (or_second (x == n) _ h) (omega arith)
+
+-- floors that are named once differ
+once_differ : (xs : List ℕ) → IsOnceBy (λ n. n) xs → AllDiffer xs
+once_differ [] h = λ i j d below within. absurd (omega arith)
+once_differ (x ∷ xs) h = λ i j d below within. at (once_differ xs h.1) i j d below within
+  where
+    at : AllDiffer xs → (i j : ℕ) (d : ℕ) → i < j → j < length (x ∷ xs) → get_or (x ∷ xs) i d ≢ get_or (x ∷ xs) j d
+    at rest i zero d below within = absurd (omega arith)
+    at rest zero (suc j) d below within = not_among xs x j d h.0 (omega arith)
+    at rest (suc i) (suc j) d below within = rest i j d (omega arith) (omega arith)
+
+text_kept : (info : Option (List ℕ)) → IfSome info TextFits → IfSome info (λ text. (1 ≤ length text) × (length text ≤ 62))
+text_kept None h = tt
+text_kept (Some text) h = (omega (arith, h.some), h.short)
+
+at_most : (n : ℕ) → nat_lt 8 n ≡ false → n ≤ 8
+at_most n h = grind (arith, nat_tests)
+
+found : (o : Option Request) (checks : Request → List Check) → option_map_or (λ r. first_of (checks r)) o (Some FloorRequestIdDoesNotExist) ≡ None → IsSome o
+found None checks h = cc
+found (Some r) checks h = refl
+
+-- what no own check refuses, and is read of a message, may be done
+pub may_serve : (s : Conference) (user : ℕ) (a : Ask) → IsServedAsk a → (CountsFit a → AskFits a) → None ≡ refusal s user a → MayServe s user (Accepted a)
+unfolding refusal
+may_serve s user (FloorRequest beneficiary floors priority info) served fits none =
+    let b = beneficiary_of user beneficiary in
+    let free =
+    six (not (b == user) && not (has_proxy s.config user)) (not (is_user s.config b)) (not (list_all (is_floor s.config.floors) floors)) (nat_lt 8 (length floors))
+    (list_any (λ floor. nat_le s.config.limit (requests_for s.ongoing b floor)) floors) (nat_le 256 (length s.ongoing) || s.given == 65535)
+    UnauthorizedOperation UserDoesNotExist InvalidFloorId GenericError MaximumFloorRequestsReached GenericError (sym none) in
+    let few : length floors ≤ 8 = at_most (length floors) free.1 in
+    let fit : FloorRequestFits floors priority info = fits (omega arith) in
+    record {
+      floors_least = omega (arith, fit.some);
+      floors_most = few;
+      floors_differ = once_differ floors fit.floors_fit.once;
+      floors_known = all_true (is_floor s.config.floors) floors (not_false (list_all (is_floor s.config.floors) floors) free.0);
+      priority = fit.priority_fits;
+      info = text_kept info fit.text;
+    }
+may_serve s user (FloorRelease request) served fits none = found (request_at s.ongoing request) (release_checks user) (sym none)
+may_serve s user (FloorRequestQuery request) served fits none = tt
+may_serve s user (UserQuery beneficiary) served fits none = tt
+may_serve s user (FloorQuery floors) served fits none = tt
+may_serve s user (ChairAction request verdicts) served fits none = served
+may_serve s user Hello served fits none = tt

@@ -1,0 +1,125 @@
+-- What a state is after an accepted message.
+use Rattle.std.proofs.Common.{◌≡◌, ℕ, ◌+◌, true, List, [], ◌∷◌, ◌++◌, map, Option, Some, None, Result, Ok, Err, refl, sym, ap, ◌∙◌, Vec, Global}
+use Rattle.std.specs.Prelude.{OnOk, IfSome, IsSome}
+use Rattle.std.specs.Option.{option_map_or}
+use Rattle.floor_config.specs.declared.config.Floor.{Floor}
+use Rattle.floor_queue.specs.declared.request.Request.{Request}
+use Rattle.floor_queue.specs.Queue.{IsQueue, request_at, numbers_of, is_ascending, first_request, after_add, after_end}
+use Rattle.floor_message.specs.declared.ask.Ask.TheVariants.{FloorRequest, FloorRelease, FloorQuery}
+use Rattle.floor_machine.specs.declared.course.Course.{Course}
+use Rattle.floor_machine.specs.declared.course.Ended.{Ended}
+use Rattle.floor_machine.specs.declared.member.Member.{Member}
+use Rattle.floor_machine.specs.declared.state.State.{State}
+use Rattle.floor_machine.specs.Conference.{Conference, user_of}
+use Rattle.floor_machine.specs.Change.{no_change, asked_change, released, watching}
+use Rattle.floor_machine.specs.Reply.{infos}
+use Rattle.floor_machine.specs.Steps.{entry_of_ended}
+use Rattle.floor_machine.specs.Serving.{IsChanged, IsState, conference_of, is_rising, new_of_ask}
+use Rattle.floor_machine.proofs.Entries.{ongoing_of-entries, ended_of-entries, numbers_in-entries}
+use Rattle.floor_machine.proofs.Changing.{rising-numbers, rising-next, entries-added, none-ended-added, numbers-added, ongoing_of-ending, ended_of-ending, numbers_in-ending}
+
+pub on_ok : {T E P Q : Type 0} (r : Result T E) → (P → Q) → OnOk r P → OnOk r Q
+on_ok (Ok x) f p = f p
+on_ok (Err e) f p = tt
+
+pub on_ok_both : {T E P Q R : Type 0} (r : Result T E) → (P → Q → R) → OnOk r P → OnOk r Q → OnOk r R
+on_ok_both (Ok x) f p q = f p q
+on_ok_both (Err e) f p q = tt
+
+pub on_ok_all : {T E P : Type 0} (r : Result T E) → P → OnOk r P
+on_ok_all (Ok x) p = p
+on_ok_all (Err e) p = tt
+
+-- nothing is changed as an event begins
+pub begun : (s : Conference) (course : Course) → is_ascending s.ongoing ≡ true →
+    course.before.items ≡ infos s → course.numbers.items ≡ numbers_of s.ongoing → course.ended.items ≡ [] → IsChanged s (no_change s) s course
+begun s course h before numbers ended = record {
+  config = refl;
+  given = refl;
+  members = refl;
+  is_open = refl;
+  ongoing = sym (ongoing_of-entries s.ongoing);
+  ended = ap (map entry_of_ended) ended ∙ sym (ended_of-entries s.ongoing);
+  numbers = numbers ∙ sym (numbers_in-entries s.ongoing);
+  rising = ap is_rising numbers ∙ rising-numbers s.ongoing ∙ h;
+  before = before;
+}
+
+-- the request that a FloorRequest makes
+abbrev pub made : State → ℕ → Option ℕ → List ℕ → ℕ → Option (List ℕ) → List Floor → Request
+made s user beneficiary floors priority info known = first_request known (s.requests.given + 1) (new_of_ask user beneficiary floors priority info)
+
+-- a FloorRequest has added its request
+pub changed-request : (s : State) (course course' : Course) (n user : ℕ) (beneficiary : Option ℕ) (floors : List ℕ) (priority : ℕ) (info : Option (List ℕ)) →
+    IsState s → IsQueue s.requests → IsChanged (conference_of s) (no_change (conference_of s)) (conference_of s) course → user ≡ user_of (conference_of s) n →
+    course'.numbers.items ≡ course.numbers.items ++ (s.requests.given + 1) ∷ [] → course'.before ≡ course.before → course'.ended ≡ course.ended →
+    IsChanged (conference_of s) (asked_change (conference_of s) n (FloorRequest beneficiary floors priority info))
+    (conference_of (record s { requests = after_add s.requests (new_of_ask user beneficiary floors priority info) })) course'
+changed-request s course course' n user beneficiary floors priority info state queue begun is_user numbers before ended =
+    let rs = s.requests.ongoing in
+    let mine = made s user beneficiary floors priority info s.requests.floors in
+    let spec = made s (user_of (conference_of s) n) beneficiary floors priority info s.config.floors in
+    let same : mine ≡ spec =
+    ap (λ (u : ℕ). made s u beneficiary floors priority info s.requests.floors) is_user
+    ∙ ap (made s (user_of (conference_of s) n) beneficiary floors priority info) state.floors in
+    record {
+      config = refl;
+      given = refl;
+      members = refl;
+      is_open = refl;
+      ongoing = ap (λ (r : Request). rs ++ r ∷ []) same ∙ sym (entries-added rs spec);
+      ended = ap (λ (es : List Ended). map entry_of_ended es) (ap (λ x. x.items) ended) ∙ begun.ended ∙ ended_of-entries rs ∙ sym (none-ended-added rs spec);
+      numbers = numbers ∙ ap (λ (ns : List ℕ). ns ++ (s.requests.given + 1) ∷ []) (begun.numbers ∙ numbers_in-entries rs) ∙ sym (numbers-added rs spec);
+      rising = ap is_rising (numbers ∙ ap (λ (ns : List ℕ). ns ++ (s.requests.given + 1) ∷ []) (begun.numbers ∙ numbers_in-entries rs)) ∙ rising-next rs s.requests.given queue.ascending queue.numbers;
+      before = ap (λ x. x.items) before ∙ begun.before;
+    }
+
+-- a FloorRelease has ended its request
+pub changed-release : (s : State) (course course' : Course) (n request : ℕ) →
+    IsQueue s.requests → IsChanged (conference_of s) (no_change (conference_of s)) (conference_of s) course →
+    IsSome (request_at s.requests.ongoing request) →
+    IfSome (request_at s.requests.ongoing request) (λ r. course'.ended.items ≡ course.ended.items ++ record { request = r; ending = released r } ∷ []) →
+    course'.numbers ≡ course.numbers → course'.before ≡ course.before →
+    IsChanged (conference_of s) (asked_change (conference_of s) n (FloorRelease request)) (conference_of (record s { requests = after_end s.requests request })) course'
+changed-release s course course' n request queue begun ongoing noted numbers before =
+    let rs = s.requests.ongoing in
+    let same : course'.numbers.items ≡ numbers_of rs = ap (λ x. x.items) numbers ∙ begun.numbers ∙ numbers_in-entries rs in
+    record {
+      config = refl;
+      given = refl;
+      members = refl;
+      is_open = refl;
+      ongoing = sym (ongoing_of-ending request released rs);
+      ended = by (request_at rs request) ongoing noted ∙ sym (ended_of-ending request released rs queue.ascending);
+      numbers = same ∙ sym (numbers_in-ending request released rs);
+      rising = ap is_rising same ∙ rising-numbers rs ∙ queue.ascending;
+      before = ap (λ x. x.items) before ∙ begun.before;
+    }
+  where
+    none : course.ended.items ≡ []
+    none = empty course.ended.items (begun.ended ∙ ended_of-entries s.requests.ongoing)
+      where
+        empty : (es : List Ended) → map entry_of_ended es ≡ [] → es ≡ []
+        empty [] h = refl
+        empty (e ∷ es) h = cc
+
+    by : (o : Option Request) → IsSome o → IfSome o (λ r. course'.ended.items ≡ course.ended.items ++ record { request = r; ending = released r } ∷ []) →
+        map entry_of_ended course'.ended.items ≡ option_map_or (λ r. entry_of_ended record { request = r; ending = released r } ∷ []) o []
+    by None some h = cc
+    by (Some r) some h = ap (map entry_of_ended) (h ∙ ap (λ (es : List Ended). es ++ record { request = r; ending = released r } ∷ []) none)
+
+-- a FloorQuery has changed what its sender watches
+pub changed-query : (s : State) (course : Course) (n : ℕ) (floors : List ℕ) (members : Vec Member Global) →
+    IsChanged (conference_of s) (no_change (conference_of s)) (conference_of s) course → members.items ≡ map (watching n floors) s.members.items →
+    IsChanged (conference_of s) (asked_change (conference_of s) n (FloorQuery floors)) (conference_of (record s { members = members })) course
+changed-query s course n floors members begun same = record {
+  config = refl;
+  given = refl;
+  members = same;
+  is_open = refl;
+  ongoing = begun.ongoing;
+  ended = begun.ended;
+  numbers = begun.numbers;
+  rising = begun.rising;
+  before = begun.before;
+}

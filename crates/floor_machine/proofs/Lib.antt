@@ -1,0 +1,13 @@
+pub mod Filtered
+pub mod Found
+pub mod Shows
+pub mod SameLists
+pub mod Entries
+pub mod Telling
+pub mod Changing
+pub mod Served
+pub mod Allowed
+pub mod Asked
+pub mod Joining
+pub mod SameInfo
+pub mod Sent

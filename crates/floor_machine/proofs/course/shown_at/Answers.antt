@@ -1,0 +1,18 @@
+use Rattle.std.proofs.Common.{◌∙◌, ap, Option, Some}
+use Rattle.std.specs.Prelude.{option_map}
+use Rattle.std.specs.Option.{option_map_or}
+use Rattle.floor_queue.specs.Queue.{request_at}
+use Rattle.floor_machine.specs.declared.course.Ended.{Ended}
+use Rattle.floor_machine.specs.declared.course.Shown.{Shown}
+use Rattle.floor_machine.specs.Shown.{entry_of}
+use Rattle.floor_machine.specs.Steps.{entry_of_ended, shown_of}
+use Rattle.floor_machine.proofs.Shows.{shown_of-ended}
+use Rattle.floor_machine.proofs.course.shown_at.Goals as goal
+
+pub returns-in_ok-shown_ended-in-Some : goal.returns-in_ok-shown_ended-in-Some
+returns-in_ok-shown_ended-in-Some c =
+    let config = c.args.config.now in
+    let ongoing = c.args.requests.now.ongoing in
+    let some : Shown → Option Shown = λ s. Some s in
+    ap some (c.in_ok-shown_ended-in-Some.ensures ∙ shown_of-ended config ongoing c.in-Some.found.now)
+    ∙ ap (λ (o : Option Ended). option_map (shown_of config ongoing) (option_map_or (λ d. Some (entry_of_ended d)) o (option_map entry_of (request_at ongoing c.args.number)))) c.in-Some.ensures

@@ -1,0 +1,7 @@
+use Rattle.std.proofs.Common.{◌≡◌, take}
+use Rattle.floor_machine.specs.Steps.{updates}
+use Rattle.floor_machine.proofs.course.updates.Given as goal
+
+abbrev pub invariant-loop-number : goal.invariant-loop-number
+invariant-loop-number l =
+    l.updates.items ≡ updates l.config l.requests.ongoing l.course.ended.items l.course.before.items (take l.number-index l.course.numbers.items)

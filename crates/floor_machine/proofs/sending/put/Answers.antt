@@ -1,0 +1,8 @@
+use Rattle.std.proofs.Common.{refl}
+use Rattle.floor_machine.specs.Outgoing.{outgoing_bytes}
+use Rattle.floor_machine.proofs.sending.put.Goals as goal
+
+pub returns : goal.returns
+unfolding outgoing_bytes
+returns c =
+    rw (c.in_ok-push.ensures.items, c.from_vec-bytes.ensures, c.in_ok-from_slice.ensures.items, c.bytes.ensures.same, c.in_ok-frame.ensures) refl

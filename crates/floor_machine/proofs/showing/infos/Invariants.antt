@@ -1,0 +1,6 @@
+use Rattle.std.proofs.Common.{◌≡◌, take, map}
+use Rattle.floor_machine.specs.Shown.{info}
+use Rattle.floor_machine.proofs.showing.infos.Given as goal
+
+abbrev pub invariant-loop-request : goal.invariant-loop-request
+invariant-loop-request l = l.shown.items ≡ map (info l.config l.requests.ongoing) (take l.request-index l.request-items)

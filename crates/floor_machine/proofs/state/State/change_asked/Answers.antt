@@ -1,0 +1,57 @@
+use Rattle.std.proofs.Common.{◌≡◌, true, List, sym, subst, refl}
+use Rattle.floor_machine.specs.declared.member.Member.{Member}
+use Rattle.floor_machine.proofs.Sent.{numbered-watching}
+use Rattle.floor_queue.specs.Queue.{Queue}
+use Rattle.floor_message.specs.declared.ask.Ask.{Ask}
+use Rattle.floor_message.specs.declared.ask.Ask.TheVariants.{FloorRequest, FloorRelease}
+use Rattle.floor_machine.specs.declared.course.Course.{Course}
+use Rattle.floor_machine.specs.declared.judged.Judged.TheVariants.{Accepted}
+use Rattle.floor_machine.specs.declared.state.State.{State}
+use Rattle.floor_machine.specs.Change.{asked_change}
+use Rattle.floor_machine.specs.Serving.{IsChanged, MayServe, conference_of, is_numbered_from}
+use Rattle.floor_machine.proofs.Asked.{on_ok, on_ok_both, changed-request, changed-release, changed-query}
+use Rattle.floor_machine.proofs.state.State.change_asked.Goals as goal
+
+pub returns-in-FloorRequest-clause-changed : goal.returns-in-FloorRequest-clause-changed
+returns-in-FloorRequest-clause-changed c = λ same.
+    let n = c.args.n in
+    let s = c.args.self.now in
+    let w = c.in-FloorRequest in
+    let P : Ask → Type 0 = λ a. IsChanged (conference_of s) (asked_change (conference_of s) n a) (conference_of c.request.new.self) c.request.new.course in
+    let Q : State → Type 0 = λ t. IsChanged (conference_of s) (asked_change (conference_of s) n (FloorRequest w.beneficiary w.floors w.priority w.info)) (conference_of t) c.request.new.course in
+    on_ok_both c.request.result (λ next numbers.
+    subst P (sym w.is) (subst Q (sym next)
+    (changed-request s c.args.course.now c.request.new.course n c.args.user w.beneficiary w.floors w.priority w.info c.requires.state c.requires.queue c.requires.begun same numbers c.request.ensures.before c.request.ensures.ended)))
+    c.request.ensures.next c.request.ensures.course
+
+pub returns-in-FloorRelease-clause-changed : goal.returns-in-FloorRelease-clause-changed
+returns-in-FloorRelease-clause-changed c = λ same.
+    let n = c.args.n in
+    let s = c.args.self.now in
+    let w = c.in-FloorRelease in
+    let course : Course = record { before = c.args.course.now.before; numbers = c.args.course.now.numbers; ended = c.release_request.new.ended } in
+    let P : Ask → Type 0 = λ a. IsChanged (conference_of s) (asked_change (conference_of s) n a) (conference_of (record s { requests = c.release_request.new.requests })) course in
+    let Q : Queue → Type 0 = λ q. IsChanged (conference_of s) (asked_change (conference_of s) n (FloorRelease w.request)) (conference_of (record s { requests = q })) course in
+    let M : Ask → Type 0 = λ a. MayServe (conference_of s) c.args.user (Accepted a) in
+    on_ok_both c.release_request.result (λ next noted.
+    subst P (sym w.is) (subst Q (sym next)
+    (changed-release s c.args.course.now course n w.request c.requires.queue c.requires.begun (subst M w.is c.requires.may) noted refl refl)))
+    c.release_request.ensures.next c.release_request.ensures.ended
+
+pub returns-in-FloorQuery-clause-changed : goal.returns-in-FloorQuery-clause-changed
+returns-in-FloorQuery-clause-changed c = λ same.
+    let n = c.args.n in
+    let s = c.args.self.now in
+    let w = c.in-FloorQuery in
+    let P : Ask → Type 0 = λ a. IsChanged (conference_of s) (asked_change (conference_of s) n a) (conference_of (record s { members = c.watch.new.members })) c.args.course.now in
+    on_ok c.watch.result (λ next. subst P (sym w.is) (changed-query s c.args.course.now n w.floors c.watch.new.members c.requires.begun next)) c.watch.ensures
+
+pub returns-in-FloorQuery-clause-state : goal.returns-in-FloorQuery-clause-state
+returns-in-FloorQuery-clause-state c =
+    let s = c.args.self.now in
+    let N : List Member → Type 0 = λ ms. is_numbered_from 1 ms ≡ true in
+    on_ok c.watch.result (λ next. record {
+      users = c.requires.state.users;
+      floors = c.requires.state.floors;
+      numbered = subst N (sym next) (numbered-watching c.args.n c.in-FloorQuery.floors 1 s.members.items c.requires.state.numbered);
+    }) c.watch.ensures

@@ -1,0 +1,27 @@
+use Rattle.std.proofs.Common.{◌≡◌, ◌+◌, ℕ, List, true, length, ap, sym, subst, rules}
+use Rattle.floor_config.specs.declared.config.Floor.{Floor}
+use Rattle.floor_queue.specs.Order.{settle}
+use Rattle.floor_machine.specs.declared.member.Member.{Member}
+use Rattle.floor_machine.specs.Serving.{conference_of, is_numbered_from}
+use Rattle.floor_machine.proofs.Joining.{next-join, numbered-push}
+use Rattle.floor_machine.proofs.state.State.join.Goals as goal
+
+pub returns-clause-next : goal.returns-clause-next
+returns-clause-next c =
+    let s = c.args.self.now in
+    let number : c.len.result ≡ length s.members.items = search rules in
+    let P : List Floor → Type 0 = λ fs. settle fs s.requests.ongoing ≡ s.requests.ongoing in
+    rw (c.in_ok-push.ensures.items, number, c.from_vec.ensures, c.new.ensures.items)
+    (next-join (conference_of s) c.args.user (subst P c.requires.state.floors c.requires.settled))
+
+pub returns-clause-state : goal.returns-clause-state
+returns-clause-state c =
+    let s = c.args.self.now in
+    let number : c.len.result ≡ length s.members.items = search rules in
+    let m : Member = record { n = c.len.result + 1; user = c.args.user; watched = c.from_vec.result; is_live = true } in
+    let N : List Member → Type 0 = λ ms. is_numbered_from 1 ms ≡ true in
+    record {
+      users = c.requires.state.users;
+      floors = c.requires.state.floors;
+      numbered = subst N (sym c.in_ok-push.ensures.items) (numbered-push 1 s.members.items m (ap (λ (k : ℕ). k + 1) number) c.requires.state.numbered);
+    }

@@ -1,0 +1,165 @@
+-- What an event does to a conference (RFC 8855, sections 10 to 13).
+use Rattle.std.specs.Prelude.{◌≡◌, ℕ, ◌+◌, ◌<◌, ◌==◌, ◌&&◌, not, if◌then◌else◌, Bool, true, false, List, [], ◌∷◌, ◌++◌, length, map, find, count_by, Option, Some, None, is_some}
+use Rattle.std.specs.List.{list_any}
+use Rattle.std.specs.Option.{option_map_or}
+use Rattle.floor_wire.specs.Message.{IsMessage}
+use Rattle.floor_queue.specs.declared.request.Request.{Request}
+use Rattle.floor_queue.specs.declared.requested_floor.FloorStatus.TheVariants.{Accepted as AcceptedFloor}
+use Rattle.floor_queue.specs.declared.requested_floor.RequestedFloor.{RequestedFloor}
+use Rattle.floor_queue.specs.declared.requested_floor.Word.{Word}
+use Rattle.floor_queue.specs.declared.requested_floor.Word.TheVariants.{Accepted as AcceptedWord, Granted as GrantedWord}
+use Rattle.floor_queue.specs.Queue.{request_at, first_request}
+use Rattle.floor_message.specs.Ask.{Answer, asks, refused, unanswered, ask}
+use Rattle.floor_message.specs.declared.ask.Ask.{Ask}
+use Rattle.floor_message.specs.declared.ask.Ask.TheVariants.{FloorRequest, FloorRelease, FloorRequestQuery, UserQuery, FloorQuery, ChairAction, Hello}
+use Rattle.floor_message.specs.declared.ask.Verdict.{Verdict}
+use Rattle.floor_message.specs.declared.ask.Verdict.TheVariants.{Accepted, Granted, Denied, Revoked}
+use Rattle.floor_machine.specs.declared.member.Member.{Member}
+use Rattle.floor_machine.specs.declared.status.RequestStatus.{RequestStatus}
+use Rattle.floor_machine.specs.declared.status.RequestStatus.TheVariants as status
+use Rattle.floor_machine.specs.Conference.{Conference, is_user, is_live, is_present, user_of, binding}
+use Rattle.floor_machine.specs.Event.{Event, Join, Message, Leave, Revoke, Close}
+use Rattle.floor_machine.specs.Shown.{Entry, entry_of, ongoing_of, settle_entries}
+use Rattle.floor_machine.specs.Checks.{beneficiary_of, refusal}
+
+-- what an event makes of a conference before it is settled, with the requests that ended still among the others
+pub record Change : Type 0 where
+  pub given : ℕ
+  pub entries : List Entry
+  pub members : List Member
+  pub is_open : Bool
+
+-- an event that changes nothing
+abbrev pub no_change : Conference → Change
+no_change s = record { given = s.given; entries = map entry_of s.ongoing; members = s.members; is_open = s.is_open }
+
+-- the ongoing requests, of which some end, each with the status that is said of it
+abbrev pub ending : Conference → (Request → Option RequestStatus) → List Entry
+ending s ends = map (λ r. record { request = r; ending = ends r }) s.ongoing
+
+-- the one request with this number ends
+abbrev pub ends_at : ℕ → (Request → RequestStatus) → Request → Option RequestStatus
+ends_at request how r = if r.number == request then Some (how r) else None
+
+-- a request that is given back is Released where it was Granted, else Cancelled (section 13.4)
+abbrev pub released : Request → RequestStatus
+released r = if r.is_granted then status.Released else status.Cancelled
+
+-- a request that is refused is Revoked where it was Granted, else Denied (section 13.6)
+abbrev pub dismissed : Request → RequestStatus
+dismissed r = if r.is_granted then status.Revoked else status.Denied
+
+-- a verdict that ends the request
+abbrev pub is_final : Verdict → Bool
+is_final Accepted = false
+is_final Granted = false
+is_final Denied = true
+is_final Revoked = true
+
+-- the word that a verdict which doesn't end the request leaves on the floor
+abbrev pub word_of : Verdict → Word
+word_of Granted = GrantedWord
+word_of Accepted = AcceptedWord
+word_of Denied = AcceptedWord
+word_of Revoked = AcceptedWord
+
+-- a floor of a request after the verdicts: where there is one on it, it is Accepted and has that last word
+abbrev pub decided : List (ℕ × Verdict) → RequestedFloor → RequestedFloor
+decided verdicts f =
+    option_map_or (λ v. record { floor = f.floor; status = AcceptedFloor; word = Some (word_of v.1) })
+    (find (λ v. v.0 == f.floor) verdicts) f
+
+-- the request with this number after the verdicts on its floors, and any other as it is
+abbrev pub decided_at : ℕ → List (ℕ × Verdict) → Request → Request
+decided_at request verdicts r = if r.number == request then record r { floors = map (decided verdicts) r.floors } else r
+
+-- the requests that an accepted message of this user leaves
+abbrev pub entries_after : Conference → ℕ → Ask → List Entry
+entries_after s user (FloorRequest beneficiary floors priority info) =
+    map entry_of s.ongoing
+    ++ entry_of (first_request s.config.floors (s.given + 1)
+    record { requester = user; beneficiary = beneficiary_of user beneficiary; floors = floors; priority = priority; info = info }) ∷ []
+entries_after s user (FloorRelease request) = ending s (ends_at request released)
+entries_after s user (FloorRequestQuery request) = map entry_of s.ongoing
+entries_after s user (UserQuery beneficiary) = map entry_of s.ongoing
+entries_after s user (FloorQuery floors) = map entry_of s.ongoing
+entries_after s user (ChairAction request verdicts) =
+    if list_any (λ v. is_final v.1) verdicts
+    then ending s (ends_at request dismissed)
+    else map (λ r. entry_of (decided_at request verdicts r)) s.ongoing
+entries_after s user Hello = map entry_of s.ongoing
+
+-- how many requests were ever accepted, after an accepted message
+abbrev pub given_after : Conference → Ask → ℕ
+given_after s (FloorRequest beneficiary floors priority info) = s.given + 1
+given_after s _ = s.given
+
+-- n watches these floors, and all others what they did
+abbrev pub watching : ℕ → List ℕ → Member → Member
+watching n floors m = if m.n == n then record m { watched = floors } else m
+
+-- the members after an accepted message: a FloorQuery replaces the sender's watched floors (section 13.5)
+abbrev pub members_after : Conference → ℕ → Ask → List Member
+members_after s n (FloorQuery floors) = map (watching n floors) s.members
+members_after s n _ = s.members
+
+-- an accepted message of n
+abbrev pub asked_change : Conference → ℕ → Ask → Change
+asked_change s n a =
+    record {
+      given = given_after s a;
+      entries = entries_after s (user_of s n) a;
+      members = members_after s n a;
+      is_open = s.is_open;
+    }
+
+-- a message of n, as it is read: what is refused or left unanswered changes nothing
+abbrev pub message_change : Conference → ℕ → Answer → Change
+message_change s n unanswered = no_change s
+message_change s n (refused code details) = no_change s
+message_change s n (asks a) = if is_some (refusal s (user_of s n) a) then no_change s else asked_change s n a
+
+-- n is no longer live, and all others are what they were
+abbrev pub leaving : ℕ → Member → Member
+leaving n m = if m.n == n then record m { is_live = false } else m
+
+-- a request that ends with the last connection of its beneficiary: it was this user's, and none of the members is any more
+abbrev pub ends_without : List Member → ℕ → Request → Option RequestStatus
+ends_without members user r = if r.beneficiary == user && not (is_present members user) then Some (released r) else None
+
+-- what an event makes of a conference
+unfoldable pub change : Conference → Event → Change
+change s (Join user) =
+    record (no_change s) {
+      members = s.members ++ record { n = length s.members + 1; user = user; watched = []; is_live = true } ∷ [];
+    }
+change s (Message n bytes) = message_change s n (ask bytes (binding s n))
+change s (Leave n) =
+    let members = map (leaving n) s.members in
+    record (no_change s) { members = members; entries = ending s (ends_without members (user_of s n)) }
+change s (Revoke request) = record (no_change s) { entries = ending s (ends_at request dismissed) }
+change s Close = record (no_change s) { entries = []; is_open = false }
+
+-- the requests after an event: settled, with those that ended kept aside among them
+unfoldable pub shown : Conference → Event → List Entry
+shown s e = settle_entries s.config.floors (change s e).entries
+
+-- the conference after an event: settled, without the requests that ended
+unfoldable pub next : Conference → Event → Conference
+next s e =
+    record {
+      config = s.config;
+      given = (change s e).given;
+      ongoing = ongoing_of (shown s e);
+      members = (change s e).members;
+      is_open = (change s e).is_open;
+    }
+
+-- the event may happen now: an open conference is joined by its users, 64 live members at most; a live member sends one whole
+-- message, or leaves; an ongoing request is revoked; and the conference is closed
+abbrev pub IsLawful : Conference → Event → Type 0
+IsLawful s (Join user) = (s.is_open ≡ true) × (is_user s.config user ≡ true) × (count_by (λ m. m.is_live) s.members < 64)
+IsLawful s (Message n bytes) = (s.is_open ≡ true) × (is_live s n ≡ true) × IsMessage bytes
+IsLawful s (Leave n) = (s.is_open ≡ true) × (is_live s n ≡ true)
+IsLawful s (Revoke request) = (s.is_open ≡ true) × (is_some (request_at s.ongoing request) ≡ true)
+IsLawful s Close = s.is_open ≡ true

@@ -1,0 +1,15 @@
+pub mod Conference
+pub mod Event
+pub mod Shown
+pub mod Checks
+pub mod Change
+pub mod Outgoing
+pub mod Reply
+pub mod Same
+pub mod Told
+pub mod Journal
+pub mod Steps
+pub mod Serving
+pub mod Machine
+pub mod Laws
+pub mod Examples

@@ -1,0 +1,146 @@
+-- The steps by which a message is served.
+use Rattle.std.specs.Prelude.{◌≡◌, ℕ, ◌+◌, ◌==◌, ◌&&◌, Bool, true, false, List, [], ◌∷◌, map, filter, Option, option_map, unwrap_or, is_some, nat_lt, IsSome}
+use Rattle.std.specs.List.{list_all}
+use Rattle.std.specs.Option.{option_map_or}
+use Rattle.floor_config.specs.Configuration.{user_ids}
+use Rattle.floor_queue.specs.declared.request.New.{New}
+use Rattle.floor_queue.specs.Queue.{IsAddable, IsSettled, request_at}
+use Rattle.floor_message.specs.Ask.{Answer, asks, refused, unanswered}
+use Rattle.floor_message.specs.Code.{code_number}
+use Rattle.floor_message.specs.declared.ask.Ask.{Ask}
+use Rattle.floor_message.specs.declared.ask.Ask.TheVariants.{FloorRequest, FloorRelease, FloorRequestQuery, UserQuery, FloorQuery, ChairAction, Hello}
+use Rattle.floor_message.specs.declared.tell.Tell.{Tell}
+use Rattle.floor_message.specs.declared.tell.Tell.TheVariants.{FloorRequestStatus, UserStatus, ChairActionAck, HelloAck, Error}
+use Rattle.floor_machine.specs.declared.course.Course.{Course}
+use Rattle.floor_machine.specs.declared.course.Ended.{Ended}
+use Rattle.floor_machine.specs.declared.judged.Judged.{Judged}
+use Rattle.floor_machine.specs.declared.judged.Judged.TheVariants.{Accepted, Refused, Unanswered}
+use Rattle.floor_machine.specs.declared.member.Member.{Member}
+use Rattle.floor_machine.specs.declared.state.State.{State}
+use Rattle.floor_machine.specs.Conference.{Conference}
+use Rattle.floor_machine.specs.Shown.{Entry, ongoing_of, described}
+use Rattle.floor_machine.specs.Checks.{refusal, beneficiary_of}
+use Rattle.floor_machine.specs.Change.{Change, no_change, asked_change}
+use Rattle.floor_machine.specs.Reply.{infos, infos_of_user, floor_answers, supported_primitives, supported_attributes}
+use Rattle.floor_machine.specs.Steps.{entry_of_ended, shown_at}
+
+-- the conference that a state is
+abbrev pub conference_of : State → Conference
+conference_of s =
+    record { config = s.config; given = s.requests.given; ongoing = s.requests.ongoing; members = s.members.items; is_open = s.is_open }
+
+-- the members are numbered from k on, in their order
+abbrev pub is_numbered_from : ℕ → List Member → Bool
+is_numbered_from k [] = true
+is_numbered_from k (m ∷ members) = m.n == k && is_numbered_from (k + 1) members
+
+-- What every state keeps: the users of the binding are those of the configuration; the floors of the requests are its floors; and
+-- the members are numbered from 1 on.
+pub record IsState (s : State) : Type 0 where
+  pub users : s.users.items ≡ user_ids s.config.users
+  pub floors : s.requests.floors ≡ s.config.floors
+  pub numbered : is_numbered_from 1 s.members.items ≡ true
+
+-- what a machine keeps: unless it is broken, its state is one, and settled
+pub record IsMachine (s : State) (is_broken : Bool) : Type 0 where
+  pub state : is_broken ≡ false → IsState s
+  pub settled : is_broken ≡ false → IsSettled s.requests
+
+-- the message after the own checks
+abbrev pub judged : Conference → ℕ → Answer → Judged
+judged s user unanswered = Unanswered
+judged s user (refused code details) = Refused code details
+judged s user (asks a) = option_map_or (λ code. Refused code []) (refusal s user a) (Accepted a)
+
+-- what a judged message of n changes
+abbrev pub judged_change : Conference → ℕ → Judged → Change
+judged_change s n (Accepted a) = asked_change s n a
+judged_change s n (Refused code details) = no_change s
+judged_change s n Unanswered = no_change s
+
+-- the requests that ended
+abbrev pub ended_of : List Entry → List Entry
+ended_of entries = filter (λ e. is_some e.ending) entries
+
+-- the numbers of the entries
+abbrev pub numbers_in : List Entry → List ℕ
+numbers_in entries = map (λ e. e.request.number) entries
+
+-- each number is below all later ones
+abbrev pub is_rising : List ℕ → Bool
+is_rising [] = true
+is_rising (n ∷ numbers) = list_all (nat_lt n) numbers && is_rising numbers
+
+-- t, which isn't settled yet, is s after the change, and the course has noted what it was and what ended
+pub record IsChanged (s : Conference) (c : Change) (t : Conference) (course : Course) : Type 0 where
+  pub config : t.config ≡ s.config
+  pub given : t.given ≡ c.given
+  pub members : t.members ≡ c.members
+  pub is_open : t.is_open ≡ c.is_open
+  pub ongoing : t.ongoing ≡ ongoing_of c.entries
+  pub ended : map entry_of_ended course.ended.items ≡ ended_of c.entries
+  pub numbers : course.numbers.items ≡ numbers_in c.entries
+  pub rising : is_rising course.numbers.items ≡ true
+  pub before : course.before.items ≡ infos s
+
+-- the request that a FloorRequest of this user asks for
+abbrev pub new_of_ask : ℕ → Option ℕ → List ℕ → ℕ → Option (List ℕ) → New
+new_of_ask user beneficiary floors priority info =
+    record { requester = user; beneficiary = beneficiary_of user beneficiary; floors = floors; priority = priority; info = info }
+
+-- what a user asks is served: all but a ChairAction
+abbrev pub IsServedAsk : Ask → Type 0
+IsServedAsk (FloorRequest beneficiary floors priority info) = Unit {0}
+IsServedAsk (FloorRelease request) = Unit {0}
+IsServedAsk (FloorRequestQuery request) = Unit {0}
+IsServedAsk (UserQuery beneficiary) = Unit {0}
+IsServedAsk (FloorQuery floors) = Unit {0}
+IsServedAsk (ChairAction request verdicts) = ⊥
+IsServedAsk Hello = Unit {0}
+
+-- a message is served as it is read: all but what asks something that isn't
+abbrev pub IsServed : Answer → Type 0
+IsServed unanswered = Unit {0}
+IsServed (refused code details) = Unit {0}
+IsServed (asks a) = IsServedAsk a
+
+-- what is accepted is served
+abbrev pub IsServedJudged : Judged → Type 0
+IsServedJudged (Accepted a) = IsServedAsk a
+IsServedJudged (Refused code details) = Unit {0}
+IsServedJudged Unanswered = Unit {0}
+
+-- what is accepted is served, and may be done: a FloorRequest may be added, and a request that is released is ongoing
+abbrev pub MayServe : Conference → ℕ → Judged → Type 0
+MayServe s user (Accepted (FloorRequest beneficiary floors priority info)) =
+    IsAddable s.config.floors (new_of_ask user beneficiary floors priority info)
+MayServe s user (Accepted (FloorRelease request)) = IsSome (request_at s.ongoing request)
+MayServe s user (Accepted (FloorRequestQuery request)) = Unit {0}
+MayServe s user (Accepted (UserQuery beneficiary)) = Unit {0}
+MayServe s user (Accepted (FloorQuery floors)) = Unit {0}
+MayServe s user (Accepted (ChairAction request verdicts)) = ⊥
+MayServe s user (Accepted Hello) = Unit {0}
+MayServe s user (Refused code details) = Unit {0}
+MayServe s user Unanswered = Unit {0}
+
+-- the status of the request with this number, which ended or is ongoing
+abbrev pub status_tells : Conference → List Ended → ℕ → List Tell
+status_tells t ended number =
+    option_map_or (λ shown. FloorRequestStatus shown.info ∷ []) (shown_at t.config t.ongoing ended number) []
+
+-- what an accepted message of this user is answered by, after the event
+abbrev pub accepted_tells : Conference → List Ended → ℕ → Ask → List Tell
+accepted_tells t ended user (FloorRequest beneficiary floors priority info) = status_tells t ended t.given
+accepted_tells t ended user (FloorRelease request) = status_tells t ended request
+accepted_tells t ended user (FloorRequestQuery request) = status_tells t ended request
+accepted_tells t ended user (UserQuery beneficiary) =
+    UserStatus (option_map (described t.config) beneficiary) (infos_of_user (unwrap_or beneficiary user) t) ∷ []
+accepted_tells t ended user (FloorQuery floors) = floor_answers t floors
+accepted_tells t ended user (ChairAction request verdicts) = ChairActionAck ∷ []
+accepted_tells t ended user Hello = HelloAck supported_primitives supported_attributes ∷ []
+
+-- what a judged message of this user is answered by, after the event
+abbrev pub judged_tells : Conference → List Ended → ℕ → Judged → List Tell
+judged_tells t ended user (Accepted a) = accepted_tells t ended user a
+judged_tells t ended user (Refused code details) = Error (code_number code) details ∷ []
+judged_tells t ended user Unanswered = []

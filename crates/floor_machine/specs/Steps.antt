@@ -1,0 +1,155 @@
+-- What the steps of one event find, one after another, and the parcels that are made of it.
+use Rattle.std.specs.Prelude.{ℕ, ◌==◌, ◌&&◌, ◌||◌, not, if◌then◌else◌, Bool, false, List, [], ◌∷◌, ◌++◌, map, filter, find, fold, max, Option, Some, None, option_map}
+use Rattle.std.specs.List.{list_any, flat_map}
+use Rattle.std.specs.Option.{option_map_or}
+use Rattle.floor_config.specs.Configuration.{Configuration}
+use Rattle.floor_config.specs.declared.config.Floor.{Floor}
+use Rattle.floor_queue.specs.declared.request.Request.{Request}
+use Rattle.floor_queue.specs.declared.requested_floor.RequestedFloor.{RequestedFloor}
+use Rattle.floor_queue.specs.Queue.{request_at}
+use Rattle.floor_message.specs.declared.head.Head.{Head}
+use Rattle.floor_message.specs.declared.tell.Info.{Info}
+use Rattle.floor_message.specs.declared.tell.Tell.{Tell}
+use Rattle.floor_message.specs.declared.tell.Tell.TheVariants.{FloorRequestStatus, FloorStatus}
+use Rattle.floor_machine.specs.declared.member.Member.{Member}
+use Rattle.floor_machine.specs.declared.parcel.Parcel.{Parcel}
+use Rattle.floor_machine.specs.declared.course.Ended.{Ended}
+use Rattle.floor_machine.specs.declared.course.Shown.{Shown}
+use Rattle.floor_machine.specs.declared.sending.Reply.{Reply}
+use Rattle.floor_machine.specs.declared.sending.Update.{Update}
+use Rattle.floor_machine.specs.declared.sending.FloorUpdate.{FloorUpdate}
+use Rattle.floor_machine.specs.Shown.{Entry, entry_of, info, info_of, named}
+use Rattle.floor_machine.specs.Same.{same_infos}
+use Rattle.floor_machine.specs.Outgoing.{Outgoing, notice}
+use Rattle.floor_machine.specs.Reply.{infos_on}
+use Rattle.floor_machine.specs.Told.{is_changed, is_status_of}
+use Rattle.floor_machine.specs.Journal.{parcel}
+
+-- a request that ended, as an entry
+abbrev pub entry_of_ended : Ended → Entry
+entry_of_ended d = record { request = d.request; ending = Some d.ending }
+
+-- the entry with this number: among the requests that ended, else among the ongoing ones
+abbrev pub entry_at : List Ended → List Request → ℕ → Option Entry
+entry_at ended ongoing number =
+    option_map_or (λ d. Some (entry_of_ended d)) (find (λ d. d.request.number == number) ended)
+    (option_map entry_of (request_at ongoing number))
+
+-- a floor of a request that ended, with the status of the request
+abbrev pub ended_floor_shown : ℕ → RequestedFloor → ℕ × Option (ℕ × ℕ)
+ended_floor_shown status f = (f.floor, Some (status, 0))
+
+-- the queue position with which a floor is shown
+abbrev pub position_shown : ℕ × Option (ℕ × ℕ) → ℕ
+position_shown shown = option_map_or (λ status. status.1) shown.1 0
+
+-- a request with this status, and its floors as they are shown
+abbrev pub info_with : Configuration → Request → ℕ → List (ℕ × Option (ℕ × ℕ)) → Info
+info_with config r status shown =
+    record {
+      request = r.number;
+      overall = Some (status, fold max 0 (map position_shown shown));
+      floors = shown;
+      beneficiary = Some (named config r.beneficiary);
+      requester = if r.requester == r.beneficiary then None else Some (named config r.requester);
+      priority = Some r.priority;
+      info = r.info;
+    }
+
+-- whom an entry concerns, and what is shown of it
+abbrev pub shown_of : Configuration → List Request → Entry → Shown
+shown_of config ongoing e =
+    record {
+      number = e.request.number;
+      requester = e.request.requester;
+      beneficiary = e.request.beneficiary;
+      info = info_of config ongoing e;
+    }
+
+-- what is shown of the request with this number
+abbrev pub shown_at : Configuration → List Request → List Ended → ℕ → Option Shown
+shown_at config ongoing ended number = option_map (shown_of config ongoing) (entry_at ended ongoing number)
+
+-- what is shown of all ongoing requests
+abbrev pub infos_of : Configuration → List Request → List Info
+infos_of config ongoing = map (info config ongoing) ongoing
+
+-- the status that tells of a changed request
+abbrev pub update_of : Shown → Update
+update_of shown =
+    record {
+      number = shown.number;
+      requester = shown.requester;
+      beneficiary = shown.beneficiary;
+      tell = FloorRequestStatus shown.info;
+    }
+
+-- the status of a request, if it is shown otherwise than before
+abbrev pub update_if : List Info → Shown → List Update
+update_if before shown = if is_changed before shown.info then update_of shown ∷ [] else []
+
+-- the status of the request with this number, if it is shown otherwise than before
+abbrev pub update_at : Configuration → List Request → List Ended → List Info → ℕ → List Update
+update_at config ongoing ended before number = option_map_or (update_if before) (shown_at config ongoing ended number) []
+
+-- the statuses of those with these numbers that are shown otherwise than before
+abbrev pub updates : Configuration → List Request → List Ended → List Info → List ℕ → List Update
+updates config ongoing ended before numbers = flat_map (update_at config ongoing ended before) numbers
+
+-- the floor with all requests shown that name it
+abbrev pub floor_update : List Info → Floor → FloorUpdate
+floor_update now floor = record { floor = floor.id; tell = FloorStatus (Some floor.id) (infos_on floor.id now) }
+
+-- the requests that name the floor are shown otherwise than before
+abbrev pub is_floor_changed : List Info → List Info → Floor → Bool
+is_floor_changed before now floor = not (same_infos (infos_on floor.id before) (infos_on floor.id now))
+
+-- the floors whose requests are shown otherwise than before
+abbrev pub floor_updates : List Info → List Info → List Floor → List FloorUpdate
+floor_updates before now floors = map (floor_update now) (filter (is_floor_changed before now) floors)
+
+-- the first message has the head, and those behind it the same without the transaction
+abbrev pub answered : Head → List Tell → List Outgoing
+answered head [] = []
+answered head (tell ∷ tells) = record { head = head; tell = tell } ∷ answered (record head { transaction = 0 }) tells
+
+-- the reply is to n
+abbrev pub is_to : ℕ → Reply → Bool
+is_to n reply = reply.n == n
+
+-- what the reply tells n
+abbrev pub answered_to : Option Reply → ℕ → List Outgoing
+answered_to reply n = option_map_or (λ r. if is_to n r then answered r.head r.tells.items else []) reply []
+
+-- the reply to n is already the status of this request
+abbrev pub is_answered : Option Reply → ℕ → ℕ → Bool
+is_answered reply n number = option_map_or (λ r. is_to n r && list_any (is_status_of number) r.tells.items) reply false
+
+-- a changed request is told to its requester and its beneficiary, unless the reply to the member is its status already
+abbrev pub is_due_to : Option Reply → Member → Update → Bool
+is_due_to reply m update =
+    (update.requester == m.user || update.beneficiary == m.user) && not (is_answered reply m.n update.number)
+
+-- the member watches the floor
+abbrev pub is_watched : Member → FloorUpdate → Bool
+is_watched m update = list_any (λ floor. floor == update.floor) m.watched
+
+-- a status of a changed request, to the member
+abbrev pub update_to : ℕ → Member → Update → Outgoing
+update_to conference m update = notice conference m.user update.tell
+
+-- a status of a changed floor, to the member
+abbrev pub floor_update_to : ℕ → Member → FloorUpdate → Outgoing
+floor_update_to conference m update = notice conference m.user update.tell
+
+-- the parcels of a member: the reply to it, the changed requests of its user, and the changed floors that it watches
+abbrev pub parcels_to : ℕ → Option Reply → List Update → List FloorUpdate → Member → List Parcel
+parcels_to conference reply requests floors m =
+    map (parcel m.n) (answered_to reply m.n)
+    ++ map (λ u. parcel m.n (update_to conference m u)) (filter (is_due_to reply m) requests)
+    ++ map (λ u. parcel m.n (floor_update_to conference m u)) (filter (is_watched m) floors)
+
+-- the parcels of the live members, in their order
+abbrev pub parcels_to_all : ℕ → Option Reply → List Update → List FloorUpdate → List Member → List Parcel
+parcels_to_all conference reply requests floors members =
+    flat_map (λ m. if m.is_live then parcels_to conference reply requests floors m else []) members

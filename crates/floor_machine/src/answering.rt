@@ -1,0 +1,179 @@
+//! What a message is answered by (RFC 8855, section 13).
+
+ghost use Rattle.std.specs.Prelude.{◌≡◌, ◌∷◌, [], IfOk, Some, map, option_map, unwrap_or};
+ghost use Rattle.floor_queue.specs.Queue.{IsSettled};
+ghost use Rattle.floor_machine.specs.Reply as spec;
+ghost use Rattle.floor_machine.specs.Shown as shown;
+ghost use Rattle.floor_machine.specs.Serving as serving;
+ghost use Rattle.floor_machine.specs.Serving.{conference_of};
+
+use crate::course::{Ended, floor_status, shown_at};
+use crate::judged::Judged;
+use crate::showing::{described, infos, infos_of_user};
+use crate::state::State;
+use floor_config::Config;
+use floor_message::{Ask, Info, Infos, Tell, Who};
+use floor_wire::Octets;
+use std::alloc::{AllocError, Global};
+
+/// One message.
+fn one(alloc: Global, tell: Tell) -> Result<Vec<Tell>, AllocError>
+    ensures { IfOk result (λ tells. tells.items ≡ tell ∷ []) }
+{
+    let mut tells = Vec::new(alloc);
+    tells.push(tell)?;
+    Ok(tells)
+}
+
+/// The user by name and URI, where one is asked about.
+fn described_if(
+    alloc: Global,
+    config: &Config,
+    user: Option<u16>,
+) -> Result<Option<Who>, AllocError>
+    ensures { IfOk result (λ who. who ≡ option_map (shown.described config.now) user) }
+{
+    match user {
+        None => Ok(None),
+        Some(user) => Ok(Some(described(alloc, config, user)?)),
+    }
+}
+
+fn hello_tells(alloc: Global) -> Result<Vec<Tell>, AllocError>
+    ensures { IfOk result (λ tells. tells.items ≡ Tell.HelloAck spec.supported_primitives spec.supported_attributes ∷ []) }
+{
+    let primitives = vec![in alloc; 1, 2, 3, 4, 5, 6, 7, 8, 9, 10, 11, 12, 13]?;
+    let attributes = vec![in alloc;
+        1, 2, 3, 4, 5, 6, 7, 8, 9, 10, 11, 12, 13, 14, 15, 16, 17, 18,
+    ]?;
+    one(
+        alloc,
+        Tell::HelloAck {
+            primitives: Octets::from_vec(primitives),
+            attributes: Octets::from_vec(attributes),
+        },
+    )
+}
+
+/// The statuses of floors, in their order.
+fn floor_statuses(alloc: Global, now: &[Info], floors: &[u16]) -> Result<Vec<Tell>, AllocError>
+    ensures { IfOk result (λ tells. tells.items
+        ≡ map (λ floor. Tell.FloorStatus (Some floor) (spec.infos_on floor now.now)) floors.now) }
+{
+    let mut tells = Vec::new(alloc);
+    for floor in floors {
+        tells.push(floor_status(alloc, *floor, now)?)?;
+    }
+    Ok(tells)
+}
+
+impl State {
+    /// The status of the request with this number.
+    fn status_tells(
+        &self,
+        alloc: Global,
+        ended: &[Ended],
+        number: u16,
+    ) -> Result<Vec<Tell>, AllocError>
+        requires floors { self.now.requests.floors ≡ self.now.config.floors }
+        requires settled { IsSettled self.now.requests }
+        ensures { IfOk result (λ tells. tells.items ≡ serving.status_tells (conference_of self.now) ended.now number) }
+    {
+        match shown_at(alloc, &self.config, &self.requests, ended, number)? {
+            None => Ok(Vec::new(alloc)),
+            Some(shown) => one(alloc, Tell::FloorRequestStatus { info: shown.info }),
+        }
+    }
+
+    /// The user, where one is asked about, and the requests of one.
+    fn user_tells(
+        &self,
+        alloc: Global,
+        user: u16,
+        beneficiary: Option<u16>,
+    ) -> Result<Vec<Tell>, AllocError>
+        requires floors { self.now.requests.floors ≡ self.now.config.floors }
+        requires settled { IsSettled self.now.requests }
+        ensures { IfOk result (λ tells. tells.items ≡ Tell.UserStatus (option_map (shown.described self.now.config) beneficiary)
+            (spec.infos_of_user (unwrap_or beneficiary user) (conference_of self.now)) ∷ []) }
+    {
+        let who = described_if(alloc, &self.config, beneficiary)?;
+        let infos = infos_of_user(
+            alloc,
+            &self.config,
+            &self.requests,
+            beneficiary.unwrap_or(user),
+        )?;
+        one(
+            alloc,
+            Tell::UserStatus {
+                who,
+                infos: Infos::from_vec(infos),
+            },
+        )
+    }
+
+    /// The statuses of floors, or one that names none where none is asked about.
+    fn floor_tells(&self, alloc: Global, floors: &[u16]) -> Result<Vec<Tell>, AllocError>
+        requires floors { self.now.requests.floors ≡ self.now.config.floors }
+        requires settled { IsSettled self.now.requests }
+        ensures { IfOk result (λ tells. tells.items ≡ spec.floor_answers (conference_of self.now) floors.now) }
+    {
+        if floors.is_empty() {
+            let infos = Infos::from_vec(Vec::new(alloc));
+            return one(alloc, Tell::FloorStatus { floor: None, infos });
+        }
+        let now = infos(alloc, &self.config, &self.requests)?;
+        floor_statuses(alloc, &now, floors)
+    }
+
+    /// What an accepted message is answered by, after the event.
+    fn accepted_tells(
+        &self,
+        alloc: Global,
+        ended: &[Ended],
+        user: u16,
+        ask: &Ask,
+    ) -> Result<Vec<Tell>, AllocError>
+        requires floors { self.now.requests.floors ≡ self.now.config.floors }
+        requires settled { IsSettled self.now.requests }
+        requires served { serving.IsServedAsk ask.now }
+        ensures { IfOk result (λ tells. tells.items ≡ serving.accepted_tells (conference_of self.now) ended.now user ask.now) }
+    {
+        match ask {
+            Ask::FloorRequest { .. } => self.status_tells(alloc, ended, self.requests.given()),
+            Ask::FloorRelease { request } => self.status_tells(alloc, ended, *request),
+            Ask::FloorRequestQuery { request } => self.status_tells(alloc, ended, *request),
+            Ask::UserQuery { beneficiary } => self.user_tells(alloc, user, *beneficiary),
+            Ask::Hello => hello_tells(alloc),
+            Ask::FloorQuery { floors } => self.floor_tells(alloc, floors.as_slice()),
+            Ask::ChairAction { .. } => unreachable!(),
+        }
+    }
+
+    /// What a judged message is answered by, after the event.
+    pub(crate) fn answer(
+        &self,
+        alloc: Global,
+        ended: &[Ended],
+        user: u16,
+        judged: &Judged,
+    ) -> Result<Vec<Tell>, AllocError>
+        requires floors { self.now.requests.floors ≡ self.now.config.floors }
+        requires settled { IsSettled self.now.requests }
+        requires served { serving.IsServedJudged judged.now }
+        ensures { IfOk result (λ tells. tells.items ≡ serving.judged_tells (conference_of self.now) ended.now user judged.now) }
+    {
+        match judged {
+            Judged::Accepted(ask) => self.accepted_tells(alloc, ended, user, ask),
+            Judged::Refused { code, details } => one(
+                alloc,
+                Tell::Error {
+                    code: code.number(),
+                    details: details.copy(alloc)?,
+                },
+            ),
+            Judged::Unanswered => Ok(Vec::new(alloc)),
+        }
+    }
+}

@@ -1,0 +1,30 @@
+//! The floor machine of one conference: what each event makes of it, and what it tells each member
+//! (RFC 8855, sections 8 to 13).
+#![tactic(auto)]
+
+mod answering;
+mod checks;
+mod copying;
+mod course;
+mod judged;
+mod laws;
+mod machine;
+mod member;
+mod parcel;
+mod same;
+mod sending;
+mod showing;
+mod state;
+mod status;
+
+pub use floor_config::{Config, Floor, User};
+pub use floor_message::{Ask, Head, Info, Tell};
+pub use floor_wire::{Frame, Numbers, Octets};
+pub use laws::{sent_is_told, shown_alike_is_equal};
+pub use machine::{Machine, Refusal};
+pub use member::Member;
+pub use parcel::Parcel;
+pub use status::RequestStatus;
+
+#[cfg(test)]
+mod tests;

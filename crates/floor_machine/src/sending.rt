@@ -1,0 +1,262 @@
+//! Telling the members what an event changed (RFC 8855, sections 8 and 12.1).
+
+ghost use Rattle.std.specs.Prelude.{◌≡◌, ◌==◌, ◌||◌, ◌∷◌, [], ◌++◌, OnOk, map, filter, if◌then◌else◌};
+ghost use Rattle.std.specs.List.{list_any};
+ghost use Rattle.floor_machine.specs.Told.{is_status_of};
+ghost use Rattle.floor_machine.specs.Journal.{parcel};
+ghost use Rattle.floor_machine.specs.Steps.{answered, answered_to, floor_update_to, is_answered, is_due_to, is_watched, parcels_to, parcels_to_all, update_to};
+
+use crate::member::Member;
+use crate::parcel::Parcel;
+use floor_message::{Head, Tell, tell_fits, write_tell};
+use floor_wire::Octets;
+use std::alloc::{AllocError, Global};
+
+/// What the sender of a message is answered.
+#[derive(Debug, Drop)]
+pub(crate) struct Reply {
+    /// The number of the member that sent it.
+    pub n: u32,
+    /// The head of the first message.
+    pub head: Head,
+    /// The messages.
+    pub tells: Vec<Tell>,
+}
+
+/// A floor request that an event changed, with the status that tells of it.
+#[derive(Debug, Drop)]
+pub(crate) struct Update {
+    /// Its number.
+    pub number: u16,
+    /// The user that asked.
+    pub requester: u16,
+    /// The user that is to get the floors.
+    pub beneficiary: u16,
+    /// Its status.
+    pub tell: Tell,
+}
+
+/// A floor that an event changed, with the status that tells of it.
+#[derive(Debug, Drop)]
+pub(crate) struct FloorUpdate {
+    /// The Floor ID.
+    pub floor: u16,
+    /// Its status.
+    pub tell: Tell,
+}
+
+/// Puts one message to the member with this number.
+fn put(
+    alloc: Global,
+    out: &mut Vec<Parcel>,
+    n: u32,
+    head: &Head,
+    tell: &Tell,
+) -> Result<(), AllocError>
+    ensures { OnOk result (out.new.items
+        ≡ out.old.items ++ parcel n record { head = head.now; tell = tell.now } ∷ []) }
+{
+    if !tell_fits(tell) {
+        return Err(AllocError);
+    }
+    let frame = write_tell(alloc, head, tell)?;
+    let bytes = Octets::from_vec(Vec::from_slice(alloc, frame.bytes())?);
+    out.push(Parcel { n, bytes })?;
+    Ok(())
+}
+
+/// Puts a message that the server starts.
+fn put_notice(
+    alloc: Global,
+    out: &mut Vec<Parcel>,
+    conference: u32,
+    member: &Member,
+    tell: &Tell,
+) -> Result<(), AllocError>
+    ensures { OnOk result (out.new.items ≡ out.old.items ++ parcel member.now.n record {
+      head = record { conference = conference; transaction = 0; user = member.now.user };
+      tell = tell.now;
+    } ∷ []) }
+{
+    let head = Head {
+        conference,
+        transaction: 0,
+        user: member.user,
+    };
+    put(alloc, out, member.n, &head, tell)
+}
+
+/// Puts the answer, of which the first message alone has the transaction.
+fn put_answer(
+    alloc: Global,
+    out: &mut Vec<Parcel>,
+    n: u32,
+    first: Head,
+    tells: &[Tell],
+) -> Result<(), AllocError>
+    ensures { OnOk result (out.new.items
+        ≡ out.old.items ++ map (parcel n) (answered first tells.now)) }
+{
+    let mut head = first;
+    for tell in tells {
+        put(alloc, out, n, &head, tell)?;
+        head.transaction = 0;
+    }
+    Ok(())
+}
+
+/// Puts the reply, if it is to this member.
+fn put_reply(
+    alloc: Global,
+    out: &mut Vec<Parcel>,
+    n: u32,
+    reply: &Option<Reply>,
+) -> Result<(), AllocError>
+    ensures { OnOk result (out.new.items ≡ out.old.items ++ map (parcel n) (answered_to reply.now n)) }
+{
+    if let Some(reply) = reply {
+        if reply.n == n {
+            put_answer(alloc, out, n, reply.head, &reply.tells)?;
+        }
+    }
+    Ok(())
+}
+
+/// Whether the message is the status of this request.
+fn is_status_of(request: u16, tell: &Tell) -> bool
+    ensures { result ≡ is_status_of request tell.now }
+{
+    match tell {
+        Tell::FloorRequestStatus { info } => info.request == request,
+        Tell::UserStatus { .. } => false,
+        Tell::FloorStatus { .. } => false,
+        Tell::ChairActionAck => false,
+        Tell::HelloAck { .. } => false,
+        Tell::Error { .. } => false,
+    }
+}
+
+/// Whether one of the messages is the status of this request.
+fn has_status_of(tells: &[Tell], request: u16) -> bool
+    ensures { result ≡ list_any (is_status_of request) tells.now }
+{
+    tells.iter().any(|tell| is_status_of(request, tell))
+}
+
+/// Whether the reply to this member is already the status of the request.
+fn is_answered(reply: &Option<Reply>, n: u32, request: u16) -> bool
+    ensures { result ≡ is_answered reply.now n request }
+{
+    match reply {
+        Some(reply) => reply.n == n && has_status_of(&reply.tells, request),
+        None => false,
+    }
+}
+
+/// Whether the member is told of the changed request.
+fn is_due_to(reply: &Option<Reply>, member: &Member, update: &Update) -> bool
+    ensures { result ≡ is_due_to reply.now member.now update.now }
+{
+    (update.requester == member.user || update.beneficiary == member.user)
+        && !is_answered(reply, member.n, update.number)
+}
+
+/// Whether the member watches the changed floor.
+fn is_watched(member: &Member, update: &FloorUpdate) -> bool
+    ensures { result ≡ is_watched member.now update.now }
+{
+    member
+        .watched
+        .as_slice()
+        .iter()
+        .any(|floor| *floor == update.floor)
+}
+
+/// Puts the statuses of the changed requests that the member is told of.
+fn put_updates(
+    alloc: Global,
+    out: &mut Vec<Parcel>,
+    conference: u32,
+    member: &Member,
+    reply: &Option<Reply>,
+    updates: &[Update],
+) -> Result<(), AllocError>
+    ensures { OnOk result (out.new.items ≡ out.old.items
+        ++ map (λ u. parcel member.now.n (update_to conference member.now u))
+        (filter (is_due_to reply.now member.now) updates.now)) }
+{
+    for update in updates {
+        if is_due_to(reply, member, update) {
+            put_notice(alloc, out, conference, member, &update.tell)?;
+        }
+    }
+    Ok(())
+}
+
+/// Puts the statuses of the changed floors that the member watches.
+fn put_floor_updates(
+    alloc: Global,
+    out: &mut Vec<Parcel>,
+    conference: u32,
+    member: &Member,
+    updates: &[FloorUpdate],
+) -> Result<(), AllocError>
+    ensures { OnOk result (out.new.items ≡ out.old.items
+        ++ map (λ u. parcel member.now.n (floor_update_to conference member.now u))
+        (filter (is_watched member.now) updates.now)) }
+{
+    for update in updates {
+        if is_watched(member, update) {
+            put_notice(alloc, out, conference, member, &update.tell)?;
+        }
+    }
+    Ok(())
+}
+
+/// Puts all that is for the member, if it is live.
+fn put_member(
+    alloc: Global,
+    out: &mut Vec<Parcel>,
+    conference: u32,
+    member: &Member,
+    reply: &Option<Reply>,
+    updates: &[Update],
+    floor_updates: &[FloorUpdate],
+) -> Result<(), AllocError>
+    ensures { OnOk result (out.new.items ≡ out.old.items ++ (if member.now.is_live
+        then parcels_to conference reply.now updates.now floor_updates.now member.now else [])) }
+{
+    if member.is_live {
+        put_reply(alloc, out, member.n, reply)?;
+        put_updates(alloc, out, conference, member, reply, updates)?;
+        put_floor_updates(alloc, out, conference, member, floor_updates)?;
+    }
+    Ok(())
+}
+
+/// Puts all that is for the live members, by ascending number.
+pub(crate) fn put_all(
+    alloc: Global,
+    out: &mut Vec<Parcel>,
+    conference: u32,
+    members: &[Member],
+    reply: &Option<Reply>,
+    updates: &[Update],
+    floor_updates: &[FloorUpdate],
+) -> Result<(), AllocError>
+    ensures { OnOk result (out.new.items ≡ out.old.items
+        ++ parcels_to_all conference reply.now updates.now floor_updates.now members.now) }
+{
+    for member in members {
+        put_member(
+            alloc,
+            out,
+            conference,
+            member,
+            reply,
+            updates,
+            floor_updates,
+        )?;
+    }
+    Ok(())
+}

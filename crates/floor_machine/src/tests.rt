@@ -1,0 +1,3 @@
+//! Whole runs of one conference against worked bytes.
+
+mod runs;

@@ -1,0 +1,171 @@
+//! Runs of the demonstration configuration: who is told which bytes.
+
+use crate::{Machine, Parcel, Refusal};
+use floor_config::Config;
+use floor_wire::Frame;
+use std::alloc::{AllocError, Global};
+use std::test::Fail;
+
+/// The bytes that pairs of hexadecimal digits say. All other characters are passed over.
+fn bytes(alloc: Global, text: &str) -> Result<Vec<u8>, AllocError> {
+    let mut out = Vec::new(alloc);
+    let mut high = None;
+    for character in text.as_bytes() {
+        let digit = match *character {
+            b'0'..=b'9' => *character - b'0',
+            b'a'..=b'f' => *character - b'a' + 10,
+            _ => continue,
+        };
+        match high {
+            None => high = Some(digit.wrapping_mul(16)),
+            Some(first) => {
+                out.push(first | digit)?;
+                high = None;
+            }
+        }
+    }
+    Ok(out)
+}
+
+fn join(machine: &mut Machine, user: u16) -> Result<u32, Refusal> {
+    if machine.joins() < 100 {
+        machine.join(user)
+    } else {
+        Err(Refusal::Full)
+    }
+}
+
+/// The parcels of the messages of members, in their order, where users 10, 11 and 12 joined.
+fn told(alloc: Global, messages: &[(u32, &str)]) -> Result<Vec<Parcel>, Fail> {
+    let config = Config::demonstration(alloc)?;
+    let mut machine = Machine::new(alloc, config)?;
+    for user in [10, 11, 12] {
+        if join(&mut machine, user).is_err() {
+            return Err(Fail::from("a join is refused"));
+        }
+    }
+    let mut out = Vec::new(alloc);
+    for (n, text) in messages {
+        let message = bytes(alloc, text)?;
+        let frame = Frame::of(alloc, &message)?.ok_or("no message")?;
+        if machine.message(*n, &frame, &mut out).is_err() {
+            return Err(Fail::from("a message is refused"));
+        }
+    }
+    Ok(out)
+}
+
+const HELLO: &str = "200b0000 00000001 0001 000a";
+
+const HELLO_ACK: &str = "200c0009 00000001 0001 000a 160f0102 03040506 0708090a 0b0c0d00 14140204 \
+    06080a0c 0e101214 16181a1c 1e202224";
+
+const REQUEST: &str = "20010001 00000001 0002 000a 04040001";
+
+const REQUEST_GRANTED: &str = "20040007 00000001 0002 000a 1e1c0001 24080001 0a040300 22080001 \
+    0a040300 1c04000a 08044000";
+
+const SECOND_REQUEST: &str = "20010001 00000001 0001 000b 04040001";
+
+const SECOND_WAITS: &str = "20040007 00000001 0001 000b 1e1c0002 24080002 0a040201 22080001 \
+    0a040201 1c04000b 08044000";
+
+const RELEASE: &str = "20020001 00000001 0003 000a 06040001";
+
+const RELEASED: &str = "20040007 00000001 0003 000a 1e1c0001 24080001 0a040600 22080001 0a040600 \
+    1c04000a 08044000";
+
+const SECOND_GRANTED: &str = "20040007 00000001 0000 000b 1e1c0002 24080002 0a040300 22080001 \
+    0a040300 1c04000b 08044000";
+
+#[test]
+fn each_message_tells_whom_it_concerns(rt: HostRuntime) -> Result<(), Fail> {
+    let alloc = rt.alloc();
+    let cases: [(&str, &[(u32, &str)], &[(u32, &str)]); 9] = [
+        (
+            "a Hello twice",
+            &[(1, HELLO), (1, HELLO)],
+            &[(1, HELLO_ACK), (1, HELLO_ACK)],
+        ),
+        (
+            "a request for a free floor",
+            &[(1, REQUEST)],
+            &[(1, REQUEST_GRANTED)],
+        ),
+        (
+            "a release that passes the floor on",
+            &[(1, REQUEST), (2, SECOND_REQUEST), (1, RELEASE)],
+            &[
+                (1, REQUEST_GRANTED),
+                (2, SECOND_WAITS),
+                (1, RELEASED),
+                (2, SECOND_GRANTED),
+            ],
+        ),
+        (
+            "a release of what never was",
+            &[(1, RELEASE)],
+            &[(1, "200d0001 00000001 0003 000a 0c030700")],
+        ),
+        (
+            "a release of another's",
+            &[(1, REQUEST), (2, "20020001 00000001 0003 000b 06040001")],
+            &[
+                (1, REQUEST_GRANTED),
+                (2, "200d0001 00000001 0003 000b 0c030500"),
+            ],
+        ),
+        (
+            "a watched floor that is asked for",
+            &[
+                (1, "20070001 00000001 0001 000a 04040001"),
+                (2, SECOND_REQUEST),
+            ],
+            &[
+                (1, "20080001 00000001 0001 000a 04040001"),
+                (
+                    1,
+                    "20080008 00000001 0000 000a 04040001 1e1c0001 24080001 0a040300 22080001 \
+                    0a040300 1c04000b 08044000",
+                ),
+                (
+                    2,
+                    "20040007 00000001 0001 000b 1e1c0001 24080001 0a040300 22080001 0a040300 \
+                    1c04000b 08044000",
+                ),
+            ],
+        ),
+        (
+            "a query of a request",
+            &[(1, REQUEST), (2, "20030001 00000001 0004 000b 06040001")],
+            &[
+                (1, REQUEST_GRANTED),
+                (
+                    2,
+                    "20040007 00000001 0004 000b 1e1c0001 24080001 0a040300 22080001 0a040300 \
+                    1c04000a 08044000",
+                ),
+            ],
+        ),
+        (
+            "a request on behalf of another, without the mark",
+            &[(1, "20010002 00000001 0001 000a 04040001 0204000b")],
+            &[(1, "200d0001 00000001 0001 000a 0c030500")],
+        ),
+        (
+            "a request for an unknown floor",
+            &[(1, "20010001 00000001 0001 000a 04040009")],
+            &[(1, "200d0001 00000001 0001 000a 0c030600")],
+        ),
+    ];
+    for (name, messages, expected) in cases {
+        let out = told(alloc, messages)?;
+        assert_eq!(rt; out.len(), expected.len(), "{name}");
+        for (parcel, (n, text)) in out.iter().zip(expected) {
+            assert_eq!(rt; parcel.n, *n, "{name}");
+            let wanted = bytes(alloc, text)?;
+            assert_eq!(rt; parcel.bytes.as_slice(), wanted.as_slice(), "{name}");
+        }
+    }
+    Ok(())
+}
