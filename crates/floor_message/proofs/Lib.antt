@@ -14,3 +14,4 @@ pub mod Short
 pub mod ShownRooms
 pub mod TellBack
 pub mod Telling
+pub mod Details

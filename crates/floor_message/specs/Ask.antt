@@ -1,5 +1,5 @@
 -- What a message asks, under the binding of its connection: the first check that applies (RFC 8855, sections 5.1 to 5.3 and 13).
-use Rattle.std.specs.Prelude.{◌≡◌, ℕ, ◌*◌, ◌==◌, not, List, [], ◌∷◌, drop, map, Option, Some, None, Result, Ok, Err, if◌then◌else◌}
+use Rattle.std.specs.Prelude.{◌≡◌, ℕ, ◌*◌, ◌≤◌, ◌==◌, not, List, [], ◌∷◌, length, drop, map, Option, Some, None, Result, Ok, Err, if◌then◌else◌}
 use Rattle.std.specs.List.{list_any}
 use Rattle.floor_wire.specs.Header.{CommonHeader, header_of}
 use Rattle.floor_wire.specs.Attributes.{Attributes}
@@ -72,3 +72,8 @@ IsAnswer a (Ok (Some asked)) = a ≡ asks asked
 IsAnswer a (Ok None) = a ≡ unanswered
 IsAnswer a (Err fault.Memory) = Unit {0}
 IsAnswer a (Err (fault.Error code details)) = a ≡ refused code details
+
+-- the details, if it is an Error, are at most 252 bytes, and so fit an ERROR-CODE
+abbrev pub HasShortDetails : AskFault → Type 0
+HasShortDetails fault.Memory = Unit {0}
+HasShortDetails (fault.Error code details) = length details ≤ 252

@@ -1,9 +1,9 @@
 //! What a message asks, under the binding of its connection: the first check that applies
 //! (RFC 8855, sections 5.1 to 5.3 and 13).
 
-ghost use Rattle.std.specs.Prelude.{◌≡◌, ◌<◌, ◌*◌, All, [], drop, map, IfOk, MatchOption, Option, Some};
+ghost use Rattle.std.specs.Prelude.{◌≡◌, ◌<◌, ◌*◌, All, [], drop, map, IfErr, IfOk, MatchOption, Option, Some};
 ghost use Rattle.floor_message.specs.Ask as spec;
-ghost use Rattle.floor_message.specs.Ask.{IsAnswer};
+ghost use Rattle.floor_message.specs.Ask.{HasShortDetails, IsAnswer};
 ghost use Rattle.floor_message.specs.Binding.{binding_of};
 ghost use Rattle.floor_message.specs.Picked.{distinct, mandatory};
 ghost use Rattle.floor_wire.specs.Header.{header_of};
@@ -21,7 +21,8 @@ use std::alloc::{AllocError, Global};
 ///
 /// The text of a FloorRequest is cut to at most 62 bytes, and its priority is at most 4.
 pub fn read_ask(alloc: Global, frame: &Frame, binding: &Binding) -> Result<Option<Ask>, AskFault>
-    ensures { IsAnswer (spec.ask frame.now (binding_of binding.now)) result }
+    ensures answer { IsAnswer (spec.ask frame.now (binding_of binding.now)) result }
+    ensures details { IfErr result HasShortDetails }
 {
     let header = frame.header();
     match header_refusal(&header, binding) {
@@ -59,7 +60,8 @@ fn by_primitive(
     primitive: Option<Primitive>,
     payload: &[u8],
 ) -> Result<Option<Ask>, AskFault>
-    ensures { IsAnswer (spec.by_primitive primitive (spelled payload.now)) result }
+    ensures answer { IsAnswer (spec.by_primitive primitive (spelled payload.now)) result }
+    ensures details { IfErr result HasShortDetails }
 {
     match primitive {
         None => Err(error(alloc, ErrorCode::UnknownPrimitive)),
@@ -74,7 +76,8 @@ fn by_attributes(
     primitive: Primitive,
     payload: &[u8],
 ) -> Result<Option<Ask>, AskFault>
-    ensures { IsAnswer (spec.by_attributes primitive (spelled payload.now)) result }
+    ensures answer { IsAnswer (spec.by_attributes primitive (spelled payload.now)) result }
+    ensures details { IfErr result HasShortDetails }
 {
     let Some(attrs) = payload_attrs(alloc, payload)? else {
         return Err(error(alloc, ErrorCode::UnableToParseMessage));
