@@ -1,33 +1,37 @@
 -- What no check refuses may be done.
 use Rattle.std.proofs.Common.{◌≡◌, ◌≢◌, ℕ, zero, suc, ◌<◌, ◌≤◌, Bool, true, false, List, [], ◌∷◌, length, get_or, Option, Some, None, refl, sym, arith}
-use Rattle.std.specs.Prelude.{◌==◌, ◌||◌, ◌&&◌, not, nat_lt, nat_le, All, IsTrue, IfSome, IsSome}
+use Rattle.std.specs.Prelude.{◌==◌, ◌||◌, ◌&&◌, not, nat_lt, nat_le, All, IsTrue, IfSome, IsSome, IsSomeAnd}
 use Rattle.std.specs.List.{list_any, list_all}
 use Rattle.std.specs.Option.{option_map_or}
 use Rattle.std.proofs.lemmas.Bool.Decides.{nat_tests}
 use Rattle.std.proofs.lemmas.List.Elements.{All-nil, All-cons}
 use Rattle.floor_config.specs.Doubles.{AllDiffer}
 use Rattle.floor_queue.specs.declared.request.Request.{Request}
+use Rattle.floor_queue.specs.Order.{names}
 use Rattle.floor_queue.specs.Queue.{is_floor, request_at}
 use Rattle.floor_message.specs.Picked.{IsOnceBy}
 use Rattle.floor_message.specs.Fits.{AskFits, FloorRequestFits, TextFits}
 use Rattle.floor_message.specs.Laws.{CountsFit}
 use Rattle.floor_message.specs.declared.ask.Ask.{Ask}
+use Rattle.floor_message.specs.declared.ask.Verdict.{Verdict}
 use Rattle.floor_message.specs.declared.ask.Ask.TheVariants.{FloorRequest, FloorRelease, FloorRequestQuery, UserQuery, FloorQuery, ChairAction, Hello}
 use Rattle.floor_message.specs.declared.code.ErrorCode.{ErrorCode}
 use Rattle.floor_message.specs.declared.code.ErrorCode.TheVariants.{FloorRequestIdDoesNotExist, UnauthorizedOperation, UserDoesNotExist, InvalidFloorId, GenericError, MaximumFloorRequestsReached}
 use Rattle.floor_machine.specs.declared.judged.Judged.TheVariants.{Accepted}
-use Rattle.floor_machine.specs.Conference.{Conference, is_user, has_proxy}
-use Rattle.floor_machine.specs.Checks.{Check, when, first_of, beneficiary_of, requests_for, release_checks, refusal}
-use Rattle.floor_machine.specs.Serving.{IsServedAsk, MayServe}
+use Rattle.floor_machine.specs.Conference.{Conference, is_user, has_proxy, chair_is}
+use Rattle.floor_machine.specs.Checks.{Check, when, first_of, beneficiary_of, requests_for, release_checks, chair_checks, is_allowed, refusal}
+use Rattle.floor_machine.specs.Serving.{HasRoom, MayServe}
 use Rattle.floor_machine.proofs.Found.{and_left, and_right}
 
--- of six checks that none refuses by, the third and the fourth don't apply
-six : (a b c d e f : Bool) (k l m n o p : ErrorCode) → first_of (when a k ∷ when b l ∷ when c m ∷ when d n ∷ when e o ∷ when f p ∷ []) ≡ None → (c ≡ false) × (d ≡ false)
+-- of six checks that none refuses by, the third, the fourth and the sixth don't apply
+six : (a b c d e f : Bool) (k l m n o p : ErrorCode) → first_of (when a k ∷ when b l ∷ when c m ∷ when d n ∷ when e o ∷ when f p ∷ []) ≡ None → (c ≡ false) × (d ≡ false) × (f ≡ false)
 six true b c d e f k l m n o p h = cc
 six false true c d e f k l m n o p h = cc
 six false false true d e f k l m n o p h = cc
 six false false false true e f k l m n o p h = cc
-six false false false false e f k l m n o p h = (refl, refl)
+six false false false false true f k l m n o p h = cc
+six false false false false false true k l m n o p h = cc
+six false false false false false false k l m n o p h = (refl, refl, refl)
 
 not_false : (b : Bool) → not b ≡ false → b ≡ true
 not_false true h = refl
@@ -71,32 +75,65 @@ text_kept (Some text) h = (omega (arith, h.some), h.short)
 at_most : (n : ℕ) → nat_lt 8 n ≡ false → n ≤ 8
 at_most n h = grind (arith, nat_tests)
 
+-- fewer than 256 requests, and a number left
+room : (ongoing : List Request) (given : ℕ) → (nat_le 256 (length ongoing) || given == 65535) ≡ false → HasRoom ongoing given
+room ongoing given h = record {
+  few = below (length ongoing) (or_first (nat_le 256 (length ongoing)) (given == 65535) h);
+  left = apart given (or_second (nat_le 256 (length ongoing)) (given == 65535) h);
+}
+  where
+    below : (n : ℕ) → nat_le 256 n ≡ false → n < 256
+    below n h = grind (arith, nat_tests)
+
+    apart : (n : ℕ) → (n == 65535) ≡ false → n ≢ 65535
+    apart n h = grind (arith, nat_tests)
+
 found : (o : Option Request) (checks : Request → List Check) → option_map_or (λ r. first_of (checks r)) o (Some FloorRequestIdDoesNotExist) ≡ None → IsSome o
 found None checks h = cc
 found (Some r) checks h = refl
 
+-- of three checks that none refuses by, the first and the third don't apply
+three : (a b c : Bool) (k l m : ErrorCode) → first_of (when a k ∷ when b l ∷ when c m ∷ []) ≡ None → (a ≡ false) × (c ≡ false)
+three true b c k l m h = cc
+three false true c k l m h = cc
+three false false true k l m h = cc
+three false false false k l m h = (refl, refl)
+
+-- verdicts that no check refuses may be done
+decidable : (s : Conference) (user : ℕ) (verdicts : List (ℕ × Verdict)) (o : Option Request) →
+    option_map_or (λ r. first_of (chair_checks s user verdicts r)) o (Some FloorRequestIdDoesNotExist) ≡ None →
+    IsSomeAnd o (λ r. (list_all (λ v. names r v.0) verdicts ≡ true) × (list_all (λ v. is_allowed r.is_granted v.1) verdicts ≡ true))
+decidable s user verdicts None h = cc
+decidable s user verdicts (Some r) h =
+    let free =
+    three (not (list_all (λ v. names r v.0) verdicts)) (not (list_all (λ v. chair_is s.config v.0 user) verdicts)) (not (list_all (λ v. is_allowed r.is_granted v.1) verdicts))
+    InvalidFloorId UnauthorizedOperation GenericError h in
+    (not_false (list_all (λ v. names r v.0) verdicts) free.0, not_false (list_all (λ v. is_allowed r.is_granted v.1) verdicts) free.1)
+
 -- what no own check refuses, and is read of a message, may be done
-pub may_serve : (s : Conference) (user : ℕ) (a : Ask) → IsServedAsk a → (CountsFit a → AskFits a) → None ≡ refusal s user a → MayServe s user (Accepted a)
+pub may_serve : (s : Conference) (user : ℕ) (a : Ask) → (CountsFit a → AskFits a) → None ≡ refusal s user a → MayServe s user (Accepted a)
 unfolding refusal
-may_serve s user (FloorRequest beneficiary floors priority info) served fits none =
+may_serve s user (FloorRequest beneficiary floors priority info) fits none =
     let b = beneficiary_of user beneficiary in
     let free =
     six (not (b == user) && not (has_proxy s.config user)) (not (is_user s.config b)) (not (list_all (is_floor s.config.floors) floors)) (nat_lt 8 (length floors))
     (list_any (λ floor. nat_le s.config.limit (requests_for s.ongoing b floor)) floors) (nat_le 256 (length s.ongoing) || s.given == 65535)
     UnauthorizedOperation UserDoesNotExist InvalidFloorId GenericError MaximumFloorRequestsReached GenericError (sym none) in
     let few : length floors ≤ 8 = at_most (length floors) free.1 in
-    let fit : FloorRequestFits floors priority info = fits (omega arith) in
-    record {
-      floors_least = omega (arith, fit.some);
-      floors_most = few;
-      floors_differ = once_differ floors fit.floors_fit.once;
-      floors_known = all_true (is_floor s.config.floors) floors (not_false (list_all (is_floor s.config.floors) floors) free.0);
-      priority = fit.priority_fits;
-      info = text_kept info fit.text;
-    }
-may_serve s user (FloorRelease request) served fits none = found (request_at s.ongoing request) (release_checks user) (sym none)
-may_serve s user (FloorRequestQuery request) served fits none = tt
-may_serve s user (UserQuery beneficiary) served fits none = tt
-may_serve s user (FloorQuery floors) served fits none = tt
-may_serve s user (ChairAction request verdicts) served fits none = served
-may_serve s user Hello served fits none = tt
+    let fit : FloorRequestFits floors priority info = fits (omega arith) in (
+      record {
+        floors_least = omega (arith, fit.some);
+        floors_most = few;
+        floors_differ = once_differ floors fit.floors_fit.once;
+        floors_known = all_true (is_floor s.config.floors) floors (not_false (list_all (is_floor s.config.floors) floors) free.0);
+        priority = fit.priority_fits;
+        info = text_kept info fit.text;
+      },
+      room s.ongoing s.given free.2,
+    )
+may_serve s user (FloorRelease request) fits none = found (request_at s.ongoing request) (release_checks user) (sym none)
+may_serve s user (FloorRequestQuery request) fits none = tt
+may_serve s user (UserQuery beneficiary) fits none = tt
+may_serve s user (FloorQuery floors) fits none = tt
+may_serve s user (ChairAction request verdicts) fits none = decidable s user verdicts (request_at s.ongoing request) (sym none)
+may_serve s user Hello fits none = tt

@@ -1,22 +1,26 @@
 -- What a state is after an accepted message.
-use Rattle.std.proofs.Common.{◌≡◌, ℕ, ◌+◌, true, List, [], ◌∷◌, ◌++◌, map, Option, Some, None, Result, Ok, Err, refl, sym, ap, ◌∙◌, Vec, Global}
-use Rattle.std.specs.Prelude.{OnOk, IfSome, IsSome}
+use Rattle.std.proofs.Common.{◌≡◌, ℕ, ◌+◌, Bool, true, false, cond, List, [], ◌∷◌, ◌++◌, map, Option, Some, None, Result, Ok, Err, refl, sym, ap, ◌∙◌, Vec, Global, append-nil}
+use Rattle.std.specs.Prelude.{OnOk, IfSome, IsSome, IsSomeAnd}
+use Rattle.std.specs.List.{list_any}
 use Rattle.std.specs.Option.{option_map_or}
 use Rattle.floor_config.specs.declared.config.Floor.{Floor}
 use Rattle.floor_queue.specs.declared.request.Request.{Request}
 use Rattle.floor_queue.specs.Queue.{IsQueue, request_at, numbers_of, is_ascending, first_request, after_add, after_end}
-use Rattle.floor_message.specs.declared.ask.Ask.TheVariants.{FloorRequest, FloorRelease, FloorQuery}
+use Rattle.floor_message.specs.declared.ask.Ask.TheVariants.{FloorRequest, FloorRelease, FloorQuery, ChairAction}
+use Rattle.floor_message.specs.declared.ask.Verdict.{Verdict}
 use Rattle.floor_machine.specs.declared.course.Course.{Course}
 use Rattle.floor_machine.specs.declared.course.Ended.{Ended}
 use Rattle.floor_machine.specs.declared.member.Member.{Member}
 use Rattle.floor_machine.specs.declared.state.State.{State}
+use Rattle.floor_machine.specs.declared.status.RequestStatus.{RequestStatus}
+use Rattle.floor_machine.specs.Shown.{entry_of}
 use Rattle.floor_machine.specs.Conference.{Conference, user_of}
-use Rattle.floor_machine.specs.Change.{no_change, asked_change, released, watching}
+use Rattle.floor_machine.specs.Change.{Change, no_change, asked_change, ending, ends_at, released, dismissed, is_final, decided_at, watching}
 use Rattle.floor_machine.specs.Reply.{infos}
 use Rattle.floor_machine.specs.Steps.{entry_of_ended}
-use Rattle.floor_machine.specs.Serving.{IsChanged, IsState, conference_of, is_rising, new_of_ask}
+use Rattle.floor_machine.specs.Serving.{IsChanged, IsState, MayDecide, after_decide, conference_of, ended_by, is_rising, new_of_ask}
 use Rattle.floor_machine.proofs.Entries.{ongoing_of-entries, ended_of-entries, numbers_in-entries}
-use Rattle.floor_machine.proofs.Changing.{rising-numbers, rising-next, entries-added, none-ended-added, numbers-added, ongoing_of-ending, ended_of-ending, numbers_in-ending}
+use Rattle.floor_machine.proofs.Changing.{rising-numbers, rising-next, entries-added, none-ended-added, numbers-added, ongoing_of-ending, ended_of-ending, numbers_in-ending, ongoing_of-decided, ended_of-decided, numbers_in-decided}
 
 pub on_ok : {T E P Q : Type 0} (r : Result T E) → (P → Q) → OnOk r P → OnOk r Q
 on_ok (Ok x) f p = f p
@@ -74,14 +78,22 @@ changed-request s course course' n user beneficiary floors priority info state q
       before = ap (λ x. x.items) before ∙ begun.before;
     }
 
--- a FloorRelease has ended its request
-pub changed-release : (s : State) (course course' : Course) (n request : ℕ) →
+-- nothing has ended as an event begins
+none-ended : (s : State) (course : Course) → IsChanged (conference_of s) (no_change (conference_of s)) (conference_of s) course → course.ended.items ≡ []
+none-ended s course begun = empty course.ended.items (begun.ended ∙ ended_of-entries s.requests.ongoing)
+  where
+    empty : (es : List Ended) → map entry_of_ended es ≡ [] → es ≡ []
+    empty [] h = refl
+    empty (e ∷ es) h = cc
+
+-- a request has ended, as `how` says
+pub changed-end : (s : State) (how : Request → RequestStatus) (course course' : Course) (request : ℕ) →
     IsQueue s.requests → IsChanged (conference_of s) (no_change (conference_of s)) (conference_of s) course →
     IsSome (request_at s.requests.ongoing request) →
-    IfSome (request_at s.requests.ongoing request) (λ r. course'.ended.items ≡ course.ended.items ++ record { request = r; ending = released r } ∷ []) →
+    IfSome (request_at s.requests.ongoing request) (λ r. course'.ended.items ≡ course.ended.items ++ record { request = r; ending = how r } ∷ []) →
     course'.numbers ≡ course.numbers → course'.before ≡ course.before →
-    IsChanged (conference_of s) (asked_change (conference_of s) n (FloorRelease request)) (conference_of (record s { requests = after_end s.requests request })) course'
-changed-release s course course' n request queue begun ongoing noted numbers before =
+    IsChanged (conference_of s) (record (no_change (conference_of s)) { entries = ending (conference_of s) (ends_at request how) }) (conference_of (record s { requests = after_end s.requests request })) course'
+changed-end s how course course' request queue begun ongoing noted numbers before =
     let rs = s.requests.ongoing in
     let same : course'.numbers.items ≡ numbers_of rs = ap (λ x. x.items) numbers ∙ begun.numbers ∙ numbers_in-entries rs in
     record {
@@ -89,24 +101,80 @@ changed-release s course course' n request queue begun ongoing noted numbers bef
       given = refl;
       members = refl;
       is_open = refl;
-      ongoing = sym (ongoing_of-ending request released rs);
-      ended = by (request_at rs request) ongoing noted ∙ sym (ended_of-ending request released rs queue.ascending);
-      numbers = same ∙ sym (numbers_in-ending request released rs);
+      ongoing = sym (ongoing_of-ending request how rs);
+      ended = by (request_at rs request) ongoing noted ∙ sym (ended_of-ending request how rs queue.ascending);
+      numbers = same ∙ sym (numbers_in-ending request how rs);
       rising = ap is_rising same ∙ rising-numbers rs ∙ queue.ascending;
       before = ap (λ x. x.items) before ∙ begun.before;
     }
   where
-    none : course.ended.items ≡ []
-    none = empty course.ended.items (begun.ended ∙ ended_of-entries s.requests.ongoing)
-      where
-        empty : (es : List Ended) → map entry_of_ended es ≡ [] → es ≡ []
-        empty [] h = refl
-        empty (e ∷ es) h = cc
-
-    by : (o : Option Request) → IsSome o → IfSome o (λ r. course'.ended.items ≡ course.ended.items ++ record { request = r; ending = released r } ∷ []) →
-        map entry_of_ended course'.ended.items ≡ option_map_or (λ r. entry_of_ended record { request = r; ending = released r } ∷ []) o []
+    by : (o : Option Request) → IsSome o → IfSome o (λ r. course'.ended.items ≡ course.ended.items ++ record { request = r; ending = how r } ∷ []) →
+        map entry_of_ended course'.ended.items ≡ option_map_or (λ r. entry_of_ended record { request = r; ending = how r } ∷ []) o []
     by None some h = cc
-    by (Some r) some h = ap (map entry_of_ended) (h ∙ ap (λ (es : List Ended). es ++ record { request = r; ending = released r } ∷ []) none)
+    by (Some r) some h = ap (map entry_of_ended) (h ∙ ap (λ (es : List Ended). es ++ record { request = r; ending = how r } ∷ []) (none-ended s course begun))
+
+-- a FloorRelease has ended its request
+pub changed-release : (s : State) (course course' : Course) (n request : ℕ) →
+    IsQueue s.requests → IsChanged (conference_of s) (no_change (conference_of s)) (conference_of s) course →
+    IsSome (request_at s.requests.ongoing request) →
+    IfSome (request_at s.requests.ongoing request) (λ r. course'.ended.items ≡ course.ended.items ++ record { request = r; ending = released r } ∷ []) →
+    course'.numbers ≡ course.numbers → course'.before ≡ course.before →
+    IsChanged (conference_of s) (asked_change (conference_of s) n (FloorRelease request)) (conference_of (record s { requests = after_end s.requests request })) course'
+changed-release s course course' n request = changed-end s released course course' request
+
+-- the requests after verdicts that end none
+abbrev words_change : Conference → ℕ → List (ℕ × Verdict) → Change
+words_change s request verdicts = record (no_change s) { entries = map (λ r. entry_of (decided_at request verdicts r)) s.ongoing }
+
+-- verdicts that end no request have left their words
+changed-words : (s : State) (course course' : Course) (request : ℕ) (verdicts : List (ℕ × Verdict)) →
+    IsQueue s.requests → IsChanged (conference_of s) (no_change (conference_of s)) (conference_of s) course →
+    course'.ended.items ≡ course.ended.items ++ [] → course'.numbers ≡ course.numbers → course'.before ≡ course.before →
+    IsChanged (conference_of s) (words_change (conference_of s) request verdicts)
+    (conference_of (record s { requests = record s.requests { ongoing = map (decided_at request verdicts) s.requests.ongoing } })) course'
+changed-words s course course' request verdicts queue begun ended numbers before =
+    let rs = s.requests.ongoing in
+    let same : course'.numbers.items ≡ numbers_of rs = ap (λ x. x.items) numbers ∙ begun.numbers ∙ numbers_in-entries rs in
+    record {
+      config = refl;
+      given = refl;
+      members = refl;
+      is_open = refl;
+      ongoing = sym (ongoing_of-decided request verdicts rs);
+      ended = ap (map entry_of_ended) (ended ∙ append-nil course.ended.items ∙ none-ended s course begun) ∙ sym (ended_of-decided request verdicts rs);
+      numbers = same ∙ sym (numbers_in-decided request verdicts rs);
+      rising = ap is_rising same ∙ rising-numbers rs ∙ queue.ascending;
+      before = ap (λ x. x.items) before ∙ begun.before;
+    }
+
+-- the requests after the verdicts, of which one ends the request or none does
+abbrev decide_change : Bool → Conference → ℕ → List (ℕ × Verdict) → Change
+decide_change b s request verdicts =
+    record (no_change s) { entries = cond b (ending s (ends_at request dismissed)) (map (λ r. entry_of (decided_at request verdicts r)) s.ongoing) }
+
+-- a ChairAction has ended its request, or left its words
+pub changed-decide : (s : State) (course course' : Course) (n request : ℕ) (verdicts : List (ℕ × Verdict)) →
+    IsQueue s.requests → IsChanged (conference_of s) (no_change (conference_of s)) (conference_of s) course →
+    MayDecide s.requests.ongoing request verdicts →
+    course'.ended.items ≡ course.ended.items ++ ended_by s.requests request verdicts → course'.numbers ≡ course.numbers → course'.before ≡ course.before →
+    IsChanged (conference_of s) (asked_change (conference_of s) n (ChairAction request verdicts)) (conference_of (record s { requests = after_decide s.requests request verdicts })) course'
+changed-decide s course course' n request verdicts queue begun may ended numbers before = by (list_any (λ v. is_final v.1) verdicts) ended
+  where
+    found : (P : Request → Type 0) (o : Option Request) → IsSomeAnd o P → IsSome o
+    found P None h = absurd h
+    found P (Some r) h = refl
+
+    noted : (o : Option Request) → course'.ended.items ≡ course.ended.items ++ option_map_or (λ r. record { request = r; ending = dismissed r } ∷ []) o [] →
+        IfSome o (λ r. course'.ended.items ≡ course.ended.items ++ record { request = r; ending = dismissed r } ∷ [])
+    noted None h = tt
+    noted (Some r) h = h
+
+    by : (b : Bool) → course'.ended.items ≡ course.ended.items ++ cond b (option_map_or (λ r. record { request = r; ending = dismissed r } ∷ []) (request_at s.requests.ongoing request) []) [] →
+        IsChanged (conference_of s) (decide_change b (conference_of s) request verdicts)
+        (conference_of (record s { requests = cond b (after_end s.requests request) (record s.requests { ongoing = map (decided_at request verdicts) s.requests.ongoing }) })) course'
+    by true h =
+        changed-end s dismissed course course' request queue begun (found _ (request_at s.requests.ongoing request) may) (noted (request_at s.requests.ongoing request) h) numbers before
+    by false h = changed-words s course course' request verdicts queue begun h numbers before
 
 -- a FloorQuery has changed what its sender watches
 pub changed-query : (s : State) (course : Course) (n : ℕ) (floors : List ℕ) (members : Vec Member Global) →

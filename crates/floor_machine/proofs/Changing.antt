@@ -8,9 +8,10 @@ use Rattle.std.proofs.lemmas.List.Elements.{All-head, All-tail}
 use Rattle.std.proofs.lemmas.Bool.Decides.{nat_tests}
 use Rattle.floor_queue.specs.declared.request.Request.{Request}
 use Rattle.floor_queue.specs.Queue.{request_at, numbers_of, is_ascending, without}
+use Rattle.floor_message.specs.declared.ask.Verdict.{Verdict}
 use Rattle.floor_machine.specs.declared.status.RequestStatus.{RequestStatus}
 use Rattle.floor_machine.specs.Shown.{Entry, entry_of, ongoing_of}
-use Rattle.floor_machine.specs.Change.{ends_at}
+use Rattle.floor_machine.specs.Change.{ends_at, decided, decided_at}
 use Rattle.floor_machine.specs.Steps.{entry_of_ended}
 use Rattle.floor_machine.specs.Serving.{ended_of, numbers_in, is_rising}
 use Rattle.floor_machine.proofs.Found.{and_left, and_right}
@@ -99,3 +100,23 @@ ended_of-ending k how (r ∷ rs) h =
 pub numbers_in-ending : (k : ℕ) (how : Request → RequestStatus) (rs : List Request) → numbers_in (map (ending_entry k how) rs) ≡ numbers_of rs
 numbers_in-ending k how [] = refl
 numbers_in-ending k how (r ∷ rs) = ap (λ (ns : List ℕ). r.number ∷ ns) (numbers_in-ending k how rs)
+
+-- verdicts that end no request leave all ongoing
+pub ongoing_of-decided : (k : ℕ) (verdicts : List (ℕ × Verdict)) (rs : List Request) → ongoing_of (map (λ r. entry_of (decided_at k verdicts r)) rs) ≡ map (decided_at k verdicts) rs
+ongoing_of-decided k verdicts [] = refl
+ongoing_of-decided k verdicts (r ∷ rs) = ap (λ (qs : List Request). decided_at k verdicts r ∷ qs) (ongoing_of-decided k verdicts rs)
+
+pub ended_of-decided : (k : ℕ) (verdicts : List (ℕ × Verdict)) (rs : List Request) → ended_of (map (λ r. entry_of (decided_at k verdicts r)) rs) ≡ []
+ended_of-decided k verdicts [] = refl
+ended_of-decided k verdicts (r ∷ rs) = ended_of-decided k verdicts rs
+
+-- verdicts leave each request its number
+pub numbers_in-decided : (k : ℕ) (verdicts : List (ℕ × Verdict)) (rs : List Request) → numbers_in (map (λ r. entry_of (decided_at k verdicts r)) rs) ≡ numbers_of rs
+numbers_in-decided k verdicts [] = refl
+numbers_in-decided k verdicts (r ∷ rs) =
+    ap (λ (m : ℕ). m ∷ numbers_in (map (λ q. entry_of (decided_at k verdicts q)) rs)) (by (r.number == k))
+    ∙ ap (λ (ns : List ℕ). r.number ∷ ns) (numbers_in-decided k verdicts rs)
+  where
+    by : (b : Bool) → (cond b (record r { floors = map (decided verdicts) r.floors }) r).number ≡ r.number
+    by true = refl
+    by false = refl

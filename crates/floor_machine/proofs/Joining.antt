@@ -8,10 +8,10 @@ use Rattle.floor_wire.specs.Message.{IsMessage}
 use Rattle.floor_machine.specs.declared.machine.Refusal.TheVariants.{Broken, Ended, NoMember, NoUser, Full}
 use Rattle.floor_machine.specs.declared.member.Member.{Member}
 use Rattle.floor_machine.specs.Conference.{Conference, is_user, is_live}
-use Rattle.floor_machine.specs.Event.{Join, Message}
+use Rattle.floor_machine.specs.declared.event.Event.TheVariants.{Join, Message}
 use Rattle.floor_machine.specs.Shown.{entry_of}
 use Rattle.floor_machine.specs.Change.{change, shown, next, IsLawful}
-use Rattle.floor_machine.specs.Machine.{Machine, join_refusal, message_refusal}
+use Rattle.floor_machine.specs.Machine.{Machine, join_refusal, member_refusal}
 use Rattle.floor_machine.specs.Serving.{is_numbered_from}
 use Rattle.floor_machine.proofs.Entries.{ongoing_of-entries, ongoing_of-settled}
 use Rattle.floor_machine.proofs.Found.{and_left, and_right}
@@ -42,7 +42,7 @@ numbered-push k (x ∷ members) m same h =
     and_both (x.n == k) (is_numbered_from (k + 1) (members ++ m ∷ [])) (and_left _ _ h) (numbered-push (k + 1) members m (omega (arith, same)) (and_right _ _ h))
 
 -- where no refusal applies, the event is lawful
-pub message_lawful : (m : Machine) (n : ℕ) (bytes : List ℕ) → None ≡ message_refusal m n → IsMessage bytes → IsLawful m.conference (Message n bytes)
+pub message_lawful : (m : Machine) (n : ℕ) (bytes : List ℕ) → None ≡ member_refusal m n → IsMessage bytes → IsLawful m.conference (Message n bytes)
 message_lawful m n bytes h whole = by m.is_broken m.conference.is_open (is_live m.conference n) h
   where
     by : (a b d : Bool) → None ≡ cond a (Some Broken) (cond (not b) (Some Ended) (cond (not d) (Some NoMember) None)) → (b ≡ true) × (d ≡ true) × IsMessage bytes

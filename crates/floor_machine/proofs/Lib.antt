@@ -1,3 +1,4 @@
+pub mod Fitting
 pub mod Filtered
 pub mod Found
 pub mod Shows
@@ -5,9 +6,17 @@ pub mod SameLists
 pub mod Entries
 pub mod Telling
 pub mod Changing
+pub mod Verdicts
 pub mod Served
+pub mod Addable
 pub mod Allowed
 pub mod Asked
 pub mod Joining
 pub mod SameInfo
 pub mod Sent
+pub mod Ended
+pub mod Left
+pub mod Quiet
+pub mod Lawful
+pub mod Runs
+pub mod Bounds

@@ -34,7 +34,7 @@ list_equal {A = A} same e (x ∷ xs) (y ∷ ys) h =
     ap (λ (z : A). z ∷ xs) (e x y (and_left (same x y) (same_list same xs ys) h))
     ∙ ap (λ (zs : List A). y ∷ zs) (list_equal same e xs ys (and_right (same x y) (same_list same xs ys) h))
 
-list_own : {A : Type 0} (same : A → A → Bool) → ((x : A) → same x x ≡ true) → (xs : List A) → same_list same xs xs ≡ true
+pub list_own : {A : Type 0} (same : A → A → Bool) → ((x : A) → same x x ≡ true) → (xs : List A) → same_list same xs xs ≡ true
 list_own same o [] = refl
 list_own same o (x ∷ xs) = and_both (same x x) (same_list same xs xs) (o x) (list_own same o xs)
 

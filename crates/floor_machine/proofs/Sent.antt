@@ -12,7 +12,8 @@ use Rattle.floor_message.specs.declared.ask.Ask.TheVariants.{FloorRequest, Floor
 use Rattle.floor_machine.specs.declared.member.Member.{Member}
 use Rattle.floor_machine.specs.declared.parcel.Parcel.{Parcel}
 use Rattle.floor_machine.specs.Conference.{Conference, opening, member_with, user_of, binding}
-use Rattle.floor_machine.specs.Event.{Event, Join, Message, Leave, Revoke, Close}
+use Rattle.floor_machine.specs.declared.event.Event.{Event}
+use Rattle.floor_machine.specs.declared.event.Event.TheVariants.{Join, Message, Leave, Revoke, Close}
 use Rattle.floor_machine.specs.Checks.{refusal}
 use Rattle.floor_machine.specs.Change.{change, next, no_change, asked_change, message_change, members_after, watching, leaving}
 use Rattle.floor_machine.specs.Outgoing.{Outgoing}
@@ -111,7 +112,7 @@ numbered-watching n floors k (m ∷ ms) h = by (m.n == n) (numbered-watching n f
     by true rest = rw (and_left (m.n == k) (is_numbered_from (k + 1) ms) h) rest
     by false rest = rw (and_left (m.n == k) (is_numbered_from (k + 1) ms) h) rest
 
-numbered-leaving : (n : ℕ) (k : ℕ) (ms : List Member) → is_numbered_from k ms ≡ true → is_numbered_from k (map (leaving n) ms) ≡ true
+pub numbered-leaving : (n : ℕ) (k : ℕ) (ms : List Member) → is_numbered_from k ms ≡ true → is_numbered_from k (map (leaving n) ms) ≡ true
 numbered-leaving n k [] h = refl
 numbered-leaving n k (m ∷ ms) h = by (m.n == n) (numbered-leaving n (k + 1) ms (and_right _ _ h))
   where

@@ -26,7 +26,8 @@ use Rattle.floor_machine.specs.declared.state.State.{State}
 use Rattle.floor_machine.specs.declared.sending.Update.{Update}
 use Rattle.floor_machine.specs.declared.sending.FloorUpdate.{FloorUpdate}
 use Rattle.floor_machine.specs.Conference.{Conference, user_of, binding}
-use Rattle.floor_machine.specs.Event.{Event, Message}
+use Rattle.floor_machine.specs.declared.event.Event.{Event}
+use Rattle.floor_machine.specs.declared.event.Event.TheVariants.{Message}
 use Rattle.floor_machine.specs.Shown.{Entry, ongoing_of, settle_entries, info_of, described}
 use Rattle.floor_machine.specs.Checks.{refusal}
 use Rattle.floor_machine.specs.Change.{Change, change, message_change, no_change, asked_change, given_after, shown, next}
@@ -35,9 +36,9 @@ use Rattle.floor_machine.specs.Reply.{infos, infos_of_user, request_answer, answ
 use Rattle.floor_machine.specs.Told.{changed_of, changed_requests, changed_floors, is_changed, reply_to}
 use Rattle.floor_machine.specs.Journal.{parcels_of}
 use Rattle.floor_machine.specs.Steps.{entry_of_ended, entry_at, shown_of, infos_of, updates, floor_update, floor_updates, answered, answered_to, parcels_to_all}
-use Rattle.floor_machine.specs.Serving.{IsChanged, IsState, conference_of, IsServed, IsServedAsk, judged, judged_change, judged_tells, accepted_tells, status_tells, ended_of, numbers_in, is_rising, is_numbered_from}
+use Rattle.floor_machine.specs.Serving.{IsChanged, IsState, conference_of, judged, judged_change, judged_tells, accepted_tells, status_tells, ended_of, numbers_in, is_rising, is_numbered_from}
 use Rattle.floor_machine.proofs.Entries.{ongoing_of-settled, ended_of-settled, numbers_in-settled, entry_with, filter-number}
-use Rattle.floor_machine.proofs.Telling.{finds, update_for, updates-changed, headed-answered, parcels-told}
+use Rattle.floor_machine.proofs.Telling.{is_telling, finds, update_for, updates-changed, headed-answered, parcels-told}
 
 -- a message changes what it changes once it is judged
 pub change-judged : (s : Conference) (n : ℕ) (bytes : List ℕ) (a : Answer) → a ≡ ask bytes (binding s n) → change s (Message n bytes) ≡ judged_change s n (judged s (user_of s n) a)
@@ -92,7 +93,7 @@ numbers-shown s e c t course same changed =
 next-ongoing : (s : Conference) (e : Event) → (next s e).ongoing ≡ ongoing_of (shown s e)
 next-ongoing s e = ap (λ (t : Conference). t.ongoing) (next-made s e)
 
-next-config : (s : Conference) (e : Event) → (next s e).config ≡ s.config
+pub next-config : (s : Conference) (e : Event) → (next s e).config ≡ s.config
 next-config s e = ap (λ (t : Conference). t.config) (next-made s e)
 
 -- the statuses with a number are the one status that is found by it
@@ -116,31 +117,31 @@ status-next s n bytes ended k =
     ap (told s.config) (sym (next-ongoing s (Message n bytes))) ∙ ap (λ (config : Configuration). told config (next s (Message n bytes)).ongoing) (sym (next-config s (Message n bytes)))
 
 -- the answer to an accepted message, as the steps make it
-pub tells-accepted : (s : Conference) (n : ℕ) (bytes : List ℕ) (user : ℕ) (a : Ask) (ended : List Ended) → IsServedAsk a →
+pub tells-accepted : (s : Conference) (n : ℕ) (bytes : List ℕ) (user : ℕ) (a : Ask) (ended : List Ended) →
     map entry_of_ended ended ≡ ended_of (shown s (Message n bytes)) → is_rising (numbers_in (shown s (Message n bytes))) ≡ true →
     (next s (Message n bytes)).given ≡ given_after s a →
     answer_tells s (Message n bytes) user a ≡ accepted_tells (next s (Message n bytes)) ended user a
-tells-accepted s n bytes user (FloorRequest beneficiary floors priority info) ended served same rising given =
+tells-accepted s n bytes user (FloorRequest beneficiary floors priority info) ended same rising given =
     status-shown s.config (shown s (Message n bytes)) ended (s.given + 1) same rising
     ∙ status-next s n bytes ended (s.given + 1)
     ∙ ap (status_tells (next s (Message n bytes)) ended) (sym given)
-tells-accepted s n bytes user (FloorRelease request) ended served same rising given =
+tells-accepted s n bytes user (FloorRelease request) ended same rising given =
     status-shown s.config (shown s (Message n bytes)) ended request same rising ∙ status-next s n bytes ended request
-tells-accepted s n bytes user (FloorRequestQuery request) ended served same rising given =
+tells-accepted s n bytes user (FloorRequestQuery request) ended same rising given =
     status-shown s.config (shown s (Message n bytes)) ended request same rising ∙ status-next s n bytes ended request
-tells-accepted s n bytes user (UserQuery beneficiary) ended served same rising given =
+tells-accepted s n bytes user (UserQuery beneficiary) ended same rising given =
     ap (λ (config : Configuration). UserStatus (option_map (described config) beneficiary) (infos_of_user (unwrap_or beneficiary user) (next s (Message n bytes))) ∷ []) (sym (next-config s (Message n bytes)))
-tells-accepted s n bytes user (FloorQuery floors) ended served same rising given = refl
-tells-accepted s n bytes user (ChairAction request verdicts) ended served same rising given = absurd served
-tells-accepted s n bytes user Hello ended served same rising given = refl
+tells-accepted s n bytes user (FloorQuery floors) ended same rising given = refl
+tells-accepted s n bytes user (ChairAction request verdicts) ended same rising given = refl
+tells-accepted s n bytes user Hello ended same rising given = refl
 
 -- the answer to a message, as the steps make it
-pub tells-judged : (s : Conference) (n : ℕ) (bytes : List ℕ) (a : Answer) (ended : List Ended) → IsServed a → a ≡ ask bytes (binding s n) →
+pub tells-judged : (s : Conference) (n : ℕ) (bytes : List ℕ) (a : Answer) (ended : List Ended) → a ≡ ask bytes (binding s n) →
     map entry_of_ended ended ≡ ended_of (shown s (Message n bytes)) → is_rising (numbers_in (shown s (Message n bytes))) ≡ true →
     reply_tells s (Message n bytes) (user_of s n) a ≡ judged_tells (next s (Message n bytes)) ended (user_of s n) (judged s (user_of s n) a)
-tells-judged s n bytes unanswered ended served read same rising = refl
-tells-judged s n bytes (refused code details) ended served read same rising = refl
-tells-judged s n bytes (asks a) ended served read same rising = by (refusal s (user_of s n) a) refl
+tells-judged s n bytes unanswered ended read same rising = refl
+tells-judged s n bytes (refused code details) ended read same rising = refl
+tells-judged s n bytes (asks a) ended read same rising = by (refusal s (user_of s n) a) refl
   where
     given : None ≡ refusal s (user_of s n) a → (next s (Message n bytes)).given ≡ given_after s a
     given accepted =
@@ -151,23 +152,23 @@ tells-judged s n bytes (asks a) ended served read same rising = by (refusal s (u
     by : (o : Option ErrorCode) → o ≡ refusal s (user_of s n) a →
         option_map_or (λ code. Error (code_number code) [] ∷ []) o (answer_tells s (Message n bytes) (user_of s n) a)
         ≡ judged_tells (next s (Message n bytes)) ended (user_of s n) (option_map_or (λ code. Refused code []) o (Accepted a))
-    by None accepted = tells-accepted s n bytes (user_of s n) a ended served same rising (given accepted)
+    by None accepted = tells-accepted s n bytes (user_of s n) a ended same rising (given accepted)
     by (Some code) accepted = refl
 
 -- the reply that the steps put is the reply to the message
-pub reply-answered : (s : Conference) (n : ℕ) (bytes : List ℕ) (r : Reply) (a : Answer) (ended : List Ended) → IsServed a → a ≡ ask bytes (binding s n) →
+pub reply-answered : (s : Conference) (n : ℕ) (bytes : List ℕ) (r : Reply) (a : Answer) (ended : List Ended) → a ≡ ask bytes (binding s n) →
     map entry_of_ended ended ≡ ended_of (shown s (Message n bytes)) → is_rising (numbers_in (shown s (Message n bytes))) ≡ true →
     r.n ≡ n → r.head ≡ response_head bytes → r.tells.items ≡ judged_tells (next s (Message n bytes)) ended (user_of s n) (judged s (user_of s n) a) →
     (k : ℕ) → answered_to (Some r) k ≡ reply_to s (Message n bytes) k
 unfolding reply
-reply-answered s n bytes r a ended served read same rising to head tells k =
+reply-answered s n bytes r a ended read same rising to head tells k =
     ap (λ (m : ℕ). cond (m == k) (answered r.head r.tells.items) []) to
     ∙ ap (λ (h : Head). cond (n == k) (answered h r.tells.items) []) head
-    ∙ ap (λ (ts : List Tell). cond (n == k) (answered (response_head bytes) ts) []) (tells ∙ sym (tells-judged s n bytes a ended served read same rising))
+    ∙ ap (λ (ts : List Tell). cond (n == k) (answered (response_head bytes) ts) []) (tells ∙ sym (tells-judged s n bytes a ended read same rising))
     ∙ ap (λ (ms : List Outgoing). cond (n == k) ms []) (sym (headed-answered (response_head bytes) (reply_tells s (Message n bytes) (user_of s n) a)))
     ∙ ap (λ (x : Answer). cond (n == k) (headed (response_head bytes) (reply_tells s (Message n bytes) (user_of s n) x)) []) read
 
-updates-message : (s : Conference) (e : Event) (course : Course) → map entry_of_ended course.ended.items ≡ ended_of (shown s e) → course.numbers.items ≡ numbers_in (shown s e) →
+pub updates-message : (s : Conference) (e : Event) (course : Course) → map entry_of_ended course.ended.items ≡ ended_of (shown s e) → course.numbers.items ≡ numbers_in (shown s e) →
     is_rising course.numbers.items ≡ true → course.before.items ≡ infos s →
     updates s.config (next s e).ongoing course.ended.items course.before.items course.numbers.items ≡ map update_for (changed_requests s e)
 unfolding changed_requests
@@ -176,32 +177,31 @@ updates-message s e course same numbered rising before =
     ∙ updates-changed s.config course.before.items (shown s e) course.ended.items course.numbers.items same numbered rising
     ∙ ap (λ (is : List Info). map update_for (filter (λ c. is_changed is c.info) (map (changed_of s.config (shown s e)) (shown s e)))) before
 
-floors-message : (s : Conference) (e : Event) (before now : List Info) → before ≡ infos s → now ≡ infos (next s e) →
+pub floors-message : (s : Conference) (e : Event) (before now : List Info) → before ≡ infos s → now ≡ infos (next s e) →
     floor_updates before now s.config.floors ≡ map (floor_update (infos (next s e))) (changed_floors s e)
 unfolding changed_floors
 floors-message s e before now b n =
     ap (λ (is : List Info). floor_updates is now s.config.floors) b ∙ ap (λ (is : List Info). floor_updates (infos s) is s.config.floors) n
 
--- the parcels that the steps put are those that the message calls for
-pub parcels-served : (s : Conference) (n : ℕ) (bytes : List ℕ) (t : Conference) (course : Course) (r : Reply) → t ≡ next s (Message n bytes) →
+-- the parcels that the steps put are those that the event calls for
+pub parcels-served : (s : Conference) (e : Event) (t : Conference) (course : Course) (reply : Option Reply) → is_telling e ≡ true → t ≡ next s e →
     is_numbered_from 1 t.members ≡ true →
-    map entry_of_ended course.ended.items ≡ ended_of (shown s (Message n bytes)) → course.numbers.items ≡ numbers_in (shown s (Message n bytes)) →
-    is_rising course.numbers.items ≡ true → course.before.items ≡ infos s → ((k : ℕ) → answered_to (Some r) k ≡ reply_to s (Message n bytes) k) →
-    parcels_to_all t.config.conference (Some r) (updates t.config t.ongoing course.ended.items course.before.items course.numbers.items)
+    map entry_of_ended course.ended.items ≡ ended_of (shown s e) → course.numbers.items ≡ numbers_in (shown s e) →
+    is_rising course.numbers.items ≡ true → course.before.items ≡ infos s → ((k : ℕ) → answered_to reply k ≡ reply_to s e k) →
+    parcels_to_all t.config.conference reply (updates t.config t.ongoing course.ended.items course.before.items course.numbers.items)
     (floor_updates course.before.items (infos_of t.config t.ongoing) t.config.floors) t.members
-    ≡ parcels_of s (Message n bytes)
-parcels-served s n bytes t course r is numbered same numbers rising before replied =
-    let e : Event = Message n bytes in
+    ≡ parcels_of s e
+parcels-served s e t course reply telling is numbered same numbers rising before replied =
     let N : Conference → Type 0 = λ x. is_numbered_from 1 x.members ≡ true in
     let all : Conference → Configuration → List Parcel = λ x config.
-    parcels_to_all config.conference (Some r) (updates config x.ongoing course.ended.items course.before.items course.numbers.items) (floor_updates course.before.items (infos_of config x.ongoing) config.floors) x.members in
+    parcels_to_all config.conference reply (updates config x.ongoing course.ended.items course.before.items course.numbers.items) (floor_updates course.before.items (infos_of config x.ongoing) config.floors) x.members in
     ap (λ (x : Conference). all x x.config) is
     ∙ ap (all (next s e)) (next-config s e)
-    ∙ ap (λ (us : List Update). parcels_to_all s.config.conference (Some r) us (floor_updates course.before.items (infos_of s.config (next s e).ongoing) s.config.floors) (next s e).members)
+    ∙ ap (λ (us : List Update). parcels_to_all s.config.conference reply us (floor_updates course.before.items (infos_of s.config (next s e).ongoing) s.config.floors) (next s e).members)
     (updates-message s e course same numbers rising before)
-    ∙ ap (λ (us : List FloorUpdate). parcels_to_all s.config.conference (Some r) (map update_for (changed_requests s e)) us (next s e).members)
+    ∙ ap (λ (us : List FloorUpdate). parcels_to_all s.config.conference reply (map update_for (changed_requests s e)) us (next s e).members)
     (floors-message s e course.before.items (infos_of s.config (next s e).ongoing) before (ap (λ (config : Configuration). infos_of config (next s e).ongoing) (sym (next-config s e))))
-    ∙ parcels-told s n bytes r (subst N is numbered) replied
+    ∙ parcels-told s e reply telling (subst N is numbered) replied
 
 -- the state after the change, settled, is the next conference
 pub settled-state : (s : Conference) (e : Event) (c : Change) (t : State) (course : Course) (q : Queue) → change s e ≡ c → IsChanged s c (conference_of t) course → IsState t →
@@ -211,3 +211,14 @@ settled-state s e c t course q same changed state settled =
     ∙ ap (λ (fs : List Floor). made t.config t.requests.given (settle fs t.requests.ongoing) t.members.items t.is_open)
     (state.floors ∙ ap (λ (config : Configuration). config.floors) changed.config)
     ∙ settled-next s e c (conference_of t) course same changed
+
+-- what the steps that reply to nobody put is what a changed event calls for that nobody sent
+pub parcels-changed : (s : Conference) (e : Event) (t : State) (course : Course) (q : Queue) → is_telling e ≡ true → ((k : ℕ) → reply_to s e k ≡ []) →
+    IsChanged s (change s e) (conference_of t) course → IsState t → q ≡ after_settle t.requests →
+    parcels_to_all t.config.conference None (updates t.config q.ongoing course.ended.items course.before.items course.numbers.items)
+    (floor_updates course.before.items (infos_of t.config q.ongoing) t.config.floors) t.members.items
+    ≡ parcels_of s e
+parcels-changed s e t course q telling unsent changed state settled =
+    parcels-served s e (conference_of (record t { requests = q })) course None telling (settled-state s e (change s e) t course q refl changed state settled) state.numbered
+    (ended-shown s e (change s e) (conference_of t) course refl changed) (numbers-shown s e (change s e) (conference_of t) course refl changed) changed.rising changed.before
+    (λ k. sym (unsent k))

@@ -18,7 +18,8 @@ use Rattle.floor_machine.specs.declared.course.Ended.{Ended}
 use Rattle.floor_machine.specs.declared.sending.Reply.{Reply}
 use Rattle.floor_machine.specs.declared.sending.Update.{Update}
 use Rattle.floor_machine.specs.Conference.{Conference, member_with}
-use Rattle.floor_machine.specs.Event.{Event, Message}
+use Rattle.floor_machine.specs.declared.event.Event.{Event}
+use Rattle.floor_machine.specs.declared.event.Event.TheVariants.{Join, Message, Leave, Revoke, Close}
 use Rattle.floor_machine.specs.Shown.{Entry, ongoing_of, info_of}
 use Rattle.floor_machine.specs.Change.{next}
 use Rattle.floor_machine.specs.Outgoing.{Outgoing, notice}
@@ -64,7 +65,7 @@ update_at-entry : (config : Configuration) (ongoing : List Request) (before : Li
 update_at-entry config ongoing before None = refl
 update_at-entry config ongoing before (Some e) = refl
 
-flat_map-same : {A B : Type 0} (f g : A → List B) → ((x : A) → f x ≡ g x) → (xs : List A) → flat_map f xs ≡ flat_map g xs
+pub flat_map-same : {A B : Type 0} (f g : A → List B) → ((x : A) → f x ≡ g x) → (xs : List A) → flat_map f xs ≡ flat_map g xs
 flat_map-same f g same [] = refl
 flat_map-same {B = B} f g same (x ∷ xs) =
     ap (λ (ys : List B). ys ++ flat_map f xs) (same x) ∙ ap (λ (ys : List B). g x ++ ys) (flat_map-same f g same xs)
@@ -99,41 +100,42 @@ any-answered k head [] = refl
 any-answered k head (tell ∷ tells) = ap (λ (b : Bool). is_status_of k tell || b) (any-answered k (record head { transaction = 0 }) tells)
 
 -- the test of the steps, whether the reply to n is a status already
-is_answered-any : (r : Reply) (n k : ℕ) → list_any (λ message. is_status_of k message.tell) (answered_to (Some r) n) ≡ is_answered (Some r) n k
-is_answered-any r n k = by (is_to n r)
+is_answered-any : (reply : Option Reply) (n k : ℕ) → list_any (λ message. is_status_of k message.tell) (answered_to reply n) ≡ is_answered reply n k
+is_answered-any None n k = refl
+is_answered-any (Some r) n k = by (is_to n r)
   where
     by : (b : Bool) → list_any (λ message. is_status_of k message.tell) (cond b (answered r.head r.tells.items) []) ≡ (b && list_any (is_status_of k) r.tells.items)
     by true = any-answered k r.head r.tells.items
     by false = refl
 
 -- the steps' parcels of the changed requests, to a member
-abbrev requests_put : Conference → Event → Reply → Member → List Parcel
-requests_put s e r m = map (λ u. parcel m.n (update_to s.config.conference m u)) (filter (is_due_to (Some r) m) (map update_for (changed_requests s e)))
+abbrev requests_put : Conference → Event → Option Reply → Member → List Parcel
+requests_put s e reply m = map (λ u. parcel m.n (update_to s.config.conference m u)) (filter (is_due_to reply m) (map update_for (changed_requests s e)))
 
 -- the steps' parcels of the changed floors, to a member
 abbrev floors_put : Conference → Event → Member → List Parcel
 floors_put s e m = map (λ u. parcel m.n (floor_update_to s.config.conference m u)) (filter (is_watched m) (map (floor_update (infos (next s e))) (changed_floors s e)))
 
-due-told : (s : Conference) (e : Event) (r : Reply) (m : Member) → answered_to (Some r) m.n ≡ reply_to s e m.n → (c : Changed) →
-    is_due_to (Some r) m (update_for c) ≡ is_told (reply_to s e m.n) m.user c
-due-told s e r m replied c =
+due-told : (s : Conference) (e : Event) (reply : Option Reply) (m : Member) → answered_to reply m.n ≡ reply_to s e m.n → (c : Changed) →
+    is_due_to reply m (update_for c) ≡ is_told (reply_to s e m.n) m.user c
+due-told s e reply m replied c =
     ap (λ (b : Bool). involves c.request m.user && not b)
-    (sym (is_answered-any r m.n c.request.number) ∙ ap (λ (ms : List Outgoing). list_any (λ message. is_status_of c.request.number message.tell) ms) replied)
+    (sym (is_answered-any reply m.n c.request.number) ∙ ap (λ (ms : List Outgoing). list_any (λ message. is_status_of c.request.number message.tell) ms) replied)
 
-requests-told : (s : Conference) (e : Event) (r : Reply) (m : Member) → answered_to (Some r) m.n ≡ reply_to s e m.n → requests_put s e r m ≡ map (parcel m.n) (request_notices s e m)
-requests-told s e r m replied =
-    fused (is_due_to (Some r) m) (is_told (reply_to s e m.n) m.user) update_for (λ u. parcel m.n (update_to s.config.conference m u)) (λ c. notice s.config.conference m.user (FloorRequestStatus c.info)) (parcel m.n) (due-told s e r m replied) (λ c. refl) (changed_requests s e)
+requests-told : (s : Conference) (e : Event) (reply : Option Reply) (m : Member) → answered_to reply m.n ≡ reply_to s e m.n → requests_put s e reply m ≡ map (parcel m.n) (request_notices s e m)
+requests-told s e reply m replied =
+    fused (is_due_to reply m) (is_told (reply_to s e m.n) m.user) update_for (λ u. parcel m.n (update_to s.config.conference m u)) (λ c. notice s.config.conference m.user (FloorRequestStatus c.info)) (parcel m.n) (due-told s e reply m replied) (λ c. refl) (changed_requests s e)
 
 floors-told : (s : Conference) (e : Event) (m : Member) → floors_put s e m ≡ map (parcel m.n) (floor_notices s e m)
 floors-told s e m =
     fused (is_watched m) (λ f. list_any (λ floor. floor == f.id) m.watched) (floor_update (infos (next s e))) (λ u. parcel m.n (floor_update_to s.config.conference m u)) (λ f. notice s.config.conference m.user (floor_status_tell (next s e) f.id)) (parcel m.n) (λ f. refl) (λ f. refl) (changed_floors s e)
 
 -- what the steps put for a member is what the event tells it
-member-told : (s : Conference) (e : Event) (r : Reply) (m : Member) → answered_to (Some r) m.n ≡ reply_to s e m.n →
-    parcels_to s.config.conference (Some r) (map update_for (changed_requests s e)) (map (floor_update (infos (next s e))) (changed_floors s e)) m ≡ map (parcel m.n) (told_to s e m)
-member-told s e r m replied =
-    ap (λ (ms : List Outgoing). map (parcel m.n) ms ++ requests_put s e r m ++ floors_put s e m) replied
-    ∙ ap (λ (ps : List Parcel). map (parcel m.n) (reply_to s e m.n) ++ ps ++ floors_put s e m) (requests-told s e r m replied)
+member-told : (s : Conference) (e : Event) (reply : Option Reply) (m : Member) → answered_to reply m.n ≡ reply_to s e m.n →
+    parcels_to s.config.conference reply (map update_for (changed_requests s e)) (map (floor_update (infos (next s e))) (changed_floors s e)) m ≡ map (parcel m.n) (told_to s e m)
+member-told s e reply m replied =
+    ap (λ (ms : List Outgoing). map (parcel m.n) ms ++ requests_put s e reply m ++ floors_put s e m) replied
+    ∙ ap (λ (ps : List Parcel). map (parcel m.n) (reply_to s e m.n) ++ ps ++ floors_put s e m) (requests-told s e reply m replied)
     ∙ ap (λ (ps : List Parcel). map (parcel m.n) (reply_to s e m.n) ++ map (parcel m.n) (request_notices s e m) ++ ps) (floors-told s e m)
     ∙ ap (λ (ps : List Parcel). ps ++ map (parcel m.n) (floor_notices s e m)) (sym (map-append (parcel m.n) (reply_to s e m.n) (request_notices s e m)))
     ∙ sym (map-append (parcel m.n) (reply_to s e m.n ++ request_notices s e m) (floor_notices s e m))
@@ -186,22 +188,41 @@ members-told f all (m ∷ ms) k h same =
     by true = refl
     by false = refl
 
--- what a message calls for, member by member
-parcels_of-members : (s : Conference) (n : ℕ) (bytes : List ℕ) → is_numbered_from 1 (next s (Message n bytes)).members ≡ true →
-    parcels_of s (Message n bytes) ≡ flat_map (λ m. cond m.is_live (map (parcel m.n) (told_to s (Message n bytes) m)) []) (next s (Message n bytes)).members
-unfolding parcels_of told
-parcels_of-members s n bytes h =
-    members-told (told_to s (Message n bytes)) (next s (Message n bytes)).members (next s (Message n bytes)).members 1 h (λ k l. refl)
+-- the event tells live members what it changed: all do but Close
+abbrev pub is_telling : Event → Bool
+is_telling (Join user) = true
+is_telling (Message n bytes) = true
+is_telling (Leave n) = true
+is_telling (Revoke request) = true
+is_telling Close = false
 
--- the parcels that the steps of a message put are those that it calls for
-pub parcels-told : (s : Conference) (n : ℕ) (bytes : List ℕ) (r : Reply) → is_numbered_from 1 (next s (Message n bytes)).members ≡ true →
-    ((k : ℕ) → answered_to (Some r) k ≡ reply_to s (Message n bytes) k) →
-    parcels_to_all s.config.conference (Some r) (map update_for (changed_requests s (Message n bytes))) (map (floor_update (infos (next s (Message n bytes)))) (changed_floors s (Message n bytes))) (next s (Message n bytes)).members
-    ≡ parcels_of s (Message n bytes)
-parcels-told s n bytes r h replied =
+-- what is told to n is told to the live member with the number
+pub told-member : (s : Conference) (e : Event) (n : ℕ) → is_telling e ≡ true → told s e n ≡ option_map_or (told_to s e) (member_with (next s e).members n) []
+unfolding told
+told-member s (Join user) n h = refl
+told-member s (Message k bytes) n h = refl
+told-member s (Leave k) n h = refl
+told-member s (Revoke request) n h = refl
+told-member s Close n h = cc
+
+-- what an event calls for, member by member
+pub parcels_of-members : (s : Conference) (e : Event) → is_telling e ≡ true → is_numbered_from 1 (next s e).members ≡ true →
+    parcels_of s e ≡ flat_map (λ m. cond m.is_live (map (parcel m.n) (told_to s e m)) []) (next s e).members
+unfolding parcels_of
+parcels_of-members s e telling h =
+    flat_map-same (λ m. map (parcel m.n) (told s e m.n)) (λ m. map (parcel m.n) (option_map_or (told_to s e) (member_with (next s e).members m.n) []))
+    (λ m. ap (map (parcel m.n)) (told-member s e m.n telling)) (next s e).members
+    ∙ members-told (told_to s e) (next s e).members (next s e).members 1 h (λ k l. refl)
+
+-- the parcels that the steps of an event put are those that it calls for
+pub parcels-told : (s : Conference) (e : Event) (reply : Option Reply) → is_telling e ≡ true → is_numbered_from 1 (next s e).members ≡ true →
+    ((k : ℕ) → answered_to reply k ≡ reply_to s e k) →
+    parcels_to_all s.config.conference reply (map update_for (changed_requests s e)) (map (floor_update (infos (next s e))) (changed_floors s e)) (next s e).members
+    ≡ parcels_of s e
+parcels-told s e reply telling h replied =
     flat_map-same
-    (λ m. cond m.is_live (parcels_to s.config.conference (Some r) (map update_for (changed_requests s (Message n bytes))) (map (floor_update (infos (next s (Message n bytes)))) (changed_floors s (Message n bytes))) m) [])
-    (λ m. cond m.is_live (map (parcel m.n) (told_to s (Message n bytes) m)) [])
-    (λ m. ap (λ (ps : List Parcel). cond m.is_live ps []) (member-told s (Message n bytes) r m (replied m.n)))
-    (next s (Message n bytes)).members
-    ∙ sym (parcels_of-members s n bytes h)
+    (λ m. cond m.is_live (parcels_to s.config.conference reply (map update_for (changed_requests s e)) (map (floor_update (infos (next s e))) (changed_floors s e)) m) [])
+    (λ m. cond m.is_live (map (parcel m.n) (told_to s e m)) [])
+    (λ m. ap (λ (ps : List Parcel). cond m.is_live ps []) (member-told s e reply m (replied m.n)))
+    (next s e).members
+    ∙ sym (parcels_of-members s e telling h)

@@ -18,7 +18,8 @@ use Rattle.floor_machine.specs.declared.member.Member.{Member}
 use Rattle.floor_machine.specs.declared.status.RequestStatus.{RequestStatus}
 use Rattle.floor_machine.specs.declared.status.RequestStatus.TheVariants as status
 use Rattle.floor_machine.specs.Conference.{Conference, is_user, is_live, is_present, user_of, binding}
-use Rattle.floor_machine.specs.Event.{Event, Join, Message, Leave, Revoke, Close}
+use Rattle.floor_machine.specs.declared.event.Event.{Event}
+use Rattle.floor_machine.specs.declared.event.Event.TheVariants.{Join, Message, Leave, Revoke, Close}
 use Rattle.floor_machine.specs.Shown.{Entry, entry_of, ongoing_of, settle_entries}
 use Rattle.floor_machine.specs.Checks.{beneficiary_of, refusal}
 

@@ -7,7 +7,8 @@ use Rattle.floor_wire.specs.Spelled.{spelled, spelled_within}
 use Rattle.floor_message.specs.Ask.{ask}
 use Rattle.floor_machine.specs.declared.parcel.Parcel.{Parcel}
 use Rattle.floor_machine.specs.Conference.{opening}
-use Rattle.floor_machine.specs.Event.{Event, Join, Message, Leave, Revoke, Close}
+use Rattle.floor_machine.specs.declared.event.Event.{Event}
+use Rattle.floor_machine.specs.declared.event.Event.TheVariants.{Join, Message, Leave, Revoke, Close}
 use Rattle.floor_machine.specs.Shown.{info_of}
 use Rattle.floor_machine.specs.Same.{same_info}
 use Rattle.floor_machine.specs.Checks.{refusal}

@@ -4,7 +4,7 @@ use Rattle.std.specs.List.{concat, flat_map}
 use Rattle.floor_config.specs.Configuration.{Configuration}
 use Rattle.floor_machine.specs.declared.parcel.Parcel.{Parcel}
 use Rattle.floor_machine.specs.Conference.{Conference, opening}
-use Rattle.floor_machine.specs.Event.{Event}
+use Rattle.floor_machine.specs.declared.event.Event.{Event}
 use Rattle.floor_machine.specs.Change.{next, IsLawful}
 use Rattle.floor_machine.specs.Outgoing.{Outgoing, outgoing_bytes}
 use Rattle.floor_machine.specs.Told.{told}

@@ -1,9 +1,14 @@
--- Laws of the floor machine: what is shown differs where anything differs, and what is sent to one member is what it is told.
-use Rattle.std.specs.Prelude.{◌≡◌, ◌↔◌, ℕ, true, List, map}
+-- Laws of the floor machine: what is shown differs where anything differs, what is sent to one member is what it is told, and the
+-- events that are taken are the lawful ones.
+use Rattle.std.specs.Prelude.{◌≡◌, ◌↔◌, ℕ, true, List, map, None}
 use Rattle.floor_config.specs.Configuration.{Configuration}
 use Rattle.floor_message.specs.declared.tell.Info.{Info}
-use Rattle.floor_machine.specs.Conference.{opening}
-use Rattle.floor_machine.specs.Event.{Event}
+use Rattle.floor_wire.specs.Message.{IsMessage}
+use Rattle.floor_machine.specs.Conference.{Conference, opening}
+use Rattle.floor_machine.specs.declared.event.Event.{Event}
+use Rattle.floor_machine.specs.declared.event.Event.TheVariants.{Message}
+use Rattle.floor_machine.specs.Change.{IsLawful}
+use Rattle.floor_machine.specs.Machine.{event_refusal, whole}
 use Rattle.floor_machine.specs.Same.{same_info}
 use Rattle.floor_machine.specs.Journal.{IsLawfulFrom, parcel, parcels_from, told_from, sent_to}
 
@@ -15,3 +20,12 @@ SameIsEqual = (x y : Info) → (same_info x y ≡ true) ↔ (x ≡ y)
 abbrev pub SentIsTold : Type 0
 SentIsTold = (config : Configuration) (es : List Event) (n : ℕ) → IsLawfulFrom (opening config) es →
     sent_to n (parcels_from (opening config) es) ≡ map (parcel n) (told_from (opening config) es n)
+
+-- a message of the event is one whole message
+abbrev pub IsWhole : Event → Type 0
+IsWhole (Message n bytes) = IsMessage bytes
+IsWhole _ = Unit {0}
+
+-- a machine that no event has broken off takes an event exactly where it is lawful
+abbrev pub TakenIsLawful : Type 0
+TakenIsLawful = (s : Conference) (e : Event) → IsWhole e → (event_refusal (whole s) e ≡ None) ↔ IsLawful s e

@@ -1,5 +1,4 @@
 pub mod Conference
-pub mod Event
 pub mod Shown
 pub mod Checks
 pub mod Change
@@ -9,6 +8,7 @@ pub mod Same
 pub mod Told
 pub mod Journal
 pub mod Steps
+pub mod Fitting
 pub mod Serving
 pub mod Machine
 pub mod Laws

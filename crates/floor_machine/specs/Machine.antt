@@ -1,8 +1,13 @@
 -- The floor machine of one conference, as contracts see it.
-use Rattle.std.specs.Prelude.{◌≡◌, ℕ, not, nat_le, if◌then◌else◌, Bool, false, count_by, Option, Some, None, Result, Ok, Err}
+use Rattle.std.specs.Prelude.{◌≡◌, ℕ, ◌<◌, List, [], ◌∷◌, length, take, drop, not, nat_le, if◌then◌else◌, Bool, false, count_by, Option, Some, None, is_some, Result, Ok, Err}
 use Rattle.floor_machine.specs.declared.machine.Refusal.{Refusal}
-use Rattle.floor_machine.specs.declared.machine.Refusal.TheVariants.{Broken, Ended, NoMember, NoUser, Full, Memory}
+use Rattle.floor_machine.specs.declared.machine.Refusal.TheVariants.{Broken, Ended, NoMember, NoUser, Full, NoRequest, Memory}
+use Rattle.floor_machine.specs.declared.event.Act.{Act}
+use Rattle.floor_machine.specs.declared.event.Event.{Event}
+use Rattle.floor_queue.specs.Queue.{request_at}
 use Rattle.floor_machine.specs.Conference.{Conference, is_user, is_live}
+use Rattle.floor_machine.specs.Journal.{IsLawfulFrom, after_from}
+use Rattle.floor_machine.specs.declared.running.Stopped.{Stopped}
 
 -- the conference, and whether an event was broken off for want of memory
 pub record Machine : Type 0 where
@@ -25,9 +30,27 @@ join_refusal m user =
     else if nat_le 64 (count_by (λ m. m.is_live) m.conference.members) then Some Full
     else None)
 
--- why a message is not taken of n: it is no live member
-abbrev pub message_refusal : Machine → ℕ → Option Refusal
-message_refusal m n = refusal_of m (if not (is_live m.conference n) then Some NoMember else None)
+-- why nothing is taken of n, neither a message nor that it leaves: it is no live member
+abbrev pub member_refusal : Machine → ℕ → Option Refusal
+member_refusal m n = refusal_of m (if not (is_live m.conference n) then Some NoMember else None)
+
+-- the event that an act of the administrator is
+abbrev pub event_of_act : Act → Event
+event_of_act (Act.Revoke request) = Event.Revoke request
+event_of_act Act.Close = Event.Close
+
+-- why an act of the administrator is not taken: it revokes a request that isn't ongoing
+abbrev pub act_refusal : Machine → Act → Option Refusal
+act_refusal m (Act.Revoke request) = refusal_of m (if not (is_some (request_at m.conference.ongoing request)) then Some NoRequest else None)
+act_refusal m Act.Close = refusal_of m None
+
+-- why an event is not taken
+abbrev pub event_refusal : Machine → Event → Option Refusal
+event_refusal m (Event.Join user) = join_refusal m user
+event_refusal m (Event.Message n bytes) = member_refusal m n
+event_refusal m (Event.Leave n) = member_refusal m n
+event_refusal m (Event.Revoke request) = act_refusal m (Act.Revoke request)
+event_refusal m Event.Close = act_refusal m Act.Close
 
 -- The call is refused exactly by this refusal; where there is none it is done, or memory was refused.
 abbrev pub IsRefusedBy : {T : Type 0} → Option Refusal → Result T Refusal → Type 0
@@ -35,3 +58,18 @@ IsRefusedBy (Some refusal) result = result ≡ Err refusal
 IsRefusedBy None (Ok value) = Unit {0}
 IsRefusedBy None (Err Memory) = Unit {0}
 IsRefusedBy None (Err refusal) = ⊥
+
+-- a machine after these events, each of which it took
+abbrev pub machine_after : Machine → List Event → Machine
+machine_after m es = record m { conference = after_from m.conference es }
+
+-- the machine refuses the first of these events by this refusal
+abbrev pub IsFirstRefused : Machine → List Event → Refusal → Type 0
+IsFirstRefused m [] refusal = ⊥
+IsFirstRefused m (e ∷ es) refusal = IsRefusedBy {T = Unit {0}} (event_refusal m e) (Err refusal)
+
+-- A run has stopped: before the end, after lawful events, and where the machine refuses the event behind them.
+pub record IsStopped (m : Machine) (es : List Event) (stopped : Stopped) : Type 0 where
+  pub done : stopped.done < length es
+  pub lawful : IsLawfulFrom m.conference (take stopped.done es)
+  pub refused : IsFirstRefused (machine_after m (take stopped.done es)) (drop stopped.done es) stopped.refusal

@@ -1,10 +1,13 @@
 -- The steps by which a message is served.
-use Rattle.std.specs.Prelude.{◌≡◌, ℕ, ◌+◌, ◌==◌, ◌&&◌, Bool, true, false, List, [], ◌∷◌, map, filter, Option, option_map, unwrap_or, is_some, nat_lt, IsSome}
-use Rattle.std.specs.List.{list_all}
+use Rattle.std.specs.Prelude.{◌≡◌, ◌≢◌, ◌≤◌, ◌<◌, ℕ, ◌+◌, ◌==◌, ◌&&◌, Bool, true, false, not, List, [], ◌∷◌, length, map, filter, Option, option_map, unwrap_or, is_some, nat_lt, IsSome, IsSomeAnd, if◌then◌else◌}
+use Rattle.std.specs.List.{list_any, list_all}
 use Rattle.std.specs.Option.{option_map_or}
 use Rattle.floor_config.specs.Configuration.{user_ids}
 use Rattle.floor_queue.specs.declared.request.New.{New}
-use Rattle.floor_queue.specs.Queue.{IsAddable, IsSettled, request_at}
+use Rattle.floor_queue.specs.declared.request.Request.{Request}
+use Rattle.floor_queue.specs.Order.{names}
+use Rattle.floor_queue.specs.Queue.{Queue, IsAddable, IsSettled, request_at, after_end}
+use Rattle.floor_message.specs.declared.ask.Verdict.{Verdict}
 use Rattle.floor_message.specs.Ask.{Answer, asks, refused, unanswered}
 use Rattle.floor_message.specs.Code.{code_number}
 use Rattle.floor_message.specs.declared.ask.Ask.{Ask}
@@ -19,8 +22,8 @@ use Rattle.floor_machine.specs.declared.member.Member.{Member}
 use Rattle.floor_machine.specs.declared.state.State.{State}
 use Rattle.floor_machine.specs.Conference.{Conference}
 use Rattle.floor_machine.specs.Shown.{Entry, ongoing_of, described}
-use Rattle.floor_machine.specs.Checks.{refusal, beneficiary_of}
-use Rattle.floor_machine.specs.Change.{Change, no_change, asked_change}
+use Rattle.floor_machine.specs.Checks.{refusal, beneficiary_of, is_allowed}
+use Rattle.floor_machine.specs.Change.{Change, no_change, asked_change, is_final, decided_at, released, dismissed}
 use Rattle.floor_machine.specs.Reply.{infos, infos_of_user, floor_answers, supported_primitives, supported_attributes}
 use Rattle.floor_machine.specs.Steps.{entry_of_ended, shown_at}
 
@@ -88,39 +91,51 @@ abbrev pub new_of_ask : ℕ → Option ℕ → List ℕ → ℕ → Option (List
 new_of_ask user beneficiary floors priority info =
     record { requester = user; beneficiary = beneficiary_of user beneficiary; floors = floors; priority = priority; info = info }
 
--- what a user asks is served: all but a ChairAction
-abbrev pub IsServedAsk : Ask → Type 0
-IsServedAsk (FloorRequest beneficiary floors priority info) = Unit {0}
-IsServedAsk (FloorRelease request) = Unit {0}
-IsServedAsk (FloorRequestQuery request) = Unit {0}
-IsServedAsk (UserQuery beneficiary) = Unit {0}
-IsServedAsk (FloorQuery floors) = Unit {0}
-IsServedAsk (ChairAction request verdicts) = ⊥
-IsServedAsk Hello = Unit {0}
+-- the verdicts may be done: the request is ongoing, names each of their floors, and its state allows each
+abbrev pub MayDecide : List Request → ℕ → List (ℕ × Verdict) → Type 0
+MayDecide ongoing request verdicts =
+    IsSomeAnd (request_at ongoing request)
+    (λ r. (list_all (λ v. names r v.0) verdicts ≡ true) × (list_all (λ v. is_allowed r.is_granted v.1) verdicts ≡ true))
 
--- a message is served as it is read: all but what asks something that isn't
-abbrev pub IsServed : Answer → Type 0
-IsServed unanswered = Unit {0}
-IsServed (refused code details) = Unit {0}
-IsServed (asks a) = IsServedAsk a
+-- the queue after the verdicts on the floors of a request
+abbrev pub after_decide : Queue → ℕ → List (ℕ × Verdict) → Queue
+after_decide q request verdicts =
+    if list_any (λ v. is_final v.1) verdicts then after_end q request
+    else record q { ongoing = map (decided_at request verdicts) q.ongoing }
 
--- what is accepted is served
-abbrev pub IsServedJudged : Judged → Type 0
-IsServedJudged (Accepted a) = IsServedAsk a
-IsServedJudged (Refused code details) = Unit {0}
-IsServedJudged Unanswered = Unit {0}
+-- the request that the verdicts end, where one does
+abbrev pub ended_by : Queue → ℕ → List (ℕ × Verdict) → List Ended
+ended_by q request verdicts =
+    if list_any (λ v. is_final v.1) verdicts
+    then option_map_or (λ r. record { request = r; ending = dismissed r } ∷ []) (request_at q.ongoing request) []
+    else []
 
--- what is accepted is served, and may be done: a FloorRequest may be added, and a request that is released is ongoing
+-- the queue after all requests for this beneficiary ended
+abbrev pub after_release_for : Queue → ℕ → Queue
+after_release_for q beneficiary = record q { ongoing = filter (λ r. not (r.beneficiary == beneficiary)) q.ongoing }
+
+-- the requests for this beneficiary, as they end where they are given back
+abbrev pub released_for : Queue → ℕ → List Ended
+released_for q beneficiary =
+    map (λ r. record { request = r; ending = released r }) (filter (λ r. r.beneficiary == beneficiary) q.ongoing)
+
+-- there is room for one more request: fewer than 256 are ongoing, and the last number isn't given yet
+pub record HasRoom (ongoing : List Request) (given : ℕ) : Type 0 where
+  pub few : length ongoing < 256
+  pub left : given ≢ 65535
+
+-- What is accepted may be done: a FloorRequest may be added, and there is room for it, a request that is released is ongoing, and
+-- verdicts may be done. What is refused has details that fit.
 abbrev pub MayServe : Conference → ℕ → Judged → Type 0
 MayServe s user (Accepted (FloorRequest beneficiary floors priority info)) =
-    IsAddable s.config.floors (new_of_ask user beneficiary floors priority info)
+    IsAddable s.config.floors (new_of_ask user beneficiary floors priority info) × HasRoom s.ongoing s.given
 MayServe s user (Accepted (FloorRelease request)) = IsSome (request_at s.ongoing request)
 MayServe s user (Accepted (FloorRequestQuery request)) = Unit {0}
 MayServe s user (Accepted (UserQuery beneficiary)) = Unit {0}
 MayServe s user (Accepted (FloorQuery floors)) = Unit {0}
-MayServe s user (Accepted (ChairAction request verdicts)) = ⊥
+MayServe s user (Accepted (ChairAction request verdicts)) = MayDecide s.ongoing request verdicts
 MayServe s user (Accepted Hello) = Unit {0}
-MayServe s user (Refused code details) = Unit {0}
+MayServe s user (Refused code details) = length details ≤ 252
 MayServe s user Unanswered = Unit {0}
 
 -- the status of the request with this number, which ended or is ongoing

@@ -11,7 +11,8 @@ use Rattle.floor_message.specs.declared.tell.Tell.{Tell}
 use Rattle.floor_message.specs.declared.tell.Tell.TheVariants.{FloorRequestStatus}
 use Rattle.floor_machine.specs.declared.member.Member.{Member}
 use Rattle.floor_machine.specs.Conference.{Conference, member_with}
-use Rattle.floor_machine.specs.Event.{Event, Message, Close}
+use Rattle.floor_machine.specs.declared.event.Event.{Event}
+use Rattle.floor_machine.specs.declared.event.Event.TheVariants.{Message, Close}
 use Rattle.floor_machine.specs.Shown.{Entry, ongoing_of, info_of}
 use Rattle.floor_machine.specs.Same.{same_info, same_infos}
 use Rattle.floor_machine.specs.Change.{shown, next}

@@ -1,7 +1,9 @@
 //! What a message is answered by (RFC 8855, section 13).
 
-ghost use Rattle.std.specs.Prelude.{◌≡◌, ◌∷◌, [], IfOk, Some, map, option_map, unwrap_or};
+ghost use Rattle.std.specs.Prelude.{◌≡◌, ◌∷◌, [], All, IfOk, IfSome, Some, map, option_map, unwrap_or};
 ghost use Rattle.floor_queue.specs.Queue.{IsSettled};
+ghost use Rattle.floor_message.specs.Shown.{AreShown, IsDescribed, IsShown};
+ghost use Rattle.floor_machine.specs.Fitting.{AreAddable, DetailsFit};
 ghost use Rattle.floor_machine.specs.Reply as spec;
 ghost use Rattle.floor_machine.specs.Shown as shown;
 ghost use Rattle.floor_machine.specs.Serving as serving;
@@ -18,7 +20,9 @@ use std::alloc::{AllocError, Global};
 
 /// One message.
 fn one(alloc: Global, tell: Tell) -> Result<Vec<Tell>, AllocError>
-    ensures { IfOk result (λ tells. tells.items ≡ tell ∷ []) }
+    requires { IsShown tell }
+    ensures value { IfOk result (λ tells. tells.items ≡ tell ∷ []) }
+    ensures shown { IfOk result (λ tells. All IsShown tells.items) }
 {
     let mut tells = Vec::new(alloc);
     tells.push(tell)?;
@@ -31,7 +35,8 @@ fn described_if(
     config: &Config,
     user: Option<u16>,
 ) -> Result<Option<Who>, AllocError>
-    ensures { IfOk result (λ who. who ≡ option_map (shown.described config.now) user) }
+    ensures value { IfOk result (λ who. who ≡ option_map (shown.described config.now) user) }
+    ensures shown { IfOk result (λ who. IfSome who IsDescribed) }
 {
     match user {
         None => Ok(None),
@@ -40,7 +45,8 @@ fn described_if(
 }
 
 fn hello_tells(alloc: Global) -> Result<Vec<Tell>, AllocError>
-    ensures { IfOk result (λ tells. tells.items ≡ Tell.HelloAck spec.supported_primitives spec.supported_attributes ∷ []) }
+    ensures value { IfOk result (λ tells. tells.items ≡ Tell.HelloAck spec.supported_primitives spec.supported_attributes ∷ []) }
+    ensures shown { IfOk result (λ tells. All IsShown tells.items) }
 {
     let primitives = vec![in alloc; 1, 2, 3, 4, 5, 6, 7, 8, 9, 10, 11, 12, 13]?;
     let attributes = vec![in alloc;
@@ -57,8 +63,10 @@ fn hello_tells(alloc: Global) -> Result<Vec<Tell>, AllocError>
 
 /// The statuses of floors, in their order.
 fn floor_statuses(alloc: Global, now: &[Info], floors: &[u16]) -> Result<Vec<Tell>, AllocError>
-    ensures { IfOk result (λ tells. tells.items
+    requires { AreShown now.now }
+    ensures value { IfOk result (λ tells. tells.items
         ≡ map (λ floor. Tell.FloorStatus (Some floor) (spec.infos_on floor now.now)) floors.now) }
+    ensures shown { IfOk result (λ tells. All IsShown tells.items) }
 {
     let mut tells = Vec::new(alloc);
     for floor in floors {
@@ -77,7 +85,9 @@ impl State {
     ) -> Result<Vec<Tell>, AllocError>
         requires floors { self.now.requests.floors ≡ self.now.config.floors }
         requires settled { IsSettled self.now.requests }
-        ensures { IfOk result (λ tells. tells.items ≡ serving.status_tells (conference_of self.now) ended.now number) }
+        requires ended { AreAddable self.now.config.floors ended.now }
+        ensures value { IfOk result (λ tells. tells.items ≡ serving.status_tells (conference_of self.now) ended.now number) }
+        ensures shown { IfOk result (λ tells. All IsShown tells.items) }
     {
         match shown_at(alloc, &self.config, &self.requests, ended, number)? {
             None => Ok(Vec::new(alloc)),
@@ -94,8 +104,9 @@ impl State {
     ) -> Result<Vec<Tell>, AllocError>
         requires floors { self.now.requests.floors ≡ self.now.config.floors }
         requires settled { IsSettled self.now.requests }
-        ensures { IfOk result (λ tells. tells.items ≡ Tell.UserStatus (option_map (shown.described self.now.config) beneficiary)
+        ensures value { IfOk result (λ tells. tells.items ≡ Tell.UserStatus (option_map (shown.described self.now.config) beneficiary)
             (spec.infos_of_user (unwrap_or beneficiary user) (conference_of self.now)) ∷ []) }
+        ensures shown { IfOk result (λ tells. All IsShown tells.items) }
     {
         let who = described_if(alloc, &self.config, beneficiary)?;
         let infos = infos_of_user(
@@ -117,7 +128,8 @@ impl State {
     fn floor_tells(&self, alloc: Global, floors: &[u16]) -> Result<Vec<Tell>, AllocError>
         requires floors { self.now.requests.floors ≡ self.now.config.floors }
         requires settled { IsSettled self.now.requests }
-        ensures { IfOk result (λ tells. tells.items ≡ spec.floor_answers (conference_of self.now) floors.now) }
+        ensures value { IfOk result (λ tells. tells.items ≡ spec.floor_answers (conference_of self.now) floors.now) }
+        ensures shown { IfOk result (λ tells. All IsShown tells.items) }
     {
         if floors.is_empty() {
             let infos = Infos::from_vec(Vec::new(alloc));
@@ -137,8 +149,9 @@ impl State {
     ) -> Result<Vec<Tell>, AllocError>
         requires floors { self.now.requests.floors ≡ self.now.config.floors }
         requires settled { IsSettled self.now.requests }
-        requires served { serving.IsServedAsk ask.now }
-        ensures { IfOk result (λ tells. tells.items ≡ serving.accepted_tells (conference_of self.now) ended.now user ask.now) }
+        requires ended { AreAddable self.now.config.floors ended.now }
+        ensures value { IfOk result (λ tells. tells.items ≡ serving.accepted_tells (conference_of self.now) ended.now user ask.now) }
+        ensures shown { IfOk result (λ tells. All IsShown tells.items) }
     {
         match ask {
             Ask::FloorRequest { .. } => self.status_tells(alloc, ended, self.requests.given()),
@@ -147,7 +160,7 @@ impl State {
             Ask::UserQuery { beneficiary } => self.user_tells(alloc, user, *beneficiary),
             Ask::Hello => hello_tells(alloc),
             Ask::FloorQuery { floors } => self.floor_tells(alloc, floors.as_slice()),
-            Ask::ChairAction { .. } => unreachable!(),
+            Ask::ChairAction { .. } => one(alloc, Tell::ChairActionAck),
         }
     }
 
@@ -161,8 +174,10 @@ impl State {
     ) -> Result<Vec<Tell>, AllocError>
         requires floors { self.now.requests.floors ≡ self.now.config.floors }
         requires settled { IsSettled self.now.requests }
-        requires served { serving.IsServedJudged judged.now }
-        ensures { IfOk result (λ tells. tells.items ≡ serving.judged_tells (conference_of self.now) ended.now user judged.now) }
+        requires ended { AreAddable self.now.config.floors ended.now }
+        requires details { DetailsFit judged.now }
+        ensures value { IfOk result (λ tells. tells.items ≡ serving.judged_tells (conference_of self.now) ended.now user judged.now) }
+        ensures shown { IfOk result (λ tells. All IsShown tells.items) }
     {
         match judged {
             Judged::Accepted(ask) => self.accepted_tells(alloc, ended, user, ask),

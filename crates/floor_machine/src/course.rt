@@ -1,9 +1,11 @@
 //! The course of one event: what was shown before it, which floor requests it ended, and what is
 //! shown otherwise after it (RFC 8855, sections 10.1.2 and 12.1).
 
-ghost use Rattle.std.specs.Prelude.{◌≡◌, ◌==◌, ◌++◌, [], IfOk, OnOk, Some, find, not, option_map};
+ghost use Rattle.std.specs.Prelude.{◌≡◌, ◌==◌, ◌++◌, [], IfOk, IfSome, OnOk, Some, find, not, option_map};
 ghost use Rattle.std.specs.Option.{option_copied};
-ghost use Rattle.floor_queue.specs.Queue.{IsSettled, request_at};
+ghost use Rattle.floor_queue.specs.Queue.{IsAddable, IsSettled, new_of, request_at};
+ghost use Rattle.floor_message.specs.Shown.{AreShown, IsShown, IsShownInfo};
+ghost use Rattle.floor_machine.specs.Fitting.{AreAddable, AreFloorsShown, AreUpdatesShown};
 ghost use Rattle.floor_machine.specs.Shown.{entry_of};
 ghost use Rattle.floor_machine.specs.Steps as spec;
 ghost use Rattle.floor_machine.specs.Steps.{entry_of_ended, shown_of};
@@ -62,7 +64,9 @@ fn find_ended(ended: &[Ended], number: u16) -> Option<&Ended>
 
 /// What is shown of a request that ended.
 fn shown_ended(alloc: Global, config: &Config, ended: &Ended) -> Result<Shown, AllocError>
-    ensures { IfOk result (λ shown. shown ≡ shown_of config.now [] (entry_of_ended ended.now)) }
+    requires { IsAddable config.now.floors (new_of ended.now.request) }
+    ensures value { IfOk result (λ shown. shown ≡ shown_of config.now [] (entry_of_ended ended.now)) }
+    ensures shown { IfOk result (λ shown. IsShownInfo shown.info) }
 {
     let info = ended_info(alloc, config, ended)?;
     Ok(Shown {
@@ -82,8 +86,9 @@ fn shown_ongoing(
 ) -> Result<Option<Shown>, AllocError>
     requires floors { requests.now.floors ≡ config.now.floors }
     requires settled { IsSettled requests.now }
-    ensures { IfOk result (λ shown. shown ≡ option_map (shown_of config.now requests.now.ongoing)
+    ensures value { IfOk result (λ shown. shown ≡ option_map (shown_of config.now requests.now.ongoing)
         (option_map entry_of (request_at requests.now.ongoing number))) }
+    ensures shown { IfOk result (λ shown. IfSome shown (λ s. IsShownInfo s.info)) }
 {
     match requests.get(number) {
         None => Ok(None),
@@ -109,8 +114,10 @@ pub(crate) fn shown_at(
 ) -> Result<Option<Shown>, AllocError>
     requires floors { requests.now.floors ≡ config.now.floors }
     requires settled { IsSettled requests.now }
-    ensures { IfOk result (λ shown.
+    requires ended { AreAddable config.now.floors ended.now }
+    ensures value { IfOk result (λ shown.
         shown ≡ spec.shown_at config.now requests.now.ongoing ended.now number) }
+    ensures shown { IfOk result (λ shown. IfSome shown (λ s. IsShownInfo s.info)) }
 {
     match find_ended(ended, number) {
         Some(found) => Ok(Some(shown_ended(alloc, config, found)?)),
@@ -171,8 +178,11 @@ fn put_update(
 ) -> Result<(), AllocError>
     requires floors { requests.now.floors ≡ config.now.floors }
     requires settled { IsSettled requests.now }
-    ensures { OnOk result (updates.new.items ≡ updates.old.items ++ spec.update_at config.now
+    requires ended { AreAddable config.now.floors course.now.ended.items }
+    ensures added { OnOk result (updates.new.items ≡ updates.old.items ++ spec.update_at config.now
         requests.now.ongoing course.now.ended.items course.now.before.items number) }
+    ensures shown { OnOk result (AreUpdatesShown (spec.update_at config.now
+        requests.now.ongoing course.now.ended.items course.now.before.items number)) }
 {
     if let Some(shown) = shown_at(alloc, config, requests, &course.ended, number)? {
         put_if_changed(&course.before, shown, updates)?;
@@ -189,8 +199,10 @@ pub(crate) fn updates(
 ) -> Result<Vec<Update>, AllocError>
     requires floors { requests.now.floors ≡ config.now.floors }
     requires settled { IsSettled requests.now }
-    ensures { IfOk result (λ updates. updates.items ≡ spec.updates config.now requests.now.ongoing
+    requires ended { AreAddable config.now.floors course.now.ended.items }
+    ensures value { IfOk result (λ updates. updates.items ≡ spec.updates config.now requests.now.ongoing
         course.now.ended.items course.now.before.items course.now.numbers.items) }
+    ensures shown { IfOk result (λ updates. AreUpdatesShown updates.items) }
 {
     let mut updates = Vec::new(alloc);
     for number in &course.numbers {
@@ -211,7 +223,9 @@ fn differs_on(alloc: Global, floor: u16, before: &[Info], now: &[Info]) -> Resul
 
 /// The status of a floor.
 pub(crate) fn floor_status(alloc: Global, floor: u16, now: &[Info]) -> Result<Tell, AllocError>
-    ensures { IfOk result (λ tell. tell ≡ Tell.FloorStatus (Some floor) (reply.infos_on floor now.now)) }
+    requires { AreShown now.now }
+    ensures value { IfOk result (λ tell. tell ≡ Tell.FloorStatus (Some floor) (reply.infos_on floor now.now)) }
+    ensures shown { IfOk result IsShown }
 {
     let infos = infos_on(alloc, floor, now)?;
     Ok(Tell::FloorStatus {
@@ -227,8 +241,10 @@ pub(crate) fn floor_updates(
     before: &[Info],
     now: &[Info],
 ) -> Result<Vec<FloorUpdate>, AllocError>
-    ensures { IfOk result (λ updates.
+    requires { AreShown now.now }
+    ensures value { IfOk result (λ updates.
         updates.items ≡ spec.floor_updates before.now now.now config.now.floors) }
+    ensures shown { IfOk result (λ updates. AreFloorsShown updates.items) }
 {
     let mut updates = Vec::new(alloc);
     for floor in config.floors() {

@@ -2,28 +2,36 @@
 //! (RFC 8855, sections 8 to 13).
 #![tactic(auto)]
 
+mod administering;
 mod answering;
 mod checks;
 mod copying;
 mod course;
+mod deciding;
+mod ending;
+mod event;
 mod judged;
 mod laws;
+mod leaving;
 mod machine;
 mod member;
 mod parcel;
+mod running;
 mod same;
 mod sending;
 mod showing;
 mod state;
 mod status;
 
+pub use event::{Act, Event};
 pub use floor_config::{Config, Floor, User};
 pub use floor_message::{Ask, Head, Info, Tell};
 pub use floor_wire::{Frame, Numbers, Octets};
-pub use laws::{sent_is_told, shown_alike_is_equal};
+pub use laws::{sent_is_told, shown_alike_is_equal, taken_is_lawful};
 pub use machine::{Machine, Refusal};
 pub use member::Member;
 pub use parcel::Parcel;
+pub use running::Stopped;
 pub use status::RequestStatus;
 
 #[cfg(test)]

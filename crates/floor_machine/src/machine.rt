@@ -1,19 +1,20 @@
 //! The floor machine of one conference (RFC 8855, sections 8 to 13).
 
-ghost use Rattle.std.specs.Prelude.{◌≡◌, ◌+◌, ◌<◌, ◌++◌, true, IfOk, IfSome, OnOk, OnErr, Err, length, count_by};
-ghost use Rattle.floor_message.specs.Ask.{ask};
+ghost use Rattle.std.specs.Prelude.{◌≡◌, ◌+◌, ◌<◌, ◌++◌, [], true, IfOk, IfSome, OnOk, OnErr, Err, length, count_by};
 ghost use Rattle.floor_machine.specs.Change.{IsLawful, next};
-ghost use Rattle.floor_machine.specs.Conference.{binding, opening};
-ghost use Rattle.floor_machine.specs.Event.{Join, Message};
+ghost use Rattle.floor_machine.specs.Conference.{opening};
+ghost use Rattle.floor_machine.specs.declared.event.Event.TheVariants.{Join, Message, Leave};
+ghost use Rattle.floor_machine.specs.Fitting.{ToldFits};
 ghost use Rattle.floor_machine.specs.Journal.{parcels_of};
-ghost use Rattle.floor_machine.specs.Machine.{IsRefusedBy, join_refusal, message_refusal, whole};
-ghost use Rattle.floor_machine.specs.Serving.{IsServed};
+ghost use Rattle.floor_machine.specs.Machine.{IsRefusedBy, act_refusal, event_of_act, join_refusal, member_refusal, whole};
 
 use crate::checks::is_user;
+use crate::event::Act;
 use crate::member::Member;
 use crate::parcel::Parcel;
 use crate::state::State;
 use floor_config::Config;
+use floor_message::what_is_shown_fits;
 use floor_wire::Frame;
 use std::alloc::{AllocError, Global};
 use std::marker::Model;
@@ -117,6 +118,7 @@ impl Machine {
         requires { length self.old.conference.members < 4294967295 }
         ensures number { IfOk result (λ n. n ≡ length self.old.conference.members + 1) }
         ensures next { OnOk result (self.new ≡ whole (next self.old.conference (Join user))) }
+        ensures told { OnOk result (parcels_of self.old.conference (Join user) ≡ []) }
 
         ensures refused { IsRefusedBy (join_refusal self.old user) result }
         ensures lawful { OnOk result (IsLawful self.old.conference (Join user)) }
@@ -135,9 +137,9 @@ impl Machine {
         Ok(n)
     }
 
-    /// Why a message of this member is not taken.
-    fn message_refusal(&self, n: u32) -> Option<Refusal>
-        ensures { result ≡ message_refusal self.now n }
+    /// Why nothing of this member is taken: neither a message, nor that it leaves.
+    fn member_refusal(&self, n: u32) -> Option<Refusal>
+        ensures { result ≡ member_refusal self.now n }
     {
         if self.is_broken {
             Some(Refusal::Broken)
@@ -152,28 +154,106 @@ impl Machine {
 
     /// Takes the message of a member, and appends what it tells the members to `out`, by ascending
     /// member. After a refusal nothing has changed, but that `Memory` leaves the machine broken.
-    ///
-    /// A ChairAction is not served: it is answered by error code 3.
     pub fn message(&mut self, n: u32, frame: &Frame, out: &mut Vec<Parcel>) -> Result<(), Refusal>
-        ensures next { OnOk result (IsServed (ask frame.now (binding self.old.conference n))
-            → self.new ≡ whole (next self.old.conference (Message n frame.now))) }
-        ensures out { OnOk result (IsServed (ask frame.now (binding self.old.conference n))
-            → out.new.items ≡ out.old.items ++ parcels_of self.old.conference (Message n frame.now)) }
+        ensures next { OnOk result (self.new ≡ whole (next self.old.conference (Message n frame.now))) }
+        ensures out { OnOk result (out.new.items
+            ≡ out.old.items ++ parcels_of self.old.conference (Message n frame.now)) }
+        ensures fits { OnOk result (ToldFits self.old.conference (Message n frame.now)) }
 
-        ensures refused { IsRefusedBy (message_refusal self.old n) result }
+        ensures refused { IsRefusedBy (member_refusal self.old n) result }
         ensures lawful { OnOk result (IsLawful self.old.conference (Message n frame.now)) }
 
-        ensures err { IfSome (message_refusal self.old n) (λ refusal. self.new ≡ self.old) }
+        ensures err { IfSome (member_refusal self.old n) (λ refusal. self.new ≡ self.old) }
         ensures memory { result ≡ Err Refusal.Memory → self.new.is_broken ≡ true }
         ensures err_out { OnErr result (out.new.items ≡ out.old.items) }
     {
-        match self.message_refusal(n) {
+        match self.member_refusal(n) {
             Some(refusal) => return Err(refusal),
             None => {}
         }
         // Whatever breaks the event off leaves it so.
         self.is_broken = true;
+        what_is_shown_fits();
         self.state.message(n, frame, out)?;
+        self.is_broken = false;
+        Ok(())
+    }
+
+    /// Takes it that a member has left, and appends what that tells the others to `out`, by ascending
+    /// member. Where it was the last connection of its user, the floor requests for that user end.
+    /// After a refusal nothing has changed, but that `Memory` leaves the machine broken.
+    pub fn leave(&mut self, n: u32, out: &mut Vec<Parcel>) -> Result<(), Refusal>
+        ensures next { OnOk result (self.new ≡ whole (next self.old.conference (Leave n))) }
+        ensures out { OnOk result (out.new.items ≡ out.old.items ++ parcels_of self.old.conference (Leave n)) }
+        ensures fits { OnOk result (ToldFits self.old.conference (Leave n)) }
+
+        ensures refused { IsRefusedBy (member_refusal self.old n) result }
+        ensures lawful { OnOk result (IsLawful self.old.conference (Leave n)) }
+
+        ensures err { IfSome (member_refusal self.old n) (λ refusal. self.new ≡ self.old) }
+        ensures memory { result ≡ Err Refusal.Memory → self.new.is_broken ≡ true }
+        ensures err_out { OnErr result (out.new.items ≡ out.old.items) }
+    {
+        match self.member_refusal(n) {
+            Some(refusal) => return Err(refusal),
+            None => {}
+        }
+        // Whatever breaks the event off leaves it so.
+        self.is_broken = true;
+        what_is_shown_fits();
+        self.state.leave(n, out)?;
+        self.is_broken = false;
+        Ok(())
+    }
+
+    /// Why the administrator's act is not taken.
+    fn act_refusal(&self, act: Act) -> Option<Refusal>
+        ensures { result ≡ act_refusal self.now act }
+    {
+        if self.is_broken {
+            return Some(Refusal::Broken);
+        }
+        if !self.state.is_open {
+            return Some(Refusal::Ended);
+        }
+        match act {
+            Act::Revoke(request) => {
+                if self.state.has_request(request) {
+                    None
+                } else {
+                    Some(Refusal::NoRequest)
+                }
+            }
+            Act::Close => None,
+        }
+    }
+
+    /// Does what the administrator does, and appends what that tells the members to `out`, by
+    /// ascending member: a Close tells nobody anything. After a refusal nothing has changed, but that
+    /// `Memory` leaves the machine broken.
+    pub fn admin(&mut self, act: Act, out: &mut Vec<Parcel>) -> Result<(), Refusal>
+        ensures next { OnOk result (self.new ≡ whole (next self.old.conference (event_of_act act))) }
+        ensures out { OnOk result (out.new.items ≡ out.old.items ++ parcels_of self.old.conference (event_of_act act)) }
+        ensures fits { OnOk result (ToldFits self.old.conference (event_of_act act)) }
+
+        ensures refused { IsRefusedBy (act_refusal self.old act) result }
+        ensures lawful { OnOk result (IsLawful self.old.conference (event_of_act act)) }
+
+        ensures err { IfSome (act_refusal self.old act) (λ refusal. self.new ≡ self.old) }
+        ensures memory { result ≡ Err Refusal.Memory → self.new.is_broken ≡ true }
+        ensures err_out { OnErr result (out.new.items ≡ out.old.items) }
+    {
+        match self.act_refusal(act) {
+            Some(refusal) => return Err(refusal),
+            None => {}
+        }
+        // Whatever breaks the event off leaves it so.
+        self.is_broken = true;
+        what_is_shown_fits();
+        match act {
+            Act::Revoke(request) => self.state.revoke(request, out)?,
+            Act::Close => self.state.close(),
+        }
         self.is_broken = false;
         Ok(())
     }

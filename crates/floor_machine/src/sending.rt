@@ -1,14 +1,16 @@
 //! Telling the members what an event changed (RFC 8855, sections 8 and 12.1).
 
-ghost use Rattle.std.specs.Prelude.{◌≡◌, ◌==◌, ◌||◌, ◌∷◌, [], ◌++◌, OnOk, map, filter, if◌then◌else◌};
+ghost use Rattle.std.specs.Prelude.{◌≡◌, ◌==◌, ◌||◌, ◌∷◌, [], ◌++◌, All, OnOk, map, filter, if◌then◌else◌};
 ghost use Rattle.std.specs.List.{list_any};
+ghost use Rattle.floor_message.specs.Shown.{IsShown};
+ghost use Rattle.floor_machine.specs.Fitting.{AreFloorsShown, AreUpdatesShown, IsReplyShown};
 ghost use Rattle.floor_machine.specs.Told.{is_status_of};
 ghost use Rattle.floor_machine.specs.Journal.{parcel};
 ghost use Rattle.floor_machine.specs.Steps.{answered, answered_to, floor_update_to, is_answered, is_due_to, is_watched, parcels_to, parcels_to_all, update_to};
 
 use crate::member::Member;
 use crate::parcel::Parcel;
-use floor_message::{Head, Tell, tell_fits, write_tell};
+use floor_message::{Head, Tell, what_is_shown_fits, write_tell};
 use floor_wire::Octets;
 use std::alloc::{AllocError, Global};
 
@@ -53,12 +55,11 @@ fn put(
     head: &Head,
     tell: &Tell,
 ) -> Result<(), AllocError>
+    requires { IsShown tell.now }
     ensures { OnOk result (out.new.items
         ≡ out.old.items ++ parcel n record { head = head.now; tell = tell.now } ∷ []) }
 {
-    if !tell_fits(tell) {
-        return Err(AllocError);
-    }
+    what_is_shown_fits();
     let frame = write_tell(alloc, head, tell)?;
     let bytes = Octets::from_vec(Vec::from_slice(alloc, frame.bytes())?);
     out.push(Parcel { n, bytes })?;
@@ -73,6 +74,7 @@ fn put_notice(
     member: &Member,
     tell: &Tell,
 ) -> Result<(), AllocError>
+    requires { IsShown tell.now }
     ensures { OnOk result (out.new.items ≡ out.old.items ++ parcel member.now.n record {
       head = record { conference = conference; transaction = 0; user = member.now.user };
       tell = tell.now;
@@ -94,6 +96,7 @@ fn put_answer(
     first: Head,
     tells: &[Tell],
 ) -> Result<(), AllocError>
+    requires { All IsShown tells.now }
     ensures { OnOk result (out.new.items
         ≡ out.old.items ++ map (parcel n) (answered first tells.now)) }
 {
@@ -112,6 +115,7 @@ fn put_reply(
     n: u32,
     reply: &Option<Reply>,
 ) -> Result<(), AllocError>
+    requires { IsReplyShown reply.now }
     ensures { OnOk result (out.new.items ≡ out.old.items ++ map (parcel n) (answered_to reply.now n)) }
 {
     if let Some(reply) = reply {
@@ -181,6 +185,7 @@ fn put_updates(
     reply: &Option<Reply>,
     updates: &[Update],
 ) -> Result<(), AllocError>
+    requires { AreUpdatesShown updates.now }
     ensures { OnOk result (out.new.items ≡ out.old.items
         ++ map (λ u. parcel member.now.n (update_to conference member.now u))
         (filter (is_due_to reply.now member.now) updates.now)) }
@@ -201,6 +206,7 @@ fn put_floor_updates(
     member: &Member,
     updates: &[FloorUpdate],
 ) -> Result<(), AllocError>
+    requires { AreFloorsShown updates.now }
     ensures { OnOk result (out.new.items ≡ out.old.items
         ++ map (λ u. parcel member.now.n (floor_update_to conference member.now u))
         (filter (is_watched member.now) updates.now)) }
@@ -223,6 +229,9 @@ fn put_member(
     updates: &[Update],
     floor_updates: &[FloorUpdate],
 ) -> Result<(), AllocError>
+    requires reply { IsReplyShown reply.now }
+    requires requests { AreUpdatesShown updates.now }
+    requires floors { AreFloorsShown floor_updates.now }
     ensures { OnOk result (out.new.items ≡ out.old.items ++ (if member.now.is_live
         then parcels_to conference reply.now updates.now floor_updates.now member.now else [])) }
 {
@@ -244,6 +253,9 @@ pub(crate) fn put_all(
     updates: &[Update],
     floor_updates: &[FloorUpdate],
 ) -> Result<(), AllocError>
+    requires reply { IsReplyShown reply.now }
+    requires requests { AreUpdatesShown updates.now }
+    requires floors { AreFloorsShown floor_updates.now }
     ensures { OnOk result (out.new.items ≡ out.old.items
         ++ parcels_to_all conference reply.now updates.now floor_updates.now members.now) }
 {

@@ -1,9 +1,12 @@
 //! What is shown of users and of floor requests (RFC 8855, sections 5.2.12 to 5.2.18).
 
-ghost use Rattle.std.specs.Prelude.{◌≡◌, ◌==◌, [], true, IfOk, Some, None, map, filter, find, fold, max, if◌then◌else◌};
+ghost use Rattle.std.specs.Prelude.{◌≡◌, ◌<◌, ◌^◌, ◌==◌, [], true, IfOk, OnOk, Some, None, map, filter, find, fold, max, if◌then◌else◌};
 ghost use Rattle.std.specs.Option.{option_copied};
+ghost use Rattle.floor_config.specs.Configuration.{IsConfiguration};
 ghost use Rattle.floor_queue.specs.Order.{names};
-ghost use Rattle.floor_queue.specs.Queue.{IsSettled, involves, request_at};
+ghost use Rattle.floor_queue.specs.Queue.{IsAddable, IsSettled, involves, new_of, request_at};
+ghost use Rattle.floor_message.specs.Shown.{AreShown, IsShownInfo};
+ghost use Rattle.floor_machine.specs.Fitting.{HasNumbers};
 ghost use Rattle.floor_machine.specs.Shown as spec;
 ghost use Rattle.floor_machine.specs.Shown.{entry_of, info, info_of, overall_status};
 ghost use Rattle.floor_machine.specs.Steps.{ended_floor_shown, entry_of_ended, info_with, infos_of, position_shown};
@@ -47,7 +50,8 @@ pub(crate) fn copied(alloc: Global, octets: &Option<Octets>) -> Result<Option<Oc
 
 /// The user by the display name alone.
 fn named(alloc: Global, config: &Config, id: u16) -> Result<Who, AllocError>
-    ensures { IfOk result (λ who. who ≡ spec.named config.now id) }
+    ensures value { IfOk result (λ who. who ≡ spec.named config.now id) }
+    ensures kept { IsConfiguration config.now }
 {
     match find_user(config.users(), id) {
         Some(user) => {
@@ -68,7 +72,9 @@ fn named(alloc: Global, config: &Config, id: u16) -> Result<Who, AllocError>
 
 /// The user by the display name and the URI.
 pub(crate) fn described(alloc: Global, config: &Config, id: u16) -> Result<Who, AllocError>
-    ensures { IfOk result (λ who. who ≡ spec.described config.now id) }
+    ensures value { IfOk result (λ who. who ≡ spec.described config.now id) }
+    ensures kept { IsConfiguration config.now }
+    ensures range { id < 2 ^ 16 }
 {
     match find_user(config.users(), id) {
         Some(user) => {
@@ -94,8 +100,9 @@ fn requester_of(
     config: &Config,
     request: &Request,
 ) -> Result<Option<Who>, AllocError>
-    ensures { IfOk result (λ who. who ≡ (if request.now.requester == request.now.beneficiary
+    ensures value { IfOk result (λ who. who ≡ (if request.now.requester == request.now.beneficiary
         then None else Some (spec.named config.now request.now.requester))) }
+    ensures range { request.now.requester < 2 ^ 16 }
 {
     if request.requester == request.beneficiary {
         return Ok(None);
@@ -214,7 +221,9 @@ fn info_with(
     status: u8,
     shown: Vec<(u16, Option<(u8, u8)>)>,
 ) -> Result<Info, AllocError>
-    ensures { IfOk result (λ info. info ≡ info_with config.now request.now status shown.items) }
+    ensures value { IfOk result (λ info. info ≡ info_with config.now request.now status shown.items) }
+    ensures kept { OnOk result (IsConfiguration config.now) }
+    ensures numbers { OnOk result (HasNumbers request.now) }
 {
     let beneficiary = named(alloc, config, request.beneficiary)?;
     let requester = requester_of(alloc, config, request)?;
@@ -241,8 +250,11 @@ pub(crate) fn info(
     requires floors { requests.now.floors ≡ config.now.floors }
     requires settled { IsSettled requests.now }
     requires found { request_at requests.now.ongoing request.now.number ≡ Some request.now }
-    ensures { IfOk result (λ shown. shown ≡ info config.now requests.now.ongoing request.now) }
+    ensures value { IfOk result (λ shown. shown ≡ info config.now requests.now.ongoing request.now) }
+    ensures shown { IfOk result IsShownInfo }
 {
+    // Each ongoing request is one that could be added, which bounds what is shown of it.
+    let _ongoing = requests.ongoing();
     let floors = floors_shown(alloc, requests, request)?;
     info_with(
         alloc,
@@ -255,7 +267,9 @@ pub(crate) fn info(
 
 /// What is shown of a request that ended.
 pub(crate) fn ended_info(alloc: Global, config: &Config, ended: &Ended) -> Result<Info, AllocError>
-    ensures { IfOk result (λ shown. shown ≡ info_of config.now [] (entry_of_ended ended.now)) }
+    requires { IsAddable config.now.floors (new_of ended.now.request) }
+    ensures value { IfOk result (λ shown. shown ≡ info_of config.now [] (entry_of_ended ended.now)) }
+    ensures shown { IfOk result IsShownInfo }
 {
     let status = ended.ending.number();
     let floors = ended_floors_shown(alloc, status, &ended.request)?;
@@ -270,7 +284,8 @@ pub(crate) fn infos(
 ) -> Result<Vec<Info>, AllocError>
     requires floors { requests.now.floors ≡ config.now.floors }
     requires settled { IsSettled requests.now }
-    ensures { IfOk result (λ shown. shown.items ≡ infos_of config.now requests.now.ongoing) }
+    ensures value { IfOk result (λ shown. shown.items ≡ infos_of config.now requests.now.ongoing) }
+    ensures shown { IfOk result (λ infos. AreShown infos.items) }
 {
     let mut shown = Vec::new(alloc);
     for request in requests.ongoing() {
@@ -288,8 +303,9 @@ pub(crate) fn infos_of_user(
 ) -> Result<Vec<Info>, AllocError>
     requires floors { requests.now.floors ≡ config.now.floors }
     requires settled { IsSettled requests.now }
-    ensures { IfOk result (λ shown. shown.items ≡ map (info config.now requests.now.ongoing)
+    ensures value { IfOk result (λ shown. shown.items ≡ map (info config.now requests.now.ongoing)
         (filter (λ r. involves r user) requests.now.ongoing)) }
+    ensures shown { IfOk result (λ infos. AreShown infos.items) }
 {
     let mut shown = Vec::new(alloc);
     for request in requests.ongoing() {

@@ -9,24 +9,26 @@ ghost use Rattle.floor_message.specs.Ask.{Answer, ask, asks};
 ghost use Rattle.floor_message.specs.Fits.{AskFits};
 ghost use Rattle.floor_message.specs.Laws.{CountsFit};
 ghost use Rattle.floor_machine.specs.Change as change;
-ghost use Rattle.floor_machine.specs.Conference.{binding, is_live, member_with, opening, user_of};
-ghost use Rattle.floor_machine.specs.Event.{Join, Message};
+ghost use Rattle.floor_machine.specs.Conference.{is_live, member_with, opening, user_of};
+ghost use Rattle.floor_machine.specs.declared.event.Event.TheVariants.{Join, Message};
 ghost use Rattle.floor_machine.specs.Journal.{parcels_of};
+ghost use Rattle.floor_machine.specs.Fitting.{AreAddable, AreFloorsShown, AreUpdatesShown, IsReplyShown, IsToldShown};
 ghost use Rattle.floor_machine.specs.Serving as serving;
-ghost use Rattle.floor_machine.specs.Serving.{IsChanged, IsServed, IsServedAsk, IsServedJudged, IsState, MayServe, conference_of, judged_change};
+ghost use Rattle.floor_machine.specs.Serving.{HasRoom, IsChanged, IsState, MayServe, conference_of, judged_change};
 ghost use Rattle.floor_machine.specs.Outgoing.{response_head};
 ghost use Rattle.floor_machine.specs.Steps as steps;
 ghost use Rattle.floor_machine.specs.Steps.{infos_of, parcels_to_all};
 
-use crate::course::{Course, Ended, floor_updates, updates};
+use crate::course::{Course, floor_updates, updates};
+use crate::deciding::decide;
+use crate::ending::release_request;
 use crate::judged::Judged;
 use crate::member::Member;
 use crate::parcel::Parcel;
 use crate::sending::{Reply, put_all};
 use crate::showing::{copied, infos};
-use crate::status::RequestStatus;
 use floor_config::{Config, User};
-use floor_message::{Ask, AskFault, Binding, ErrorCode, Head, read_ask, what_is_asked_fits};
+use floor_message::{Ask, AskFault, Binding, Head, read_ask, what_is_asked_fits};
 use floor_queue::{AddRefusal, New, Request, Requests};
 use floor_wire::{Frame, Numbers, Octets};
 use std::alloc::{AllocError, Global};
@@ -64,20 +66,10 @@ fn numbers_of(alloc: Global, requests: &[Request]) -> Result<Vec<u16>, AllocErro
     requests.iter().map(|r| r.number).collect(alloc)
 }
 
-/// How a request ends that is given back.
-fn released(request: &Request) -> RequestStatus
-    ensures { result ≡ change.released request.now }
-{
-    if request.is_granted {
-        RequestStatus::Released
-    } else {
-        RequestStatus::Cancelled
-    }
-}
-
 /// Adds a request, and notes its number.
 fn add_request(requests: &mut Requests, numbers: &mut Vec<u16>, new: New) -> Result<(), AllocError>
-    requires { IsAddable requests.old.floors new }
+    requires addable { IsAddable requests.old.floors new }
+    requires room { HasRoom requests.old.ongoing requests.old.given }
     ensures next { OnOk result (requests.new ≡ after_add requests.old new) }
     ensures numbers { OnOk result (numbers.new.items ≡ numbers.old.items ++ (requests.old.given + 1) ∷ []) }
     ensures floors { requests.new.floors ≡ requests.old.floors }
@@ -87,27 +79,9 @@ fn add_request(requests: &mut Requests, numbers: &mut Vec<u16>, new: New) -> Res
             numbers.push(number)?;
             Ok(())
         }
-        // The own checks have left memory alone.
-        Err(AddRefusal::Full | AddRefusal::NoNumber | AddRefusal::Memory) => Err(AllocError),
+        Err(AddRefusal::Full | AddRefusal::NoNumber) => unreachable!(),
+        Err(AddRefusal::Memory) => Err(AllocError),
     }
-}
-
-/// Ends a request that is given back, and notes it.
-fn release_request(
-    requests: &mut Requests,
-    ended: &mut Vec<Ended>,
-    request: u16,
-) -> Result<(), AllocError>
-    requires { IsSome (request_at requests.old.ongoing request) }
-    ensures next { OnOk result (requests.new ≡ after_end requests.old request) }
-    ensures ended { OnOk result (IfSome (request_at requests.old.ongoing request)
-        (λ r. ended.new.items ≡ ended.old.items ++ record { request = r; ending = change.released r } ∷ [])) }
-    ensures floors { requests.new.floors ≡ requests.old.floors }
-{
-    let request = requests.end(request);
-    let ending = released(&request);
-    ended.push(Ended { request, ending })?;
-    Ok(())
 }
 
 /// The member watches these floors from now on, if it has the number.
@@ -164,7 +138,7 @@ impl State {
     }
 
     /// The user whose connection it is.
-    fn user_of(&self, n: u32) -> u16
+    pub(crate) fn user_of(&self, n: u32) -> u16
         ensures { result ≡ user_of (conference_of self.now) n }
     {
         match find_member(&self.members, n) {
@@ -180,10 +154,13 @@ impl State {
         requires settled { IsSettled self.old.requests }
         ensures number { IfOk result (λ n. n ≡ length self.old.members.items + 1) }
         ensures next { OnOk result (conference_of self.new ≡ change.next (conference_of self.old) (Join user)) }
+        ensures told { OnOk result (parcels_of (conference_of self.old) (Join user) ≡ []) }
         ensures state { IsState self.new }
         ensures settled { IsSettled self.new.requests }
     {
         let alloc = *self.members.allocator();
+        // The ongoing requests ascend, so that each is shown as before, and nobody is told of it.
+        let _ongoing = self.requests.ongoing();
         let n = (self.members.len() + 1) as u32;
         self.members.push(Member {
             n,
@@ -199,9 +176,8 @@ impl State {
         requires { self.now.users.items ≡ user_ids self.now.config.users }
         ensures judged { IfOk result (λ judged. (a : Answer)
             → a ≡ ask frame.now record { conference = self.now.config.conference; user = user; users = user_ids self.now.config.users }
-            → IsServed a → judged ≡ serving.judged (conference_of self.now) user a) }
+            → judged ≡ serving.judged (conference_of self.now) user a) }
         ensures may { IfOk result (MayServe (conference_of self.now) user) }
-        ensures served { IfOk result IsServedJudged }
     {
         what_is_asked_fits();
         let binding = Binding {
@@ -220,16 +196,9 @@ impl State {
     /// What becomes of what a user asks.
     fn judge_ask(&self, alloc: Global, user: u16, ask: Ask) -> Judged
         requires { CountsFit ask → AskFits ask }
-        ensures judged { IsServedAsk ask → result ≡ serving.judged (conference_of self.now) user (asks ask) }
+        ensures judged { result ≡ serving.judged (conference_of self.now) user (asks ask) }
         ensures may { MayServe (conference_of self.now) user result }
-        ensures served { IsServedJudged result }
     {
-        if !is_served(&ask) {
-            return Judged::Refused {
-                code: ErrorCode::UnknownPrimitive,
-                details: Octets::from_vec(Vec::new(alloc)),
-            };
-        }
         match self.refusal(user, &ask) {
             None => Judged::Accepted(ask),
             Some(code) => Judged::Refused {
@@ -240,7 +209,7 @@ impl State {
     }
 
     /// What is shown before the event.
-    fn begin(&self, alloc: Global) -> Result<Course, AllocError>
+    pub(crate) fn begin(&self, alloc: Global) -> Result<Course, AllocError>
         requires floors { self.now.requests.floors ≡ self.now.config.floors }
         requires settled { IsSettled self.now.requests }
         ensures before { IfOk result (λ course. course.before.items ≡ infos_of self.now.config self.now.requests.ongoing) }
@@ -268,7 +237,8 @@ impl State {
         priority: u8,
         info: &Option<Octets>,
     ) -> Result<(), AllocError>
-        requires { IsAddable self.old.requests.floors (serving.new_of_ask user beneficiary floors.now priority info.now) }
+        requires addable { IsAddable self.old.requests.floors (serving.new_of_ask user beneficiary floors.now priority info.now) }
+        requires room { HasRoom self.old.requests.ongoing self.old.requests.given }
         ensures next { OnOk result (self.new ≡ record self.old {
           requests = after_add self.old.requests (serving.new_of_ask user beneficiary floors.now priority info.now);
         }) }
@@ -315,10 +285,13 @@ impl State {
                 release_request(&mut self.requests, &mut course.ended, *request)
             }
             Ask::FloorQuery { floors } => watch(alloc, &mut self.members, n, floors),
-            Ask::FloorRequestQuery { .. }
-            | Ask::UserQuery { .. }
-            | Ask::ChairAction { .. }
-            | Ask::Hello => Ok(()),
+            Ask::ChairAction { request, verdicts } => decide(
+                &mut self.requests,
+                &mut course.ended,
+                *request,
+                verdicts.as_slice(),
+            ),
+            Ask::FloorRequestQuery { .. } | Ask::UserQuery { .. } | Ask::Hello => Ok(()),
         }
     }
 
@@ -346,7 +319,7 @@ impl State {
     }
 
     /// Puts what the event tells each live member. After an error `out` is as it was.
-    fn tell(
+    pub(crate) fn tell(
         &self,
         alloc: Global,
         course: &Course,
@@ -355,10 +328,16 @@ impl State {
     ) -> Result<(), AllocError>
         requires floors { self.now.requests.floors ≡ self.now.config.floors }
         requires settled { IsSettled self.now.requests }
+        requires ended { AreAddable self.now.config.floors course.now.ended.items }
+        requires reply { IsReplyShown reply.now }
         ensures told { OnOk result (out.new.items ≡ out.old.items ++ parcels_to_all self.now.config.conference reply.now
             (steps.updates self.now.config self.now.requests.ongoing course.now.ended.items course.now.before.items course.now.numbers.items)
             (steps.floor_updates course.now.before.items (infos_of self.now.config self.now.requests.ongoing) self.now.config.floors)
             self.now.members.items) }
+        ensures requests_shown { OnOk result (AreUpdatesShown
+            (steps.updates self.now.config self.now.requests.ongoing course.now.ended.items course.now.before.items course.now.numbers.items)) }
+        ensures floors_shown { OnOk result (AreFloorsShown
+            (steps.floor_updates course.now.before.items (infos_of self.now.config self.now.requests.ongoing) self.now.config.floors)) }
         ensures err { OnErr result (out.new.items ≡ out.old.items) }
     {
         let updates = updates(alloc, &self.config, &self.requests, course)?;
@@ -387,10 +366,9 @@ impl State {
     ) -> Result<(), AllocError>
         requires state { IsState self.old }
         requires settled { IsSettled self.old.requests }
-        ensures next { OnOk result (IsServed (ask frame.now (binding (conference_of self.old) n))
-            → conference_of self.new ≡ change.next (conference_of self.old) (Message n frame.now)) }
-        ensures out { OnOk result (IsServed (ask frame.now (binding (conference_of self.old) n))
-            → out.new.items ≡ out.old.items ++ parcels_of (conference_of self.old) (Message n frame.now)) }
+        ensures next { OnOk result (conference_of self.new ≡ change.next (conference_of self.old) (Message n frame.now)) }
+        ensures out { OnOk result (out.new.items ≡ out.old.items ++ parcels_of (conference_of self.old) (Message n frame.now)) }
+        ensures shown { OnOk result (IsToldShown (conference_of self.old) (Message n frame.now)) }
         ensures err { OnErr result (out.new.items ≡ out.old.items) }
         ensures state { OnOk result (IsState self.new) }
         ensures settled { OnOk result (IsSettled self.new.requests) }
@@ -411,21 +389,6 @@ impl State {
             tells,
         });
         self.tell(alloc, &course, &reply, out)
-    }
-}
-
-/// Whether what is asked is served.
-fn is_served(ask: &Ask) -> bool
-    ensures { MatchBool result (IsServedAsk ask.now) (IsServedAsk ask.now → ⊥) }
-{
-    match ask {
-        Ask::ChairAction { .. } => false,
-        Ask::FloorRequest { .. }
-        | Ask::FloorRelease { .. }
-        | Ask::FloorRequestQuery { .. }
-        | Ask::UserQuery { .. }
-        | Ask::FloorQuery { .. }
-        | Ask::Hello => true,
     }
 }
 

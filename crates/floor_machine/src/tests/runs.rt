@@ -1,9 +1,10 @@
 //! Runs of the demonstration configuration: who is told which bytes.
 
-use crate::{Machine, Parcel, Refusal};
+use crate::{Event, Machine, Parcel, Refusal, Stopped};
 use floor_config::Config;
 use floor_wire::Frame;
 use std::alloc::{AllocError, Global};
+use std::process::Abort;
 use std::test::Fail;
 
 /// The bytes that pairs of hexadecimal digits say. All other characters are passed over.
@@ -160,12 +161,73 @@ fn each_message_tells_whom_it_concerns(rt: HostRuntime) -> Result<(), Fail> {
     ];
     for (name, messages, expected) in cases {
         let out = told(alloc, messages)?;
-        assert_eq!(rt; out.len(), expected.len(), "{name}");
-        for (parcel, (n, text)) in out.iter().zip(expected) {
-            assert_eq!(rt; parcel.n, *n, "{name}");
-            let wanted = bytes(alloc, text)?;
-            assert_eq!(rt; parcel.bytes.as_slice(), wanted.as_slice(), "{name}");
-        }
+        assert_told(&rt, alloc, name, &out, expected)?;
+    }
+    Ok(())
+}
+
+const REVOKED: &str = "20040007 00000001 0000 000a 1e1c0001 24080001 0a040700 22080001 0a040700 \
+    1c04000a 08044000";
+
+fn message(alloc: Global, n: u32, text: &str) -> Result<Event, Fail> {
+    let bytes = bytes(alloc, text)?;
+    let frame = Frame::of(alloc, &bytes)?.ok_or("no message")?;
+    Ok(Event::Message { n, frame })
+}
+
+fn run(machine: &mut Machine, events: &[Event], out: &mut Vec<Parcel>) -> Result<(), Stopped> {
+    if machine.joins() < 100 && events.len() < 100 {
+        machine.run(events, out)
+    } else {
+        Err(Stopped {
+            done: 0,
+            refusal: Refusal::Full,
+        })
+    }
+}
+
+#[test]
+fn a_list_of_events_is_run_up_to_the_first_that_is_refused(rt: HostRuntime) -> Result<(), Fail> {
+    let alloc = rt.alloc();
+    let mut events = Vec::new(alloc);
+    events.push(Event::Join { user: 10 })?;
+    events.push(Event::Join { user: 11 })?;
+    events.push(message(alloc, 1, REQUEST)?)?;
+    events.push(message(alloc, 2, SECOND_REQUEST)?)?;
+    events.push(Event::Revoke { request: 1 })?;
+    events.push(Event::Leave { n: 2 })?;
+    events.push(Event::Close)?;
+    events.push(Event::Join { user: 10 })?;
+    let config = Config::demonstration(alloc)?;
+    let mut machine = Machine::new(alloc, config)?;
+    let mut out = Vec::new(alloc);
+    let stopped = run(&mut machine, &events, &mut out);
+    let ended = Stopped {
+        done: 7,
+        refusal: Refusal::Ended,
+    };
+    assert_eq!(rt; stopped, Err(ended));
+    let expected = [
+        (1, REQUEST_GRANTED),
+        (2, SECOND_WAITS),
+        (1, REVOKED),
+        (2, SECOND_GRANTED),
+    ];
+    assert_told(&rt, alloc, "a run", &out, &expected)
+}
+
+fn assert_told(
+    rt: &impl Abort,
+    alloc: Global,
+    name: &str,
+    out: &[Parcel],
+    expected: &[(u32, &str)],
+) -> Result<(), Fail> {
+    assert_eq!(rt; out.len(), expected.len(), "{name}");
+    for (parcel, (n, text)) in out.iter().zip(expected) {
+        assert_eq!(rt; parcel.n, *n, "{name}");
+        let wanted = bytes(alloc, text)?;
+        assert_eq!(rt; parcel.bytes.as_slice(), wanted.as_slice(), "{name}");
     }
     Ok(())
 }

@@ -1,15 +1,16 @@
-use Rattle.std.proofs.Common.{◌≡◌, true, List, sym, subst, refl}
+use Rattle.std.proofs.Common.{◌≡◌, ℕ, true, List, sym, subst, refl}
 use Rattle.floor_machine.specs.declared.member.Member.{Member}
 use Rattle.floor_machine.proofs.Sent.{numbered-watching}
 use Rattle.floor_queue.specs.Queue.{Queue}
 use Rattle.floor_message.specs.declared.ask.Ask.{Ask}
-use Rattle.floor_message.specs.declared.ask.Ask.TheVariants.{FloorRequest, FloorRelease}
+use Rattle.floor_message.specs.declared.ask.Ask.TheVariants.{FloorRequest, FloorRelease, ChairAction}
+use Rattle.floor_message.specs.declared.ask.Verdict.{Verdict}
 use Rattle.floor_machine.specs.declared.course.Course.{Course}
 use Rattle.floor_machine.specs.declared.judged.Judged.TheVariants.{Accepted}
 use Rattle.floor_machine.specs.declared.state.State.{State}
 use Rattle.floor_machine.specs.Change.{asked_change}
-use Rattle.floor_machine.specs.Serving.{IsChanged, MayServe, conference_of, is_numbered_from}
-use Rattle.floor_machine.proofs.Asked.{on_ok, on_ok_both, changed-request, changed-release, changed-query}
+use Rattle.floor_machine.specs.Serving.{IsChanged, MayDecide, MayServe, conference_of, is_numbered_from}
+use Rattle.floor_machine.proofs.Asked.{on_ok, on_ok_both, changed-request, changed-release, changed-decide, changed-query}
 use Rattle.floor_machine.proofs.state.State.change_asked.Goals as goal
 
 pub returns-in-FloorRequest-clause-changed : goal.returns-in-FloorRequest-clause-changed
@@ -37,6 +38,24 @@ returns-in-FloorRelease-clause-changed c = λ same.
     subst P (sym w.is) (subst Q (sym next)
     (changed-release s c.args.course.now course n w.request c.requires.queue c.requires.begun (subst M w.is c.requires.may) noted refl refl)))
     c.release_request.ensures.next c.release_request.ensures.ended
+
+pub returns-in-ChairAction-clause-changed : goal.returns-in-ChairAction-clause-changed
+returns-in-ChairAction-clause-changed c = λ same.
+    let n = c.args.n in
+    let s = c.args.self.now in
+    let w = c.in-ChairAction in
+    let vs = c.as_slice.result.now in
+    let are : vs ≡ w.verdicts = c.as_slice.ensures in
+    let course : Course = record { before = c.args.course.now.before; numbers = c.args.course.now.numbers; ended = c.decide.new.ended } in
+    let P : Ask → Type 0 = λ a. IsChanged (conference_of s) (asked_change (conference_of s) n a) (conference_of (record s { requests = c.decide.new.requests })) course in
+    let V : List (ℕ × Verdict) → Type 0 = λ xs. P (ChairAction w.request xs) in
+    let Q : Queue → Type 0 = λ q. IsChanged (conference_of s) (asked_change (conference_of s) n (ChairAction w.request vs)) (conference_of (record s { requests = q })) course in
+    let M : Ask → Type 0 = λ a. MayServe (conference_of s) c.args.user (Accepted a) in
+    let D : List (ℕ × Verdict) → Type 0 = λ xs. MayDecide s.requests.ongoing w.request xs in
+    on_ok_both c.decide.result (λ next noted.
+    subst P (sym w.is) (subst V are (subst Q (sym next)
+    (changed-decide s c.args.course.now course n w.request vs c.requires.queue c.requires.begun (subst D (sym are) (subst M w.is c.requires.may)) noted refl refl))))
+    c.decide.ensures.next c.decide.ensures.ended
 
 pub returns-in-FloorQuery-clause-changed : goal.returns-in-FloorQuery-clause-changed
 returns-in-FloorQuery-clause-changed c = λ same.

@@ -4,6 +4,7 @@ use Rattle.floor_queue.specs.Order.{settle}
 use Rattle.floor_machine.specs.declared.member.Member.{Member}
 use Rattle.floor_machine.specs.Serving.{conference_of, is_numbered_from}
 use Rattle.floor_machine.proofs.Joining.{next-join, numbered-push}
+use Rattle.floor_machine.proofs.Quiet.{parcels_of-join}
 use Rattle.floor_machine.proofs.state.State.join.Goals as goal
 
 pub returns-clause-next : goal.returns-clause-next
@@ -25,3 +26,9 @@ returns-clause-state c =
       floors = c.requires.state.floors;
       numbered = subst N (sym c.in_ok-push.ensures.items) (numbered-push 1 s.members.items m (ap (λ (k : ℕ). k + 1) number) c.requires.state.numbered);
     }
+
+pub returns-clause-told : goal.returns-clause-told
+returns-clause-told c =
+    let s = c.args.self.now in
+    let P : List Floor → Type 0 = λ fs. settle fs s.requests.ongoing ≡ s.requests.ongoing in
+    parcels_of-join (conference_of s) c.args.user (subst P c.requires.state.floors c.requires.settled) c.ongoing-ongoing.ensures.kept.ascending c.requires.state.numbered

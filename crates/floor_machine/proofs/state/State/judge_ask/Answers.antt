@@ -4,4 +4,4 @@ use Rattle.floor_machine.proofs.state.State.judge_ask.Goals as goal
 
 pub returns-in-None-clause-may : goal.returns-in-None-clause-may
 returns-in-None-clause-may c =
-    may_serve (conference_of c.args.self.now) c.args.user c.args.ask c.if-not-is_served.ensures c.requires c.in-None.ensures
+    may_serve (conference_of c.args.self.now) c.args.user c.args.ask c.requires c.in-None.ensures

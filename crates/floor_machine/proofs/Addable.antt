@@ -1,0 +1,126 @@
+-- The requests that an event ended are ones that could be added.
+use Rattle.std.proofs.Common.{◌≡◌, ℕ, suc, ◌+◌, Bool, true, false, cond, List, [], ◌∷◌, map, Option, Some, None, refl, sym, subst, ◌∙◌, ap, arith}
+use Rattle.std.specs.Prelude.{All}
+use Rattle.std.specs.List.{list_any}
+use Rattle.std.proofs.lemmas.List.Elements.{All-nil, All-cons}
+use Rattle.floor_config.specs.Configuration.{Configuration}
+use Rattle.floor_config.specs.declared.config.Floor.{Floor}
+use Rattle.floor_queue.specs.declared.request.Request.{Request}
+use Rattle.floor_queue.specs.Queue.{IsAddable, IsQueue, first_request, new_of}
+use Rattle.floor_message.specs.declared.ask.Ask.{Ask}
+use Rattle.floor_message.specs.declared.ask.Ask.TheVariants.{FloorRequest, FloorRelease, FloorRequestQuery, UserQuery, FloorQuery, ChairAction, Hello}
+use Rattle.floor_machine.specs.declared.course.Course.{Course}
+use Rattle.floor_machine.specs.declared.course.Ended.{Ended}
+use Rattle.floor_machine.specs.declared.judged.Judged.{Judged}
+use Rattle.floor_machine.specs.declared.judged.Judged.TheVariants.{Accepted, Refused, Unanswered}
+use Rattle.floor_machine.specs.declared.state.State.{State}
+use Rattle.floor_machine.specs.declared.status.RequestStatus.{RequestStatus}
+use Rattle.floor_machine.specs.declared.event.Event.TheVariants.{Leave, Revoke}
+use Rattle.floor_machine.specs.Conference.{Conference, user_of}
+use Rattle.floor_machine.specs.Shown.{Entry, entry_of}
+use Rattle.floor_machine.specs.Checks.{beneficiary_of}
+use Rattle.floor_machine.specs.Change.{Change, change, leaving, ends_without, ending, ends_at, entries_after, released, dismissed, decided_at, is_final}
+use Rattle.floor_machine.specs.Steps.{entry_of_ended}
+use Rattle.floor_machine.specs.Serving.{IsChanged, IsState, MayServe, ended_of, judged_change}
+use Rattle.floor_machine.specs.Fitting.{AreAddable, DetailsFit}
+use Rattle.floor_machine.proofs.Entries.{ended_of-entries}
+use Rattle.floor_machine.proofs.Changing.{none-ended-added}
+
+-- what holds of all ongoing requests holds of those that end
+ending_all : (P : Request → Type 0) (ends : Request → Option RequestStatus) (rs : List Request) → All P rs →
+    All (λ e. P e.request) (ended_of (map {A = Request} (λ r. record { request = r; ending = ends r }) rs))
+ending_all P ends [] h = All-nil (λ e. P e.request)
+ending_all P ends (r ∷ rs) h = by (ends r) (h 0 r (omega arith)) (ending_all P ends rs (λ k d l. h (suc k) d (omega arith)))
+  where
+    others : List Entry
+    others = ended_of (map {A = Request} (λ r. record { request = r; ending = ends r }) rs)
+
+    by : (o : Option RequestStatus) → P r → All (λ e. P e.request) others → All (λ e. P e.request) (ended_of (record { request = r; ending = o } ∷ map {A = Request} (λ r. record { request = r; ending = ends r }) rs))
+    by None own rest = rest
+    by (Some status) own rest = All-cons (λ e. P e.request) (record { request = r; ending = Some status }) others own rest
+
+-- none of the ongoing ones ended
+none_ended : (f : Request → Request) (rs : List Request) → ended_of (map (λ r. entry_of (f r)) rs) ≡ []
+none_ended f [] = refl
+none_ended f (r ∷ rs) = none_ended f rs
+
+-- what holds of the entries that ended holds of what the course has noted
+noted_all : (P : Request → Type 0) (ended : List Ended) → All (λ e. P e.request) (map entry_of_ended ended) → All (λ d. P d.request) ended
+noted_all P [] h = All-nil (λ d. P d.request)
+noted_all P (d ∷ ended) h = All-cons (λ d. P d.request) d ended (h 0 (entry_of_ended d) (omega arith)) (noted_all P ended (λ k e l. h (suc k) e (omega arith)))
+
+none_all : (P : Request → Type 0) (es : List Entry) → es ≡ [] → All (λ e. P e.request) es
+none_all P es same = let Q : List Entry → Type 0 = λ xs. All (λ e. P e.request) xs in subst Q (sym same) (All-nil (λ e. P e.request))
+
+asked_all : (P : Request → Type 0) (s : Conference) (user : ℕ) (a : Ask) → All P s.ongoing → All (λ e. P e.request) (ended_of (entries_after s user a))
+asked_all P s user (FloorRequest beneficiary floors priority info) h =
+    none_all P (ended_of (entries_after s user (FloorRequest beneficiary floors priority info))) (none-ended-added s.ongoing (first_request s.config.floors (s.given + 1)
+    record { requester = user; beneficiary = beneficiary_of user beneficiary; floors = floors; priority = priority; info = info }))
+asked_all P s user (FloorRelease request) h = ending_all P (ends_at request released) s.ongoing h
+asked_all P s user (FloorRequestQuery request) h = none_all P (ended_of (map entry_of s.ongoing)) (ended_of-entries s.ongoing)
+asked_all P s user (UserQuery beneficiary) h = none_all P (ended_of (map entry_of s.ongoing)) (ended_of-entries s.ongoing)
+asked_all P s user (FloorQuery floors) h = none_all P (ended_of (map entry_of s.ongoing)) (ended_of-entries s.ongoing)
+asked_all P s user (ChairAction request verdicts) h = by (list_any (λ v. is_final v.1) verdicts)
+  where
+    by : (b : Bool) → All (λ e. P e.request) (ended_of (cond b (ending s (ends_at request dismissed)) (map (λ r. entry_of (decided_at request verdicts r)) s.ongoing)))
+    by true = ending_all P (ends_at request dismissed) s.ongoing h
+    by false = none_all P (ended_of (map (λ r. entry_of (decided_at request verdicts r)) s.ongoing)) (none_ended (decided_at request verdicts) s.ongoing)
+asked_all P s user Hello h = none_all P (ended_of (map entry_of s.ongoing)) (ended_of-entries s.ongoing)
+
+judged_all : (P : Request → Type 0) (s : Conference) (n : ℕ) (j : Judged) → All P s.ongoing → All (λ e. P e.request) (ended_of (judged_change s n j).entries)
+judged_all P s n (Accepted a) h = asked_all P s _ a h
+judged_all P s n (Refused code details) h = none_all P (ended_of (map entry_of s.ongoing)) (ended_of-entries s.ongoing)
+judged_all P s n Unanswered h = none_all P (ended_of (map entry_of s.ongoing)) (ended_of-entries s.ongoing)
+
+-- where the entries that ended are ones that could be added, so are those that the course has noted
+noted_addable : (floors : List Floor) (ended : List Ended) (es : List Entry) → map entry_of_ended ended ≡ es → All (λ e. IsAddable floors (new_of e.request)) es → AreAddable floors ended
+noted_addable floors ended es same h =
+    let Q : List Entry → Type 0 = λ xs. All (λ e. IsAddable floors (new_of e.request)) xs in
+    noted_all (λ r. IsAddable floors (new_of r)) ended (subst Q (sym same) h)
+
+-- the ongoing requests are ones that could be added
+pub queue_addable : (t : State) → IsState t → IsQueue t.requests → All (λ r. IsAddable t.config.floors (new_of r)) t.requests.ongoing
+queue_addable t state queue =
+    let Q : List Floor → Type 0 = λ fs. All (λ r. IsAddable fs (new_of r)) t.requests.ongoing in
+    subst Q state.floors queue.addable
+
+-- those of them that end are, too
+pub ending_addable : (s : Conference) (ends : Request → Option RequestStatus) (ended : List Ended) → All (λ r. IsAddable s.config.floors (new_of r)) s.ongoing →
+    map entry_of_ended ended ≡ ended_of (ending s ends) → AreAddable s.config.floors ended
+ending_addable s ends ended h same =
+    noted_addable s.config.floors ended (ended_of (ending s ends)) same (ending_all (λ r. IsAddable s.config.floors (new_of r)) ends s.ongoing h)
+
+-- those that such a change ended, by the configuration that it leaves
+pub changed_addable : (s t : Conference) (c : Change) (ends : Request → Option RequestStatus) (course : Course) → All (λ r. IsAddable s.config.floors (new_of r)) s.ongoing →
+    IsChanged s c t course → c.entries ≡ ending s ends → AreAddable t.config.floors course.ended.items
+changed_addable s t c ends course h changed same =
+    let Q : List Floor → Type 0 = λ fs. AreAddable fs course.ended.items in
+    subst Q (sym (ap (λ (k : Configuration). k.floors) changed.config))
+    (ending_addable s ends course.ended.items h (changed.ended ∙ ap (λ (es : List Entry). ended_of es) same))
+
+-- those that a leave ended
+pub left_addable : (s t : Conference) (n : ℕ) (course : Course) → All (λ r. IsAddable s.config.floors (new_of r)) s.ongoing →
+    IsChanged s (change s (Leave n)) t course → AreAddable t.config.floors course.ended.items
+unfolding change
+left_addable s t n course h changed =
+    changed_addable s t (change s (Leave n)) (ends_without (map (leaving n) s.members) (user_of s n)) course h changed refl
+
+-- the one that a revoke ended
+pub revoked_addable : (s t : Conference) (request : ℕ) (course : Course) → All (λ r. IsAddable s.config.floors (new_of r)) s.ongoing →
+    IsChanged s (change s (Revoke request)) t course → AreAddable t.config.floors course.ended.items
+unfolding change
+revoked_addable s t request course h changed = changed_addable s t (change s (Revoke request)) (ends_at request dismissed) course h changed refl
+
+-- those that a judged message ended, by the configuration that the change leaves
+pub judged_addable : (s t : Conference) (n : ℕ) (j : Judged) (course : Course) → All (λ r. IsAddable s.config.floors (new_of r)) s.ongoing →
+    IsChanged s (judged_change s n j) t course → AreAddable t.config.floors course.ended.items
+judged_addable s t n j course h changed =
+    let Q : List Floor → Type 0 = λ fs. AreAddable fs course.ended.items in
+    subst Q (sym (ap (λ (k : Configuration). k.floors) changed.config))
+    (noted_addable s.config.floors course.ended.items (ended_of (judged_change s n j).entries) changed.ended (judged_all (λ r. IsAddable s.config.floors (new_of r)) s n j h))
+
+-- the details of what may be served fit
+pub details_fit : (s : Conference) (user : ℕ) (j : Judged) → MayServe s user j → DetailsFit j
+details_fit s user (Accepted a) h = tt
+details_fit s user (Refused code details) h = h
+details_fit s user Unanswered h = tt

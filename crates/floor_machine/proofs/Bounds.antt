@@ -1,0 +1,120 @@
+-- Each message that an event tells shows no more than a conference has.
+use Rattle.std.proofs.Common.{◌≡◌, ℕ, Bool, true, false, cond, List, [], ◌∷◌, ◌++◌, map, Option, Some, None, refl, sym, ap, subst, ◌∙◌}
+use Rattle.std.specs.Prelude.{◌==◌, All, filter}
+use Rattle.std.specs.List.{list_any}
+use Rattle.std.specs.Option.{option_map_or}
+use Rattle.std.proofs.lemmas.List.Elements.{All-nil, All-cons, All-head, All-tail, All-append}
+use Rattle.floor_config.specs.Configuration.{Configuration}
+use Rattle.floor_config.specs.declared.config.Floor.{Floor}
+use Rattle.floor_queue.specs.Queue.{Queue, after_settle}
+use Rattle.floor_message.specs.declared.head.Head.{Head}
+use Rattle.floor_message.specs.declared.tell.Tell.{Tell}
+use Rattle.floor_message.specs.declared.tell.Tell.TheVariants.{FloorRequestStatus}
+use Rattle.floor_message.specs.Shown.{IsShown}
+use Rattle.floor_message.specs.Laws.{WhatIsShownFits}
+use Rattle.floor_machine.specs.declared.course.Course.{Course}
+use Rattle.floor_machine.specs.declared.event.Event.{Event}
+use Rattle.floor_machine.specs.declared.event.Event.TheVariants.{Close}
+use Rattle.floor_machine.specs.declared.member.Member.{Member}
+use Rattle.floor_machine.specs.declared.sending.FloorUpdate.{FloorUpdate}
+use Rattle.floor_machine.specs.declared.sending.Reply.{Reply}
+use Rattle.floor_machine.specs.declared.sending.Update.{Update}
+use Rattle.floor_machine.specs.declared.state.State.{State}
+use Rattle.floor_machine.specs.Conference.{Conference, member_with}
+use Rattle.floor_machine.specs.Change.{change, next, shown}
+use Rattle.floor_machine.specs.Serving.{IsChanged, IsState, conference_of, ended_of, is_rising, numbers_in}
+use Rattle.floor_machine.specs.Fitting.{AreFloorsShown, AreMessagesShown, AreUpdatesShown, IsReplyShown, IsToldShown, ToldFits}
+use Rattle.floor_machine.specs.Outgoing.{Outgoing, notice}
+use Rattle.floor_machine.specs.Reply.{infos, floor_status_tell}
+use Rattle.floor_machine.specs.Steps.{answered, answered_to, entry_of_ended, floor_update, floor_updates, infos_of, is_to, updates}
+use Rattle.floor_machine.specs.Told.{Changed, changed_floors, changed_requests, floor_notices, request_notices, is_told, reply_to, told, told_to}
+use Rattle.floor_machine.proofs.Telling.{is_telling, told-member, update_for}
+use Rattle.floor_machine.proofs.Served.{ended-shown, floors-message, next-config, numbers-shown, settled-state, updates-message}
+
+-- what holds of all items, made into what follows from it, holds of those that are picked
+picked_all : {A B : Type 0} (P : A → Type 0) (Q : B → Type 0) (f : A → B) (p : A → Bool) (xs : List A) → ((x : A) → P x → Q (f x)) → All P xs → All Q (map f (filter p xs))
+picked_all P Q f p [] made h = All-nil Q
+picked_all P Q f p (x ∷ xs) made h = by (p x) (picked_all P Q f p xs made (All-tail P x xs h))
+  where
+    by : (b : Bool) → All Q (map f (filter p xs)) → All Q (map f (cond b (x ∷ filter p xs) (filter p xs)))
+    by true rest = All-cons Q (f x) (map f (filter p xs)) (made x (All-head P x xs h)) rest
+    by false rest = rest
+
+-- what holds of all that is made holds of each item as it is made
+made_all : {A B : Type 0} (Q : B → Type 0) (f : A → B) (xs : List A) → All Q (map f xs) → All (λ x. Q (f x)) xs
+made_all Q f [] h = All-nil (λ x. Q (f x))
+made_all Q f (x ∷ xs) h = All-cons (λ x. Q (f x)) x xs (All-head Q (f x) (map f xs) h) (made_all Q f xs (All-tail Q (f x) (map f xs) h))
+
+answered_all : (head : Head) (tells : List Tell) → All IsShown tells → AreMessagesShown (answered head tells)
+answered_all head [] h = All-nil (λ message. IsShown message.tell)
+answered_all head (tell ∷ tells) h =
+    All-cons (λ message. IsShown message.tell) record { head = head; tell = tell } (answered (record head { transaction = 0 }) tells)
+    (All-head IsShown tell tells h) (answered_all (record head { transaction = 0 }) tells (All-tail IsShown tell tells h))
+
+-- the reply
+reply_all : (o : Option Reply) (k : ℕ) → IsReplyShown o → AreMessagesShown (answered_to o k)
+reply_all None k h = All-nil (λ message. IsShown message.tell)
+reply_all (Some r) k h = by (is_to k r)
+  where
+    by : (b : Bool) → AreMessagesShown (cond b (answered r.head r.tells.items) [])
+    by true = answered_all r.head r.tells.items h
+    by false = All-nil (λ message. IsShown message.tell)
+
+-- what a live member is told
+member_all : (s : Conference) (e : Event) (m : Member) → AreMessagesShown (reply_to s e m.n) → AreUpdatesShown (map update_for (changed_requests s e)) →
+    AreFloorsShown (map (floor_update (infos (next s e))) (changed_floors s e)) → AreMessagesShown (told_to s e m)
+member_all s e m replied requests floors =
+    let S : Outgoing → Type 0 = λ message. IsShown message.tell in
+    let R : Changed → Type 0 = λ c. IsShown (FloorRequestStatus c.info) in
+    let F : Floor → Type 0 = λ f. IsShown (floor_status_tell (next s e) f.id) in
+    let each_request : All R (changed_requests s e) = made_all (λ (u : Update). IsShown u.tell) update_for (changed_requests s e) requests in
+    let each_floor : All F (changed_floors s e) = made_all (λ (u : FloorUpdate). IsShown u.tell) (floor_update (infos (next s e))) (changed_floors s e) floors in
+    let of_requests : AreMessagesShown (request_notices s e m) =
+    picked_all R S (λ c. notice s.config.conference m.user (FloorRequestStatus c.info)) (is_told (reply_to s e m.n) m.user) (changed_requests s e) (λ c h. h) each_request in
+    let of_floors : AreMessagesShown (floor_notices s e m) =
+    picked_all F S (λ f. notice s.config.conference m.user (floor_status_tell (next s e) f.id)) (λ f. list_any (λ floor. floor == f.id) m.watched) (changed_floors s e) (λ f h. h) each_floor in
+    All-append S (reply_to s e m.n ++ request_notices s e m) (floor_notices s e m) (All-append S (reply_to s e m.n) (request_notices s e m) replied of_requests) of_floors
+
+-- what an event tells anyone
+pub told-shown : (s : Conference) (e : Event) (o : Option Reply) → is_telling e ≡ true → ((k : ℕ) → answered_to o k ≡ reply_to s e k) → IsReplyShown o →
+    AreUpdatesShown (map update_for (changed_requests s e)) → AreFloorsShown (map (floor_update (infos (next s e))) (changed_floors s e)) →
+    (n : ℕ) → AreMessagesShown (told s e n)
+told-shown s e o telling replied shown requests floors n = subst AreMessagesShown (sym (told-member s e n telling)) (by (member_with (next s e).members n))
+  where
+    by : (found : Option Member) → AreMessagesShown (option_map_or (told_to s e) found [])
+    by None = All-nil (λ message. IsShown message.tell)
+    by (Some m) = member_all s e m (subst AreMessagesShown (replied m.n) (reply_all o m.n shown)) requests floors
+
+-- what the steps of an event find shown is shown of what it tells
+pub served-shown : (s : Conference) (e : Event) (t : Conference) (course : Course) (o : Option Reply) → is_telling e ≡ true → t ≡ next s e →
+    map entry_of_ended course.ended.items ≡ ended_of (shown s e) → course.numbers.items ≡ numbers_in (shown s e) → is_rising course.numbers.items ≡ true → course.before.items ≡ infos s →
+    ((k : ℕ) → answered_to o k ≡ reply_to s e k) → IsReplyShown o →
+    AreUpdatesShown (updates t.config t.ongoing course.ended.items course.before.items course.numbers.items) →
+    AreFloorsShown (floor_updates course.before.items (infos_of t.config t.ongoing) t.config.floors) → IsToldShown s e
+served-shown s e t course o telling is same numbers rising before replied reply requests floors =
+    let us = ap (λ (x : Conference). updates x.config x.ongoing course.ended.items course.before.items course.numbers.items) is
+    ∙ ap (λ (config : Configuration). updates config (next s e).ongoing course.ended.items course.before.items course.numbers.items) (next-config s e)
+    ∙ updates-message s e course same numbers rising before in
+    let fs = ap (λ (x : Conference). floor_updates course.before.items (infos_of x.config x.ongoing) x.config.floors) is
+    ∙ ap (λ (config : Configuration). floor_updates course.before.items (infos_of config (next s e).ongoing) config.floors) (next-config s e)
+    ∙ floors-message s e course.before.items (infos_of s.config (next s e).ongoing) before (ap (λ (config : Configuration). infos_of config (next s e).ongoing) (sym (next-config s e))) in
+    told-shown s e o telling replied reply (subst AreUpdatesShown us requests) (subst AreFloorsShown fs floors)
+
+-- the same for an event without a reply
+pub changed-shown : (s : Conference) (e : Event) (t : State) (course : Course) (q : Queue) → is_telling e ≡ true → ((k : ℕ) → reply_to s e k ≡ []) →
+    IsChanged s (change s e) (conference_of t) course → IsState t → q ≡ after_settle t.requests →
+    AreUpdatesShown (updates t.config q.ongoing course.ended.items course.before.items course.numbers.items) →
+    AreFloorsShown (floor_updates course.before.items (infos_of t.config q.ongoing) t.config.floors) → IsToldShown s e
+changed-shown s e t course q telling unsent changed state settled =
+    served-shown s e (conference_of (record t { requests = q })) course None telling (settled-state s e (change s e) t course q refl changed state settled)
+    (ended-shown s e (change s e) (conference_of t) course refl changed) (numbers-shown s e (change s e) (conference_of t) course refl changed) changed.rising changed.before
+    (λ k. sym (unsent k)) tt
+
+-- a close tells nobody anything
+pub close-shown : (s : Conference) → IsToldShown s Close
+unfolding told
+close-shown s n = All-nil (λ message. IsShown message.tell)
+
+-- what shows no more than a conference has can be written
+pub shown-fits : (s : Conference) (e : Event) → WhatIsShownFits → IsToldShown s e → ToldFits s e
+shown-fits s e law shown n i d within = law _ (shown n i d within)

@@ -1,0 +1,12 @@
+use Rattle.std.proofs.Common.{◌≡◌, ◌++◌, length}
+use Rattle.floor_machine.specs.Serving.{after_release_for, released_for}
+use Rattle.floor_machine.proofs.ending.release_all_for.Given as goal
+
+abbrev pub invariant-loop-request : goal.invariant-loop-request
+invariant-loop-request l = record {
+  next : after_release_for l.requests l.beneficiary ≡ after_release_for l.fn.requests l.beneficiary;
+  noted : l.ended.items ++ released_for l.requests l.beneficiary ≡ l.fn.ended.items ++ released_for l.fn.requests l.beneficiary;
+}
+
+abbrev pub decreases-loop-request : goal.decreases-loop-request
+decreases-loop-request l = length l.requests.ongoing

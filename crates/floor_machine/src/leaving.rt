@@ -1,0 +1,81 @@
+//! A member leaves, and what ends with it (RFC 8855, section 13.4, for the requests that are given back).
+
+ghost use Rattle.std.specs.Prelude.{◌≡◌, ◌++◌, OnOk, OnErr, map};
+ghost use Rattle.floor_queue.specs.Queue.{IsQueue, IsSettled};
+ghost use Rattle.floor_machine.specs.Change as change;
+ghost use Rattle.floor_machine.specs.Conference.{is_present, user_of};
+ghost use Rattle.floor_machine.specs.declared.event.Event.TheVariants.{Leave};
+ghost use Rattle.floor_machine.specs.Fitting.{IsToldShown};
+ghost use Rattle.floor_machine.specs.Journal.{parcels_of};
+ghost use Rattle.floor_machine.specs.Serving.{IsChanged, IsState, conference_of};
+
+use crate::course::Course;
+use crate::ending::release_all_for;
+use crate::member::Member;
+use crate::parcel::Parcel;
+use crate::state::State;
+use std::alloc::AllocError;
+
+/// Whether some live member is a connection of the user.
+fn is_present(members: &[Member], user: u16) -> bool
+    ensures { result ≡ is_present members.now user }
+{
+    members.iter().any(|m| m.user == user && m.is_live)
+}
+
+/// The member is no longer live, if it has the number.
+fn leave_if(member: &mut Member, n: u32)
+    ensures { member.new ≡ change.leaving n member.old }
+{
+    if member.n == n {
+        member.is_live = false;
+    }
+}
+
+/// The member with this number is no longer live.
+fn leave(members: &mut Vec<Member>, n: u32)
+    ensures { members.new.items ≡ map (change.leaving n) members.old.items }
+{
+    for member in members.iter_mut() {
+        leave_if(member, n);
+    }
+}
+
+impl State {
+    /// A member leaves, before the requests are settled: where it was the last of its user, the
+    /// requests for that user end as they are given back.
+    fn change_left(&mut self, course: &mut Course, n: u32, user: u16) -> Result<(), AllocError>
+        requires user { user ≡ user_of (conference_of self.old) n }
+        requires state { IsState self.old }
+        requires queue { IsQueue self.old.requests }
+        requires begun { IsChanged (conference_of self.old) (change.no_change (conference_of self.old)) (conference_of self.old) course.old }
+        ensures changed { OnOk result (IsChanged (conference_of self.old)
+            (change.change (conference_of self.old) (Leave n)) (conference_of self.new) course.new) }
+        ensures state { OnOk result (IsState self.new) }
+    {
+        leave(&mut self.members, n);
+        if is_present(&self.members, user) {
+            return Ok(());
+        }
+        release_all_for(&mut self.requests, &mut course.ended, user)
+    }
+
+    /// A member leaves, and what that ends and grants is told. After an error `out` is as it was.
+    pub(crate) fn leave(&mut self, n: u32, out: &mut Vec<Parcel>) -> Result<(), AllocError>
+        requires state { IsState self.old }
+        requires settled { IsSettled self.old.requests }
+        ensures next { OnOk result (conference_of self.new ≡ change.next (conference_of self.old) (Leave n)) }
+        ensures out { OnOk result (out.new.items ≡ out.old.items ++ parcels_of (conference_of self.old) (Leave n)) }
+        ensures shown { OnOk result (IsToldShown (conference_of self.old) (Leave n)) }
+        ensures err { OnErr result (out.new.items ≡ out.old.items) }
+        ensures state { OnOk result (IsState self.new) }
+        ensures settled { OnOk result (IsSettled self.new.requests) }
+    {
+        let alloc = *self.members.allocator();
+        let user = self.user_of(n);
+        let mut course = self.begin(alloc)?;
+        self.change_left(&mut course, n, user)?;
+        let _granted = self.requests.settle()?;
+        self.tell(alloc, &course, &None, out)
+    }
+}
