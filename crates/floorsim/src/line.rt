@@ -16,6 +16,12 @@ pub enum Command {
     Attach { conference: u32, user: u16 },
     /// Bytes come in on a connection, and the messages that are whole are served.
     Send { connection: u64, bytes: Vec<u8> },
+    /// A connection leaves its conference.
+    Leave { connection: u64 },
+    /// The administrator revokes a floor request.
+    Revoke { conference: u32, request: u16 },
+    /// The administrator closes a conference.
+    Close { conference: u32 },
 }
 
 /// Why a line is bad: the first that applies.
@@ -68,6 +74,16 @@ pub fn parse_line(alloc: Global, line: &str) -> Result<Command, LineFault> {
         ["send", connection, hex @ ..] if !hex.is_empty() => Ok(Command::Send {
             connection: number(connection, MAX_CONNECTION)?,
             bytes: bytes(alloc, hex)?,
+        }),
+        ["leave", connection] => Ok(Command::Leave {
+            connection: number(connection, MAX_CONNECTION)?,
+        }),
+        ["revoke", conference, request] => Ok(Command::Revoke {
+            conference: number(conference, u64::from(u32::MAX))? as u32,
+            request: number(request, u64::from(u16::MAX))? as u16,
+        }),
+        ["close", conference] => Ok(Command::Close {
+            conference: number(conference, u64::from(u32::MAX))? as u32,
         }),
         _ => Err(LineFault::UnknownCommand),
     }

@@ -4,7 +4,7 @@ use crate::line::{Command, LineFault, parse_line};
 use crate::script::{Line, Script};
 use crate::simulation::{LineRefusal, Simulation};
 use floor_config::{Config, ConfigFault, read_configs};
-use floor_machine::{Parcel, Refusal};
+use floor_machine::{Act, Parcel, Refusal};
 use std::alloc::{AllocError, AllocFailed, Global};
 use std::io;
 use std::io::{BufWriter, Read, Write};
@@ -132,6 +132,12 @@ fn answer<W: Write>(
     let answered = match command {
         Command::Attach { conference, user } => attach(simulation, conference, user, output)?,
         Command::Send { connection, bytes } => send(simulation, connection, &bytes),
+        Command::Leave { connection } => leave(simulation, connection),
+        Command::Revoke {
+            conference,
+            request,
+        } => admin(simulation, conference, Act::Revoke(request)),
+        Command::Close { conference } => admin(simulation, conference, Act::Close),
     };
     match answered {
         Ok(()) => {}
@@ -171,6 +177,24 @@ fn send(
     match simulation {
         None => Err(LineRefusal::NoConnection),
         Some(simulation) => simulation.send(connection, bytes),
+    }
+}
+
+fn leave(simulation: &mut Option<Simulation>, connection: u64) -> Result<(), LineRefusal> {
+    match simulation {
+        None => Err(LineRefusal::NoConnection),
+        Some(simulation) => simulation.leave(connection),
+    }
+}
+
+fn admin(
+    simulation: &mut Option<Simulation>,
+    conference: u32,
+    act: Act,
+) -> Result<(), LineRefusal> {
+    match simulation {
+        None => Err(LineRefusal::NoConference),
+        Some(simulation) => simulation.admin(conference, act),
     }
 }
 

@@ -1,7 +1,7 @@
 //! The conference of a script, with the connections that joined it.
 
 use floor_config::Config;
-use floor_machine::{Machine, Parcel, Refusal};
+use floor_machine::{Act, Machine, Parcel, Refusal};
 use floor_wire::Framer;
 use std::alloc::{AllocError, AllocFailed, Global};
 use std::fmt;
@@ -54,7 +54,16 @@ impl fmt::Display for LineRefusal {
     }
 }
 
-/// One conference, the streams of its connections, and the parcels that wait to be printed.
+/// A connection that was attached.
+#[derive(Drop)]
+struct Connection {
+    /// The bytes that came in on it and are not served.
+    framer: Framer,
+    /// Whether it hasn't left.
+    is_live: bool,
+}
+
+/// One conference, its connections, and the parcels that wait to be printed.
 ///
 /// Connections are numbered from 1, in the order in which they were attached.
 #[derive(Drop)]
@@ -62,7 +71,8 @@ pub struct Simulation {
     alloc: Global,
     conference: u32,
     machine: Machine,
-    framers: Vec<Framer>,
+    is_open: bool,
+    connections: Vec<Connection>,
     waiting: Vec<Parcel>,
 }
 
@@ -75,7 +85,8 @@ impl Simulation {
             alloc,
             conference,
             machine,
-            framers: Vec::new(alloc),
+            is_open: true,
+            connections: Vec::new(alloc),
             waiting: Vec::new(alloc),
         })
     }
@@ -89,7 +100,10 @@ impl Simulation {
             return Err(LineRefusal::Refused(Refusal::Full));
         }
         let n = self.machine.join(user)?;
-        self.framers.push(Framer::new(self.alloc))?;
+        self.connections.push(Connection {
+            framer: Framer::new(self.alloc),
+            is_live: true,
+        })?;
         Ok(n)
     }
 
@@ -98,10 +112,19 @@ impl Simulation {
         let Some((n, place)) = place_of(connection) else {
             return Err(LineRefusal::NoConnection);
         };
-        let Some(framer) = self.framers.get_mut(place) else {
+        let Some(
+            Connection {
+                framer,
+                is_live: true,
+            },
+        ) = self.connections.get_mut(place)
+        else {
             return Err(LineRefusal::NoConnection);
         };
         framer.push(bytes)?;
+        if !self.is_open {
+            return Err(LineRefusal::Refused(Refusal::Ended));
+        }
         // A message takes at least 12 bytes, so the turns suffice.
         for _ in 0..framer.rest_len() {
             let Some(frame) = framer.next()? else {
@@ -112,9 +135,39 @@ impl Simulation {
         Ok(())
     }
 
+    /// Takes it that a connection has left. In a conference that is closed nothing else follows.
+    pub fn leave(&mut self, connection: u64) -> Result<(), LineRefusal> {
+        let Some((n, place)) = place_of(connection) else {
+            return Err(LineRefusal::NoConnection);
+        };
+        let Some(Connection { is_live, .. }) = self.connections.get_mut(place) else {
+            return Err(LineRefusal::NoConnection);
+        };
+        if !*is_live {
+            return Err(LineRefusal::NoConnection);
+        }
+        if self.is_open {
+            self.machine.leave(n, &mut self.waiting)?;
+        }
+        *is_live = false;
+        Ok(())
+    }
+
+    /// Does what the administrator of a conference does.
+    pub fn admin(&mut self, conference: u32, act: Act) -> Result<(), LineRefusal> {
+        if conference != self.conference {
+            return Err(LineRefusal::NoConference);
+        }
+        self.machine.admin(act, &mut self.waiting)?;
+        if act == Act::Close {
+            self.is_open = false;
+        }
+        Ok(())
+    }
+
     /// How many connections were attached.
     pub fn connections(&self) -> usize {
-        self.framers.len()
+        self.connections.len()
     }
 
     /// The parcels that wait, in the order in which they were sent. None waits any more.

@@ -1,0 +1,341 @@
+//! What floor requests are told: queues, rooms and priorities.
+
+use super::runs::follow;
+use std::test::Fail;
+
+/// A joint request is not overtaken, and its grant moves two queues.
+const NOT_OVERTAKEN: &str = r#"
+[[conference]]
+id = 1
+[[conference.user]]
+id = 10
+[[conference.user]]
+id = 11
+[[conference.user]]
+id = 12
+[[conference.user]]
+id = 13
+[[conference.floor]]
+id = 1
+[[conference.floor]]
+id = 2
+---
+# Connection 1 is user 10's.
+> attach 1 10
+< attached 1
+# Connection 2 is user 11's.
+> attach 1 11
+< attached 2
+# Connection 3 is user 12's.
+> attach 1 12
+< attached 3
+# Connection 4 is user 13's.
+> attach 1 13
+< attached 4
+# User 10 asks for floor 1: nobody holds it and nobody waits, so request 1 is Granted.
+> send 1 20010001 00000001 0001 000a 04040001
+< 1 20040007 00000001 0001 000a 1e1c0001 24080001 0a040300 22080001 0a040300 1c04000a 08044000
+# User 11 asks for floors 1 and 2: floor 1 is held, so request 2 waits in place 1 of both.
+> send 2 20010002 00000001 0001 000b 04040001 04040002
+< 2 20040009 00000001 0001 000b 1e240002 24080002 0a040201 22080001 0a040201 22080002 0a040201
+    1c04000b 08044000
+# User 12 asks for floor 2: nobody holds it, but request 2 waits for it earlier, so request 3 waits
+# in place 2.
+> send 3 20010001 00000001 0001 000c 04040002
+< 3 20040007 00000001 0001 000c 1e1c0003 24080003 0a040202 22080002 0a040202 1c04000c 08044000
+# User 13 asks for floor 1 with priority 0: request 4 is in place 2, behind request 2.
+> send 4 20010002 00000001 0001 000d 04040001 08040000
+< 4 20040007 00000001 0001 000d 1e1c0004 24080004 0a040202 22080001 0a040202 1c04000d 08040000
+# User 13 asks for floor 2 with priority 4: nobody earlier waits and nobody holds it, so request 5
+# is Granted. The places of requests 2 and 3 stay: holders don't count in them.
+> send 4 20010002 00000001 0002 000d 04040002 08048000
+< 4 20040007 00000001 0002 000d 1e1c0005 24080005 0a040300 22080002 0a040300 1c04000d 08048000
+# User 10 releases request 1. Request 2 still wants floor 2, which request 5 holds; request 4 stays
+# behind request 2, though floor 1 is free. Only the sender is told.
+> send 1 20020001 00000001 0002 000a 06040001
+< 1 20040007 00000001 0002 000a 1e1c0001 24080001 0a040600 22080001 0a040600 1c04000a 08044000
+# User 13 releases request 5: request 2 gets both floors; request 3 moves up on floor 2, request 4
+# on floor 1. The reply comes first, then the notice.
+> send 4 20020001 00000001 0003 000d 06040005
+< 2 20040009 00000001 0000 000b 1e240002 24080002 0a040300 22080001 0a040300 22080002 0a040300
+    1c04000b 08044000
+< 3 20040007 00000001 0000 000c 1e1c0003 24080003 0a040201 22080002 0a040201 1c04000c 08044000
+< 4 20040007 00000001 0003 000d 1e1c0005 24080005 0a040600 22080002 0a040600 1c04000d 08048000
+< 4 20040007 00000001 0000 000d 1e1c0004 24080004 0a040201 22080001 0a040201 1c04000d 08040000
+# User 11 releases request 2: requests 3 and 4 are granted, each on its floor.
+> send 2 20020001 00000001 0002 000b 06040002
+< 2 20040009 00000001 0002 000b 1e240002 24080002 0a040600 22080001 0a040600 22080002 0a040600
+    1c04000b 08044000
+< 3 20040007 00000001 0000 000c 1e1c0003 24080003 0a040300 22080002 0a040300 1c04000c 08044000
+< 4 20040007 00000001 0000 000d 1e1c0004 24080004 0a040300 22080001 0a040300 1c04000d 08040000
+"#;
+
+/// A joint request that is cancelled lets two others in, and revokes.
+const CANCELLED_JOINT: &str = r#"
+[[conference]]
+id = 1
+[[conference.user]]
+id = 10
+[[conference.user]]
+id = 11
+[[conference.user]]
+id = 12
+[[conference.user]]
+id = 13
+[[conference.floor]]
+id = 1
+[[conference.floor]]
+id = 2
+[[conference.floor]]
+id = 3
+---
+# Connection 1 is user 10's.
+> attach 1 10
+< attached 1
+# Connection 2 is user 11's.
+> attach 1 11
+< attached 2
+# Connection 3 is user 12's.
+> attach 1 12
+< attached 3
+# Connection 4 is user 13's.
+> attach 1 13
+< attached 4
+# Request 1 gets floor 3.
+> send 1 20010001 00000001 0001 000a 04040003
+< 1 20040007 00000001 0001 000a 1e1c0001 24080001 0a040300 22080003 0a040300 1c04000a 08044000
+# Request 2 wants all three floors and waits for floor 3, in place 1 of each.
+> send 2 20010003 00000001 0001 000b 04040001 04040002 04040003
+< 2 2004000b 00000001 0001 000b 1e2c0002 24080002 0a040201 22080001 0a040201 22080002 0a040201
+    22080003 0a040201 1c04000b 08044000
+# Request 3 waits for floor 1 behind request 2, though nobody holds it.
+> send 3 20010001 00000001 0001 000c 04040001
+< 3 20040007 00000001 0001 000c 1e1c0003 24080003 0a040202 22080001 0a040202 1c04000c 08044000
+# Request 4 waits for floor 2 behind request 2.
+> send 4 20010001 00000001 0001 000d 04040002
+< 4 20040007 00000001 0001 000d 1e1c0004 24080004 0a040202 22080002 0a040202 1c04000d 08044000
+# Request 5 names floor 2, then floor 1: behind 2 and 4 on the one, behind 2 and 3 on the other. The
+# floors keep the order of the request.
+> send 3 20010002 00000001 0002 000c 04040002 04040001
+< 3 20040009 00000001 0002 000c 1e240005 24080005 0a040203 22080002 0a040203 22080001 0a040203
+    1c04000c 08044000
+# Request 6 waits for floor 3 behind request 2.
+> send 4 20010001 00000001 0002 000d 04040003
+< 4 20040007 00000001 0002 000d 1e1c0006 24080006 0a040202 22080003 0a040202 1c04000d 08044000
+# User 11 gives up request 2, which waited: it is Cancelled. Requests 3 and 4 are granted; 5 is now
+# first on both its floors, 6 first on floor 3.
+> send 2 20020001 00000001 0002 000b 06040002
+< 2 2004000b 00000001 0002 000b 1e2c0002 24080002 0a040500 22080001 0a040500 22080002 0a040500
+    22080003 0a040500 1c04000b 08044000
+< 3 20040007 00000001 0000 000c 1e1c0003 24080003 0a040300 22080001 0a040300 1c04000c 08044000
+< 3 20040009 00000001 0000 000c 1e240005 24080005 0a040201 22080002 0a040201 22080001 0a040201
+    1c04000c 08044000
+< 4 20040007 00000001 0000 000d 1e1c0004 24080004 0a040300 22080002 0a040300 1c04000d 08044000
+< 4 20040007 00000001 0000 000d 1e1c0006 24080006 0a040201 22080003 0a040201 1c04000d 08044000
+# The administrator revokes request 1, which is Granted: it is Revoked, and request 6 is granted.
+> revoke 1 1
+< 1 20040007 00000001 0000 000a 1e1c0001 24080001 0a040700 22080003 0a040700 1c04000a 08044000
+< 4 20040007 00000001 0000 000d 1e1c0006 24080006 0a040300 22080003 0a040300 1c04000d 08044000
+# User 12 releases request 3. Request 5 still wants floor 2, which request 4 holds.
+> send 3 20020001 00000001 0003 000c 06040003
+< 3 20040007 00000001 0003 000c 1e1c0003 24080003 0a040600 22080001 0a040600 1c04000c 08044000
+# The administrator revokes request 5, which waits: it is Denied.
+> revoke 1 5
+< 3 20040009 00000001 0000 000c 1e240005 24080005 0a040400 22080002 0a040400 22080001 0a040400
+    1c04000c 08044000
+# It isn't ongoing any more.
+> revoke 1 5
+< refused NoRequest
+# No conference 2 is open.
+> revoke 2 4
+< refused NoConference
+# A request that never was.
+> revoke 1 7
+< refused NoRequest
+# Request 4 still holds floor 2.
+> send 1 20030001 00000001 0003 000a 06040004
+< 1 20040007 00000001 0003 000a 1e1c0004 24080004 0a040300 22080002 0a040300 1c04000d 08044000
+"#;
+
+/// Floors with room for two and three.
+const ROOMS: &str = r#"
+[[conference]]
+id = 1
+[[conference.user]]
+id = 10
+[[conference.user]]
+id = 11
+[[conference.user]]
+id = 12
+[[conference.user]]
+id = 13
+[[conference.user]]
+id = 14
+[[conference.floor]]
+id = 1
+room = 2
+[[conference.floor]]
+id = 2
+room = 3
+---
+# Connection 1 is user 10's.
+> attach 1 10
+< attached 1
+# Connection 2 is user 11's.
+> attach 1 11
+< attached 2
+# Connection 3 is user 12's.
+> attach 1 12
+< attached 3
+# Connection 4 is user 13's.
+> attach 1 13
+< attached 4
+# Connection 5 is user 14's.
+> attach 1 14
+< attached 5
+# User 10 gets the first of two places of floor 1.
+> send 1 20010001 00000001 0001 000a 04040001
+< 1 20040007 00000001 0001 000a 1e1c0001 24080001 0a040300 22080001 0a040300 1c04000a 08044000
+# User 11 gets the second.
+> send 2 20010001 00000001 0001 000b 04040001
+< 2 20040007 00000001 0001 000b 1e1c0002 24080002 0a040300 22080001 0a040300 1c04000b 08044000
+# User 12 waits.
+> send 3 20010001 00000001 0001 000c 04040001
+< 3 20040007 00000001 0001 000c 1e1c0003 24080003 0a040201 22080001 0a040201 1c04000c 08044000
+# A joint request is in place 2 of floor 1 and place 1 of floor 2; the overall place is the greater
+# one.
+> send 4 20010002 00000001 0001 000d 04040001 04040002
+< 4 20040009 00000001 0001 000d 1e240004 24080004 0a040202 22080001 0a040202 22080002 0a040201
+    1c04000d 08044000
+# Floor 2 has room for three: no holder and one earlier waiting request are fewer.
+> send 1 20010001 00000001 0002 000a 04040002
+< 1 20040007 00000001 0002 000a 1e1c0005 24080005 0a040300 22080002 0a040300 1c04000a 08044000
+# One holder and one earlier waiting request are fewer than three.
+> send 2 20010001 00000001 0002 000b 04040002
+< 2 20040007 00000001 0002 000b 1e1c0006 24080006 0a040300 22080002 0a040300 1c04000b 08044000
+# Two holders and one earlier waiting request are three: request 7 waits, though floor 2 has a free
+# place, which is kept for request 4.
+> send 3 20010001 00000001 0002 000c 04040002
+< 3 20040007 00000001 0002 000c 1e1c0007 24080007 0a040202 22080002 0a040202 1c04000c 08044000
+# With priority 4 nobody is earlier, and two holders are fewer than three: request 8 is granted.
+> send 5 20010002 00000001 0001 000e 04040002 08048000
+< 5 20040007 00000001 0001 000e 1e1c0008 24080008 0a040300 22080002 0a040300 1c04000e 08048000
+# Request 9 for floor 1 with priority 3 waits first; requests 3 and 4 move back on floor 1.
+> send 5 20010002 00000001 0002 000e 04040001 08046000
+< 3 20040007 00000001 0000 000c 1e1c0003 24080003 0a040202 22080001 0a040202 1c04000c 08044000
+< 4 20040009 00000001 0000 000d 1e240004 24080004 0a040203 22080001 0a040203 22080002 0a040201
+    1c04000d 08044000
+< 5 20040007 00000001 0002 000e 1e1c0009 24080009 0a040201 22080001 0a040201 1c04000e 08046000
+# Request 1 is released: one place of floor 1 is free and goes to request 9.
+> send 1 20020001 00000001 0003 000a 06040001
+< 1 20040007 00000001 0003 000a 1e1c0001 24080001 0a040600 22080001 0a040600 1c04000a 08044000
+< 3 20040007 00000001 0000 000c 1e1c0003 24080003 0a040201 22080001 0a040201 1c04000c 08044000
+< 4 20040009 00000001 0000 000d 1e240004 24080004 0a040202 22080001 0a040202 22080002 0a040201
+    1c04000d 08044000
+< 5 20040007 00000001 0000 000e 1e1c0009 24080009 0a040300 22080001 0a040300 1c04000e 08046000
+# Request 8 is released: a place of floor 2 is free. Request 4 can't have floor 1, and request 7 may
+# not overtake it: two holders and one earlier are three.
+> send 5 20020001 00000001 0003 000e 06040008
+< 5 20040007 00000001 0003 000e 1e1c0008 24080008 0a040600 22080002 0a040600 1c04000e 08048000
+# Request 2 is released: request 3 gets the place of floor 1, and request 4 is first on both floors.
+> send 2 20020001 00000001 0003 000b 06040002
+< 2 20040007 00000001 0003 000b 1e1c0002 24080002 0a040600 22080001 0a040600 1c04000b 08044000
+< 3 20040007 00000001 0000 000c 1e1c0003 24080003 0a040300 22080001 0a040300 1c04000c 08044000
+< 4 20040009 00000001 0000 000d 1e240004 24080004 0a040201 22080001 0a040201 22080002 0a040201
+    1c04000d 08044000
+# Request 9 is released: request 4 gets both floors, and request 7 is first on floor 2, which is
+# full again.
+> send 5 20020001 00000001 0004 000e 06040009
+< 3 20040007 00000001 0000 000c 1e1c0007 24080007 0a040201 22080002 0a040201 1c04000c 08044000
+< 4 20040009 00000001 0000 000d 1e240004 24080004 0a040300 22080001 0a040300 22080002 0a040300
+    1c04000d 08044000
+< 5 20040007 00000001 0004 000e 1e1c0009 24080009 0a040600 22080001 0a040600 1c04000e 08046000
+"#;
+
+/// Priorities order a queue, and a user stops at its limit.
+const PRIORITIES: &str = r#"
+[[conference]]
+id = 1
+limit = 3
+[[conference.user]]
+id = 10
+[[conference.user]]
+id = 11
+[[conference.user]]
+id = 12
+[[conference.floor]]
+id = 1
+---
+# Connection 1 is user 10's.
+> attach 1 10
+< attached 1
+# Connection 2 is user 11's.
+> attach 1 11
+< attached 2
+# Connection 3 is user 12's.
+> attach 1 12
+< attached 3
+# Request 1 is granted.
+> send 1 20010001 00000001 0001 000a 04040001
+< 1 20040007 00000001 0001 000a 1e1c0001 24080001 0a040300 22080001 0a040300 1c04000a 08044000
+# Request 2 has priority 1 and waits first.
+> send 2 20010002 00000001 0001 000b 04040001 08042000
+< 2 20040007 00000001 0001 000b 1e1c0002 24080002 0a040201 22080001 0a040201 1c04000b 08042000
+# Request 3 has priority 5, read as 4, and all reserved bits set. Request 2 moves back: the sender
+# gets the reply and then the notice.
+> send 2 20010002 00000001 0002 000b 04040001 0804bfff
+< 2 20040007 00000001 0002 000b 1e1c0003 24080003 0a040201 22080001 0a040201 1c04000b 08048000
+< 2 20040007 00000001 0000 000b 1e1c0002 24080002 0a040202 22080001 0a040202 1c04000b 08042000
+# Request 4 has priority 4 too: behind request 3, which has the lower number.
+> send 2 20010002 00000001 0003 000b 04040001 08048000
+< 2 20040007 00000001 0003 000b 1e1c0004 24080004 0a040202 22080001 0a040202 1c04000b 08048000
+< 2 20040007 00000001 0000 000b 1e1c0002 24080002 0a040203 22080001 0a040203 1c04000b 08042000
+# Request 5 has priority 0: last.
+> send 3 20010002 00000001 0001 000c 04040001 08040000
+< 3 20040007 00000001 0001 000c 1e1c0005 24080005 0a040204 22080001 0a040204 1c04000c 08040000
+# Of two priorities the first counts: request 6 has 3 and comes behind 3 and 4.
+> send 3 20010003 00000001 0002 000c 08046000 04040001 08040000
+< 2 20040007 00000001 0000 000b 1e1c0002 24080002 0a040204 22080001 0a040204 1c04000b 08042000
+< 3 20040007 00000001 0002 000c 1e1c0006 24080006 0a040203 22080001 0a040203 1c04000c 08046000
+< 3 20040007 00000001 0000 000c 1e1c0005 24080005 0a040205 22080001 0a040205 1c04000c 08040000
+# A fourth request of user 11 for floor 1, which has room for three of a user: Error 8.
+> send 2 20010001 00000001 0004 000b 04040001
+< 2 200d0001 00000001 0004 000b 0c030800
+# User 11 gives up request 3. The order is now 4, 6, 2, 5.
+> send 2 20020001 00000001 0005 000b 06040003
+< 2 20040007 00000001 0005 000b 1e1c0003 24080003 0a040500 22080001 0a040500 1c04000b 08048000
+< 2 20040007 00000001 0000 000b 1e1c0002 24080002 0a040203 22080001 0a040203 1c04000b 08042000
+< 2 20040007 00000001 0000 000b 1e1c0004 24080004 0a040201 22080001 0a040201 1c04000b 08048000
+< 3 20040007 00000001 0000 000c 1e1c0005 24080005 0a040204 22080001 0a040204 1c04000c 08040000
+< 3 20040007 00000001 0000 000c 1e1c0006 24080006 0a040202 22080001 0a040202 1c04000c 08046000
+# So user 11 may ask again. The refused request took no number: this is 7, with priority 2, between
+# 6 and 2.
+> send 2 20010001 00000001 0006 000b 04040001
+< 2 20040007 00000001 0006 000b 1e1c0007 24080007 0a040203 22080001 0a040203 1c04000b 08044000
+< 2 20040007 00000001 0000 000b 1e1c0002 24080002 0a040204 22080001 0a040204 1c04000b 08042000
+< 3 20040007 00000001 0000 000c 1e1c0005 24080005 0a040205 22080001 0a040205 1c04000c 08040000
+# And no more.
+> send 2 20010001 00000001 0007 000b 04040001
+< 2 200d0001 00000001 0007 000b 0c030800
+"#;
+
+#[test]
+fn follows_the_runs_of_floor_requests(rt: HostRuntime) -> Result<(), Fail> {
+    let runs = [
+        (
+            "a joint request is not overtaken, and its grant moves two queues",
+            NOT_OVERTAKEN,
+        ),
+        (
+            "a joint request that is cancelled lets two others in, and revokes",
+            CANCELLED_JOINT,
+        ),
+        ("floors with room for two and three", ROOMS),
+        (
+            "priorities order a queue, and a user stops at its limit",
+            PRIORITIES,
+        ),
+    ];
+    follow(&rt, rt.alloc(), &runs)?;
+    Ok(())
+}
