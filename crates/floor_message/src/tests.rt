@@ -1,6 +1,9 @@
 //! What no clause says: the bytes of worked messages, and each call once with memory.
 
 mod asks;
+mod cases;
+mod limits;
 mod payloads;
 mod shown;
 mod tells;
+mod written;

@@ -1,7 +1,6 @@
+use super::cases::cases;
 use super::shown::{bytes, frame};
-use crate::{
-    FloorStatuses, Head, Info, Infos, Tell, TellFault, Who, read_tell, tell_fits, write_tell,
-};
+use crate::{FloorStatuses, Head, Info, Tell, TellFault, Who, read_tell, tell_fits, write_tell};
 use floor_wire::Octets;
 use std::alloc::{AllocError, Global};
 use std::test::Fail;
@@ -14,63 +13,64 @@ const GRANTED: &str = "20040007 00000001 0002 000a 1e1c0001 24080001 0a040300 22
 
 #[test]
 fn a_message_from_the_server_is_read_and_written_again(rt: HostRuntime) -> Result<(), Fail> {
-    let cases = [
-        ("HelloAck", HELLO_ACK),
-        ("a granted request", GRANTED),
-        (
-            "a request for two floors",
-            "20040009 00000001 0001 000b 1e240002 24080002 0a040201 22080001 0a040201 \
-             22080002 0a040201 1c04000b 08044000",
-        ),
-        (
-            "a request for a beneficiary, told to it",
-            "20040008 00000001 0000 000b 1e200001 24080001 0a040300 22080001 0a040300 \
-             1c04000b 2004000c 08044000",
-        ),
-        (
-            "a request with a text",
-            "20040009 00000001 0000 000b 1e240001 24080001 0a0402ff 22080001 0a040100 \
-             1c04000b 08040000 1005 c3a961 000000",
-        ),
-        (
-            "a user with a name and a URI",
-            "20060005 00000001 0001 000a 1c14000d 1805416e 6e000000 1a077369 703a6100",
-        ),
-        (
-            "a user with a name and a request",
-            "2006000a 00000001 0001 000a 1c0c000d 1805416e 6e000000 \
-             1e1c0001 24080001 0a040300 22080001 0a040300 1c04000a 08044000",
-        ),
-        ("no user and no request", "20060000 00000001 0001 000a"),
-        (
-            "a floor without requests",
-            "20080001 00000001 0000 000a 04040001",
-        ),
-        ("no floor", "20080000 00000001 0002 000a"),
-        (
-            "a floor and its request",
-            "20080008 00000001 0000 000a 04040002 1e1c0001 24080001 0a040300 22080002 0a040300 \
-             1c04000b 08044000",
-        ),
-        ("ChairActionAck", "200a0000 00000001 0001 000c"),
-        (
-            "an Error of another conference",
-            "200d0001 00000002 0005 000a 0c030100",
-        ),
-        (
-            "an Error with details",
-            "200d0002 00000001 0001 000a 0c050428 00000000",
-        ),
-    ];
-    for (name, text) in cases {
-        let message = bytes(rt.alloc(), text)?;
+    let text = "
+        HelloAck
+        > 200c0009 00000001 0001 000a 160f0102 03040506 0708090a 0b0c0d00 14140204 06080a0c \
+            0e101214 16181a1c 1e202224
+
+        a granted request
+        > 20040007 00000001 0002 000a 1e1c0001 24080001 0a040300 22080001 0a040300 1c04000a \
+            08044000
+
+        a request for two floors
+        > 20040009 00000001 0001 000b 1e240002 24080002 0a040201 22080001 0a040201 22080002 \
+            0a040201 1c04000b 08044000
+
+        a request for a beneficiary, told to it
+        > 20040008 00000001 0000 000b 1e200001 24080001 0a040300 22080001 0a040300 1c04000b \
+            2004000c 08044000
+
+        a request with a text
+        > 20040009 00000001 0000 000b 1e240001 24080001 0a0402ff 22080001 0a040100 1c04000b \
+            08040000 1005 c3a961 000000
+
+        a user with a name and a URI
+        > 20060005 00000001 0001 000a 1c14000d 1805416e 6e000000 1a077369 703a6100
+
+        a user with a name and a request
+        > 2006000a 00000001 0001 000a 1c0c000d 1805416e 6e000000 1e1c0001 24080001 0a040300 \
+            22080001 0a040300 1c04000a 08044000
+
+        no user and no request
+        > 20060000 00000001 0001 000a
+
+        a floor without requests
+        > 20080001 00000001 0000 000a 04040001
+
+        no floor
+        > 20080000 00000001 0002 000a
+
+        a floor and its request
+        > 20080008 00000001 0000 000a 04040002 1e1c0001 24080001 0a040300 22080002 0a040300 \
+            1c04000b 08044000
+
+        ChairActionAck
+        > 200a0000 00000001 0001 000c
+
+        an Error of another conference
+        > 200d0001 00000002 0005 000a 0c030100
+
+        an Error with details
+        > 200d0002 00000001 0001 000a 0c050428 00000000";
+    for case in &cases(rt.alloc(), text)? {
+        let message = bytes(rt.alloc(), case.message)?;
         match read_tell(rt.alloc(), &frame(rt.alloc(), &message)?) {
             Ok((head, tell)) => {
-                assert!(rt; tell_fits(&tell), "{name}");
+                assert!(rt; tell_fits(&tell), "{}", case.name);
                 let written = write_tell(rt.alloc(), &head, &tell)?;
-                assert_eq!(rt; written.bytes(), message.as_slice(), "{name}");
+                assert_eq!(rt; written.bytes(), message.as_slice(), "{}", case.name);
             }
-            Err(fault) => assert!(rt; false, "{name}: {fault:?}"),
+            Err(fault) => assert!(rt; false, "{}: {fault:?}", case.name),
         }
     }
     Ok(())
@@ -137,34 +137,29 @@ fn a_written_tell_has_its_bytes(rt: HostRuntime) -> Result<(), Fail> {
 
 #[test]
 fn attributes_are_read_as_what_they_tell(rt: HostRuntime) -> Result<(), Fail> {
-    let cases = [
-        (
-            "attributes in any order, the first of each, and some that don't belong",
-            "2004000c 00000001 0000 000b 04040007 1e240001 0804a000 08040000 1c04000b 1c04000c \
-             22040002 24040001 24080001 0a040300 1e040002 28040000",
-            "FloorRequestStatus { info: Info { request: 1, overall: None, floors: FloorStatuses { \
-             items: [(2, None)] }, beneficiary: Some(Who { user: 11, name: None, uri: None }), \
-             requester: None, priority: Some(4), info: None } }",
-        ),
-        (
-            "types with their last bit set",
-            "200c0003 00000001 0001 000a 1404 0305 1604 0102 1603 0900",
-            "HelloAck { primitives: Octets { items: [1, 2] }, attributes: Octets { items: [1, 2] } }",
-        ),
-        (
-            "an error code without details",
-            "200d0002 00000001 0001 000a 0c0305ff 0c0306ff",
-            "Error { code: 5, details: Octets { items: [] } }",
-        ),
-    ];
-    for (name, text, wanted) in cases {
-        let message = bytes(rt.alloc(), text)?;
+    let text = "
+        attributes in any order, the first of each, and some that don't belong
+        > 2004000c 00000001 0000 000b 04040007 1e240001 0804a000 08040000 1c04000b 1c04000c \
+            22040002 24040001 24080001 0a040300 1e040002 28040000
+        < FloorRequestStatus { info: Info { request: 1, overall: None, floors: FloorStatuses { \
+            items: [(2, None)] }, beneficiary: Some(Who { user: 11, name: None, uri: None }), \
+            requester: None, priority: Some(4), info: None } }
+
+        types with their last bit set
+        > 200c0003 00000001 0001 000a 1404 0305 1604 0102 1603 0900
+        < HelloAck { primitives: Octets { items: [1, 2] }, attributes: Octets { items: [1, 2] } }
+
+        an error code without details
+        > 200d0002 00000001 0001 000a 0c0305ff 0c0306ff
+        < Error { code: 5, details: Octets { items: [] } }";
+    for case in &cases(rt.alloc(), text)? {
+        let message = bytes(rt.alloc(), case.message)?;
         match read_tell(rt.alloc(), &frame(rt.alloc(), &message)?) {
             Ok((_, tell)) => {
                 let found = format!(in rt.alloc(); "{tell:?}")?;
-                assert_eq!(rt; found.as_str(), wanted, "{name}");
+                assert_eq!(rt; found.as_str(), case.wanted, "{}", case.name);
             }
-            Err(fault) => assert!(rt; false, "{name}: {fault:?}"),
+            Err(fault) => assert!(rt; false, "{}: {fault:?}", case.name),
         }
     }
     Ok(())
@@ -172,177 +167,45 @@ fn attributes_are_read_as_what_they_tell(rt: HostRuntime) -> Result<(), Fail> {
 
 #[test]
 fn a_bad_message_tells_nothing(rt: HostRuntime) -> Result<(), Fail> {
-    let cases = [
-        ("another version", "400a0000 00000001 0001 000c"),
-        ("a primitive of a client", "200b0000 00000001 0001 000c"),
-        (
-            "a primitive that only an unreliable transport needs",
-            "20100000 00000001 0001 000c",
-        ),
-        (
-            "attributes that don't parse",
-            "200a0001 00000001 0001 000c 10010000",
-        ),
-        (
-            "an unknown attribute with M",
-            "200a0001 00000001 0001 000c 29040000",
-        ),
-        (
-            "an unknown attribute with M inside a group",
-            "20060002 00000001 0001 000c 1c08000d 29040000",
-        ),
-        (
-            "a FloorRequestStatus without FLOOR-REQUEST-INFORMATION",
-            "20040001 00000001 0001 000c 04040001",
-        ),
-        (
-            "a HelloAck without SUPPORTED-ATTRIBUTES",
-            "200c0001 00000001 0001 000c 16030100",
-        ),
-        (
-            "a HelloAck without SUPPORTED-PRIMITIVES",
-            "200c0001 00000001 0001 000c 14030200",
-        ),
-        ("an Error without ERROR-CODE", "200d0000 00000001 0001 000c"),
-        (
-            "an ERROR-CODE without a code",
-            "200d0001 00000001 0001 000c 0c020000",
-        ),
-    ];
-    for (name, text) in cases {
-        let message = bytes(rt.alloc(), text)?;
+    let text = "
+        another version
+        > 400a0000 00000001 0001 000c
+
+        a primitive of a client
+        > 200b0000 00000001 0001 000c
+
+        a primitive that only an unreliable transport needs
+        > 20100000 00000001 0001 000c
+
+        attributes that don't parse
+        > 200a0001 00000001 0001 000c 10010000
+
+        an unknown attribute with M
+        > 200a0001 00000001 0001 000c 29040000
+
+        an unknown attribute with M inside a group
+        > 20060002 00000001 0001 000c 1c08000d 29040000
+
+        a FloorRequestStatus without FLOOR-REQUEST-INFORMATION
+        > 20040001 00000001 0001 000c 04040001
+
+        a HelloAck without SUPPORTED-ATTRIBUTES
+        > 200c0001 00000001 0001 000c 16030100
+
+        a HelloAck without SUPPORTED-PRIMITIVES
+        > 200c0001 00000001 0001 000c 14030200
+
+        an Error without ERROR-CODE
+        > 200d0000 00000001 0001 000c
+
+        an ERROR-CODE without a code
+        > 200d0001 00000001 0001 000c 0c020000";
+    for case in &cases(rt.alloc(), text)? {
+        let message = bytes(rt.alloc(), case.message)?;
         match read_tell(rt.alloc(), &frame(rt.alloc(), &message)?) {
-            Ok(_) => assert!(rt; false, "{name}"),
-            Err(fault) => assert_eq!(rt; fault, TellFault::BadMessage, "{name}"),
+            Ok(_) => assert!(rt; false, "{}", case.name),
+            Err(fault) => assert_eq!(rt; fault, TellFault::BadMessage, "{}", case.name),
         }
-    }
-    Ok(())
-}
-
-/// So many bytes of 1.
-fn ones(alloc: Global, len: usize) -> Result<Octets, AllocError> {
-    let mut bytes = Vec::new(alloc);
-    for _ in 0..len {
-        bytes.push(1)?;
-    }
-    Ok(Octets::from_vec(bytes))
-}
-
-fn named(alloc: Global, len: usize) -> Result<Tell, AllocError> {
-    Ok(Tell::UserStatus {
-        who: Some(Who {
-            user: 1,
-            name: Some(ones(alloc, len)?),
-            uri: None,
-        }),
-        infos: Infos::from_vec(Vec::new(alloc)),
-    })
-}
-
-fn info(alloc: Global, priority: u8, floors: usize) -> Result<Info, AllocError> {
-    let mut named = Vec::new(alloc);
-    for _ in 0..floors {
-        named.push((1, Some((2, 0))))?;
-    }
-    Ok(Info {
-        request: 1,
-        overall: None,
-        floors: FloorStatuses::from_vec(named),
-        beneficiary: None,
-        requester: None,
-        priority: Some(priority),
-        info: None,
-    })
-}
-
-fn status(alloc: Global, priority: u8, floors: usize) -> Result<Tell, AllocError> {
-    Ok(Tell::FloorRequestStatus {
-        info: info(alloc, priority, floors)?,
-    })
-}
-
-fn statuses(alloc: Global, count: u32) -> Result<Tell, AllocError> {
-    let mut infos = Vec::new(alloc);
-    for _ in 0..count {
-        infos.push(info(alloc, 4, 0)?)?;
-    }
-    Ok(Tell::FloorStatus {
-        floor: Some(1),
-        infos: Infos::from_vec(infos),
-    })
-}
-
-#[test]
-fn a_tell_fits_up_to_its_limits(rt: HostRuntime) -> Result<(), Fail> {
-    let alloc = rt.alloc();
-    let cases = [
-        ("a group of 252 bytes", named(alloc, 246)?, true),
-        ("a group of 256 bytes", named(alloc, 247)?, false),
-        ("priority 4", status(alloc, 4, 1)?, true),
-        ("priority 5", status(alloc, 5, 1)?, false),
-        ("30 floors in a group", status(alloc, 0, 30)?, true),
-        ("31 floors in a group", status(alloc, 0, 31)?, false),
-        (
-            "252 details",
-            Tell::Error {
-                code: 4,
-                details: ones(alloc, 252)?,
-            },
-            true,
-        ),
-        (
-            "253 details",
-            Tell::Error {
-                code: 4,
-                details: ones(alloc, 253)?,
-            },
-            false,
-        ),
-        (
-            "253 primitives and attributes",
-            Tell::HelloAck {
-                primitives: ones(alloc, 253)?,
-                attributes: ones(alloc, 253)?,
-            },
-            true,
-        ),
-        (
-            "254 primitives",
-            Tell::HelloAck {
-                primitives: ones(alloc, 254)?,
-                attributes: ones(alloc, 1)?,
-            },
-            false,
-        ),
-        (
-            "254 attributes",
-            Tell::HelloAck {
-                primitives: ones(alloc, 1)?,
-                attributes: ones(alloc, 254)?,
-            },
-            false,
-        ),
-        (
-            "attribute type 127",
-            Tell::HelloAck {
-                primitives: ones(alloc, 1)?,
-                attributes: octets(alloc, &[127])?,
-            },
-            true,
-        ),
-        (
-            "attribute type 128",
-            Tell::HelloAck {
-                primitives: ones(alloc, 1)?,
-                attributes: octets(alloc, &[128])?,
-            },
-            false,
-        ),
-        ("a payload of 65,535 units", statuses(alloc, 32767)?, true),
-        ("a payload of 65,537 units", statuses(alloc, 32768)?, false),
-    ];
-    for (name, tell, wanted) in &cases {
-        assert_eq!(rt; tell_fits(tell), *wanted, "{name}");
     }
     Ok(())
 }
