@@ -1,6 +1,6 @@
 //! Copies of what is shown of floor requests.
 
-ghost use Rattle.std.specs.Prelude.{◌≡◌, ◌==◌, IfOk, filter};
+ghost use Rattle.std.specs.Prelude.{◌≡◌, ◌==◌, IfOk};
 ghost use Rattle.std.specs.List.{list_any};
 ghost use Rattle.floor_machine.specs.Reply.{infos_on};
 

@@ -1,12 +1,11 @@
 //! What a message asks, under the binding of its connection: the first check that applies
 //! (RFC 8855, sections 5.1 to 5.3 and 13).
 
-ghost use Rattle.std.specs.Prelude.{◌≡◌, ◌<◌, ◌*◌, All, [], drop, map, IfErr, IfOk, MatchOption, Option, Some};
+ghost use Rattle.std.specs.Prelude.{◌≡◌, ◌<◌, ◌*◌, All, [], map, IfErr, IfOk, MatchOption, Option, Some};
 ghost use Rattle.floor_message.specs.Ask as spec;
 ghost use Rattle.floor_message.specs.Ask.{HasShortDetails, IsAnswer};
 ghost use Rattle.floor_message.specs.Binding.{binding_of};
 ghost use Rattle.floor_message.specs.Picked.{distinct, mandatory};
-ghost use Rattle.floor_wire.specs.Header.{header_of};
 ghost use Rattle.floor_wire.specs.Spelled.{spelled};
 
 use crate::ask::{Ask, AskFault, Binding};

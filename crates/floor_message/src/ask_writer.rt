@@ -1,6 +1,6 @@
 //! Messages from a client as bytes (RFC 8855, sections 5.3.1 to 5.3.11).
 
-ghost use Rattle.std.specs.Prelude.{◌≡◌, ◌≤◌, ◌<◌, ◌^◌, ◌*◌, ◌++◌, ◌∷◌, IfOk, OnOk, All, length, map};
+ghost use Rattle.std.specs.Prelude.{◌≡◌, ◌<◌, ◌^◌, ◌*◌, ◌++◌, IfOk, OnOk, All, map};
 ghost use Rattle.floor_message.specs.Fits.{AskFits, FloorRequestFits, FloorsFit, VerdictsFit};
 ghost use Rattle.floor_message.specs.Room.{FitsRoom};
 ghost use Rattle.floor_message.specs.Written as spec;

@@ -1,12 +1,11 @@
 //! What a message from the server tells (RFC 8855, sections 5.3.4 to 5.3.13).
 
-ghost use Rattle.std.specs.Prelude.{◌≡◌, ◌/◌, Some, None, map, drop, option_map, IfOk, IsErrOf};
+ghost use Rattle.std.specs.Prelude.{◌≡◌, ◌/◌, Some, None, map, option_map, IfOk, IsErrOf};
 ghost use Rattle.floor_message.specs.Picked.{first, groups, octet_strings, pairs};
 ghost use Rattle.floor_message.specs.Fields.{priority_of};
 ghost use Rattle.floor_message.specs.Tell as spec;
 ghost use Rattle.floor_message.specs.declared.primitive.Primitive.TheVariants as primitive;
 ghost use Rattle.floor_wire.specs.Spelled.{spelled};
-ghost use Rattle.floor_wire.specs.View.{attributes_of, items};
 
 use crate::ask_fields::priority_of;
 use crate::ask_reader::payload_attrs;

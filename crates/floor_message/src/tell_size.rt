@@ -1,12 +1,11 @@
 //! Which messages from the server can be written: the bytes that their attributes take
 //! (RFC 8855, sections 5.1 and 5.2).
 
-ghost use Rattle.std.specs.Prelude.{◌≡◌, ◌≤◌, ◌<◌, ◌+◌, ◌-◌, ◌∷◌, [], ◌↔◌, ℕ, Some, All, List, length, map, IfSome, IsTrue, SomeIff};
-ghost use Rattle.std.specs.Int.{next_multiple_of};
+ghost use Rattle.std.specs.Prelude.{◌≡◌, ◌<◌, ◌+◌, ◌-◌, ◌∷◌, [], ◌↔◌, ℕ, Some, All, List, length, map, IsTrue};
 ghost use Rattle.floor_wire.specs.Spelling.{format_of};
 ghost use Rattle.floor_wire.specs.declared.format.Format.TheVariants.{Grouped, OctetString};
 ghost use Rattle.floor_message.specs.Fits.{NumbersFit, PriorityFits, TellFits};
-ghost use Rattle.floor_message.specs.Room.{FitsRoom, Leaves};
+ghost use Rattle.floor_message.specs.Room.{Leaves};
 ghost use Rattle.floor_message.specs.Written as spec;
 ghost use Rattle.floor_message.specs.Written.{optional, tell_attrs};
 

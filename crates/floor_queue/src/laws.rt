@@ -1,7 +1,7 @@
 //! Laws of the order of floor requests, which the RFC leaves to the server (RFC 8855, sections 4.1
 //! and 13.1.1).
 
-ghost use Rattle.std.specs.Prelude.{◌≡◌, ◌≢◌, ◌≤◌, ◌+◌, ◌⊎◌, ℕ, List, IsTrue, All, Some, true, false};
+ghost use Rattle.std.specs.Prelude.{◌≡◌, ◌≢◌, ◌≤◌, ◌+◌, ◌⊎◌, ℕ, List, IsTrue, All, Some, false};
 ghost use Rattle.floor_config.specs.declared.config.Floor.{Floor};
 ghost use Rattle.floor_queue.specs.declared.request.Request.{Request};
 ghost use Rattle.floor_queue.specs.Order.{ahead, earlier, holders, is_due, names, position, room_of, settle};

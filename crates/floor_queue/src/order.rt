@@ -1,11 +1,11 @@
 //! The order of ongoing floor requests, and which of them are due (RFC 8855, section 13.1.1, leaves
 //! the order to the server).
 
-ghost use Rattle.std.specs.Prelude.{◌≡◌, ◌≤◌, ◌<◌, ◌+◌, IfOk, length, map, filter, count_by, find, nat_lt, not, ◌&&◌, ◌||◌, ◌==◌};
+ghost use Rattle.std.specs.Prelude.{◌≡◌, ◌≤◌, ◌<◌, ◌+◌, IfOk, length, find, nat_lt, not, ◌&&◌, ◌||◌, ◌==◌};
 ghost use Rattle.std.specs.List.{list_any, list_all};
 ghost use Rattle.std.specs.Option.{option_copied};
 ghost use Rattle.floor_queue.specs.Requested.{is_granting};
-ghost use Rattle.floor_queue.specs.Order.{room_of, is_chaired, names, is_express, earlier_by_priority, earlier, holders, ahead, is_due, due_numbers, position};
+ghost use Rattle.floor_queue.specs.Order.{room_of, is_chaired, is_express, earlier_by_priority, earlier, holders, ahead, is_due, due_numbers, position};
 
 use crate::request::Request;
 use crate::requested_floor::{RequestedFloor, Word};

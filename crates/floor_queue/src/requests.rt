@@ -1,6 +1,6 @@
 //! The ongoing floor requests of one conference (RFC 8855, sections 10, 11 and 13).
 
-ghost use Rattle.std.specs.Prelude.{◌≡◌, ◌≤◌, ◌<◌, ◌+◌, ◌↔◌, ◌==◌, ℕ, List, IfOk, OnOk, OnErr, Some, IsSome, IsTrue, length, map, filter};
+ghost use Rattle.std.specs.Prelude.{◌≡◌, ◌<◌, ◌+◌, ◌↔◌, ◌==◌, ℕ, IfOk, OnOk, OnErr, Some, IsSome, IsTrue, length, map, filter};
 ghost use Rattle.std.specs.List.{list_any, position, position_or_len};
 ghost use Rattle.std.specs.Option.{option_copied};
 ghost use Rattle.floor_queue.specs.Order.{settle, due_numbers, holders, names, granted_if};

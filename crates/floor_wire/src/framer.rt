@@ -1,7 +1,7 @@
 //! Dividing a stream of bytes into messages (RFC 8855, section 5.1).
 
-ghost use Rattle.std.specs.Prelude.{◌≡◌, ◌↔◌, ◌≢◌, ◌≤◌, [], ◌∷◌, ◌++◌, length, IfOk, OnOk, OnErr, IsTrue, List, ℕ, MatchOption};
-ghost use Rattle.floor_wire.specs.Message.{IsMessage, message_len, messages};
+ghost use Rattle.std.specs.Prelude.{◌≡◌, ◌↔◌, ◌≢◌, [], ◌∷◌, ◌++◌, length, IfOk, OnOk, OnErr, IsTrue, List, ℕ, MatchOption};
+ghost use Rattle.floor_wire.specs.Message.{messages};
 
 use crate::frame::{Frame, announced_len};
 use crate::header::HEADER_LEN;

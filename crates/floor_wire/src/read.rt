@@ -1,6 +1,6 @@
 //! Reading attributes, in one pass with offsets (RFC 8855, section 5.2).
 
-ghost use Rattle.std.specs.Prelude.{◌≡◌, ◌<◌, ◌≤◌, ◌+◌, ◌^◌, ◌⊎◌, ℕ, length, take, IfOk, IfErr, IsErr, MatchResult, drop, Ok, None, Some};
+ghost use Rattle.std.specs.Prelude.{◌≡◌, ◌<◌, ◌+◌, ◌^◌, ◌⊎◌, ℕ, length, IfOk, IfErr, IsErr, MatchResult, drop, Ok, None, Some};
 ghost use Rattle.floor_wire.specs.Spelling.{Spells, IsWritable};
 ghost use Rattle.floor_wire.specs.Spelled.{spelled};
 ghost use Rattle.floor_wire.specs.Fault.{is_bad_length, front_fault, HasFault, IsFaultFrom, fault_at_place};

@@ -1,7 +1,5 @@
 //! Bytes from hexadecimal, and attributes as a text to compare.
 
-ghost use Rattle.std.specs.Prelude.{ℕ};
-
 use crate::{Attr, Body};
 use std::alloc::{AllocError, Global};
 
