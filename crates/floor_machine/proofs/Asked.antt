@@ -1,21 +1,20 @@
 -- What a state is after an accepted message.
-use Rattle.std.proofs.Common.{◌≡◌, ℕ, ◌+◌, Bool, true, false, cond, List, [], ◌∷◌, ◌++◌, map, Option, Some, None, Result, Ok, Err, refl, sym, ap, ◌∙◌, Vec, Global, append-nil}
+use Rattle.std.proofs.Common.{◌≡◌, ℕ, ◌+◌, Bool, true, false, cond, List, [], ◌∷◌, ◌++◌, map, Option, Some, None, Result, Ok, Err, refl, sym, ap, ◌∙◌, append-nil}
 use Rattle.std.specs.Prelude.{OnOk, IfSome, IsSome, IsSomeAnd}
 use Rattle.std.specs.List.{list_any}
 use Rattle.std.specs.Option.{option_map_or}
 use Rattle.floor_config.specs.declared.config.Floor.{Floor}
 use Rattle.floor_queue.specs.declared.request.Request.{Request}
 use Rattle.floor_queue.specs.Queue.{IsQueue, request_at, numbers_of, is_ascending, first_request, after_add, after_end}
-use Rattle.floor_message.specs.declared.ask.Ask.TheVariants.{FloorRequest, FloorRelease, FloorQuery, ChairAction}
+use Rattle.floor_message.specs.declared.ask.Ask.TheVariants.{FloorRequest, FloorRelease, ChairAction}
 use Rattle.floor_message.specs.declared.ask.Verdict.{Verdict}
 use Rattle.floor_machine.specs.declared.course.Course.{Course}
 use Rattle.floor_machine.specs.declared.course.Ended.{Ended}
-use Rattle.floor_machine.specs.declared.member.Member.{Member}
 use Rattle.floor_machine.specs.declared.state.State.{State}
 use Rattle.floor_machine.specs.declared.status.RequestStatus.{RequestStatus}
 use Rattle.floor_machine.specs.Shown.{entry_of}
 use Rattle.floor_machine.specs.Conference.{Conference, user_of}
-use Rattle.floor_machine.specs.Change.{Change, no_change, asked_change, ending, ends_at, released, dismissed, is_final, decided_at, watching}
+use Rattle.floor_machine.specs.Change.{Change, no_change, asked_change, ending, ends_at, released, dismissed, is_final, decided_at}
 use Rattle.floor_machine.specs.Reply.{infos}
 use Rattle.floor_machine.specs.Steps.{entry_of_ended}
 use Rattle.floor_machine.specs.Serving.{IsChanged, IsState, MayDecide, after_decide, conference_of, ended_by, is_rising, new_of_ask}
@@ -175,19 +174,3 @@ changed-decide s course course' n request verdicts queue begun may ended numbers
     by true h =
         changed-end s dismissed course course' request queue begun (found _ (request_at s.requests.ongoing request) may) (noted (request_at s.requests.ongoing request) h) numbers before
     by false h = changed-words s course course' request verdicts queue begun h numbers before
-
--- a FloorQuery has changed what its sender watches
-pub changed-query : (s : State) (course : Course) (n : ℕ) (floors : List ℕ) (members : Vec Member Global) →
-    IsChanged (conference_of s) (no_change (conference_of s)) (conference_of s) course → members.items ≡ map (watching n floors) s.members.items →
-    IsChanged (conference_of s) (asked_change (conference_of s) n (FloorQuery floors)) (conference_of (record s { members = members })) course
-changed-query s course n floors members begun same = record {
-  config = refl;
-  given = refl;
-  members = same;
-  is_open = refl;
-  ongoing = begun.ongoing;
-  ended = begun.ended;
-  numbers = begun.numbers;
-  rising = begun.rising;
-  before = begun.before;
-}

@@ -17,6 +17,7 @@ pub mod Sent
 pub mod Ended
 pub mod Left
 pub mod Quiet
+pub mod Kept
 pub mod Lawful
 pub mod Runs
 pub mod Bounds

@@ -1,4 +1,5 @@
--- A member that joins, and a conference that ends, tell nobody anything.
+-- An event that leaves each request as it is changes nothing that is shown: a join tells nobody anything, and a message its sender
+-- alone. A conference that ends tells nobody anything.
 use Rattle.std.proofs.Common.{◌≡◌, ℕ, zero, suc, ◌<◌, Bool, true, false, cond, List, [], ◌∷◌, ◌++◌, length, get_or, map, Option, Some, refl, sym, ap, ◌∙◌, arith}
 use Rattle.std.specs.Prelude.{◌==◌, not, filter, find, option_map, is_none}
 use Rattle.std.specs.List.{flat_map, list_any}
@@ -10,24 +11,27 @@ use Rattle.floor_queue.specs.Order.{settle, is_due, granted_if}
 use Rattle.floor_queue.specs.Queue.{request_at, is_ascending}
 use Rattle.floor_message.specs.declared.tell.Info.{Info}
 use Rattle.floor_message.specs.declared.tell.Tell.TheVariants.{FloorRequestStatus}
+use Rattle.floor_machine.specs.declared.event.Event.{Event}
 use Rattle.floor_machine.specs.declared.event.Event.TheVariants.{Join, Close}
 use Rattle.floor_machine.specs.declared.member.Member.{Member}
 use Rattle.floor_machine.specs.declared.parcel.Parcel.{Parcel}
+use Rattle.floor_machine.specs.declared.sending.Reply.{Reply}
 use Rattle.floor_machine.specs.Conference.{Conference}
 use Rattle.floor_machine.specs.Shown.{Entry, entry_of, ongoing_of, settle_entries, info, info_of}
 use Rattle.floor_machine.specs.Same.{same_info, same_infos}
 use Rattle.floor_machine.specs.Change.{change, shown, next}
 use Rattle.floor_machine.specs.Outgoing.{Outgoing, notice}
 use Rattle.floor_machine.specs.Reply.{infos, infos_on, floor_status_tell}
-use Rattle.floor_machine.specs.Told.{Changed, changed_of, changed_requests, changed_floors, is_changed, is_told, told_to, told}
+use Rattle.floor_machine.specs.Told.{Changed, changed_of, changed_requests, changed_floors, is_changed, is_told, reply_to, told_to, told}
 use Rattle.floor_machine.specs.Journal.{parcel, parcels_of}
+use Rattle.floor_machine.specs.Steps.{answered_to, floor_update, parcels_to_all}
 use Rattle.floor_machine.specs.Serving.{is_numbered_from}
 use Rattle.floor_machine.proofs.Entries.{ongoing_of-entries}
 use Rattle.floor_machine.proofs.Found.{request_at_place}
-use Rattle.floor_machine.proofs.Joining.{next-join}
 use Rattle.floor_machine.proofs.SameInfo.{list_own, info_own}
 use Rattle.floor_machine.proofs.Sent.{numbered-next}
-use Rattle.floor_machine.proofs.Telling.{flat_map-same, parcels_of-members}
+use Rattle.floor_machine.proofs.Served.{next-config, next-made, next-ongoing}
+use Rattle.floor_machine.proofs.Telling.{flat_map-same, is_telling, parcels-told, parcels_of-members, update_for}
 
 -- no parcels of a member
 abbrev no_parcels : Member → List Parcel
@@ -62,9 +66,11 @@ entries-settled floors rs settled =
     ∙ each-settled floors rs rs
     ∙ ap (map entry_of) settled
 
-shown-join : (s : Conference) (user : ℕ) → settle s.config.floors s.ongoing ≡ s.ongoing → shown s (Join user) ≡ map entry_of s.ongoing
-unfolding shown change
-shown-join s user settled = entries-settled s.config.floors s.ongoing settled
+-- an event that leaves each request as it is shows the same
+pub shown-kept : (s : Conference) (e : Event) → (change s e).entries ≡ map entry_of s.ongoing → settle s.config.floors s.ongoing ≡ s.ongoing →
+    shown s e ≡ map entry_of s.ongoing
+unfolding shown
+shown-kept s e kept settled = ap (settle_entries s.config.floors) kept ∙ entries-settled s.config.floors s.ongoing settled
 
 number-info : (config : Configuration) (all : List Request) (r : Request) → (info config all r).request ≡ r.number
 unfolding info_of
@@ -104,11 +110,12 @@ none-changed config before all (r ∷ rs) fails =
     ap (λ (qs : List Request). is_changed before (info_of config qs (entry_of r))) (ongoing_of-entries all) ∙ fails zero r (omega arith) in
     rw first (none-changed config before all rs (λ i d within. fails (suc i) d (omega arith)))
 
--- a join changes no request
-requests-join : (s : Conference) (user : ℕ) → settle s.config.floors s.ongoing ≡ s.ongoing → is_ascending s.ongoing ≡ true → changed_requests s (Join user) ≡ []
+-- it changes no request
+pub requests-kept : (s : Conference) (e : Event) → (change s e).entries ≡ map entry_of s.ongoing → settle s.config.floors s.ongoing ≡ s.ongoing →
+    is_ascending s.ongoing ≡ true → changed_requests s e ≡ []
 unfolding changed_requests
-requests-join s user settled ascending =
-    ap (λ (es : List Entry). filter (λ c. is_changed (infos s) c.info) (map (changed_of s.config es) es)) (shown-join s user settled)
+requests-kept s e kept settled ascending =
+    ap (λ (es : List Entry). filter (λ c. is_changed (infos s) c.info) (map (changed_of s.config es) es)) (shown-kept s e kept settled)
     ∙ none-changed s.config (infos s) s.ongoing s.ongoing
     (λ i d within. same-unchanged s.config s.ongoing (get_or s.ongoing i d) (request_at_place s.ongoing i d ascending within))
 
@@ -119,14 +126,38 @@ none-differ before now same (f ∷ fs) =
     ap (same_infos (before f.id)) (same f.id) ∙ list_own same_info info_own (before f.id) in
     rw alike (none-differ before now same fs)
 
-infos-join : (s : Conference) (user : ℕ) → settle s.config.floors s.ongoing ≡ s.ongoing → infos (next s (Join user)) ≡ infos s
-infos-join s user settled = ap infos (sym (next-join s user settled))
+infos-kept : (s : Conference) (e : Event) → (change s e).entries ≡ map entry_of s.ongoing → settle s.config.floors s.ongoing ≡ s.ongoing → infos (next s e) ≡ infos s
+infos-kept s e kept settled =
+    ap (λ (config : Configuration). map (info config (next s e).ongoing) (next s e).ongoing) (next-config s e)
+    ∙ ap (λ (rs : List Request). map (info s.config rs) rs) (next-ongoing s e ∙ ap ongoing_of (shown-kept s e kept settled) ∙ ongoing_of-entries s.ongoing)
 
--- a join changes no floor
-floors-join : (s : Conference) (user : ℕ) → settle s.config.floors s.ongoing ≡ s.ongoing → changed_floors s (Join user) ≡ []
+-- and no floor
+pub floors-kept : (s : Conference) (e : Event) → (change s e).entries ≡ map entry_of s.ongoing → settle s.config.floors s.ongoing ≡ s.ongoing → changed_floors s e ≡ []
 unfolding changed_floors
-floors-join s user settled =
-    none-differ (λ id. infos_on id (infos s)) (λ id. infos_on id (infos (next s (Join user)))) (λ id. ap (infos_on id) (infos-join s user settled)) s.config.floors
+floors-kept s e kept settled =
+    none-differ (λ id. infos_on id (infos s)) (λ id. infos_on id (infos (next s e))) (λ id. ap (infos_on id) (infos-kept s e kept settled)) s.config.floors
+
+-- the conference after it has other members, and is otherwise as it was
+pub next-kept : (s : Conference) (e : Event) → (change s e).entries ≡ map entry_of s.ongoing → settle s.config.floors s.ongoing ≡ s.ongoing →
+    (change s e).given ≡ s.given → (change s e).is_open ≡ s.is_open → record s { members = (change s e).members } ≡ next s e
+next-kept s e kept settled given opened =
+    let ongoing : s.ongoing ≡ ongoing_of (shown s e) = sym (ap ongoing_of (shown-kept s e kept settled) ∙ ongoing_of-entries s.ongoing) in
+    ap (λ (rs : List Request). record s { members = (change s e).members; ongoing = rs }) ongoing
+    ∙ ap (λ (given : ℕ). record s { members = (change s e).members; ongoing = ongoing_of (shown s e); given = given }) (sym given)
+    ∙ ap (λ (b : Bool). record s { members = (change s e).members; ongoing = ongoing_of (shown s e); given = (change s e).given; is_open = b }) (sym opened)
+    ∙ sym (next-made s e)
+
+-- the reply is all that it tells
+pub parcels-kept : (s : Conference) (e : Event) (reply : Option Reply) → is_telling e ≡ true → is_numbered_from 1 (next s e).members ≡ true →
+    ((k : ℕ) → answered_to reply k ≡ reply_to s e k) → changed_requests s e ≡ [] → changed_floors s e ≡ [] →
+    parcels_to_all s.config.conference reply [] [] (next s e).members ≡ parcels_of s e
+parcels-kept s e reply telling numbered replied requests floors =
+    let all : List Changed → List Floor → List Parcel = λ cs fs. parcels_to_all s.config.conference reply (map update_for cs) (map (floor_update (infos (next s e))) fs) (next s e).members in
+    ap (λ (cs : List Changed). all cs []) (sym requests) ∙ ap (all (changed_requests s e)) (sym floors) ∙ parcels-told s e reply telling numbered replied
+
+kept-join : (s : Conference) (user : ℕ) → (change s (Join user)).entries ≡ map entry_of s.ongoing
+unfolding change
+kept-join s user = refl
 
 -- what was found to have changed is told to a member
 abbrev notices : Conference → ℕ → Member → List Changed → List Floor → List Outgoing
@@ -136,8 +167,8 @@ notices s user m requests floors =
 
 told-join : (s : Conference) (user : ℕ) → settle s.config.floors s.ongoing ≡ s.ongoing → is_ascending s.ongoing ≡ true → (m : Member) → told_to s (Join user) m ≡ []
 told-join s user settled ascending m =
-    ap (λ (cs : List Changed). notices s user m cs (changed_floors s (Join user))) (requests-join s user settled ascending)
-    ∙ ap (notices s user m []) (floors-join s user settled)
+    ap (λ (cs : List Changed). notices s user m cs (changed_floors s (Join user))) (requests-kept s (Join user) (kept-join s user) settled ascending)
+    ∙ ap (notices s user m []) (floors-kept s (Join user) (kept-join s user) settled)
 
 live-nothing : (b : Bool) (n : ℕ) (ms : List Outgoing) → ms ≡ [] → cond b (map (parcel n) ms) [] ≡ []
 live-nothing true n ms h = ap (map (parcel n)) h

@@ -62,7 +62,7 @@ shown-changed s e c same = ap (λ (d : Change). settle_entries s.config.floors d
 abbrev made : Configuration → ℕ → List Request → List Member → Bool → Conference
 made config given ongoing members is_open = record { config = config; given = given; ongoing = ongoing; members = members; is_open = is_open }
 
-next-made : (s : Conference) (e : Event) → next s e ≡ made s.config (change s e).given (ongoing_of (shown s e)) (change s e).members (change s e).is_open
+pub next-made : (s : Conference) (e : Event) → next s e ≡ made s.config (change s e).given (ongoing_of (shown s e)) (change s e).members (change s e).is_open
 unfolding next
 next-made s e = refl
 
@@ -90,7 +90,7 @@ pub numbers-shown : (s : Conference) (e : Event) (c : Change) (t : Conference) (
 numbers-shown s e c t course same changed =
     changed.numbers ∙ sym (numbers_in-settled s.config.floors c.entries) ∙ ap numbers_in (sym (shown-changed s e c same))
 
-next-ongoing : (s : Conference) (e : Event) → (next s e).ongoing ≡ ongoing_of (shown s e)
+pub next-ongoing : (s : Conference) (e : Event) → (next s e).ongoing ≡ ongoing_of (shown s e)
 next-ongoing s e = ap (λ (t : Conference). t.ongoing) (next-made s e)
 
 pub next-config : (s : Conference) (e : Event) → (next s e).config ≡ s.config

@@ -8,7 +8,7 @@ use Rattle.floor_queue.specs.declared.request.Request.{Request}
 use Rattle.floor_queue.specs.Order.{names}
 use Rattle.floor_queue.specs.Queue.{Queue, IsAddable, IsSettled, request_at, after_end}
 use Rattle.floor_message.specs.declared.ask.Verdict.{Verdict}
-use Rattle.floor_message.specs.Ask.{Answer, asks, refused, unanswered}
+use Rattle.floor_message.specs.Ask.{Answer, ask, asks, refused, unanswered}
 use Rattle.floor_message.specs.Code.{code_number}
 use Rattle.floor_message.specs.declared.ask.Ask.{Ask}
 use Rattle.floor_message.specs.declared.ask.Ask.TheVariants.{FloorRequest, FloorRelease, FloorRequestQuery, UserQuery, FloorQuery, ChairAction, Hello}
@@ -20,10 +20,10 @@ use Rattle.floor_machine.specs.declared.judged.Judged.{Judged}
 use Rattle.floor_machine.specs.declared.judged.Judged.TheVariants.{Accepted, Refused, Unanswered}
 use Rattle.floor_machine.specs.declared.member.Member.{Member}
 use Rattle.floor_machine.specs.declared.state.State.{State}
-use Rattle.floor_machine.specs.Conference.{Conference}
+use Rattle.floor_machine.specs.Conference.{Conference, binding, user_of}
 use Rattle.floor_machine.specs.Shown.{Entry, ongoing_of, described}
 use Rattle.floor_machine.specs.Checks.{refusal, beneficiary_of, is_allowed}
-use Rattle.floor_machine.specs.Change.{Change, no_change, asked_change, is_final, decided_at, released, dismissed}
+use Rattle.floor_machine.specs.Change.{Change, no_change, asked_change, is_final, decided_at, released, dismissed, watching}
 use Rattle.floor_machine.specs.Reply.{infos, infos_of_user, floor_answers, supported_primitives, supported_attributes}
 use Rattle.floor_machine.specs.Steps.{entry_of_ended, shown_at}
 
@@ -54,6 +54,27 @@ abbrev pub judged : Conference → ℕ → Answer → Judged
 judged s user unanswered = Unanswered
 judged s user (refused code details) = Refused code details
 judged s user (asks a) = option_map_or (λ code. Refused code []) (refusal s user a) (Accepted a)
+
+-- what becomes of this message of n
+abbrev pub IsJudged : Conference → ℕ → List ℕ → Judged → Type 0
+IsJudged s n bytes j = j ≡ judged s (user_of s n) (ask bytes (binding s n))
+
+-- a message that may change requests: what is asked by any other is told to its sender alone
+abbrev pub changes_requests : Judged → Bool
+changes_requests (Accepted (FloorRequest beneficiary floors priority info)) = true
+changes_requests (Accepted (FloorRelease request)) = true
+changes_requests (Accepted (FloorRequestQuery request)) = false
+changes_requests (Accepted (UserQuery beneficiary)) = false
+changes_requests (Accepted (FloorQuery floors)) = false
+changes_requests (Accepted (ChairAction request verdicts)) = true
+changes_requests (Accepted Hello) = false
+changes_requests (Refused code details) = false
+changes_requests Unanswered = false
+
+-- the members after a judged message of n
+abbrev pub members_judged : List Member → ℕ → Judged → List Member
+members_judged members n (Accepted (FloorQuery floors)) = map (watching n floors) members
+members_judged members n _ = members
 
 -- what a judged message of n changes
 abbrev pub judged_change : Conference → ℕ → Judged → Change

@@ -21,7 +21,8 @@ const MOST_FLOORS: usize = 8;
 /// How many requests may be ongoing, so that each queue position fits its byte (section 5.2.5).
 const MOST_ONGOING: usize = 256;
 
-fn find_user(users: &[User], id: u16) -> Option<&User>
+/// The user with this number.
+pub(crate) fn find_user(users: &[User], id: u16) -> Option<&User>
     ensures { option_copied result ≡ find (λ user. user.id == id) users.now }
 {
     users.iter().find(|user| user.id == id)

@@ -19,6 +19,7 @@ mod parcel;
 mod running;
 mod same;
 mod sending;
+mod serving;
 mod showing;
 mod state;
 mod status;

@@ -1,7 +1,6 @@
 //! What is shown of users and of floor requests (RFC 8855, sections 5.2.12 to 5.2.18).
 
-ghost use Rattle.std.specs.Prelude.{◌≡◌, ◌<◌, ◌^◌, ◌==◌, [], true, IfOk, OnOk, Some, None, map, filter, find, fold, max, if◌then◌else◌};
-ghost use Rattle.std.specs.Option.{option_copied};
+ghost use Rattle.std.specs.Prelude.{◌≡◌, ◌<◌, ◌^◌, ◌==◌, [], true, IfOk, OnOk, Some, None, map, filter, fold, max, if◌then◌else◌};
 ghost use Rattle.floor_config.specs.Configuration.{IsConfiguration};
 ghost use Rattle.floor_queue.specs.Order.{names};
 ghost use Rattle.floor_queue.specs.Queue.{IsAddable, IsSettled, involves, new_of, request_at};
@@ -11,19 +10,14 @@ ghost use Rattle.floor_machine.specs.Shown as spec;
 ghost use Rattle.floor_machine.specs.Shown.{entry_of, info, info_of, overall_status};
 ghost use Rattle.floor_machine.specs.Steps.{ended_floor_shown, entry_of_ended, info_with, infos_of, position_shown};
 
+use crate::checks::find_user;
 use crate::course::Ended;
 use crate::status::RequestStatus;
-use floor_config::{Config, Text, User};
+use floor_config::{Config, Text};
 use floor_message::{FloorStatuses, Info, Who};
 use floor_queue::{FloorStatus, Request, RequestedFloor, Requests};
 use floor_wire::Octets;
 use std::alloc::{AllocError, Global};
-
-fn find_user(users: &[User], id: u16) -> Option<&User>
-    ensures { option_copied result ≡ find (λ user. user.id == id) users.now }
-{
-    users.iter().find(|user| user.id == id)
-}
 
 /// The octets of a text, where there is one.
 fn octets_of(alloc: Global, text: &Option<Text>) -> Result<Option<Octets>, AllocError>

@@ -1,36 +1,26 @@
-//! The state of one conference, and how a message is served (RFC 8855, section 13).
+//! The state of one conference (RFC 8855, sections 10 to 13).
 
-ghost use Rattle.std.specs.Prelude.{◌≡◌, ◌<◌, ℕ, ◌+◌, ◌∷◌, [], ◌++◌, All, IfOk, IfSome, IsSome, MatchBool, OnOk, OnErr, Some, length, map};
-ghost use Rattle.std.specs.Option.{option_copied, option_map_or};
+ghost use Rattle.std.specs.Prelude.{◌≡◌, ◌<◌, ◌+◌, [], ◌++◌, IfOk, OnOk, OnErr, Some, length};
+ghost use Rattle.std.specs.Option.{option_copied};
 ghost use Rattle.floor_config.specs.Configuration.{user_ids};
-ghost use Rattle.floor_queue.specs.Queue.{IsAddable, IsQueue, IsSettled, after_add, after_end, empty_queue, numbers_of, request_at};
-ghost use Rattle.floor_wire.specs.Message.{IsMessage};
-ghost use Rattle.floor_message.specs.Ask.{Answer, ask, asks};
-ghost use Rattle.floor_message.specs.Fits.{AskFits};
-ghost use Rattle.floor_message.specs.Laws.{CountsFit};
+ghost use Rattle.floor_queue.specs.Queue.{IsQueue, IsSettled, numbers_of};
 ghost use Rattle.floor_machine.specs.Change as change;
 ghost use Rattle.floor_machine.specs.Conference.{is_live, member_with, opening, user_of};
-ghost use Rattle.floor_machine.specs.declared.event.Event.TheVariants.{Join, Message};
+ghost use Rattle.floor_machine.specs.declared.event.Event.TheVariants.{Join};
 ghost use Rattle.floor_machine.specs.Journal.{parcels_of};
-ghost use Rattle.floor_machine.specs.Fitting.{AreAddable, AreFloorsShown, AreUpdatesShown, IsReplyShown, IsToldShown};
-ghost use Rattle.floor_machine.specs.Serving as serving;
-ghost use Rattle.floor_machine.specs.Serving.{HasRoom, IsChanged, IsState, MayServe, conference_of, judged_change};
-ghost use Rattle.floor_machine.specs.Outgoing.{response_head};
+ghost use Rattle.floor_machine.specs.Fitting.{AreAddable, AreFloorsShown, AreUpdatesShown, IsReplyShown};
+ghost use Rattle.floor_machine.specs.Serving.{IsState, conference_of};
 ghost use Rattle.floor_machine.specs.Steps as steps;
 ghost use Rattle.floor_machine.specs.Steps.{infos_of, parcels_to_all};
 
 use crate::course::{Course, floor_updates, updates};
-use crate::deciding::decide;
-use crate::ending::release_request;
-use crate::judged::Judged;
 use crate::member::Member;
 use crate::parcel::Parcel;
 use crate::sending::{Reply, put_all};
-use crate::showing::{copied, infos};
+use crate::showing::infos;
 use floor_config::{Config, User};
-use floor_message::{Ask, AskFault, Binding, Head, read_ask, what_is_asked_fits};
-use floor_queue::{AddRefusal, New, Request, Requests};
-use floor_wire::{Frame, Numbers, Octets};
+use floor_queue::{Request, Requests};
+use floor_wire::Numbers;
 use std::alloc::{AllocError, Global};
 
 /// A conference: what it was configured with, and what happened in it.
@@ -64,49 +54,6 @@ fn numbers_of(alloc: Global, requests: &[Request]) -> Result<Vec<u16>, AllocErro
     ensures { IfOk result (λ numbers. numbers.items ≡ numbers_of requests.now) }
 {
     requests.iter().map(|r| r.number).collect(alloc)
-}
-
-/// Adds a request, and notes its number.
-fn add_request(requests: &mut Requests, numbers: &mut Vec<u16>, new: New) -> Result<(), AllocError>
-    requires addable { IsAddable requests.old.floors new }
-    requires room { HasRoom requests.old.ongoing requests.old.given }
-    ensures next { OnOk result (requests.new ≡ after_add requests.old new) }
-    ensures numbers { OnOk result (numbers.new.items ≡ numbers.old.items ++ (requests.old.given + 1) ∷ []) }
-    ensures floors { requests.new.floors ≡ requests.old.floors }
-{
-    match requests.add(new) {
-        Ok(number) => {
-            numbers.push(number)?;
-            Ok(())
-        }
-        Err(AddRefusal::Full | AddRefusal::NoNumber) => unreachable!(),
-        Err(AddRefusal::Memory) => Err(AllocError),
-    }
-}
-
-/// The member watches these floors from now on, if it has the number.
-fn watch_if(alloc: Global, member: &mut Member, n: u32, floors: &Numbers) -> Result<(), AllocError>
-    ensures { OnOk result (member.new ≡ change.watching n floors.now member.old) }
-{
-    if member.n == n {
-        member.watched = floors.copy(alloc)?;
-    }
-    Ok(())
-}
-
-/// The member with this number watches these floors from now on.
-fn watch(
-    alloc: Global,
-    members: &mut Vec<Member>,
-    n: u32,
-    floors: &Numbers,
-) -> Result<(), AllocError>
-    ensures { OnOk result (members.new.items ≡ map (change.watching n floors.now) members.old.items) }
-{
-    for member in members.iter_mut() {
-        watch_if(alloc, member, n, floors)?;
-    }
-    Ok(())
 }
 
 impl State {
@@ -171,43 +118,6 @@ impl State {
         Ok(n)
     }
 
-    /// What becomes of the message of a user.
-    fn judge(&self, alloc: Global, user: u16, frame: &Frame) -> Result<Judged, AllocError>
-        requires { self.now.users.items ≡ user_ids self.now.config.users }
-        ensures judged { IfOk result (λ judged. (a : Answer)
-            → a ≡ ask frame.now record { conference = self.now.config.conference; user = user; users = user_ids self.now.config.users }
-            → judged ≡ serving.judged (conference_of self.now) user a) }
-        ensures may { IfOk result (MayServe (conference_of self.now) user) }
-    {
-        what_is_asked_fits();
-        let binding = Binding {
-            conference: self.config.conference(),
-            user,
-            users: self.users.as_slice(),
-        };
-        match read_ask(alloc, frame, &binding) {
-            Err(AskFault::Memory) => Err(AllocError),
-            Err(AskFault::Error { code, details }) => Ok(Judged::Refused { code, details }),
-            Ok(None) => Ok(Judged::Unanswered),
-            Ok(Some(ask)) => Ok(self.judge_ask(alloc, user, ask)),
-        }
-    }
-
-    /// What becomes of what a user asks.
-    fn judge_ask(&self, alloc: Global, user: u16, ask: Ask) -> Judged
-        requires { CountsFit ask → AskFits ask }
-        ensures judged { result ≡ serving.judged (conference_of self.now) user (asks ask) }
-        ensures may { MayServe (conference_of self.now) user result }
-    {
-        match self.refusal(user, &ask) {
-            None => Judged::Accepted(ask),
-            Some(code) => Judged::Refused {
-                code,
-                details: Octets::from_vec(Vec::new(alloc)),
-            },
-        }
-    }
-
     /// What is shown before the event.
     pub(crate) fn begin(&self, alloc: Global) -> Result<Course, AllocError>
         requires floors { self.now.requests.floors ≡ self.now.config.floors }
@@ -224,98 +134,6 @@ impl State {
             numbers,
             ended: Vec::new(alloc),
         })
-    }
-
-    /// Adds the request that a user asks for.
-    fn request(
-        &mut self,
-        alloc: Global,
-        course: &mut Course,
-        user: u16,
-        beneficiary: Option<u16>,
-        floors: &Numbers,
-        priority: u8,
-        info: &Option<Octets>,
-    ) -> Result<(), AllocError>
-        requires addable { IsAddable self.old.requests.floors (serving.new_of_ask user beneficiary floors.now priority info.now) }
-        requires room { HasRoom self.old.requests.ongoing self.old.requests.given }
-        ensures next { OnOk result (self.new ≡ record self.old {
-          requests = after_add self.old.requests (serving.new_of_ask user beneficiary floors.now priority info.now);
-        }) }
-        ensures course { OnOk result (course.new.numbers.items ≡ course.old.numbers.items ++ (self.old.requests.given + 1) ∷ []) }
-        ensures before { course.new.before ≡ course.old.before }
-        ensures ended { course.new.ended ≡ course.old.ended }
-        ensures kept { IsState self.old → IsState self.new }
-    {
-        let new = New {
-            requester: user,
-            beneficiary: beneficiary.unwrap_or(user),
-            floors: floors.copy(alloc)?,
-            priority,
-            info: copied(alloc, info)?,
-        };
-        add_request(&mut self.requests, &mut course.numbers, new)
-    }
-
-    /// Does what is accepted, before the requests are settled.
-    fn change_asked(
-        &mut self,
-        alloc: Global,
-        course: &mut Course,
-        n: u32,
-        user: u16,
-        ask: &Ask,
-    ) -> Result<(), AllocError>
-        requires may { MayServe (conference_of self.old) user (Judged.Accepted ask.now) }
-        requires state { IsState self.old }
-        requires queue { IsQueue self.old.requests }
-        requires begun { IsChanged (conference_of self.old) (change.no_change (conference_of self.old)) (conference_of self.old) course.old }
-        ensures changed { user ≡ user_of (conference_of self.old) n → OnOk result (IsChanged (conference_of self.old)
-            (change.asked_change (conference_of self.old) n ask.now) (conference_of self.new) course.new) }
-        ensures state { OnOk result (IsState self.new) }
-    {
-        match ask {
-            Ask::FloorRequest {
-                beneficiary,
-                floors,
-                priority,
-                info,
-            } => self.request(alloc, course, user, *beneficiary, floors, *priority, info),
-            Ask::FloorRelease { request } => {
-                release_request(&mut self.requests, &mut course.ended, *request)
-            }
-            Ask::FloorQuery { floors } => watch(alloc, &mut self.members, n, floors),
-            Ask::ChairAction { request, verdicts } => decide(
-                &mut self.requests,
-                &mut course.ended,
-                *request,
-                verdicts.as_slice(),
-            ),
-            Ask::FloorRequestQuery { .. } | Ask::UserQuery { .. } | Ask::Hello => Ok(()),
-        }
-    }
-
-    /// Does what a judged message changes, before the requests are settled.
-    fn change(
-        &mut self,
-        alloc: Global,
-        course: &mut Course,
-        n: u32,
-        user: u16,
-        judged: &Judged,
-    ) -> Result<(), AllocError>
-        requires may { MayServe (conference_of self.old) user judged.now }
-        requires state { IsState self.old }
-        requires queue { IsQueue self.old.requests }
-        requires begun { IsChanged (conference_of self.old) (change.no_change (conference_of self.old)) (conference_of self.old) course.old }
-        ensures changed { user ≡ user_of (conference_of self.old) n → OnOk result (IsChanged (conference_of self.old)
-            (judged_change (conference_of self.old) n judged.now) (conference_of self.new) course.new) }
-        ensures state { OnOk result (IsState self.new) }
-    {
-        match judged {
-            Judged::Accepted(ask) => self.change_asked(alloc, course, n, user, ask),
-            Judged::Refused { .. } | Judged::Unanswered => Ok(()),
-        }
     }
 
     /// Puts what the event tells each live member. After an error `out` is as it was.
@@ -355,51 +173,5 @@ impl State {
         )?;
         out.append(&mut parcels)?;
         Ok(())
-    }
-
-    /// Serves the message of a member. After an error `out` is as it was.
-    pub(crate) fn message(
-        &mut self,
-        n: u32,
-        frame: &Frame,
-        out: &mut Vec<Parcel>,
-    ) -> Result<(), AllocError>
-        requires state { IsState self.old }
-        requires settled { IsSettled self.old.requests }
-        ensures next { OnOk result (conference_of self.new ≡ change.next (conference_of self.old) (Message n frame.now)) }
-        ensures out { OnOk result (out.new.items ≡ out.old.items ++ parcels_of (conference_of self.old) (Message n frame.now)) }
-        ensures shown { OnOk result (IsToldShown (conference_of self.old) (Message n frame.now)) }
-        ensures err { OnErr result (out.new.items ≡ out.old.items) }
-        ensures state { OnOk result (IsState self.new) }
-        ensures settled { OnOk result (IsSettled self.new.requests) }
-        ensures message { IsMessage frame.now }
-    {
-        let alloc = *self.members.allocator();
-        // A frame is one message, which makes the event a lawful one.
-        let _bytes = frame.bytes();
-        let user = self.user_of(n);
-        let judged = self.judge(alloc, user, frame)?;
-        let mut course = self.begin(alloc)?;
-        self.change(alloc, &mut course, n, user, &judged)?;
-        let _granted = self.requests.settle()?;
-        let tells = self.answer(alloc, &course.ended, user, &judged)?;
-        let reply = Some(Reply {
-            n,
-            head: response_head(frame),
-            tells,
-        });
-        self.tell(alloc, &course, &reply, out)
-    }
-}
-
-/// The head of a response: the ids of the message that it answers (section 8.1).
-fn response_head(frame: &Frame) -> Head
-    ensures { result ≡ response_head frame.now }
-{
-    let header = frame.header();
-    Head {
-        conference: header.conference(),
-        transaction: header.transaction(),
-        user: header.user(),
     }
 }

@@ -1,6 +1,4 @@
-use Rattle.std.proofs.Common.{◌≡◌, ℕ, true, List, sym, subst, refl}
-use Rattle.floor_machine.specs.declared.member.Member.{Member}
-use Rattle.floor_machine.proofs.Sent.{numbered-watching}
+use Rattle.std.proofs.Common.{◌≡◌, ℕ, List, sym, subst, refl}
 use Rattle.floor_queue.specs.Queue.{Queue}
 use Rattle.floor_message.specs.declared.ask.Ask.{Ask}
 use Rattle.floor_message.specs.declared.ask.Ask.TheVariants.{FloorRequest, FloorRelease, ChairAction}
@@ -9,8 +7,8 @@ use Rattle.floor_machine.specs.declared.course.Course.{Course}
 use Rattle.floor_machine.specs.declared.judged.Judged.TheVariants.{Accepted}
 use Rattle.floor_machine.specs.declared.state.State.{State}
 use Rattle.floor_machine.specs.Change.{asked_change}
-use Rattle.floor_machine.specs.Serving.{IsChanged, MayDecide, MayServe, conference_of, is_numbered_from}
-use Rattle.floor_machine.proofs.Asked.{on_ok, on_ok_both, changed-request, changed-release, changed-decide, changed-query}
+use Rattle.floor_machine.specs.Serving.{IsChanged, MayDecide, MayServe, conference_of}
+use Rattle.floor_machine.proofs.Asked.{on_ok_both, changed-request, changed-release, changed-decide}
 use Rattle.floor_machine.proofs.state.State.change_asked.Goals as goal
 
 pub returns-in-FloorRequest-clause-changed : goal.returns-in-FloorRequest-clause-changed
@@ -56,21 +54,3 @@ returns-in-ChairAction-clause-changed c = λ same.
     subst P (sym w.is) (subst V are (subst Q (sym next)
     (changed-decide s c.args.course.now course n w.request vs c.requires.queue c.requires.begun (subst D (sym are) (subst M w.is c.requires.may)) noted refl refl))))
     c.decide.ensures.next c.decide.ensures.ended
-
-pub returns-in-FloorQuery-clause-changed : goal.returns-in-FloorQuery-clause-changed
-returns-in-FloorQuery-clause-changed c = λ same.
-    let n = c.args.n in
-    let s = c.args.self.now in
-    let w = c.in-FloorQuery in
-    let P : Ask → Type 0 = λ a. IsChanged (conference_of s) (asked_change (conference_of s) n a) (conference_of (record s { members = c.watch.new.members })) c.args.course.now in
-    on_ok c.watch.result (λ next. subst P (sym w.is) (changed-query s c.args.course.now n w.floors c.watch.new.members c.requires.begun next)) c.watch.ensures
-
-pub returns-in-FloorQuery-clause-state : goal.returns-in-FloorQuery-clause-state
-returns-in-FloorQuery-clause-state c =
-    let s = c.args.self.now in
-    let N : List Member → Type 0 = λ ms. is_numbered_from 1 ms ≡ true in
-    on_ok c.watch.result (λ next. record {
-      users = c.requires.state.users;
-      floors = c.requires.state.floors;
-      numbered = subst N (sym next) (numbered-watching c.args.n c.in-FloorQuery.floors 1 s.members.items c.requires.state.numbered);
-    }) c.watch.ensures

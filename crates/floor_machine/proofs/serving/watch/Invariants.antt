@@ -1,6 +1,6 @@
 use Rattle.std.proofs.Common.{◌≡◌, ◌++◌, take, drop, map}
 use Rattle.floor_machine.specs.Change.{watching}
-use Rattle.floor_machine.proofs.state.watch.Given as goal
+use Rattle.floor_machine.proofs.serving.watch.Given as goal
 
 abbrev pub invariant-loop-member : goal.invariant-loop-member
 invariant-loop-member l =

@@ -1,7 +1,7 @@
 use Rattle.std.proofs.Common.{◌<◌, length, arith}
 use Rattle.floor_machine.specs.Change.{watching}
 use Rattle.floor_machine.proofs.Filtered.{set-map_front}
-use Rattle.floor_machine.proofs.state.watch.Goals as goal
+use Rattle.floor_machine.proofs.serving.watch.Goals as goal
 
 pub loop-member-preserved : goal.loop-member-preserved
 loop-member-preserved c =

@@ -1,5 +1,4 @@
 use Rattle.std.proofs.Common.{◌≡◌, ℕ, ◌++◌, List, Some, sym, refl, ap, subst, ◌∙◌}
-use Rattle.floor_config.specs.Configuration.{user_ids}
 use Rattle.floor_message.specs.Ask.{Answer, ask}
 use Rattle.floor_machine.specs.declared.course.Ended.{Ended}
 use Rattle.floor_machine.specs.declared.parcel.Parcel.{Parcel}
@@ -14,7 +13,7 @@ use Rattle.floor_machine.proofs.Bounds.{served-shown}
 use Rattle.floor_machine.specs.Fitting.{AreAddable}
 use Rattle.floor_machine.proofs.Addable.{details_fit, judged_addable, queue_addable}
 use Rattle.floor_machine.proofs.Served.{change-judged, settled-state, ended-shown, numbers-shown, reply-answered, parcels-served}
-use Rattle.floor_machine.proofs.state.State.message.Goals as goal
+use Rattle.floor_machine.proofs.state.State.serve.Goals as goal
 
 pub change-requires-clause-begun : goal.change-requires-clause-begun
 change-requires-clause-begun c =
@@ -25,18 +24,18 @@ answer-requires-clause-ended c =
     let s = c.args.self.now in
     let P : List Ended → Type 0 = λ ended. AreAddable c.change.new.self.config.floors ended in
     subst P (sym c.deref.ensures.value)
-    (judged_addable (conference_of s) (conference_of c.change.new.self) c.args.n c.in_ok-judged.judged c.change.new.course
-    (queue_addable s c.requires.state c.in_ok-course.ensures.queue) (c.in_ok-change.ensures.changed c.user_of-user.ensures))
+    (judged_addable (conference_of s) (conference_of c.change.new.self) c.args.n c.args.judged.now c.change.new.course
+    (queue_addable s c.requires.state c.in_ok-course.ensures.queue) (c.in_ok-change.ensures.changed c.requires.user))
 
 pub answer-requires-clause-details : goal.answer-requires-clause-details
 answer-requires-clause-details c =
-    details_fit (conference_of c.args.self.now) c.user_of-user.result c.in_ok-judged.judged c.in_ok-judged.ensures.may
+    details_fit (conference_of c.args.self.now) c.args.user c.args.judged.now c.requires.may
 
 pub tell-requires-clause-ended : goal.tell-requires-clause-ended
 tell-requires-clause-ended c =
     let s = c.args.self.now in
-    judged_addable (conference_of s) (conference_of c.change.new.self) c.args.n c.in_ok-judged.judged c.change.new.course
-    (queue_addable s c.requires.state c.in_ok-course.ensures.queue) (c.in_ok-change.ensures.changed c.user_of-user.ensures)
+    judged_addable (conference_of s) (conference_of c.change.new.self) c.args.n c.args.judged.now c.change.new.course
+    (queue_addable s c.requires.state c.in_ok-course.ensures.queue) (c.in_ok-change.ensures.changed c.requires.user)
 
 pub returns-clause-next : goal.returns-clause-next
 returns-clause-next c = on_ok_all c.tell.result (
@@ -44,11 +43,9 @@ returns-clause-next c = on_ok_all c.tell.result (
     let n = c.args.n in
     let bytes = c.args.frame.now in
     let a : Answer = ask bytes (binding s n) in
-    let j = c.in_ok-judged.judged in
-    let is_user : c.user_of-user.result ≡ user_of s n = c.user_of-user.ensures in
-    let read : a ≡ ask bytes record { conference = s.config.conference; user = c.user_of-user.result; users = user_ids s.config.users } =
-    ap (λ (u : ℕ). ask bytes record { conference = s.config.conference; user = u; users = user_ids s.config.users }) (sym is_user) in
-    let is_judged : j ≡ judged s (user_of s n) a = c.in_ok-judged.ensures.judged a read ∙ ap (λ (u : ℕ). judged s u a) is_user in
+    let j = c.args.judged.now in
+    let is_user : c.args.user ≡ user_of s n = c.requires.user in
+    let is_judged : j ≡ judged s (user_of s n) a = c.requires.judged in
     let changes : change s (Message n bytes) ≡ judged_change s n j = change-judged s n bytes a refl ∙ ap (judged_change s n) (sym is_judged) in
     settled-state s (Message n bytes) (judged_change s n j) c.change.new.self c.change.new.course c.settle.new.self changes
     (c.in_ok-change.ensures.changed is_user) c.in_ok-change.ensures.state c.in_ok-_granted.ensures.next)
@@ -60,13 +57,11 @@ returns-clause-out c = on_ok c.tell.result (λ told.
     let bytes = c.args.frame.now in
     let e : Event = Message n bytes in
     let a : Answer = ask bytes (binding s n) in
-    let j = c.in_ok-judged.judged in
-    let user = c.user_of-user.result in
+    let j = c.args.judged.now in
+    let user = c.args.user in
     let course = c.change.new.course in
-    let is_user : user ≡ user_of s n = c.user_of-user.ensures in
-    let read : a ≡ ask bytes record { conference = s.config.conference; user = user; users = user_ids s.config.users } =
-    ap (λ (u : ℕ). ask bytes record { conference = s.config.conference; user = u; users = user_ids s.config.users }) (sym is_user) in
-    let is_judged : j ≡ judged s (user_of s n) a = c.in_ok-judged.ensures.judged a read ∙ ap (λ (u : ℕ). judged s u a) is_user in
+    let is_user : user ≡ user_of s n = c.requires.user in
+    let is_judged : j ≡ judged s (user_of s n) a = c.requires.judged in
     let changes : change s e ≡ judged_change s n j = change-judged s n bytes a refl ∙ ap (judged_change s n) (sym is_judged) in
     let changed : IsChanged s (judged_change s n j) (conference_of c.change.new.self) course = c.in_ok-change.ensures.changed is_user in
     let t : Conference = conference_of (record c.change.new.self { requests = c.settle.new.self }) in
@@ -93,13 +88,11 @@ returns-clause-shown c = on_ok_both c.tell.result (λ requests floors.
     let bytes = c.args.frame.now in
     let e : Event = Message n bytes in
     let a : Answer = ask bytes (binding s n) in
-    let j = c.in_ok-judged.judged in
-    let user = c.user_of-user.result in
+    let j = c.args.judged.now in
+    let user = c.args.user in
     let course = c.change.new.course in
-    let is_user : user ≡ user_of s n = c.user_of-user.ensures in
-    let read : a ≡ ask bytes record { conference = s.config.conference; user = user; users = user_ids s.config.users } =
-    ap (λ (u : ℕ). ask bytes record { conference = s.config.conference; user = u; users = user_ids s.config.users }) (sym is_user) in
-    let is_judged : j ≡ judged s (user_of s n) a = c.in_ok-judged.ensures.judged a read ∙ ap (λ (u : ℕ). judged s u a) is_user in
+    let is_user : user ≡ user_of s n = c.requires.user in
+    let is_judged : j ≡ judged s (user_of s n) a = c.requires.judged in
     let changes : change s e ≡ judged_change s n j = change-judged s n bytes a refl ∙ ap (judged_change s n) (sym is_judged) in
     let changed : IsChanged s (judged_change s n j) (conference_of c.change.new.self) course = c.in_ok-change.ensures.changed is_user in
     let t : Conference = conference_of (record c.change.new.self { requests = c.settle.new.self }) in
