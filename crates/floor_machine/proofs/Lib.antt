@@ -16,6 +16,7 @@ pub mod SameInfo
 pub mod Sent
 pub mod Ended
 pub mod Left
+pub mod Noticed
 pub mod Quiet
 pub mod Kept
 pub mod Lawful

@@ -7,6 +7,8 @@ use Rattle.floor_config.specs.declared.config.Floor.{Floor}
 use Rattle.floor_queue.specs.declared.request.Request.{Request}
 use Rattle.floor_queue.specs.declared.requested_floor.RequestedFloor.{RequestedFloor}
 use Rattle.floor_queue.specs.Queue.{request_at}
+use Rattle.floor_wire.specs.Header.{addressed}
+use Rattle.floor_message.specs.Written.{tell_bytes}
 use Rattle.floor_message.specs.declared.head.Head.{Head}
 use Rattle.floor_message.specs.declared.tell.Info.{Info}
 use Rattle.floor_message.specs.declared.tell.Tell.{Tell}
@@ -17,10 +19,11 @@ use Rattle.floor_machine.specs.declared.course.Ended.{Ended}
 use Rattle.floor_machine.specs.declared.course.Shown.{Shown}
 use Rattle.floor_machine.specs.declared.sending.Reply.{Reply}
 use Rattle.floor_machine.specs.declared.sending.Update.{Update}
+use Rattle.floor_machine.specs.declared.sending.FloorNotice.{FloorNotice}
 use Rattle.floor_machine.specs.declared.sending.FloorUpdate.{FloorUpdate}
 use Rattle.floor_machine.specs.Shown.{Entry, entry_of, info, info_of, named}
 use Rattle.floor_machine.specs.Same.{same_infos}
-use Rattle.floor_machine.specs.Outgoing.{Outgoing, notice}
+use Rattle.floor_machine.specs.Outgoing.{Outgoing, notice, notice_head}
 use Rattle.floor_machine.specs.Reply.{infos_on}
 use Rattle.floor_machine.specs.Told.{is_changed, is_status_of}
 use Rattle.floor_machine.specs.Journal.{parcel}
@@ -153,3 +156,27 @@ parcels_to conference reply requests floors m =
 abbrev pub parcels_to_all : ℕ → Option Reply → List Update → List FloorUpdate → List Member → List Parcel
 parcels_to_all conference reply requests floors members =
     flat_map (λ m. if m.is_live then parcels_to conference reply requests floors m else []) members
+
+-- the status of a changed floor as it is written, under User ID 0
+abbrev pub floor_notice : ℕ → FloorUpdate → FloorNotice
+floor_notice conference update = record { floor = update.floor; frame = tell_bytes (notice_head conference 0) update.tell }
+
+-- it, under the User ID of the member
+abbrev pub floor_notice_to : Member → FloorNotice → Parcel
+floor_notice_to m notice = record { n = m.n; bytes = addressed notice.frame m.user }
+
+-- the member watches the floor
+abbrev pub is_noticed : Member → FloorNotice → Bool
+is_noticed m notice = list_any (λ floor. floor == notice.floor) m.watched
+
+-- the parcels of a member, where the statuses of the changed floors are written already
+abbrev pub noticed_to : ℕ → Option Reply → List Update → List FloorNotice → Member → List Parcel
+noticed_to conference reply requests notices m =
+    map (parcel m.n) (answered_to reply m.n)
+    ++ map (λ u. parcel m.n (update_to conference m u)) (filter (is_due_to reply m) requests)
+    ++ map (floor_notice_to m) (filter (is_noticed m) notices)
+
+-- the parcels of the live members, in their order
+abbrev pub noticed_to_all : ℕ → Option Reply → List Update → List FloorNotice → List Member → List Parcel
+noticed_to_all conference reply requests notices members =
+    flat_map (λ m. if m.is_live then noticed_to conference reply requests notices m else []) members

@@ -1,17 +1,17 @@
 //! Telling the members what an event changed (RFC 8855, sections 8 and 12.1).
 
-ghost use Rattle.std.specs.Prelude.{◌≡◌, ◌==◌, ◌||◌, ◌∷◌, [], ◌++◌, All, OnOk, map, filter, if◌then◌else◌};
+ghost use Rattle.std.specs.Prelude.{◌≡◌, ◌==◌, ◌||◌, ◌∷◌, [], ◌++◌, All, IfOk, OnOk, map, filter, if◌then◌else◌};
 ghost use Rattle.std.specs.List.{list_any};
 ghost use Rattle.floor_message.specs.Shown.{IsShown};
 ghost use Rattle.floor_machine.specs.Fitting.{AreFloorsShown, AreUpdatesShown, IsReplyShown};
 ghost use Rattle.floor_machine.specs.Told.{is_status_of};
 ghost use Rattle.floor_machine.specs.Journal.{parcel};
-ghost use Rattle.floor_machine.specs.Steps.{answered, answered_to, floor_update_to, is_answered, is_due_to, is_watched, parcels_to, parcels_to_all, update_to};
+ghost use Rattle.floor_machine.specs.Steps.{answered, answered_to, floor_notice, floor_notice_to, is_answered, is_due_to, is_noticed, noticed_to, noticed_to_all, parcels_to_all, update_to};
 
 use crate::member::Member;
 use crate::parcel::Parcel;
 use floor_message::{Head, Tell, what_is_shown_fits, write_tell};
-use floor_wire::Octets;
+use floor_wire::{Frame, Octets};
 use std::alloc::{AllocError, Global};
 
 /// What the sender of a message is answered.
@@ -45,6 +45,15 @@ pub(crate) struct FloorUpdate {
     pub floor: u16,
     /// Its status.
     pub tell: Tell,
+}
+
+/// The status of a changed floor as it is written once, under User ID 0, for all who watch the floor.
+#[derive(Debug, Drop)]
+struct FloorNotice {
+    /// The Floor ID.
+    floor: u16,
+    /// The message.
+    frame: Frame,
 }
 
 /// Puts one message to the member with this number.
@@ -165,15 +174,15 @@ fn is_due_to(reply: &Option<Reply>, member: &Member, update: &Update) -> bool
         && !is_answered(reply, member.n, update.number)
 }
 
-/// Whether the member watches the changed floor.
-fn is_watched(member: &Member, update: &FloorUpdate) -> bool
-    ensures { result ≡ is_watched member.now update.now }
+/// Whether the member watches the floor.
+fn watches(member: &Member, floor: u16) -> bool
+    ensures { result ≡ list_any (λ watched. watched == floor) member.now.watched }
 {
     member
         .watched
         .as_slice()
         .iter()
-        .any(|floor| *floor == update.floor)
+        .any(|watched| *watched == floor)
 }
 
 /// Puts the statuses of the changed requests that the member is told of.
@@ -198,22 +207,62 @@ fn put_updates(
     Ok(())
 }
 
-/// Puts the statuses of the changed floors that the member watches.
-fn put_floor_updates(
+/// The statuses of the changed floors as they are written.
+fn floor_notices(
+    alloc: Global,
+    conference: u32,
+    updates: &[FloorUpdate],
+) -> Result<Vec<FloorNotice>, AllocError>
+    requires { AreFloorsShown updates.now }
+    ensures { IfOk result (λ notices. notices.items ≡ map (floor_notice conference) updates.now) }
+{
+    what_is_shown_fits();
+    let head = Head {
+        conference,
+        transaction: 0,
+        user: 0,
+    };
+    let mut notices = Vec::new(alloc);
+    for update in updates {
+        let frame = write_tell(alloc, &head, &update.tell)?;
+        notices.push(FloorNotice {
+            floor: update.floor,
+            frame,
+        })?;
+    }
+    Ok(notices)
+}
+
+/// Puts the status of a changed floor to the member.
+fn put_floor_notice(
     alloc: Global,
     out: &mut Vec<Parcel>,
-    conference: u32,
     member: &Member,
-    updates: &[FloorUpdate],
+    notice: &FloorNotice,
 ) -> Result<(), AllocError>
-    requires { AreFloorsShown updates.now }
-    ensures { OnOk result (out.new.items ≡ out.old.items
-        ++ map (λ u. parcel member.now.n (floor_update_to conference member.now u))
-        (filter (is_watched member.now) updates.now)) }
+    ensures { OnOk result (out.new.items ≡ out.old.items ++ floor_notice_to member.now notice.now ∷ []) }
 {
-    for update in updates {
-        if is_watched(member, update) {
-            put_notice(alloc, out, conference, member, &update.tell)?;
+    let bytes = notice.frame.addressed(alloc, member.user)?;
+    out.push(Parcel {
+        n: member.n,
+        bytes: Octets::from_vec(bytes),
+    })?;
+    Ok(())
+}
+
+/// Puts the statuses of the changed floors that the member watches.
+fn put_floor_notices(
+    alloc: Global,
+    out: &mut Vec<Parcel>,
+    member: &Member,
+    notices: &[FloorNotice],
+) -> Result<(), AllocError>
+    ensures { OnOk result (out.new.items ≡ out.old.items
+        ++ map (floor_notice_to member.now) (filter (is_noticed member.now) notices.now)) }
+{
+    for notice in notices {
+        if watches(member, notice.floor) {
+            put_floor_notice(alloc, out, member, notice)?;
         }
     }
     Ok(())
@@ -227,23 +276,44 @@ fn put_member(
     member: &Member,
     reply: &Option<Reply>,
     updates: &[Update],
-    floor_updates: &[FloorUpdate],
+    notices: &[FloorNotice],
 ) -> Result<(), AllocError>
     requires reply { IsReplyShown reply.now }
     requires requests { AreUpdatesShown updates.now }
-    requires floors { AreFloorsShown floor_updates.now }
     ensures { OnOk result (out.new.items ≡ out.old.items ++ (if member.now.is_live
-        then parcels_to conference reply.now updates.now floor_updates.now member.now else [])) }
+        then noticed_to conference reply.now updates.now notices.now member.now else [])) }
 {
     if member.is_live {
         put_reply(alloc, out, member.n, reply)?;
         put_updates(alloc, out, conference, member, reply, updates)?;
-        put_floor_updates(alloc, out, conference, member, floor_updates)?;
+        put_floor_notices(alloc, out, member, notices)?;
     }
     Ok(())
 }
 
 /// Puts all that is for the live members, by ascending number.
+fn put_members(
+    alloc: Global,
+    out: &mut Vec<Parcel>,
+    conference: u32,
+    members: &[Member],
+    reply: &Option<Reply>,
+    updates: &[Update],
+    notices: &[FloorNotice],
+) -> Result<(), AllocError>
+    requires reply { IsReplyShown reply.now }
+    requires requests { AreUpdatesShown updates.now }
+    ensures { OnOk result (out.new.items ≡ out.old.items
+        ++ noticed_to_all conference reply.now updates.now notices.now members.now) }
+{
+    for member in members {
+        put_member(alloc, out, conference, member, reply, updates, notices)?;
+    }
+    Ok(())
+}
+
+/// Puts all that an event tells the live members, by ascending number. The status of a changed floor
+/// is spelled once, however many watch the floor.
 pub(crate) fn put_all(
     alloc: Global,
     out: &mut Vec<Parcel>,
@@ -259,16 +329,6 @@ pub(crate) fn put_all(
     ensures { OnOk result (out.new.items ≡ out.old.items
         ++ parcels_to_all conference reply.now updates.now floor_updates.now members.now) }
 {
-    for member in members {
-        put_member(
-            alloc,
-            out,
-            conference,
-            member,
-            reply,
-            updates,
-            floor_updates,
-        )?;
-    }
-    Ok(())
+    let notices = floor_notices(alloc, conference, floor_updates)?;
+    put_members(alloc, out, conference, members, reply, updates, &notices)
 }

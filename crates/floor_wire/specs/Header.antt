@@ -1,5 +1,5 @@
 -- The common header (RFC 8855, section 5.1).
-use Rattle.std.specs.Prelude.{ℕ, ◌+◌, ◌*◌, ◌/◌, ◌%◌, Bool, List, ◌∷◌, ◌++◌, slice_index, ◌==◌}
+use Rattle.std.specs.Prelude.{ℕ, ◌+◌, ◌*◌, ◌/◌, ◌%◌, Bool, List, ◌∷◌, ◌++◌, take, drop, slice_index, ◌==◌}
 use Rattle.std.specs.Int.{w16, w32, to_be_bytes}
 use Rattle.floor_wire.specs.Message.{number_at}
 
@@ -33,3 +33,7 @@ header_of message = record {
 abbrev pub header_bytes : ℕ → ℕ → ℕ → ℕ → ℕ → List ℕ
 header_bytes primitive payload_length conference transaction user =
     0x20 ∷ primitive ∷ (to_be_bytes w16 payload_length ++ to_be_bytes w32 conference ++ to_be_bytes w16 transaction ++ to_be_bytes w16 user)
+
+-- a message with another User ID in its header
+abbrev pub addressed : List ℕ → ℕ → List ℕ
+addressed message user = take 10 message ++ to_be_bytes w16 user ++ drop 12 message

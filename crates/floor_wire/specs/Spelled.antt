@@ -1,5 +1,5 @@
 -- The attributes that bytes spell, computed (RFC 8855, section 5.2).
-use Rattle.std.specs.Prelude.{◌≡◌, false, refl, ℕ, zero, suc, ◌%◌, ◌==◌, Bool, List, [], ◌∷◌, length, drop, slice_index, slice_range, Option, Some, None, option_map, option_and_then}
+use Rattle.std.specs.Prelude.{ℕ, zero, suc, ◌%◌, ◌==◌, Bool, List, [], ◌∷◌, length, drop, slice_index, slice_range, Option, Some, None, option_map, option_and_then}
 use Rattle.floor_wire.specs.Attributes.{Content, num, pair, group, octets, Attributes, no_attributes, attribute}
 use Rattle.floor_wire.specs.Spelling.{format_of, number_of, Spells}
 use Rattle.floor_wire.specs.Fault.{front_kind, front_len, front_fault, padded}

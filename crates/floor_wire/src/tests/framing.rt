@@ -85,6 +85,16 @@ fn a_written_message_has_its_header_and_attributes(rt: HostRuntime) -> Result<()
 }
 
 #[test]
+fn a_message_is_addressed_to_another_user(rt: HostRuntime) -> Result<(), Fail> {
+    let message = bytes(rt.alloc(), "20010001 00000001 0002 000a 04040001")?;
+    let frame = Frame::of(rt.alloc(), &message)?.ok_or("no message")?;
+    let wanted = bytes(rt.alloc(), "20010001 00000001 0002 fffe 04040001")?;
+    let addressed = frame.addressed(rt.alloc(), 0xfffe)?;
+    assert_eq!(rt; addressed, wanted);
+    Ok(())
+}
+
+#[test]
 fn every_cut_of_three_messages_gives_the_same_messages(rt: HostRuntime) -> Result<(), Fail> {
     let texts = [HELLO, OTHER_VERSION, FLOOR_REQUEST];
     let mut stream = Vec::new(rt.alloc());
