@@ -83,7 +83,8 @@ fn user_fits(user: &User) -> bool
 /// Whether there is no text, or one of at most `most` bytes.
 fn text_fits(text: &Option<Text>, most: usize) -> bool
     ensures value { result ≡ text_fits most text.now }
-    ensures fits { result ≡ true → IfSome (option_and_then unless_empty text.now) (λ t. (1 ≤ length t) × (length t ≤ most)) }
+    ensures fits { result ≡ true
+        → IfSome (option_and_then unless_empty text.now) (λ t. (1 ≤ length t) × (length t ≤ most)) }
 {
     match text {
         None => true,

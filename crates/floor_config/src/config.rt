@@ -1,4 +1,5 @@
-//! The configuration of one conference: its users, its floors and their chairs (RFC 8855, section 2).
+//! The configuration of one conference: its users, its floors and their chairs (RFC 8855, section
+//! 2).
 
 ghost use Rattle.std.specs.Prelude.{◌≡◌, IfOk};
 
@@ -77,9 +78,11 @@ impl Model for Config {
 
     ghost Value = { Configuration };
 
-    ghost view = { λ c. record { conference = c.conference; limit = c.limit; users = c.users; floors = c.floors } };
+    ghost view = { λ c.
+        record { conference = c.conference; limit = c.limit; users = c.users; floors = c.floors } };
 
-    ghost invariant = { λ c. IsConfiguration record { conference = c.conference; limit = c.limit; users = c.users; floors = c.floors } };
+    ghost invariant = { λ c. IsConfiguration
+        record { conference = c.conference; limit = c.limit; users = c.users; floors = c.floors } };
 }
 
 impl Config {
@@ -87,8 +90,10 @@ impl Config {
 
     /// The configuration of values that keep the limits.
     pub(crate) fn of_parts(conference: u32, limit: u16, users: Users, floors: Floors) -> Config
-        requires { IsConfiguration record { conference = conference; limit = limit; users = users; floors = floors } }
-        ensures { result ≡ record { conference = conference; limit = limit; users = users; floors = floors } }
+        requires { IsConfiguration
+            record { conference = conference; limit = limit; users = users; floors = floors } }
+        ensures { result
+            ≡ record { conference = conference; limit = limit; users = users; floors = floors } }
     {
         Config {
             conference,

@@ -21,8 +21,10 @@ pub fn has_double(numbers: Vec<u32>) -> bool
 
 /// Whether two neighbours are equal.
 fn has_equal_neighbours(numbers: &[u32]) -> bool
-    ensures found { result ≡ true → (k : ℕ) × (k + 1 < length numbers.now) × (slice_index numbers.now k ≡ slice_index numbers.now (k + 1)) }
-    ensures none { result ≡ false → (k : ℕ) → k + 1 < length numbers.now → slice_index numbers.now k ≢ slice_index numbers.now (k + 1) }
+    ensures found { result ≡ true → (k : ℕ) × (k + 1 < length numbers.now)
+        × (slice_index numbers.now k ≡ slice_index numbers.now (k + 1)) }
+    ensures none { result ≡ false → (k : ℕ) → k + 1 < length numbers.now
+        → slice_index numbers.now k ≢ slice_index numbers.now (k + 1) }
 {
     for at in 1..numbers.len() {
         if numbers[at - 1] == numbers[at] {

@@ -71,7 +71,8 @@ pub fn read_configs(alloc: Global, text: &str) -> Result<Vec<Config>, ConfigFaul
 /// The configurations of a document's table.
 #[tactic(auto, unfolding(crate::specs::Reading::conferences_of))]
 fn conferences(alloc: Global, table: &Table) -> Result<Vec<Config>, ConfigFault>
-    ensures reads { Gives (λ configs. configs.items) result (conferences_of (table_view table.now)) }
+    ensures reads { Gives (λ configs. configs.items) result
+        (conferences_of (table_view table.now)) }
     ensures conferences { IfOk result (λ configs. AllDiffer (conference_ids configs.items)) }
     ensures ports { IfOk result (λ configs. AllDiffer (ports configs.items)) }
 {

@@ -230,8 +230,8 @@ fn users_of(
     Ok(Users::from_vec(users))
 }
 
-/// What `Config::build` answers of the users, and of a floor 1 and another floor: the fields, or the
-/// name of the fault.
+/// What `Config::build` answers of the users, and of a floor 1 and another floor: the fields, or
+/// the name of the fault.
 fn told_of_build(
     alloc: Global,
     limit: u16,

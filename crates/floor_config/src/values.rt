@@ -15,7 +15,8 @@ use toml::{Table, Value};
 
 /// The value at a key.
 pub fn find<'a>(table: &'a Table, key: &str) -> Option<&'a Value>
-    ensures found { option_map (λ v. view v.now) result ≡ get_member key.now (table_view table.now) }
+    ensures found { option_map (λ v. view v.now) result
+        ≡ get_member key.now (table_view table.now) }
 {
     table.get(key)
 }

@@ -107,6 +107,10 @@ pub record IsChanged (s : Conference) (c : Change) (t : Conference) (course : Co
   pub rising : is_rising course.numbers.items ≡ true
   pub before : course.before.items ≡ infos s
 
+-- the course of an event that has changed nothing yet
+abbrev pub IsBegun : Conference → Course → Type 0
+IsBegun s course = IsChanged s (no_change s) s course
+
 -- the request that a FloorRequest of this user asks for
 abbrev pub new_of_ask : ℕ → Option ℕ → List ℕ → ℕ → Option (List ℕ) → New
 new_of_ask user beneficiary floors priority info =

@@ -6,7 +6,7 @@ ghost use Rattle.floor_machine.specs.Change as change;
 ghost use Rattle.floor_machine.specs.declared.event.Event.TheVariants.{Revoke, Close};
 ghost use Rattle.floor_machine.specs.Fitting.{IsToldShown};
 ghost use Rattle.floor_machine.specs.Journal.{parcels_of};
-ghost use Rattle.floor_machine.specs.Serving.{IsChanged, IsState, conference_of};
+ghost use Rattle.floor_machine.specs.Serving.{IsBegun, IsChanged, IsState, conference_of};
 
 use crate::course::Course;
 use crate::ending::dismiss_request;
@@ -31,9 +31,10 @@ impl State {
         requires ongoing { IsSome (request_at self.old.requests.ongoing request) }
         requires state { IsState self.old }
         requires queue { IsQueue self.old.requests }
-        requires begun { IsChanged (conference_of self.old) (change.no_change (conference_of self.old)) (conference_of self.old) course.old }
+        requires begun { IsBegun (conference_of self.old) course.old }
         ensures changed { OnOk result (IsChanged (conference_of self.old)
-            (change.change (conference_of self.old) (Revoke request)) (conference_of self.new) course.new) }
+            (change.change (conference_of self.old) (Revoke request))
+            (conference_of self.new) course.new) }
         ensures state { OnOk result (IsState self.new) }
     {
         dismiss_request(&mut self.requests, &mut course.ended, request)
@@ -45,8 +46,10 @@ impl State {
         requires ongoing { IsSome (request_at self.old.requests.ongoing request) }
         requires state { IsState self.old }
         requires settled { IsSettled self.old.requests }
-        ensures next { OnOk result (conference_of self.new ≡ change.next (conference_of self.old) (Revoke request)) }
-        ensures out { OnOk result (out.new.items ≡ out.old.items ++ parcels_of (conference_of self.old) (Revoke request)) }
+        ensures next { OnOk result (conference_of self.new
+            ≡ change.next (conference_of self.old) (Revoke request)) }
+        ensures out { OnOk result (out.new.items ≡ out.old.items
+            ++ parcels_of (conference_of self.old) (Revoke request)) }
         ensures shown { OnOk result (IsToldShown (conference_of self.old) (Revoke request)) }
         ensures err { OnErr result (out.new.items ≡ out.old.items) }
         ensures state { OnOk result (IsState self.new) }

@@ -45,7 +45,8 @@ fn described_if(
 }
 
 fn hello_tells(alloc: Global) -> Result<Vec<Tell>, AllocError>
-    ensures value { IfOk result (λ tells. tells.items ≡ Tell.HelloAck spec.supported_primitives spec.supported_attributes ∷ []) }
+    ensures value { IfOk result (λ tells. tells.items
+        ≡ Tell.HelloAck spec.supported_primitives spec.supported_attributes ∷ []) }
     ensures shown { IfOk result (λ tells. All IsShown tells.items) }
 {
     let primitives = vec![in alloc; 1, 2, 3, 4, 5, 6, 7, 8, 9, 10, 11, 12, 13]?;
@@ -86,7 +87,8 @@ impl State {
         requires floors { self.now.requests.floors ≡ self.now.config.floors }
         requires settled { IsSettled self.now.requests }
         requires ended { AreAddable self.now.config.floors ended.now }
-        ensures value { IfOk result (λ tells. tells.items ≡ serving.status_tells (conference_of self.now) ended.now number) }
+        ensures value { IfOk result (λ tells. tells.items
+            ≡ serving.status_tells (conference_of self.now) ended.now number) }
         ensures shown { IfOk result (λ tells. All IsShown tells.items) }
     {
         match shown_at(alloc, &self.config, &self.requests, ended, number)? {
@@ -104,7 +106,8 @@ impl State {
     ) -> Result<Vec<Tell>, AllocError>
         requires floors { self.now.requests.floors ≡ self.now.config.floors }
         requires settled { IsSettled self.now.requests }
-        ensures value { IfOk result (λ tells. tells.items ≡ Tell.UserStatus (option_map (shown.described self.now.config) beneficiary)
+        ensures value { IfOk result (λ tells. tells.items
+            ≡ Tell.UserStatus (option_map (shown.described self.now.config) beneficiary)
             (spec.infos_of_user (unwrap_or beneficiary user) (conference_of self.now)) ∷ []) }
         ensures shown { IfOk result (λ tells. All IsShown tells.items) }
     {
@@ -128,7 +131,8 @@ impl State {
     fn floor_tells(&self, alloc: Global, floors: &[u16]) -> Result<Vec<Tell>, AllocError>
         requires floors { self.now.requests.floors ≡ self.now.config.floors }
         requires settled { IsSettled self.now.requests }
-        ensures value { IfOk result (λ tells. tells.items ≡ spec.floor_answers (conference_of self.now) floors.now) }
+        ensures value { IfOk result (λ tells. tells.items
+            ≡ spec.floor_answers (conference_of self.now) floors.now) }
         ensures shown { IfOk result (λ tells. All IsShown tells.items) }
     {
         if floors.is_empty() {
@@ -150,7 +154,8 @@ impl State {
         requires floors { self.now.requests.floors ≡ self.now.config.floors }
         requires settled { IsSettled self.now.requests }
         requires ended { AreAddable self.now.config.floors ended.now }
-        ensures value { IfOk result (λ tells. tells.items ≡ serving.accepted_tells (conference_of self.now) ended.now user ask.now) }
+        ensures value { IfOk result (λ tells. tells.items
+            ≡ serving.accepted_tells (conference_of self.now) ended.now user ask.now) }
         ensures shown { IfOk result (λ tells. All IsShown tells.items) }
     {
         match ask {
@@ -176,7 +181,8 @@ impl State {
         requires settled { IsSettled self.now.requests }
         requires ended { AreAddable self.now.config.floors ended.now }
         requires details { DetailsFit judged.now }
-        ensures value { IfOk result (λ tells. tells.items ≡ serving.judged_tells (conference_of self.now) ended.now user judged.now) }
+        ensures value { IfOk result (λ tells. tells.items
+            ≡ serving.judged_tells (conference_of self.now) ended.now user judged.now) }
         ensures shown { IfOk result (λ tells. All IsShown tells.items) }
     {
         match judged {

@@ -79,7 +79,9 @@ fn is_at_limit(limit: u16, ongoing: &[Request], beneficiary: u16, floor: u16) ->
 
 /// Whether the beneficiary has as many requests for one of the floors as it may.
 fn is_at_some_limit(limit: u16, ongoing: &[Request], beneficiary: u16, floors: &[u16]) -> bool
-    ensures { result ≡ list_any (λ floor. nat_le limit (spec.requests_for ongoing.now beneficiary floor)) floors.now }
+    ensures { result
+        ≡ list_any (λ floor. nat_le limit (spec.requests_for ongoing.now beneficiary floor))
+        floors.now }
 {
     floors
         .iter()
@@ -94,7 +96,8 @@ impl State {
         beneficiary: u16,
         floors: &[u16],
     ) -> Option<ErrorCode>
-        ensures { result ≡ first_of (request_checks (conference_of self.now) user beneficiary floors.now) }
+        ensures { result
+            ≡ first_of (request_checks (conference_of self.now) user beneficiary floors.now) }
     {
         if beneficiary != user && !has_proxy(&self.config, user) {
             return Some(ErrorCode::UnauthorizedOperation);
@@ -150,7 +153,9 @@ impl State {
 
     /// The error code by which the own checks refuse a UserQuery.
     fn user_refusal(&self, beneficiary: Option<u16>) -> Option<ErrorCode>
-        ensures { result ≡ first_of (when (not (option_map_or (is_user self.now.config) beneficiary true)) ErrorCode.UserDoesNotExist ∷ []) }
+        ensures { result
+            ≡ first_of (when (not (option_map_or (is_user self.now.config) beneficiary true))
+            ErrorCode.UserDoesNotExist ∷ []) }
     {
         match beneficiary {
             None => None,
@@ -166,7 +171,9 @@ impl State {
 
     /// The error code by which the own checks refuse a FloorQuery.
     fn floors_refusal(&self, floors: &[u16]) -> Option<ErrorCode>
-        ensures { result ≡ first_of (when (not (list_all (is_floor self.now.config.floors) floors.now)) ErrorCode.InvalidFloorId ∷ []) }
+        ensures { result
+            ≡ first_of (when (not (list_all (is_floor self.now.config.floors) floors.now))
+            ErrorCode.InvalidFloorId ∷ []) }
     {
         if are_floors(self.config.floors(), floors) {
             None
@@ -204,7 +211,9 @@ impl State {
         request: u16,
         verdicts: &[(u16, Verdict)],
     ) -> Option<ErrorCode>
-        ensures { result ≡ on_request (conference_of self.now) request (chair_checks (conference_of self.now) user verdicts.now) }
+        ensures { result
+            ≡ on_request (conference_of self.now) request
+            (chair_checks (conference_of self.now) user verdicts.now) }
     {
         match self.requests.get(request) {
             None => Some(ErrorCode::FloorRequestIdDoesNotExist),
@@ -218,7 +227,8 @@ impl State {
         request: &Request,
         verdicts: &[(u16, Verdict)],
     ) -> Option<ErrorCode>
-        ensures { result ≡ first_of (chair_checks (conference_of self.now) user verdicts.now request.now) }
+        ensures { result
+            ≡ first_of (chair_checks (conference_of self.now) user verdicts.now request.now) }
     {
         if !are_named(request, verdicts) {
             return Some(ErrorCode::InvalidFloorId);
@@ -251,7 +261,9 @@ fn is_chair(floor: &Floor, user: u16) -> bool
 }
 
 fn has_chair(floors: &[Floor], floor: u16, user: u16) -> bool
-    ensures { result ≡ list_any (λ f. f.id == floor && option_map_or (λ chair. chair == user) f.chair false) floors.now }
+    ensures { result
+        ≡ list_any (λ f. f.id == floor && option_map_or (λ chair. chair == user) f.chair false)
+        floors.now }
 {
     floors.iter().any(|f| f.id == floor && is_chair(f, user))
 }

@@ -65,7 +65,8 @@ fn find_ended(ended: &[Ended], number: u16) -> Option<&Ended>
 /// What is shown of a request that ended.
 fn shown_ended(alloc: Global, config: &Config, ended: &Ended) -> Result<Shown, AllocError>
     requires { IsAddable config.now.floors (new_of ended.now.request) }
-    ensures value { IfOk result (λ shown. shown ≡ shown_of config.now [] (entry_of_ended ended.now)) }
+    ensures value { IfOk result (λ shown. shown
+        ≡ shown_of config.now [] (entry_of_ended ended.now)) }
     ensures shown { IfOk result (λ shown. IsShownInfo shown.info) }
 {
     let info = ended_info(alloc, config, ended)?;
@@ -86,7 +87,8 @@ fn shown_ongoing(
 ) -> Result<Option<Shown>, AllocError>
     requires floors { requests.now.floors ≡ config.now.floors }
     requires settled { IsSettled requests.now }
-    ensures value { IfOk result (λ shown. shown ≡ option_map (shown_of config.now requests.now.ongoing)
+    ensures value { IfOk result (λ shown. shown
+        ≡ option_map (shown_of config.now requests.now.ongoing)
         (option_map entry_of (request_at requests.now.ongoing number))) }
     ensures shown { IfOk result (λ shown. IfSome shown (λ s. IsShownInfo s.info)) }
 {
@@ -159,7 +161,8 @@ fn put_if_changed(
     shown: Shown,
     updates: &mut Vec<Update>,
 ) -> Result<(), AllocError>
-    ensures { OnOk result (updates.new.items ≡ updates.old.items ++ spec.update_if before.now shown) }
+    ensures { OnOk result (updates.new.items ≡ updates.old.items
+        ++ spec.update_if before.now shown) }
 {
     if is_changed(before, &shown.info) {
         updates.push(update_of(shown))?;
@@ -200,7 +203,8 @@ pub(crate) fn updates(
     requires floors { requests.now.floors ≡ config.now.floors }
     requires settled { IsSettled requests.now }
     requires ended { AreAddable config.now.floors course.now.ended.items }
-    ensures value { IfOk result (λ updates. updates.items ≡ spec.updates config.now requests.now.ongoing
+    ensures value { IfOk result (λ updates. updates.items
+        ≡ spec.updates config.now requests.now.ongoing
         course.now.ended.items course.now.before.items course.now.numbers.items) }
     ensures shown { IfOk result (λ updates. AreUpdatesShown updates.items) }
 {
@@ -213,7 +217,8 @@ pub(crate) fn updates(
 
 /// Whether the requests that name the floor are shown otherwise than before.
 fn differs_on(alloc: Global, floor: u16, before: &[Info], now: &[Info]) -> Result<bool, AllocError>
-    ensures { IfOk result (λ differs. differs ≡ not (same.same_infos (reply.infos_on floor before.now)
+    ensures { IfOk result (λ differs. differs
+        ≡ not (same.same_infos (reply.infos_on floor before.now)
         (reply.infos_on floor now.now))) }
 {
     let before = infos_on(alloc, floor, before)?;
@@ -224,7 +229,8 @@ fn differs_on(alloc: Global, floor: u16, before: &[Info], now: &[Info]) -> Resul
 /// The status of a floor.
 pub(crate) fn floor_status(alloc: Global, floor: u16, now: &[Info]) -> Result<Tell, AllocError>
     requires { AreShown now.now }
-    ensures value { IfOk result (λ tell. tell ≡ Tell.FloorStatus (Some floor) (reply.infos_on floor now.now)) }
+    ensures value { IfOk result (λ tell. tell
+        ≡ Tell.FloorStatus (Some floor) (reply.infos_on floor now.now)) }
     ensures shown { IfOk result IsShown }
 {
     let infos = infos_on(alloc, floor, now)?;

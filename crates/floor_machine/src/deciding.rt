@@ -47,7 +47,9 @@ fn word_of(verdict: Verdict) -> Word
 /// floor the first stands.
 fn set_words(requests: &mut Requests, request: u16, verdicts: &[(u16, Verdict)])
     requires { All (λ v. MaySetFloor requests.old request v.0) verdicts.now }
-    ensures { requests.new ≡ record requests.old { ongoing = map (change.decided_at request verdicts.now) requests.old.ongoing } }
+    ensures { requests.new ≡ record requests.old {
+      ongoing = map (change.decided_at request verdicts.now) requests.old.ongoing;
+    } }
 {
     for place in 0..verdicts.len() {
         let verdict = verdicts[verdicts.len() - 1 - place];
@@ -65,7 +67,8 @@ pub(crate) fn decide(
 ) -> Result<(), AllocError>
     requires { MayDecide requests.old.ongoing request verdicts.now }
     ensures next { OnOk result (requests.new ≡ after_decide requests.old request verdicts.now) }
-    ensures ended { OnOk result (ended.new.items ≡ ended.old.items ++ ended_by requests.old request verdicts.now) }
+    ensures ended { OnOk result (ended.new.items ≡ ended.old.items
+        ++ ended_by requests.old request verdicts.now) }
     ensures floors { requests.new.floors ≡ requests.old.floors }
 {
     if has_final(verdicts) {

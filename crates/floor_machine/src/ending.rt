@@ -41,7 +41,8 @@ pub(crate) fn release_request(
     requires { IsSome (request_at requests.old.ongoing request) }
     ensures next { OnOk result (requests.new ≡ after_end requests.old request) }
     ensures ended { OnOk result (IfSome (request_at requests.old.ongoing request)
-        (λ r. ended.new.items ≡ ended.old.items ++ record { request = r; ending = change.released r } ∷ [])) }
+        (λ r. ended.new.items ≡ ended.old.items
+        ++ record { request = r; ending = change.released r } ∷ [])) }
     ensures floors { requests.new.floors ≡ requests.old.floors }
 {
     let request = requests.end(request);
@@ -59,7 +60,8 @@ pub(crate) fn dismiss_request(
     requires { IsSome (request_at requests.old.ongoing request) }
     ensures next { OnOk result (requests.new ≡ after_end requests.old request) }
     ensures ended { OnOk result (IfSome (request_at requests.old.ongoing request)
-        (λ r. ended.new.items ≡ ended.old.items ++ record { request = r; ending = change.dismissed r } ∷ [])) }
+        (λ r. ended.new.items ≡ ended.old.items
+        ++ record { request = r; ending = change.dismissed r } ∷ [])) }
     ensures floors { requests.new.floors ≡ requests.old.floors }
 {
     let request = requests.end(request);
@@ -71,7 +73,8 @@ pub(crate) fn dismiss_request(
 /// The number of the first ongoing request that is for this beneficiary.
 fn first_for(requests: &Requests, beneficiary: u16) -> Option<u16>
     ensures found { result
-        ≡ option_map (λ r. r.number) (find (λ r. r.beneficiary == beneficiary) requests.now.ongoing) }
+        ≡ option_map (λ r. r.number)
+        (find (λ r. r.beneficiary == beneficiary) requests.now.ongoing) }
     ensures kept { IsQueue requests.now }
 {
     match requests
@@ -91,7 +94,8 @@ pub(crate) fn release_all_for(
     beneficiary: u16,
 ) -> Result<(), AllocError>
     ensures next { OnOk result (requests.new ≡ after_release_for requests.old beneficiary) }
-    ensures ended { OnOk result (ended.new.items ≡ ended.old.items ++ released_for requests.old beneficiary) }
+    ensures ended { OnOk result (ended.new.items ≡ ended.old.items
+        ++ released_for requests.old beneficiary) }
     ensures floors { requests.new.floors ≡ requests.old.floors }
 {
     while let Some(request) = first_for(requests, beneficiary) {

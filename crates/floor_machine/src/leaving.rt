@@ -1,4 +1,5 @@
-//! A member leaves, and what ends with it (RFC 8855, section 13.4, for the requests that are given back).
+//! A member leaves, and what ends with it (RFC 8855, section 13.4, for the requests that are given
+//! back).
 
 ghost use Rattle.std.specs.Prelude.{◌≡◌, ◌++◌, OnOk, OnErr, map};
 ghost use Rattle.floor_queue.specs.Queue.{IsQueue, IsSettled};
@@ -7,7 +8,7 @@ ghost use Rattle.floor_machine.specs.Conference.{is_present, user_of};
 ghost use Rattle.floor_machine.specs.declared.event.Event.TheVariants.{Leave};
 ghost use Rattle.floor_machine.specs.Fitting.{IsToldShown};
 ghost use Rattle.floor_machine.specs.Journal.{parcels_of};
-ghost use Rattle.floor_machine.specs.Serving.{IsChanged, IsState, conference_of};
+ghost use Rattle.floor_machine.specs.Serving.{IsBegun, IsChanged, IsState, conference_of};
 
 use crate::course::Course;
 use crate::ending::release_all_for;
@@ -48,9 +49,10 @@ impl State {
         requires user { user ≡ user_of (conference_of self.old) n }
         requires state { IsState self.old }
         requires queue { IsQueue self.old.requests }
-        requires begun { IsChanged (conference_of self.old) (change.no_change (conference_of self.old)) (conference_of self.old) course.old }
+        requires begun { IsBegun (conference_of self.old) course.old }
         ensures changed { OnOk result (IsChanged (conference_of self.old)
-            (change.change (conference_of self.old) (Leave n)) (conference_of self.new) course.new) }
+            (change.change (conference_of self.old) (Leave n))
+            (conference_of self.new) course.new) }
         ensures state { OnOk result (IsState self.new) }
     {
         leave(&mut self.members, n);
@@ -64,8 +66,10 @@ impl State {
     pub(crate) fn leave(&mut self, n: u32, out: &mut Vec<Parcel>) -> Result<(), AllocError>
         requires state { IsState self.old }
         requires settled { IsSettled self.old.requests }
-        ensures next { OnOk result (conference_of self.new ≡ change.next (conference_of self.old) (Leave n)) }
-        ensures out { OnOk result (out.new.items ≡ out.old.items ++ parcels_of (conference_of self.old) (Leave n)) }
+        ensures next { OnOk result (conference_of self.new
+            ≡ change.next (conference_of self.old) (Leave n)) }
+        ensures out { OnOk result (out.new.items ≡ out.old.items
+            ++ parcels_of (conference_of self.old) (Leave n)) }
         ensures shown { OnOk result (IsToldShown (conference_of self.old) (Leave n)) }
         ensures err { OnErr result (out.new.items ≡ out.old.items) }
         ensures state { OnOk result (IsState self.new) }

@@ -155,7 +155,8 @@ impl Machine {
     /// Takes the message of a member, and appends what it tells the members to `out`, by ascending
     /// member. After a refusal nothing has changed, but that `Memory` leaves the machine broken.
     pub fn message(&mut self, n: u32, frame: &Frame, out: &mut Vec<Parcel>) -> Result<(), Refusal>
-        ensures next { OnOk result (self.new ≡ whole (next self.old.conference (Message n frame.now))) }
+        ensures next { OnOk result (self.new
+            ≡ whole (next self.old.conference (Message n frame.now))) }
         ensures out { OnOk result (out.new.items
             ≡ out.old.items ++ parcels_of self.old.conference (Message n frame.now)) }
         ensures fits { OnOk result (ToldFits self.old.conference (Message n frame.now)) }
@@ -179,12 +180,13 @@ impl Machine {
         Ok(())
     }
 
-    /// Takes it that a member has left, and appends what that tells the others to `out`, by ascending
-    /// member. Where it was the last connection of its user, the floor requests for that user end.
-    /// After a refusal nothing has changed, but that `Memory` leaves the machine broken.
+    /// Takes it that a member has left, and appends what that tells the others to `out`, by
+    /// ascending member. Where it was the last connection of its user, the floor requests for that
+    /// user end. After a refusal nothing has changed, but that `Memory` leaves the machine broken.
     pub fn leave(&mut self, n: u32, out: &mut Vec<Parcel>) -> Result<(), Refusal>
         ensures next { OnOk result (self.new ≡ whole (next self.old.conference (Leave n))) }
-        ensures out { OnOk result (out.new.items ≡ out.old.items ++ parcels_of self.old.conference (Leave n)) }
+        ensures out { OnOk result (out.new.items ≡ out.old.items
+            ++ parcels_of self.old.conference (Leave n)) }
         ensures fits { OnOk result (ToldFits self.old.conference (Leave n)) }
 
         ensures refused { IsRefusedBy (member_refusal self.old n) result }
@@ -229,11 +231,13 @@ impl Machine {
     }
 
     /// Does what the administrator does, and appends what that tells the members to `out`, by
-    /// ascending member: a Close tells nobody anything. After a refusal nothing has changed, but that
-    /// `Memory` leaves the machine broken.
+    /// ascending member: a Close tells nobody anything. After a refusal nothing has changed, but
+    /// that `Memory` leaves the machine broken.
     pub fn admin(&mut self, act: Act, out: &mut Vec<Parcel>) -> Result<(), Refusal>
-        ensures next { OnOk result (self.new ≡ whole (next self.old.conference (event_of_act act))) }
-        ensures out { OnOk result (out.new.items ≡ out.old.items ++ parcels_of self.old.conference (event_of_act act)) }
+        ensures next { OnOk result (self.new
+            ≡ whole (next self.old.conference (event_of_act act))) }
+        ensures out { OnOk result (out.new.items ≡ out.old.items
+            ++ parcels_of self.old.conference (event_of_act act)) }
         ensures fits { OnOk result (ToldFits self.old.conference (event_of_act act)) }
 
         ensures refused { IsRefusedBy (act_refusal self.old act) result }

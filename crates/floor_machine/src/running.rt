@@ -24,7 +24,8 @@ impl Machine {
     pub fn apply(&mut self, event: &Event, out: &mut Vec<Parcel>) -> Result<(), Refusal>
         requires { length self.old.conference.members < 4294967295 }
         ensures next { OnOk result (self.new ≡ whole (next self.old.conference event.now)) }
-        ensures out { OnOk result (out.new.items ≡ out.old.items ++ parcels_of self.old.conference event.now) }
+        ensures out { OnOk result (out.new.items ≡ out.old.items
+            ++ parcels_of self.old.conference event.now) }
 
         ensures refused { IsRefusedBy (event_refusal self.old event.now) result }
         ensures lawful { OnOk result (IsLawful self.old.conference event.now) }
@@ -50,13 +51,15 @@ impl Machine {
     pub fn run(&mut self, events: &[Event], out: &mut Vec<Parcel>) -> Result<(), Stopped>
         requires { length self.old.conference.members + length events.now < 4294967296 }
         ensures next { OnOk result (self.new ≡ machine_after self.old events.now) }
-        ensures out { OnOk result (out.new.items ≡ out.old.items ++ parcels_from self.old.conference events.now) }
+        ensures out { OnOk result (out.new.items ≡ out.old.items
+            ++ parcels_from self.old.conference events.now) }
         ensures lawful { OnOk result (IsLawfulFrom self.old.conference events.now) }
 
         ensures stopped { IfErr result (IsStopped self.old events.now) }
         ensures err { IfErr result (λ stopped. stopped.refusal ≢ Refusal.Memory
             → self.new ≡ machine_after self.old (take stopped.done events.now)) }
-        ensures memory { IfErr result (λ stopped. stopped.refusal ≡ Refusal.Memory → self.new.is_broken ≡ true) }
+        ensures memory { IfErr result (λ stopped. stopped.refusal ≡ Refusal.Memory
+            → self.new.is_broken ≡ true) }
         ensures err_out { IfErr result (λ stopped. out.new.items
             ≡ out.old.items ++ parcels_from self.old.conference (take stopped.done events.now)) }
     {

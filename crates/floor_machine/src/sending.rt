@@ -47,7 +47,8 @@ pub(crate) struct FloorUpdate {
     pub tell: Tell,
 }
 
-/// The status of a changed floor as it is written once, under User ID 0, for all who watch the floor.
+/// The status of a changed floor as it is written once, under User ID 0, for all who watch the
+/// floor.
 #[derive(Debug, Drop)]
 struct FloorNotice {
     /// The Floor ID.
@@ -125,7 +126,8 @@ fn put_reply(
     reply: &Option<Reply>,
 ) -> Result<(), AllocError>
     requires { IsReplyShown reply.now }
-    ensures { OnOk result (out.new.items ≡ out.old.items ++ map (parcel n) (answered_to reply.now n)) }
+    ensures { OnOk result (out.new.items ≡ out.old.items
+        ++ map (parcel n) (answered_to reply.now n)) }
 {
     if let Some(reply) = reply {
         if reply.n == n {
@@ -240,7 +242,8 @@ fn put_floor_notice(
     member: &Member,
     notice: &FloorNotice,
 ) -> Result<(), AllocError>
-    ensures { OnOk result (out.new.items ≡ out.old.items ++ floor_notice_to member.now notice.now ∷ []) }
+    ensures { OnOk result (out.new.items ≡ out.old.items
+        ++ floor_notice_to member.now notice.now ∷ []) }
 {
     let bytes = notice.frame.addressed(alloc, member.user)?;
     out.push(Parcel {
@@ -312,8 +315,8 @@ fn put_members(
     Ok(())
 }
 
-/// Puts all that an event tells the live members, by ascending number. The status of a changed floor
-/// is spelled once, however many watch the floor.
+/// Puts all that an event tells the live members, by ascending number. The status of a changed
+/// floor is spelled once, however many watch the floor.
 pub(crate) fn put_all(
     alloc: Global,
     out: &mut Vec<Parcel>,

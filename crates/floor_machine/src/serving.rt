@@ -13,7 +13,7 @@ ghost use Rattle.floor_machine.specs.declared.event.Event.TheVariants.{Message};
 ghost use Rattle.floor_machine.specs.Journal.{parcels_of};
 ghost use Rattle.floor_machine.specs.Fitting.{IsToldShown};
 ghost use Rattle.floor_machine.specs.Serving as serving;
-ghost use Rattle.floor_machine.specs.Serving.{HasRoom, IsChanged, IsJudged, IsState, MayServe, changes_requests, conference_of, judged_change, members_judged};
+ghost use Rattle.floor_machine.specs.Serving.{HasRoom, IsBegun, IsChanged, IsJudged, IsState, MayServe, changes_requests, conference_of, judged_change, members_judged};
 ghost use Rattle.floor_machine.specs.Outgoing.{response_head};
 
 use crate::course::Course;
@@ -35,7 +35,8 @@ fn add_request(requests: &mut Requests, numbers: &mut Vec<u16>, new: New) -> Res
     requires addable { IsAddable requests.old.floors new }
     requires room { HasRoom requests.old.ongoing requests.old.given }
     ensures next { OnOk result (requests.new ≡ after_add requests.old new) }
-    ensures numbers { OnOk result (numbers.new.items ≡ numbers.old.items ++ (requests.old.given + 1) ∷ []) }
+    ensures numbers { OnOk result (numbers.new.items ≡ numbers.old.items
+        ++ (requests.old.given + 1) ∷ []) }
     ensures floors { requests.new.floors ≡ requests.old.floors }
 {
     match requests.add(new) {
@@ -65,7 +66,8 @@ fn watch(
     n: u32,
     floors: &Numbers,
 ) -> Result<(), AllocError>
-    ensures { OnOk result (members.new.items ≡ map (change.watching n floors.now) members.old.items) }
+    ensures { OnOk result (members.new.items
+        ≡ map (change.watching n floors.now) members.old.items) }
 {
     for member in members.iter_mut() {
         watch_if(alloc, member, n, floors)?;
@@ -102,7 +104,11 @@ impl State {
     fn judge(&self, alloc: Global, user: u16, frame: &Frame) -> Result<Judged, AllocError>
         requires { self.now.users.items ≡ user_ids self.now.config.users }
         ensures judged { IfOk result (λ judged. (a : Answer)
-            → a ≡ ask frame.now record { conference = self.now.config.conference; user = user; users = user_ids self.now.config.users }
+            → a ≡ ask frame.now record {
+              conference = self.now.config.conference;
+              user = user;
+              users = user_ids self.now.config.users;
+            }
             → judged ≡ serving.judged (conference_of self.now) user a) }
         ensures may { IfOk result (MayServe (conference_of self.now) user) }
     {
@@ -146,12 +152,15 @@ impl State {
         priority: u8,
         info: &Option<Octets>,
     ) -> Result<(), AllocError>
-        requires addable { IsAddable self.old.requests.floors (serving.new_of_ask user beneficiary floors.now priority info.now) }
+        requires addable { IsAddable self.old.requests.floors
+            (serving.new_of_ask user beneficiary floors.now priority info.now) }
         requires room { HasRoom self.old.requests.ongoing self.old.requests.given }
         ensures next { OnOk result (self.new ≡ record self.old {
-          requests = after_add self.old.requests (serving.new_of_ask user beneficiary floors.now priority info.now);
+          requests = after_add self.old.requests
+              (serving.new_of_ask user beneficiary floors.now priority info.now);
         }) }
-        ensures course { OnOk result (course.new.numbers.items ≡ course.old.numbers.items ++ (self.old.requests.given + 1) ∷ []) }
+        ensures course { OnOk result (course.new.numbers.items ≡ course.old.numbers.items
+            ++ (self.old.requests.given + 1) ∷ []) }
         ensures before { course.new.before ≡ course.old.before }
         ensures ended { course.new.ended ≡ course.old.ended }
         ensures kept { IsState self.old → IsState self.new }
@@ -179,9 +188,11 @@ impl State {
         requires may { MayServe (conference_of self.old) user (Judged.Accepted ask.now) }
         requires state { IsState self.old }
         requires queue { IsQueue self.old.requests }
-        requires begun { IsChanged (conference_of self.old) (change.no_change (conference_of self.old)) (conference_of self.old) course.old }
-        ensures changed { user ≡ user_of (conference_of self.old) n → OnOk result (IsChanged (conference_of self.old)
-            (change.asked_change (conference_of self.old) n ask.now) (conference_of self.new) course.new) }
+        requires begun { IsBegun (conference_of self.old) course.old }
+        ensures changed { user ≡ user_of (conference_of self.old) n
+            → OnOk result (IsChanged (conference_of self.old)
+            (change.asked_change (conference_of self.old) n ask.now)
+            (conference_of self.new) course.new) }
         ensures state { OnOk result (IsState self.new) }
     {
         match ask {
@@ -220,9 +231,11 @@ impl State {
         requires may { MayServe (conference_of self.old) user judged.now }
         requires state { IsState self.old }
         requires queue { IsQueue self.old.requests }
-        requires begun { IsChanged (conference_of self.old) (change.no_change (conference_of self.old)) (conference_of self.old) course.old }
-        ensures changed { user ≡ user_of (conference_of self.old) n → OnOk result (IsChanged (conference_of self.old)
-            (judged_change (conference_of self.old) n judged.now) (conference_of self.new) course.new) }
+        requires begun { IsBegun (conference_of self.old) course.old }
+        ensures changed { user ≡ user_of (conference_of self.old) n
+            → OnOk result (IsChanged (conference_of self.old)
+            (judged_change (conference_of self.old) n judged.now)
+            (conference_of self.new) course.new) }
         ensures state { OnOk result (IsState self.new) }
     {
         match judged {
@@ -248,8 +261,10 @@ impl State {
         requires user { user ≡ user_of (conference_of self.old) n }
         requires judged { IsJudged (conference_of self.old) n frame.now judged.now }
         requires may { MayServe (conference_of self.old) user judged.now }
-        ensures next { OnOk result (conference_of self.new ≡ change.next (conference_of self.old) (Message n frame.now)) }
-        ensures out { OnOk result (out.new.items ≡ out.old.items ++ parcels_of (conference_of self.old) (Message n frame.now)) }
+        ensures next { OnOk result (conference_of self.new
+            ≡ change.next (conference_of self.old) (Message n frame.now)) }
+        ensures out { OnOk result (out.new.items ≡ out.old.items
+            ++ parcels_of (conference_of self.old) (Message n frame.now)) }
         ensures shown { OnOk result (IsToldShown (conference_of self.old) (Message n frame.now)) }
         ensures err { OnErr result (out.new.items ≡ out.old.items) }
         ensures state { OnOk result (IsState self.new) }
@@ -267,8 +282,8 @@ impl State {
         self.tell(alloc, &course, &reply, out)
     }
 
-    /// Answers a message that changes no request: its sender alone is told anything, so nothing that
-    /// is shown of the requests is looked at. After an error `out` is as it was.
+    /// Answers a message that changes no request: its sender alone is told anything, so nothing
+    /// that is shown of the requests is looked at. After an error `out` is as it was.
     fn respond(
         &mut self,
         alloc: Global,
@@ -284,8 +299,10 @@ impl State {
         requires user { user ≡ user_of (conference_of self.old) n }
         requires judged { IsJudged (conference_of self.old) n frame.now judged.now }
         requires may { MayServe (conference_of self.old) user judged.now }
-        ensures next { OnOk result (conference_of self.new ≡ change.next (conference_of self.old) (Message n frame.now)) }
-        ensures out { OnOk result (out.new.items ≡ out.old.items ++ parcels_of (conference_of self.old) (Message n frame.now)) }
+        ensures next { OnOk result (conference_of self.new
+            ≡ change.next (conference_of self.old) (Message n frame.now)) }
+        ensures out { OnOk result (out.new.items ≡ out.old.items
+            ++ parcels_of (conference_of self.old) (Message n frame.now)) }
         ensures shown { OnOk result (IsToldShown (conference_of self.old) (Message n frame.now)) }
         ensures err { OnErr result (out.new.items ≡ out.old.items) }
         ensures state { OnOk result (IsState self.new) }
@@ -323,8 +340,10 @@ impl State {
     ) -> Result<(), AllocError>
         requires state { IsState self.old }
         requires settled { IsSettled self.old.requests }
-        ensures next { OnOk result (conference_of self.new ≡ change.next (conference_of self.old) (Message n frame.now)) }
-        ensures out { OnOk result (out.new.items ≡ out.old.items ++ parcels_of (conference_of self.old) (Message n frame.now)) }
+        ensures next { OnOk result (conference_of self.new
+            ≡ change.next (conference_of self.old) (Message n frame.now)) }
+        ensures out { OnOk result (out.new.items ≡ out.old.items
+            ++ parcels_of (conference_of self.old) (Message n frame.now)) }
         ensures shown { OnOk result (IsToldShown (conference_of self.old) (Message n frame.now)) }
         ensures err { OnErr result (out.new.items ≡ out.old.items) }
         ensures state { OnOk result (IsState self.new) }

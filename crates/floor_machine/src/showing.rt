@@ -140,7 +140,9 @@ fn floor_shown(
     requires settled { IsSettled requests.now }
     requires found { request_at requests.now.ongoing request.now.number ≡ Some request.now }
     requires named { names request.now requested.now.floor ≡ true }
-    ensures { result ≡ spec.floor_shown requests.now.floors requests.now.ongoing (entry_of request.now) requested.now }
+    ensures { result
+        ≡ spec.floor_shown requests.now.floors requests.now.ongoing
+        (entry_of request.now) requested.now }
 {
     let status = floor_status(request, requested).number();
     let position = requests.position(request.number, requested.floor);
@@ -155,7 +157,9 @@ fn floors_shown(
 ) -> Result<Vec<(u16, Option<(u8, u8)>)>, AllocError>
     requires settled { IsSettled requests.now }
     requires found { request_at requests.now.ongoing request.now.number ≡ Some request.now }
-    ensures { IfOk result (λ shown. shown.items ≡ map (spec.floor_shown requests.now.floors requests.now.ongoing (entry_of request.now)) request.now.floors) }
+    ensures { IfOk result (λ shown. shown.items
+        ≡ map (spec.floor_shown requests.now.floors requests.now.ongoing
+        (entry_of request.now)) request.now.floors) }
 {
     let mut shown = Vec::new(alloc);
     for requested in request.floors.as_slice() {
@@ -177,7 +181,8 @@ fn ended_floors_shown(
     status: u8,
     request: &Request,
 ) -> Result<Vec<(u16, Option<(u8, u8)>)>, AllocError>
-    ensures { IfOk result (λ shown. shown.items ≡ map (ended_floor_shown status) request.now.floors) }
+    ensures { IfOk result (λ shown. shown.items
+        ≡ map (ended_floor_shown status) request.now.floors) }
 {
     request
         .floors
@@ -215,7 +220,8 @@ fn info_with(
     status: u8,
     shown: Vec<(u16, Option<(u8, u8)>)>,
 ) -> Result<Info, AllocError>
-    ensures value { IfOk result (λ info. info ≡ info_with config.now request.now status shown.items) }
+    ensures value { IfOk result (λ info. info
+        ≡ info_with config.now request.now status shown.items) }
     ensures kept { OnOk result (IsConfiguration config.now) }
     ensures numbers { OnOk result (HasNumbers request.now) }
 {
@@ -244,7 +250,8 @@ pub(crate) fn info(
     requires floors { requests.now.floors ≡ config.now.floors }
     requires settled { IsSettled requests.now }
     requires found { request_at requests.now.ongoing request.now.number ≡ Some request.now }
-    ensures value { IfOk result (λ shown. shown ≡ info config.now requests.now.ongoing request.now) }
+    ensures value { IfOk result (λ shown. shown
+        ≡ info config.now requests.now.ongoing request.now) }
     ensures shown { IfOk result IsShownInfo }
 {
     // Each ongoing request is one that could be added, which bounds what is shown of it.
@@ -262,7 +269,8 @@ pub(crate) fn info(
 /// What is shown of a request that ended.
 pub(crate) fn ended_info(alloc: Global, config: &Config, ended: &Ended) -> Result<Info, AllocError>
     requires { IsAddable config.now.floors (new_of ended.now.request) }
-    ensures value { IfOk result (λ shown. shown ≡ info_of config.now [] (entry_of_ended ended.now)) }
+    ensures value { IfOk result (λ shown. shown
+        ≡ info_of config.now [] (entry_of_ended ended.now)) }
     ensures shown { IfOk result IsShownInfo }
 {
     let status = ended.ending.number();

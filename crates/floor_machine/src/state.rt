@@ -100,7 +100,8 @@ impl State {
         requires state { IsState self.old }
         requires settled { IsSettled self.old.requests }
         ensures number { IfOk result (λ n. n ≡ length self.old.members.items + 1) }
-        ensures next { OnOk result (conference_of self.new ≡ change.next (conference_of self.old) (Join user)) }
+        ensures next { OnOk result (conference_of self.new
+            ≡ change.next (conference_of self.old) (Join user)) }
         ensures told { OnOk result (parcels_of (conference_of self.old) (Join user) ≡ []) }
         ensures state { IsState self.new }
         ensures settled { IsSettled self.new.requests }
@@ -122,8 +123,10 @@ impl State {
     pub(crate) fn begin(&self, alloc: Global) -> Result<Course, AllocError>
         requires floors { self.now.requests.floors ≡ self.now.config.floors }
         requires settled { IsSettled self.now.requests }
-        ensures before { IfOk result (λ course. course.before.items ≡ infos_of self.now.config self.now.requests.ongoing) }
-        ensures numbers { IfOk result (λ course. course.numbers.items ≡ numbers_of self.now.requests.ongoing) }
+        ensures before { IfOk result (λ course. course.before.items
+            ≡ infos_of self.now.config self.now.requests.ongoing) }
+        ensures numbers { IfOk result (λ course. course.numbers.items
+            ≡ numbers_of self.now.requests.ongoing) }
         ensures ended { IfOk result (λ course. course.ended.items ≡ []) }
         ensures queue { IfOk result (λ course. IsQueue self.now.requests) }
     {
@@ -148,14 +151,19 @@ impl State {
         requires settled { IsSettled self.now.requests }
         requires ended { AreAddable self.now.config.floors course.now.ended.items }
         requires reply { IsReplyShown reply.now }
-        ensures told { OnOk result (out.new.items ≡ out.old.items ++ parcels_to_all self.now.config.conference reply.now
-            (steps.updates self.now.config self.now.requests.ongoing course.now.ended.items course.now.before.items course.now.numbers.items)
-            (steps.floor_updates course.now.before.items (infos_of self.now.config self.now.requests.ongoing) self.now.config.floors)
+        ensures told { OnOk result (out.new.items ≡ out.old.items
+            ++ parcels_to_all self.now.config.conference reply.now
+            (steps.updates self.now.config self.now.requests.ongoing course.now.ended.items
+            course.now.before.items course.now.numbers.items)
+            (steps.floor_updates course.now.before.items
+            (infos_of self.now.config self.now.requests.ongoing) self.now.config.floors)
             self.now.members.items) }
         ensures requests_shown { OnOk result (AreUpdatesShown
-            (steps.updates self.now.config self.now.requests.ongoing course.now.ended.items course.now.before.items course.now.numbers.items)) }
+            (steps.updates self.now.config self.now.requests.ongoing course.now.ended.items
+            course.now.before.items course.now.numbers.items)) }
         ensures floors_shown { OnOk result (AreFloorsShown
-            (steps.floor_updates course.now.before.items (infos_of self.now.config self.now.requests.ongoing) self.now.config.floors)) }
+            (steps.floor_updates course.now.before.items
+            (infos_of self.now.config self.now.requests.ongoing) self.now.config.floors)) }
         ensures err { OnErr result (out.new.items ≡ out.old.items) }
     {
         let updates = updates(alloc, &self.config, &self.requests, course)?;

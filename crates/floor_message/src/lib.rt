@@ -3,8 +3,8 @@
 //!
 //! It stands on `floor_wire` for headers, attributes and frames. Reading an Ask makes every check
 //! that the header and the attributes alone decide, in the order of the codes that answer them. The
-//! checks that need a conference's state are left to the caller, as is the answer itself. It does no
-//! input or output.
+//! checks that need a conference's state are left to the caller, as is the answer itself. It does
+//! no input or output.
 #![tactic(auto)]
 
 mod ask;

@@ -46,9 +46,11 @@ impl Model for Requests {
 
     ghost Value = { Queue };
 
-    ghost view = { λ q. record { floors = q.floors.items; given = q.given; ongoing = q.ongoing.items } };
+    ghost view = { λ q.
+        record { floors = q.floors.items; given = q.given; ongoing = q.ongoing.items } };
 
-    ghost invariant = { λ q. IsQueue record { floors = q.floors.items; given = q.given; ongoing = q.ongoing.items } };
+    ghost invariant = { λ q. IsQueue
+        record { floors = q.floors.items; given = q.given; ongoing = q.ongoing.items } };
 }
 
 impl Requests {
@@ -284,7 +286,8 @@ fn first_floors(
     floors: &[Floor],
     numbers: &[u16],
 ) -> Result<Vec<RequestedFloor>, AllocError>
-    ensures { IfOk result (λ requested. requested.items ≡ map (first_floor floors.now) numbers.now) }
+    ensures { IfOk result (λ requested. requested.items
+        ≡ map (first_floor floors.now) numbers.now) }
 {
     numbers
         .iter()

@@ -8,8 +8,8 @@ use std::alloc::{AllocError, AllocFailed};
 /// What is wrong with an attribute itself. BadLength is looked at before Overrun.
 #[derive(Clone, Copy, Debug, PartialEq, Eq)]
 pub enum Cause {
-    /// No attribute of the type has the Length: it is below 2, or not 4 at the types 1 to 5, or below
-    /// 4 or no multiple of 4 at a group.
+    /// No attribute of the type has the Length: it is below 2, or not 4 at the types 1 to 5, or
+    /// below 4 or no multiple of 4 at a group.
     BadLength,
     /// The head or the padded contents pass the end of the bytes or of the group.
     Overrun,

@@ -61,7 +61,8 @@ impl Frame {
         requires writable { IsWritable (attributes_of attrs.now) }
         requires fits { length (canon (attributes_of attrs.now)) ≤ MAX_PAYLOAD_LEN }
         ensures { let payload = canon (attributes_of attrs.now) in
-            IfOk result (λ frame. frame ≡ header_bytes primitive (length payload / 4) conference transaction user ++ payload) }
+            IfOk result (λ frame. frame
+            ≡ header_bytes primitive (length payload / 4) conference transaction user ++ payload) }
     {
         let bytes = write::message(alloc, primitive, conference, transaction, user, attrs)?;
         let bytes = Bytes::from_vec(bytes)?;

@@ -56,7 +56,8 @@ impl Framer {
     pub fn next(&mut self) -> Result<Option<Frame>, AllocError>
         ensures message { IfOk result (λ next. MatchOption next
             ((messages self.old ≡ []) × (self.new ≡ self.old))
-            (λ frame. (messages self.old ≡ frame ∷ messages self.new) × (self.old ≡ frame ++ self.new))) }
+            (λ frame. (messages self.old ≡ frame ∷ messages self.new)
+            × (self.old ≡ frame ++ self.new))) }
         ensures err { OnErr result (self.new ≡ self.old) }
     {
         let held = self.held.as_slice();

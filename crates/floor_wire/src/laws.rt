@@ -1,5 +1,5 @@
-//! Laws of the definitions of framing and of attributes. Each is the contract of a function that does
-//! nothing.
+//! Laws of the definitions of framing and of attributes. Each is the contract of a function that
+//! does nothing.
 
 ghost use Rattle.std.specs.Prelude.{◌≡◌, ◌⊎◌, ◌++◌, length, List, ℕ, Some};
 ghost use Rattle.floor_wire.specs.Message.{Divides, messages, rest};
@@ -17,8 +17,8 @@ pub fn a_stream_divides_in_one_way()
         → (ms ≡ messages s) × (more ≡ rest s) }
 {}
 
-/// The messages of a stream are those of its front, and then those of what is left of the front with
-/// all that follows.
+/// The messages of a stream are those of its front, and then those of what is left of the front
+/// with all that follows.
 pub fn pieces_add_up()
     ensures messages { (s t : List ℕ) → messages (s ++ t) ≡ messages s ++ messages (rest s ++ t) }
     ensures rest { (s t : List ℕ) → rest (s ++ t) ≡ rest (rest s ++ t) }
@@ -45,7 +45,8 @@ pub fn a_fault_is_the_only_one()
 
 /// The fault of bytes is that of the attribute with the lowest offset that has one itself.
 pub fn the_fault_is_the_first()
-    ensures first { (s : List ℕ) (at : ℕ) (cause : Cause) → HasFault s at cause → IsFirstFault s at cause }
+    ensures first { (s : List ℕ) (at : ℕ) (cause : Cause) → HasFault s at cause
+        → IsFirstFault s at cause }
     ensures fault { (s : List ℕ) (at : ℕ) (cause : Cause) → IsBytes s
         → IsFirstFault s at cause → HasFault s at cause }
 {}

@@ -33,7 +33,8 @@ pub fn read_attrs(alloc: Global, bytes: &[u8]) -> Result<Attrs, WireFault>
     ensures only { (a : Attributes) → Spells a bytes.now
         → MatchResult result (λ attrs. attrs ≡ a) (λ e. e ≡ WireFault.Memory) }
     ensures told { (at : ℕ) (cause : Cause) → HasFault bytes.now at cause
-        → IfErr result (λ e. (e ≡ WireFault.Memory) ⊎ (e ≡ fault_at_place cause at)) × IsErr result }
+        → IfErr result (λ e. (e ≡ WireFault.Memory) ⊎ (e ≡ fault_at_place cause at))
+        × IsErr result }
 
     // The same of what is computed of the bytes.
     ensures value { MatchResult result (λ attrs. spelled bytes.now ≡ Some attrs)

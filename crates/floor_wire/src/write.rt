@@ -38,7 +38,8 @@ pub(crate) fn message(
     requires writable { IsWritable (attributes_of attrs.now) }
     requires fits { length (canon (attributes_of attrs.now)) ≤ MAX_PAYLOAD_LEN }
     ensures { let payload = canon (attributes_of attrs.now) in
-        IfOk result (λ v. v.items ≡ header_bytes primitive (length payload / 4) conference transaction user ++ payload) }
+        IfOk result (λ v. v.items
+        ≡ header_bytes primitive (length payload / 4) conference transaction user ++ payload) }
 {
     let mut out = Vec::new(alloc);
     put_header(&mut out, primitive, conference, transaction, user)?;

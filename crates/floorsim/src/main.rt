@@ -1,9 +1,9 @@
-//! Runs a script of connections and messages over one conference, and prints what each connection is
-//! sent.
+//! Runs a script of connections and messages over one conference, and prints what each connection
+//! is sent.
 //!
-//! Standard input holds a configuration, a line `---` and the script, or the script alone. Status 0;
-//! 1 for a read or write fault or where memory ran out; 2 for a refused configuration or a bad line,
-//! whose fault is the last line that is printed.
+//! Standard input holds a configuration, a line `---` and the script, or the script alone. Status
+//! 0; 1 for a read or write fault or where memory ran out; 2 for a refused configuration or a bad
+//! line, whose fault is the last line that is printed.
 #![tactic(auto)]
 
 mod line;

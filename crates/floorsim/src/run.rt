@@ -39,8 +39,8 @@ impl<T: Drop> From<AllocFailed<T>> for RunFault {
     }
 }
 
-/// Runs the script of `input`, prints its answers to `output`, and gives the exit status: 0; 1 for a
-/// read or write fault or where memory ran out; 2 for a refused configuration or a bad line.
+/// Runs the script of `input`, prints its answers to `output`, and gives the exit status: 0; 1 for
+/// a read or write fault or where memory ran out; 2 for a refused configuration or a bad line.
 pub fn run<R: Read, W: Write + Drop>(alloc: Global, input: &mut R, output: &mut W) -> u8 {
     match run_all(alloc, input, output) {
         Ok(()) => 0,

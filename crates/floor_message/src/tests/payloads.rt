@@ -105,8 +105,8 @@ fn what_any_payload_of_up_to_four_letters_asks_is_read_back(rt: HostRuntime) -> 
         }
     }
     // Nothing at all asks by UserQuery, FloorQuery and Hello; so do 576 words, 64 for each type of
-    // the alphabet and each Length that it may have. FloorRequest, FloorRelease and FloorRequestQuery
-    // need one type, of Length 4.
+    // the alphabet and each Length that it may have. FloorRequest, FloorRelease and
+    // FloorRequestQuery need one type, of Length 4.
     assert_eq!(rt; asks, 3 + 3 * 576 + 3 * 64);
     Ok(())
 }

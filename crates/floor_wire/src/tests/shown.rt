@@ -24,8 +24,8 @@ pub fn bytes(alloc: Global, text: &str) -> Result<Vec<u8>, AllocError> {
     Ok(out)
 }
 
-/// Each attribute as its type, `!` where M is set, `=` and its contents: a number, two bytes, a head
-/// number with the included attributes in parentheses, or a list of bytes.
+/// Each attribute as its type, `!` where M is set, `=` and its contents: a number, two bytes, a
+/// head number with the included attributes in parentheses, or a list of bytes.
 #[cycle(shown)]
 pub fn shown(alloc: Global, attrs: &[Attr]) -> Result<String, AllocError> {
     let mut text = String::new(alloc);

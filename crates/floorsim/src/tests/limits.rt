@@ -42,8 +42,8 @@ fn full_conference(alloc: Global) -> Result<String, Fail> {
     Ok(text)
 }
 
-/// What the release of request 1 tells: the users of connections 1 to 16 in turn, of each of their 16
-/// requests by ascending number, that one request fewer is before it.
+/// What the release of request 1 tells: the users of connections 1 to 16 in turn, of each of their
+/// 16 requests by ascending number, that one request fewer is before it.
 fn moved_up(alloc: Global) -> Result<String, Fail> {
     let mut text = String::from_str(alloc, "> 1 R(0002, 000a, 0001, 0600, 0001, 4000)\n")?;
     for line in 1..256u16 {
