@@ -22,3 +22,4 @@ pub mod Kept
 pub mod Lawful
 pub mod Runs
 pub mod Bounds
+pub mod Members

@@ -1,6 +1,6 @@
 //! The floor machine of one conference (RFC 8855, sections 8 to 13).
 
-ghost use Rattle.std.specs.Prelude.{◌≡◌, ◌+◌, ◌<◌, ◌++◌, [], true, IfOk, IfSome, OnOk, OnErr, Err, length, count_by};
+ghost use Rattle.std.specs.Prelude.{◌≡◌, ◌+◌, ◌<◌, ◌≤◌, ◌++◌, [], true, IfOk, IfSome, OnOk, OnErr, Err, length, count_by};
 ghost use Rattle.floor_machine.specs.Change.{IsLawful, next};
 ghost use Rattle.floor_machine.specs.Conference.{opening};
 ghost use Rattle.floor_machine.specs.declared.event.Event.TheVariants.{Join, Message, Leave};
@@ -93,6 +93,35 @@ impl Machine {
         ensures { result ≡ length self.now.conference.members }
     {
         self.state.members.len()
+    }
+
+    /// Whether the conference has not ended. Takes no memory.
+    pub fn is_open(&self) -> bool
+        ensures { result ≡ self.now.conference.is_open }
+    {
+        self.state.is_open
+    }
+
+    /// Whether want of memory has broken off an event. Takes no memory.
+    pub fn is_broken(&self) -> bool
+        ensures { result ≡ self.now.is_broken }
+    {
+        self.is_broken
+    }
+
+    /// How many members are live. Takes no memory.
+    pub fn live_members(&self) -> usize
+        ensures { result ≡ count_by (λ m. m.is_live) self.now.conference.members }
+    {
+        live_members(&self.state.members)
+    }
+
+    /// How many floor requests are ongoing. Takes no memory.
+    pub fn ongoing_requests(&self) -> usize
+        ensures value { result ≡ length self.now.conference.ongoing }
+        ensures few { result ≤ 256 }
+    {
+        self.state.requests.ongoing().len()
     }
 
     /// Why the user may not join.
