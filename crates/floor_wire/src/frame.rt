@@ -14,9 +14,6 @@ use bytes::Bytes;
 use std::alloc::{AllocError, Global};
 use std::marker::Model;
 
-/// At which byte of a message its User ID stands.
-const USER_AT: usize = 10;
-
 /// The bytes of exactly one message.
 #[derive(Debug, Drop)]
 pub struct Frame {
@@ -35,7 +32,7 @@ impl Model for Frame {
 }
 
 impl Frame {
-    ghost use Rattle.floor_wire.specs.Header.{addressed, header_of};
+    ghost use Rattle.floor_wire.specs.Header.{header_of};
 
     /// A frame of these bytes, which it copies, where they are exactly one message.
     pub fn of(alloc: Global, bytes: &[u8]) -> Result<Option<Frame>, AllocError>
@@ -69,24 +66,19 @@ impl Frame {
         Ok(Frame { bytes })
     }
 
-    /// The bytes of the message with another User ID in its header: what is told to many users is
-    /// spelled once.
-    pub fn addressed(&self, alloc: Global, user: u16) -> Result<Vec<u8>, AllocError>
-        ensures { IfOk result (λ bytes. bytes.items ≡ addressed self.now user) }
-    {
-        let message = self.bytes();
-        let mut bytes = Vec::with_capacity(alloc, message.len())?;
-        bytes.extend_from_slice(&message[..USER_AT])?;
-        bytes.extend_from_slice(&user.to_be_bytes())?;
-        bytes.extend_from_slice(&message[HEADER_LEN..])?;
-        Ok(bytes)
-    }
-
     pub(crate) fn new(bytes: Bytes) -> Frame
         requires { IsMessage bytes }
         ensures { result ≡ bytes }
     {
         Frame { bytes }
+    }
+
+    /// The bytes of the message, which are moved out.
+    pub(crate) fn into_bytes(self) -> Bytes
+        ensures value { result ≡ self }
+        ensures message { IsMessage self }
+    {
+        self.bytes
     }
 
     /// The bytes of the message, its header first.

@@ -13,6 +13,7 @@ mod laws;
 mod numbers;
 mod octets;
 mod read;
+mod shared;
 mod write;
 
 pub use attribute::{Attr, Attrs, Body};
@@ -30,6 +31,7 @@ pub use laws::{
 pub use numbers::Numbers;
 pub use octets::Octets;
 pub use read::read_attrs;
+pub use shared::SharedFrame;
 pub use write::write_attrs;
 
 #[cfg(test)]

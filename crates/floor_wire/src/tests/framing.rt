@@ -1,5 +1,5 @@
 use super::shown::bytes;
-use crate::{Attr, Body, Frame, Framer};
+use crate::{Attr, Body, Frame, Framer, SharedFrame};
 use std::test::Fail;
 
 const HELLO: &str = "200b0000 00000001 0001 000a";
@@ -89,8 +89,12 @@ fn a_message_is_addressed_to_another_user(rt: HostRuntime) -> Result<(), Fail> {
     let message = bytes(rt.alloc(), "20010001 00000001 0002 000a 04040001")?;
     let frame = Frame::of(rt.alloc(), &message)?.ok_or("no message")?;
     let wanted = bytes(rt.alloc(), "20010001 00000001 0002 fffe 04040001")?;
-    let addressed = frame.addressed(rt.alloc(), 0xfffe)?;
-    assert_eq!(rt; addressed, wanted);
+    let shared = SharedFrame::of(frame);
+    let addressed = shared.addressed(0xfffe)?;
+    assert_eq!(rt; shared.header(), &message[..12]);
+    assert_eq!(rt; addressed.header(), &wanted[..12]);
+    assert_eq!(rt; addressed.payload(), &wanted[12..]);
+    assert_eq!(rt; addressed.len(), 16);
     Ok(())
 }
 
