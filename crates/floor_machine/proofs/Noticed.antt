@@ -5,7 +5,7 @@ use Rattle.floor_wire.specs.Header.{addressed}
 use Rattle.floor_message.specs.Written.{tell_bytes}
 use Rattle.floor_message.specs.declared.tell.Tell.{Tell}
 use Rattle.floor_machine.specs.declared.member.Member.{Member}
-use Rattle.floor_machine.specs.declared.parcel.Parcel.{Parcel}
+use Rattle.floor_machine.specs.Parcel.{Parcel}
 use Rattle.floor_machine.specs.declared.sending.FloorUpdate.{FloorUpdate}
 use Rattle.floor_machine.specs.declared.sending.Reply.{Reply}
 use Rattle.floor_machine.specs.declared.sending.Update.{Update}

@@ -2,6 +2,7 @@ pub mod Conference
 pub mod Shown
 pub mod Checks
 pub mod Change
+pub mod Parcel
 pub mod Outgoing
 pub mod Reply
 pub mod Same

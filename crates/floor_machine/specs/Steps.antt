@@ -14,7 +14,7 @@ use Rattle.floor_message.specs.declared.tell.Info.{Info}
 use Rattle.floor_message.specs.declared.tell.Tell.{Tell}
 use Rattle.floor_message.specs.declared.tell.Tell.TheVariants.{FloorRequestStatus, FloorStatus}
 use Rattle.floor_machine.specs.declared.member.Member.{Member}
-use Rattle.floor_machine.specs.declared.parcel.Parcel.{Parcel}
+use Rattle.floor_machine.specs.Parcel.{Parcel}
 use Rattle.floor_machine.specs.declared.course.Ended.{Ended}
 use Rattle.floor_machine.specs.declared.course.Shown.{Shown}
 use Rattle.floor_machine.specs.declared.sending.Reply.{Reply}
@@ -159,11 +159,11 @@ parcels_to_all conference reply requests floors members =
 
 -- the status of a changed floor as it is written, under User ID 0
 abbrev pub floor_notice : ℕ → FloorUpdate → FloorNotice
-floor_notice conference update = record { floor = update.floor; frame = tell_bytes (notice_head conference 0) update.tell }
+floor_notice conference update = record { floor = update.floor; message = tell_bytes (notice_head conference 0) update.tell }
 
 -- it, under the User ID of the member
 abbrev pub floor_notice_to : Member → FloorNotice → Parcel
-floor_notice_to m notice = record { n = m.n; bytes = addressed notice.frame m.user }
+floor_notice_to m notice = record { n = m.n; bytes = addressed notice.message m.user }
 
 -- the member watches the floor
 abbrev pub is_noticed : Member → FloorNotice → Bool

@@ -11,7 +11,7 @@ ghost use Rattle.floor_machine.specs.Steps.{answered, answered_to, floor_notice,
 use crate::member::Member;
 use crate::parcel::Parcel;
 use floor_message::{Head, Tell, what_is_shown_fits, write_tell};
-use floor_wire::{Frame, Octets};
+use floor_wire::SharedFrame;
 use std::alloc::{AllocError, Global};
 
 /// What the sender of a message is answered.
@@ -54,7 +54,7 @@ struct FloorNotice {
     /// The Floor ID.
     floor: u16,
     /// The message.
-    frame: Frame,
+    message: SharedFrame,
 }
 
 /// Puts one message to the member with this number.
@@ -71,8 +71,7 @@ fn put(
 {
     what_is_shown_fits();
     let frame = write_tell(alloc, head, tell)?;
-    let bytes = Octets::from_vec(Vec::from_slice(alloc, frame.bytes())?);
-    out.push(Parcel { n, bytes })?;
+    out.push(Parcel::new(n, frame))?;
     Ok(())
 }
 
@@ -229,7 +228,7 @@ fn floor_notices(
         let frame = write_tell(alloc, &head, &update.tell)?;
         notices.push(FloorNotice {
             floor: update.floor,
-            frame,
+            message: SharedFrame::of(frame),
         })?;
     }
     Ok(notices)
@@ -237,7 +236,6 @@ fn floor_notices(
 
 /// Puts the status of a changed floor to the member.
 fn put_floor_notice(
-    alloc: Global,
     out: &mut Vec<Parcel>,
     member: &Member,
     notice: &FloorNotice,
@@ -245,17 +243,13 @@ fn put_floor_notice(
     ensures { OnOk result (out.new.items ≡ out.old.items
         ++ floor_notice_to member.now notice.now ∷ []) }
 {
-    let bytes = notice.frame.addressed(alloc, member.user)?;
-    out.push(Parcel {
-        n: member.n,
-        bytes: Octets::from_vec(bytes),
-    })?;
+    let message = notice.message.addressed(member.user)?;
+    out.push(Parcel::of(member.n, message))?;
     Ok(())
 }
 
 /// Puts the statuses of the changed floors that the member watches.
 fn put_floor_notices(
-    alloc: Global,
     out: &mut Vec<Parcel>,
     member: &Member,
     notices: &[FloorNotice],
@@ -265,7 +259,7 @@ fn put_floor_notices(
 {
     for notice in notices {
         if watches(member, notice.floor) {
-            put_floor_notice(alloc, out, member, notice)?;
+            put_floor_notice(out, member, notice)?;
         }
     }
     Ok(())
@@ -289,7 +283,7 @@ fn put_member(
     if member.is_live {
         put_reply(alloc, out, member.n, reply)?;
         put_updates(alloc, out, conference, member, reply, updates)?;
-        put_floor_notices(alloc, out, member, notices)?;
+        put_floor_notices(out, member, notices)?;
     }
     Ok(())
 }

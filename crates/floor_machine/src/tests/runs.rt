@@ -225,9 +225,11 @@ fn assert_told(
 ) -> Result<(), Fail> {
     assert_eq!(rt; out.len(), expected.len(), "{name}");
     for (parcel, (n, text)) in out.iter().zip(expected) {
-        assert_eq!(rt; parcel.n, *n, "{name}");
-        let wanted = bytes(alloc, text)?;
-        assert_eq!(rt; parcel.bytes.as_slice(), wanted.as_slice(), "{name}");
+        assert_eq!(rt; parcel.n(), *n, "{name}");
+        let mut sent = Vec::from_slice(alloc, parcel.header())?;
+        sent.extend_from_slice(parcel.payload())?;
+        assert_eq!(rt; sent, bytes(alloc, text)?, "{name}");
+        assert_eq!(rt; parcel.len(), sent.len(), "{name}");
     }
     Ok(())
 }

@@ -4,5 +4,4 @@ use Rattle.floor_machine.proofs.sending.put.Goals as goal
 
 pub returns : goal.returns
 unfolding outgoing_bytes
-returns c =
-    rw (c.in_ok-push.ensures.items, c.from_vec-bytes.ensures, c.in_ok-from_slice.ensures.items, c.bytes.ensures.same, c.in_ok-frame.ensures) refl
+returns c = rw (c.in_ok-push.ensures.items, c.new.ensures.value, c.in_ok-frame.ensures) refl

@@ -1,5 +1,5 @@
 use Rattle.std.proofs.Common.{◌++◌, List, ap, ◌∙◌}
-use Rattle.floor_machine.specs.declared.parcel.Parcel.{Parcel}
+use Rattle.floor_machine.specs.Parcel.{Parcel}
 use Rattle.floor_machine.specs.declared.sending.FloorNotice.{FloorNotice}
 use Rattle.floor_machine.specs.Steps.{noticed_to_all}
 use Rattle.floor_machine.proofs.Asked.{on_ok}

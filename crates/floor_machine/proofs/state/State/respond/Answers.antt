@@ -5,7 +5,7 @@ use Rattle.floor_queue.specs.Order.{settle}
 use Rattle.floor_machine.specs.declared.event.Event.{Event}
 use Rattle.floor_machine.specs.declared.event.Event.TheVariants.{Message}
 use Rattle.floor_machine.specs.declared.member.Member.{Member}
-use Rattle.floor_machine.specs.declared.parcel.Parcel.{Parcel}
+use Rattle.floor_machine.specs.Parcel.{Parcel}
 use Rattle.floor_machine.specs.declared.sending.Reply.{Reply}
 use Rattle.floor_machine.specs.Conference.{Conference, user_of}
 use Rattle.floor_machine.specs.Change.{next}

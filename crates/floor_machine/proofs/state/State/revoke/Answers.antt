@@ -1,7 +1,7 @@
 use Rattle.std.proofs.Common.{List, ◌++◌, ap, refl, ◌∙◌}
 use Rattle.floor_machine.specs.declared.event.Event.{Event}
 use Rattle.floor_machine.specs.declared.event.Event.TheVariants.{Revoke}
-use Rattle.floor_machine.specs.declared.parcel.Parcel.{Parcel}
+use Rattle.floor_machine.specs.Parcel.{Parcel}
 use Rattle.floor_machine.specs.Change.{change}
 use Rattle.floor_machine.specs.Serving.{conference_of}
 use Rattle.floor_machine.proofs.Addable.{revoked_addable, queue_addable}

@@ -1,7 +1,7 @@
 use Rattle.std.proofs.Common.{◌≡◌, ℕ, ◌++◌, List, Some, sym, refl, ap, subst, ◌∙◌}
 use Rattle.floor_message.specs.Ask.{Answer, ask}
 use Rattle.floor_machine.specs.declared.course.Ended.{Ended}
-use Rattle.floor_machine.specs.declared.parcel.Parcel.{Parcel}
+use Rattle.floor_machine.specs.Parcel.{Parcel}
 use Rattle.floor_machine.specs.declared.sending.Reply.{Reply}
 use Rattle.floor_machine.specs.Conference.{Conference, binding, user_of}
 use Rattle.floor_machine.specs.declared.event.Event.{Event}
