@@ -206,7 +206,7 @@ fn print_waiting<W: Write>(
 ) -> Result<(), RunFault> {
     let mut parcels = simulation.take_waiting();
     // The sort keeps the order of the parcels of one connection.
-    parcels.sort_by_key(|parcel| parcel.n)?;
+    parcels.sort_by_key(|parcel| parcel.n())?;
     for parcel in parcels.as_slice() {
         print_parcel(alloc, parcel, output)?;
     }
@@ -214,7 +214,8 @@ fn print_waiting<W: Write>(
 }
 
 fn print_parcel<W: Write>(alloc: Global, parcel: &Parcel, output: &mut W) -> Result<(), RunFault> {
-    let text = hex::encode(alloc, parcel.bytes.as_slice())?;
-    writeln!(output, "{} {}", parcel.n, text.as_str())?;
+    let header = hex::encode(alloc, parcel.header())?;
+    let payload = hex::encode(alloc, parcel.payload())?;
+    writeln!(output, "{} {}{}", parcel.n(), header.as_str(), payload.as_str())?;
     Ok(())
 }
