@@ -171,3 +171,41 @@ rest-append s t =
       each = subst (λ (ms : List (List ℕ)). All IsMessage ms) (messages-append s t) (messages_are_messages (s ++ t));
       longest = λ others more each e. rw (← messages-append s t) ((divides (s ++ t)).longest others more each e);
     }))
+
+cancelled : (front a b : List ℕ) → front ++ a ≡ front ++ b → a ≡ b
+cancelled front a b e =
+    sym (drop_at front a (length front) refl) ∙ ap (λ x. drop (length front) x) e ∙ drop_at front b (length front) refl
+
+-- what is left behind a message at the front
+pub rest-message : (m t : List ℕ) → IsMessage m → rest (m ++ t) ≡ rest t
+rest-message m t h =
+    cancelled (m ++ concat (messages t)) (rest (m ++ t)) (rest t)
+    (ap (λ x. concat x ++ rest (m ++ t)) (sym (messages-message m t h)) ∙ sym (whole (m ++ t)) ∙ ap (λ x. m ++ x) (whole t)
+    ∙ sym (append_assoc m (concat (messages t)) (rest t)))
+
+-- what is left behind messages at the front
+pub rest-concat : (ms : List (List ℕ)) (t : List ℕ) → All IsMessage ms → rest (concat ms ++ t) ≡ rest t
+rest-concat [] t h = refl
+rest-concat (m ∷ ms) t h =
+    rw (append_assoc m (concat ms) t)
+    (rest-message m (concat ms ++ t) (All-head IsMessage m ms h) ∙ rest-concat ms t (All-tail IsMessage m ms h))
+
+-- what is left once the first message is taken off
+pub rest-taken : (s left : List ℕ) → message_len s ≤ length s → left ≡ drop (message_len s) s → rest left ≡ rest s
+rest-taken s left h l =
+    ap rest l ∙ sym (rest-message (take (message_len s) s) (drop (message_len s) s) (IsMessage-take s h))
+    ∙ ap rest (take-append-drop (message_len s) s)
+
+no_more : (xs ys : List (List ℕ)) → xs ≡ xs ++ ys → ys ≡ []
+no_more xs [] e = refl
+no_more xs (y ∷ ys) e = absurd (omega (arith, ap length e, length-append xs (y ∷ ys)))
+
+-- what is left holds no message
+pub messages-rest : (s : List ℕ) → messages (rest s) ≡ []
+messages-rest s =
+    no_more (messages s) (messages (rest s)) (ap messages (whole s) ∙ messages-concat (messages s) (rest s) (messages_are_messages s))
+
+-- what holds no message is left whole
+pub rest-whole : (s : List ℕ) → messages s ≡ [] → rest s ≡ s
+unfolding rest
+rest-whole s e = ap (λ ms. drop (length (concat ms)) s) e

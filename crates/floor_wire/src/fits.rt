@@ -1,6 +1,6 @@
 //! Which attributes can be written, and how long they are (RFC 8855, section 5.2).
 
-ghost use Rattle.std.specs.Prelude.{◌≡◌, ◌<◌, ◌≤◌, ◌+◌, ◌^◌, ◌↔◌, length, MatchOption, IsTrue};
+ghost use Rattle.std.specs.Prelude.{◌≡◌, ◌<◌, ◌≤◌, ◌+◌, ◌*◌, ◌^◌, ◌↔◌, length, MatchOption, IsTrue};
 ghost use Rattle.floor_wire.specs.Spelling.{format_of_content, content_canon, canon, IsWritable};
 ghost use Rattle.floor_wire.specs.Writable.{IsWritableAttribute, attribute_bytes, FitsBody, IsShort};
 ghost use Rattle.floor_wire.specs.View.{attributes_of, content_of};
@@ -33,7 +33,7 @@ pub fn writable(attrs: &[Attr]) -> bool
 /// bytes. Takes no memory.
 pub fn fits_message(attrs: &[Attr]) -> bool
     ensures { IsTrue result ↔ (IsWritable (attributes_of attrs.now)
-        × (length (canon (attributes_of attrs.now)) ≤ MAX_PAYLOAD_LEN)) }
+        × (length (canon (attributes_of attrs.now)) ≤ 4 * 65535)) }
 {
     match list_len(attrs, MAX_PAYLOAD_LEN) {
         Some(_) => true,

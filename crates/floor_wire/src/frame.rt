@@ -7,7 +7,6 @@ ghost use Rattle.floor_wire.specs.Spelling.{canon, IsWritable};
 ghost use Rattle.floor_wire.specs.View.{attributes_of};
 
 use crate::attribute::Attr;
-use crate::fits::MAX_PAYLOAD_LEN;
 use crate::header::{HEADER_LEN, Header};
 use crate::write;
 use bytes::Bytes;
@@ -56,13 +55,22 @@ impl Frame {
         attrs: &[Attr],
     ) -> Result<Frame, AllocError>
         requires writable { IsWritable (attributes_of attrs.now) }
-        requires fits { length (canon (attributes_of attrs.now)) ≤ MAX_PAYLOAD_LEN }
+        requires fits { length (canon (attributes_of attrs.now)) ≤ 4 * 65535 }
         ensures { let payload = canon (attributes_of attrs.now) in
             IfOk result (λ frame. frame
             ≡ header_bytes primitive (length payload / 4) conference transaction user ++ payload) }
     {
         let bytes = write::message(alloc, primitive, conference, transaction, user, attrs)?;
         let bytes = Bytes::from_vec(bytes)?;
+        Ok(Frame { bytes })
+    }
+
+    /// An equal message in a buffer of its own, of exactly its length: the buffer that this one was
+    /// cut from doesn't stay alive by it.
+    pub fn copy(&self, alloc: Global) -> Result<Frame, AllocError>
+        ensures { IfOk result (λ copy. copy ≡ self.now) }
+    {
+        let bytes = Bytes::copy_from_slice(alloc, self.bytes())?;
         Ok(Frame { bytes })
     }
 

@@ -1,7 +1,7 @@
 //! Dividing a stream of bytes into messages (RFC 8855, section 5.1).
 
-ghost use Rattle.std.specs.Prelude.{◌≡◌, ◌↔◌, ◌≢◌, [], ◌∷◌, ◌++◌, length, IfOk, OnOk, OnErr, IsTrue, List, ℕ, MatchOption};
-ghost use Rattle.floor_wire.specs.Message.{messages};
+ghost use Rattle.std.specs.Prelude.{◌≡◌, ◌↔◌, [], ◌∷◌, ◌++◌, false, length, IfOk, OnOk, OnErr, List, ℕ, MatchOption};
+ghost use Rattle.floor_wire.specs.Message.{messages, rest};
 
 use crate::frame::{Frame, announced_len};
 use crate::header::HEADER_LEN;
@@ -46,7 +46,7 @@ impl Framer {
 
     /// Whether a whole message is held.
     pub fn ready(&self) -> bool
-        ensures { IsTrue result ↔ (messages self.now ≢ []) }
+        ensures { (result ≡ false) ↔ (messages self.now ≡ []) }
     {
         let held = self.held.as_slice();
         held.len() >= HEADER_LEN && held.len() >= announced_len(held)
@@ -58,6 +58,7 @@ impl Framer {
             ((messages self.old ≡ []) × (self.new ≡ self.old))
             (λ frame. (messages self.old ≡ frame ∷ messages self.new)
             × (self.old ≡ frame ++ self.new))) }
+        ensures rest { OnOk result (rest self.new ≡ rest self.old) }
         ensures err { OnErr result (self.new ≡ self.old) }
     {
         let held = self.held.as_slice();

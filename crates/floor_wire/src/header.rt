@@ -55,7 +55,7 @@ impl Header {
     ghost use Rattle.floor_wire.specs.Header.{header_of};
 
     pub(crate) fn of_message(message: &[u8]) -> Header
-        requires { HEADER_LEN ≤ length message.now }
+        requires { 12 ≤ length message.now }
         ensures { result ≡ header_of message.now }
     {
         Header {

@@ -1,8 +1,9 @@
 //! Laws of the definitions of framing and of attributes. Each is the contract of a function that
 //! does nothing.
 
-ghost use Rattle.std.specs.Prelude.{◌≡◌, ◌⊎◌, ◌++◌, length, List, ℕ, Some};
-ghost use Rattle.floor_wire.specs.Message.{Divides, messages, rest};
+ghost use Rattle.std.specs.Prelude.{◌≡◌, ◌⊎◌, [], ◌++◌, All, length, List, ℕ, Some};
+ghost use Rattle.std.specs.List.{concat};
+ghost use Rattle.floor_wire.specs.Message.{Divides, IsMessage, messages, rest};
 ghost use Rattle.floor_wire.specs.Attributes.{Attributes};
 ghost use Rattle.floor_wire.specs.Spelling.{Spells, IsWritable, canon, cleared};
 ghost use Rattle.floor_wire.specs.Spelled.{spelled};
@@ -22,6 +23,21 @@ pub fn a_stream_divides_in_one_way()
 pub fn pieces_add_up()
     ensures messages { (s t : List ℕ) → messages (s ++ t) ≡ messages s ++ messages (rest s ++ t) }
     ensures rest { (s t : List ℕ) → rest (s ++ t) ≡ rest (rest s ++ t) }
+{}
+
+/// Messages at the front of a stream are its first, and what follows them has its other messages
+/// and its rest.
+pub fn messages_at_the_front_come_first()
+    ensures messages { (ms : List (List ℕ)) (t : List ℕ) → All IsMessage ms
+        → messages (concat ms ++ t) ≡ ms ++ messages t }
+    ensures rest { (ms : List (List ℕ)) (t : List ℕ) → All IsMessage ms
+        → rest (concat ms ++ t) ≡ rest t }
+{}
+
+/// What follows the messages of a stream holds none, and what holds none is its own rest.
+pub fn a_rest_holds_no_message()
+    ensures none { (s : List ℕ) → messages (rest s) ≡ [] }
+    ensures whole { (s : List ℕ) → messages s ≡ [] → rest s ≡ s }
 {}
 
 /// Bytes spell at most one list of attributes.

@@ -8,7 +8,6 @@ ghost use Rattle.floor_wire.specs.Writable.{IsWritableAttribute, attribute_bytes
 ghost use Rattle.floor_wire.specs.Header.{header_bytes};
 
 use crate::attribute::{Attr, Body};
-use crate::fits::MAX_PAYLOAD_LEN;
 use crate::header::HEADER_LEN;
 use std::alloc::{AllocError, Global};
 
@@ -36,7 +35,7 @@ pub(crate) fn message(
     attrs: &[Attr],
 ) -> Result<Vec<u8>, AllocError>
     requires writable { IsWritable (attributes_of attrs.now) }
-    requires fits { length (canon (attributes_of attrs.now)) ≤ MAX_PAYLOAD_LEN }
+    requires fits { length (canon (attributes_of attrs.now)) ≤ 4 * 65535 }
     ensures { let payload = canon (attributes_of attrs.now) in
         IfOk result (λ v. v.items
         ≡ header_bytes primitive (length payload / 4) conference transaction user ++ payload) }
