@@ -7,3 +7,4 @@ pub mod Status
 pub mod Taking
 pub mod Replay
 pub mod Text
+pub mod Names

@@ -1,9 +1,10 @@
 //! What waits for the members.
 
-ghost use Rattle.std.specs.Prelude.{◌≡◌, ◌+◌, ◌++◌, ◌<◌, ◌∷◌, [], OnOk, OnErr, length, option_to_list, vec_capacity, vec_len};
+ghost use Rattle.std.specs.Prelude.{◌≡◌, ◌+◌, ◌++◌, ◌<◌, ◌∷◌, [], OnOk, OnErr, length, option_map, option_to_list, vec_capacity, vec_len};
 ghost use Rattle.floor_room.specs.Kept.{AreCounted};
 ghost use Rattle.floor_room.specs.Room.{joined};
-ghost use Rattle.floor_room.specs.Taking.{Gives};
+ghost use Rattle.std.specs.Option.{option_copied};
+ghost use Rattle.floor_room.specs.Taking.{Gives, held_of};
 ghost use Rattle.floor_room.specs.Outbox.{GaveHeld, IsInPart, delivered, empty_outbox, with_held};
 
 use floor_machine::{Event, Parcel};
@@ -48,6 +49,13 @@ impl Outbox {
     {
         self.held.push_back(parcel)?;
         Ok(())
+    }
+
+    /// What waits, from the front on. Takes no memory.
+    pub(crate) fn held(&self) -> &VecDeque<Parcel>
+        ensures { result.now.items ≡ self.now.held }
+    {
+        &self.held
     }
 
     /// Takes the parcel that has waited longest.
@@ -125,6 +133,19 @@ pub(crate) fn queue(
     deliver(outboxes, out)?;
     outboxes.reserve(1)?;
     Ok(())
+}
+
+/// What waits for a member, or None where nobody has joined under the number.
+pub(crate) fn held_of(outboxes: &[Outbox], n: u32) -> Option<&VecDeque<Parcel>>
+    ensures { option_map (λ held. held.items) (option_copied result) ≡ held_of outboxes.now n }
+{
+    let Some(place) = (n as usize).checked_sub(1) else {
+        return None;
+    };
+    match outboxes.get(place) {
+        Some(outbox) => Some(outbox.held()),
+        None => None,
+    }
 }
 
 /// Takes the first parcel that waits for a member.

@@ -1,27 +1,29 @@
 //! One conference with its journal and its outboxes.
 
-ghost use Rattle.std.specs.Prelude.{◌≡◌, ◌+◌, IfErr, IfOk, OnOk, length};
+ghost use Rattle.std.specs.Prelude.{◌≡◌, ◌+◌, IfErr, IfOk, OnOk, length, option_map};
 ghost use Rattle.floor_machine.specs.declared.event.Event.TheVariants.{Join, Leave, Message};
 ghost use Rattle.floor_machine.specs.Machine.{event_of_act};
 ghost use Rattle.floor_room.specs.Calls.{Left, Took};
 ghost use Rattle.floor_room.specs.Ledger.{IsRefusedBy, closed, conference_of, refusal};
 ghost use Rattle.floor_room.specs.Room.{IsRoom, broken_room, new_room};
 ghost use Rattle.floor_room.specs.Status.{IsStatus};
-ghost use Rattle.floor_room.specs.Taking.{Gave};
+ghost use Rattle.floor_room.specs.Taking.{Gave, held_of};
+ghost use Rattle.std.specs.Option.{option_copied};
 
 use crate::journal::Place;
 use crate::ledger::Ledger;
-use crate::outbox::{NoMember, Outbox, outbox_for, queue, take};
+use crate::outbox::{NoMember, Outbox, held_of, outbox_for, queue, take};
 use crate::refusal::RoomRefusal;
 use crate::status::Status;
 use floor_machine::{Act, Config, Event, Frame, Parcel, Refusal};
 use std::alloc::{AllocError, Global};
+use std::collections::VecDeque;
 use std::marker::Model;
 
 /// One conference with its journal and its outboxes: whole messages of its members in, and what
 /// waits for each member out.
 ///
-/// Readers: `journal`, `closed` (why no event is taken), `status`. Events: `join`, `serve`, `leave`
+/// Readers: `journal`, `closed` (why no event is taken), `status`, `held`. Events: `join`, `serve`, `leave`
 /// and `admin`, each of which changes nothing where it refuses, but that `Memory` breaks the room
 /// off. `take` gives what waits, also in a room that takes no event. `break_off` is for a caller
 /// that meets want of memory itself.
@@ -76,6 +78,15 @@ impl Room {
         ensures value { IsStatus self.now.ledger result }
     {
         self.ledger.status()
+    }
+
+    /// What waits for a member, from the front on, or None where nobody has joined under the
+    /// number. Takes no memory.
+    pub fn held(&self, n: u32) -> Option<&VecDeque<Parcel>>
+        ensures value { option_map (λ held. held.items) (option_copied result)
+            ≡ held_of self.now.outboxes n }
+    {
+        held_of(self.outboxes.as_slice(), n)
     }
 
     /// Adds an event, where nothing refuses it, and queues what it tells.
