@@ -7,7 +7,7 @@ use Rattle.std.proofs.lemmas.List.{take_more, length-take-le}
 use Rattle.std.proofs.lemmas.List.Elements.{filter-append}
 use Rattle.floor_config.specs.Configuration.{Configuration}
 use Rattle.floor_machine.specs.declared.event.Event.{Event}
-use Rattle.floor_machine.specs.declared.parcel.Parcel.{Parcel}
+use Rattle.floor_machine.specs.Parcel.{Parcel}
 use Rattle.floor_machine.specs.declared.machine.Refusal.{Refusal}
 use Rattle.floor_machine.specs.declared.machine.Refusal.TheVariants.{Broken, Ended, NoMember, NoUser, Full, NoRequest, Memory}
 use Rattle.floor_machine.specs.Conference.{Conference, opening}

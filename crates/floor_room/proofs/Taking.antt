@@ -3,7 +3,7 @@ use Rattle.std.proofs.Common.{◌≡◌, ℕ, zero, suc, ◌+◌, ◌*◌, ◌<�
 use Rattle.std.specs.Prelude.{Result, Ok, Err, slice_get, slice_set}
 use Rattle.floor_config.specs.Configuration.{Configuration}
 use Rattle.floor_machine.specs.declared.event.Event.{Event}
-use Rattle.floor_machine.specs.declared.parcel.Parcel.{Parcel}
+use Rattle.floor_machine.specs.Parcel.{Parcel}
 use Rattle.floor_machine.specs.Conference.{opening}
 use Rattle.floor_machine.proofs.Runs.{members-after}
 use Rattle.floor_room.specs.declared.outbox.NoMember.{NoMember}

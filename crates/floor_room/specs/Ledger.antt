@@ -5,7 +5,7 @@ use Rattle.floor_config.specs.Configuration.{Configuration}
 use Rattle.floor_machine.specs.Conference.{Conference}
 use Rattle.floor_machine.specs.declared.event.Event.{Event}
 use Rattle.floor_machine.specs.declared.machine.Refusal.TheVariants.{Broken, Ended, Memory}
-use Rattle.floor_machine.specs.declared.parcel.Parcel.{Parcel}
+use Rattle.floor_machine.specs.Parcel.{Parcel}
 use Rattle.floor_machine.specs.Change.{IsLawful}
 use Rattle.floor_machine.specs.Journal.{after, parcels_of}
 use Rattle.floor_machine.specs.Machine.{event_refusal, whole}

@@ -3,7 +3,7 @@ use Rattle.std.specs.Prelude.{ℕ, ◌≤◌, ◌-◌, List, length, map, take}
 use Rattle.std.specs.List.{concat}
 use Rattle.floor_config.specs.Configuration.{Configuration}
 use Rattle.floor_machine.specs.declared.event.Event.{Event}
-use Rattle.floor_machine.specs.declared.parcel.Parcel.{Parcel}
+use Rattle.floor_machine.specs.Parcel.{Parcel}
 use Rattle.floor_machine.specs.Conference.{opening}
 use Rattle.floor_machine.specs.Journal.{IsJournal, parcels_from, sent_to}
 use Rattle.floor_room.specs.declared.replaying.ReplayFault.{ReplayFault}

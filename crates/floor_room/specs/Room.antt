@@ -4,7 +4,7 @@ use Rattle.floor_config.specs.Configuration.{Configuration}
 use Rattle.floor_machine.specs.Conference.{opening}
 use Rattle.floor_machine.specs.declared.event.Event.{Event}
 use Rattle.floor_machine.specs.declared.event.Event.TheVariants.{Join, Message, Leave, Revoke, Close}
-use Rattle.floor_machine.specs.declared.parcel.Parcel.{Parcel}
+use Rattle.floor_machine.specs.Parcel.{Parcel}
 use Rattle.floor_machine.specs.Journal.{IsJournal, parcel, told_from}
 use Rattle.floor_room.specs.Ledger.{Ledger, broken_off, conference_of, new_ledger}
 use Rattle.floor_room.specs.Outbox.{Outbox, empty_outbox}

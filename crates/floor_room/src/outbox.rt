@@ -84,7 +84,7 @@ fn put(outboxes: &mut Vec<Outbox>, parcel: Parcel) -> Result<(), AllocError>
     ensures ok { OnOk result (outboxes.new.items ≡ delivered (parcel ∷ []) 1 outboxes.old.items) }
     ensures err { OnErr result (outboxes.new.items ≡ outboxes.old.items) }
 {
-    let Some(place) = (parcel.n as usize).checked_sub(1) else {
+    let Some(place) = (parcel.n() as usize).checked_sub(1) else {
         return Ok(());
     };
     match outboxes.get_mut(place) {

@@ -128,8 +128,9 @@ fn put_if(parcel: &Parcel, n: u32, bytes: &mut Vec<u8>) -> Result<(), AllocError
     ensures { OnOk result (bytes.new.items
         ≡ bytes.old.items ++ bytes_of (sent_to n (parcel.now ∷ []))) }
 {
-    if parcel.n == n {
-        bytes.extend_from_slice(parcel.bytes.as_slice())?;
+    if parcel.n() == n {
+        bytes.extend_from_slice(parcel.header())?;
+        bytes.extend_from_slice(parcel.payload())?;
     }
     Ok(())
 }

@@ -1,6 +1,6 @@
 use Rattle.std.proofs.Common.{◌∷◌, ◌++◌, [], List, sym, ap, ◌∙◌, append_assoc}
 use Rattle.std.specs.Vec.Iter.{into_iter_items}
-use Rattle.floor_machine.specs.declared.parcel.Parcel.{Parcel}
+use Rattle.floor_machine.specs.Parcel.{Parcel}
 use Rattle.floor_room.specs.Outbox.{delivered}
 use Rattle.floor_room.proofs.Delivering.{delivered-append, delivered-none}
 use Rattle.floor_room.proofs.outbox.deliver.Goals as goal
