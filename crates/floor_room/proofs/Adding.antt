@@ -1,0 +1,223 @@
+-- One more event of a room.
+use Rattle.std.proofs.Common.{◌≡◌, ◌⊎◌, ℕ, suc, ◌+◌, ◌*◌, ◌<◌, ◌≤◌, inl, inr, Bool, true, false, cond, List, [], ◌∷◌, ◌++◌, length, Option, Some, None, refl, sym, ap, subst, ◌∙◌, arith, append_assoc, append-nil, length-append}
+use Rattle.std.specs.Prelude.{◌==◌, Err}
+use Rattle.std.proofs.lemmas.List.Elements.{filter-append}
+use Rattle.floor_config.specs.Configuration.{Configuration}
+use Rattle.floor_machine.specs.declared.event.Event.{Event}
+use Rattle.floor_machine.specs.declared.event.Event.TheVariants.{Join, Message, Leave, Revoke, Close}
+use Rattle.floor_machine.specs.Parcel.{Parcel}
+use Rattle.floor_machine.specs.declared.machine.Refusal.TheVariants.{Broken, Ended, NoMember, NoUser, Full, NoRequest, Memory}
+use Rattle.floor_machine.specs.Conference.{Conference, opening}
+use Rattle.floor_machine.specs.Change.{IsLawful}
+use Rattle.floor_machine.specs.Journal.{IsLawfulFrom, after, parcels_of, parcels_from, sent_to}
+use Rattle.floor_machine.proofs.Runs.{after_from-more, parcels_from-more, lawful-more}
+use Rattle.floor_machine.proofs.Sent.{sent_is_told}
+use Rattle.floor_room.specs.declared.refusal.RoomRefusal.{RoomRefusal}
+use Rattle.floor_room.specs.declared.refusal.RoomRefusal.TheVariants.{JournalFull, Refused}
+use Rattle.floor_room.specs.Calls.{Left, with_event}
+use Rattle.floor_room.specs.Kept.{AreCounted, Keeps}
+use Rattle.floor_room.specs.Ledger.{Ledger, Added, IsRefusedBy, Unadded, broken_off, conference_of, with_entry}
+use Rattle.floor_room.specs.Outbox.{Outbox, delivered, empty_outbox, with_held}
+use Rattle.floor_room.specs.Room.{Room, IsRoom, IsSent, AreSent, broken_room, joined, parcels_to}
+use Rattle.floor_room.proofs.Joining.{members-next, parcels_to-before}
+use Rattle.floor_room.proofs.Ledgers.{IsOpen, allowed-open, journal-more}
+
+-- what a journal calls for with one more event
+pub parcels_to-more : (config : Configuration) (es : List Event) (e : Event) (n : ℕ) → IsLawfulFrom (opening config) es → IsLawful (after config es) e →
+    parcels_to config (es ++ e ∷ []) n ≡ parcels_to config es n ++ sent_to n (parcels_of (after config es) e)
+parcels_to-more config es e n lawful more =
+    sym (sent_is_told config (es ++ e ∷ []) n (lawful-more (opening config) es e lawful more))
+    ∙ ap (sent_to n) (parcels_from-more (opening config) es e)
+    ∙ filter-append (λ p. p.n == n) (parcels_from (opening config) es) (parcels_of (after config es) e)
+    ∙ ap (λ (ps : List Parcel). ps ++ sent_to n (parcels_of (after config es) e)) (sent_is_told config es n lawful)
+
+regroup : (taken held none put rest : List Parcel) → none ≡ [] → (taken ++ held ++ none) ++ (put ++ rest) ≡ taken ++ (held ++ put) ++ rest
+regroup taken held none put rest h =
+    ap (λ (xs : List Parcel). (taken ++ held ++ xs) ++ (put ++ rest)) h ∙ simp (append_assoc, append-nil)
+
+-- an outbox with what an event tells its member, or some first part of that
+sent-more : (all now out put rest : List Parcel) (n : ℕ) (o : Outbox) (b : Bool) → now ≡ all ++ sent_to n out → out ≡ put ++ rest → (b ≡ false → rest ≡ []) →
+    IsSent all o false → IsSent now (with_held o (sent_to n put)) b
+sent-more all now out put rest n o b grown parts whole h =
+    record {
+      taken = h.taken;
+      count = h.count;
+      rest = sent_to n rest;
+      sent =
+          grown
+          ∙ ap (λ (ps : List Parcel). ps ++ sent_to n out) h.sent
+          ∙ ap (λ (ps : List Parcel). (h.taken ++ o.held ++ h.rest) ++ ps) (ap (sent_to n) parts ∙ filter-append (λ p. p.n == n) put rest)
+          ∙ regroup h.taken o.held h.rest (sent_to n put) (sent_to n rest) (h.whole refl);
+      whole = λ e. ap (sent_to n) (whole e);
+    }
+
+are_sent-more : (config : Configuration) (es : List Event) (e : Event) (put rest : List Parcel) (b : Bool) → IsLawfulFrom (opening config) es → IsLawful (after config es) e →
+    parcels_of (after config es) e ≡ put ++ rest → (b ≡ false → rest ≡ []) →
+    (n : ℕ) (os : List Outbox) → AreSent config es false n os → AreSent config (es ++ e ∷ []) b n (delivered put n os)
+are_sent-more config es e put rest b lawful more parts whole n [] h = tt
+are_sent-more config es e put rest b lawful more parts whole n (o ∷ os) h = (
+  sent-more (parcels_to config es n) (parcels_to config (es ++ e ∷ []) n) (parcels_of (after config es) e) put rest n o b (parcels_to-more config es e n lawful more) parts whole h.0,
+  are_sent-more config es e put rest b lawful more parts whole (n + 1) os h.1,
+)
+
+-- nothing is sent to a member that joins
+are_sent-push : (config : Configuration) (es : List Event) (n : ℕ) (os : List Outbox) → length (after config es).members < n + length os →
+    AreSent config es false n os → AreSent config es false n (os ++ empty_outbox ∷ [])
+are_sent-push config es n [] few h =
+    (record { taken = []; count = refl; rest = []; sent = parcels_to-before config es n (omega arith); whole = λ e. refl }, tt)
+are_sent-push config es n (o ∷ os) few h = (h.0, are_sent-push config es (n + 1) os (omega arith) h.1)
+
+are_sent-joined : (config : Configuration) (es : List Event) (e : Event) (os : List Outbox) → length os ≡ length (after config es).members →
+    AreSent config es false 1 os → AreSent config es false 1 (os ++ joined e)
+are_sent-joined config es (Join user) os same h = are_sent-push config es 1 os (omega arith) h
+are_sent-joined config es (Message n bytes) os same h = subst (AreSent config es false 1) (sym (append-nil os)) h
+are_sent-joined config es (Leave n) os same h = subst (AreSent config es false 1) (sym (append-nil os)) h
+are_sent-joined config es (Revoke request) os same h = subst (AreSent config es false 1) (sym (append-nil os)) h
+are_sent-joined config es Close os same h = subst (AreSent config es false 1) (sym (append-nil os)) h
+
+-- where an event is broken off, what was sent is
+are_sent-broken : (config : Configuration) (es : List Event) (b : Bool) (n : ℕ) (os : List Outbox) → AreSent config es b n os → AreSent config es true n os
+are_sent-broken config es b n [] h = tt
+are_sent-broken config es b n (o ∷ os) h =
+    (record { taken = h.0.taken; count = h.0.count; rest = h.0.rest; sent = h.0.sent; whole = λ e. cc }, are_sent-broken config es b (n + 1) os h.1)
+
+length-delivered : (ps : List Parcel) (n : ℕ) (os : List Outbox) → length (delivered ps n os) ≡ length os
+length-delivered ps n [] = refl
+length-delivered ps n (o ∷ os) = ap (λ (k : ℕ). suc k) (length-delivered ps (n + 1) os)
+
+length-sent_to : (n : ℕ) (ps : List Parcel) → length (sent_to n ps) ≤ length ps
+length-sent_to n [] = omega arith
+length-sent_to n (p ∷ ps) = by (p.n == n) (length-sent_to n ps)
+  where
+    by : (b : Bool) → length (sent_to n ps) ≤ length ps → length (cond b (p ∷ sent_to n ps) (sent_to n ps)) ≤ length (p ∷ ps)
+    by true h = omega arith
+    by false h = omega arith
+
+-- the counts grow by what memory holds at most
+counted-more : (k : ℕ) (ps : List Parcel) (n : ℕ) (os : List Outbox) → length ps < 18446744073709551616 → AreCounted k os → AreCounted (k + 1) (delivered ps n os)
+counted-more k ps n [] few h = tt
+counted-more k ps n (o ∷ os) few h =
+    (omega (arith, length-append o.held (sent_to n ps), length-sent_to n ps, h.0), counted-more k ps (n + 1) os few h.1)
+
+counted-append : (k : ℕ) (os more : List Outbox) → AreCounted k os → AreCounted k more → AreCounted k (os ++ more)
+counted-append k [] more h m = m
+counted-append k (o ∷ os) more h m = (h.0, counted-append k os more h.1 m)
+
+counted-joined : (k : ℕ) (e : Event) → AreCounted k (joined e)
+counted-joined k (Join user) = (omega arith, tt)
+counted-joined k (Message n bytes) = tt
+counted-joined k (Leave n) = tt
+counted-joined k (Revoke request) = tt
+counted-joined k Close = tt
+
+-- a room after an event of which these parcels are queued
+pub room-event : (r : Room) (e : Event) (put rest : List Parcel) (b : Bool) → IsRoom r → r.ledger.is_broken ≡ false → length r.ledger.journal < 1000000 →
+    IsLawful (conference_of r.ledger) e → parcels_of (conference_of r.ledger) e ≡ put ++ rest → (b ≡ false → rest ≡ []) → IsRoom (with_event r e put b)
+room-event r e put rest b k unbroken few lawful parts whole =
+    let l : Ledger = r.ledger in
+    let sent : AreSent l.config l.journal false 1 r.outboxes = subst (λ (x : Bool). AreSent l.config l.journal x 1 r.outboxes) unbroken k.sent in
+    record {
+      journal = journal-more l e k.journal few lawful;
+      members =
+          length-delivered put 1 (r.outboxes ++ joined e)
+          ∙ length-append r.outboxes (joined e)
+          ∙ ap (λ (x : ℕ). x + length (joined e)) k.members
+          ∙ sym (members-next (conference_of l) e)
+          ∙ ap (λ (s : Conference). length s.members) (sym (after_from-more (opening l.config) l.journal e));
+      sent =
+          are_sent-more l.config l.journal e put rest b k.journal.lawful lawful parts whole 1 (r.outboxes ++ joined e)
+          (are_sent-joined l.config l.journal e r.outboxes k.members sent);
+    }
+
+-- the counts after it
+pub counted-event : (r : Room) (e : Event) (put : List Parcel) → length put < 18446744073709551616 → AreCounted (length r.ledger.journal) r.outboxes →
+    AreCounted (length (r.ledger.journal ++ e ∷ [])) (delivered put 1 (r.outboxes ++ joined e))
+counted-event r e put fits h =
+    let k : ℕ = length r.ledger.journal in
+    subst (λ (x : ℕ). AreCounted x (delivered put 1 (r.outboxes ++ joined e))) (sym (length-append r.ledger.journal (e ∷ [])))
+    (counted-more k put 1 (r.outboxes ++ joined e) fits (counted-append k r.outboxes (joined e) h (counted-joined k e)))
+
+-- what a room keeps that is broken off
+pub keeps-broken : (r : Room) (room_for : ℕ) → Keeps r room_for → Keeps (broken_room r) room_for
+keeps-broken r room_for k =
+    record {
+      room = record { journal = k.room.journal; members = k.room.members; sent = are_sent-broken r.ledger.config r.ledger.journal r.ledger.is_broken 1 r.outboxes k.room.sent };
+      counted = k.counted;
+      spare = λ h. cc;
+    }
+
+-- what a room keeps whose ledger has not taken an event
+pub keeps-unadded : (r : Room) (new : Ledger) (why : RoomRefusal) (room_for : ℕ) → Keeps r room_for → Unadded r.ledger new why → Keeps (record { ledger = new; outboxes = r.outboxes }) room_for
+keeps-unadded r new why room_for k h = by why h
+  where
+    same : new ≡ r.ledger → Keeps (record { ledger = new; outboxes = r.outboxes }) room_for
+    same e = subst (λ (x : Ledger). Keeps (record { ledger = x; outboxes = r.outboxes }) room_for) (sym e) k
+
+    by : (w : RoomRefusal) → Unadded r.ledger new w → Keeps (record { ledger = new; outboxes = r.outboxes }) room_for
+    by JournalFull e = same e
+    by (Refused Broken) e = same e
+    by (Refused Ended) e = same e
+    by (Refused NoMember) e = same e
+    by (Refused NoUser) e = same e
+    by (Refused Full) e = same e
+    by (Refused NoRequest) e = same e
+    by (Refused Memory) e =
+        subst (λ (x : Ledger). Keeps (record { ledger = x; outboxes = r.outboxes }) room_for) (sym e) (keeps-broken r room_for k)
+
+-- what a room keeps whose ledger has taken an event, of which these parcels are queued
+pub keeps-queued : (r : Room) (new now : Ledger) (e : Event) (out put rest : List Parcel) (b : Bool) (outboxes : List Outbox) (room_for given : ℕ) → Keeps r room_for →
+    Added r.ledger new e out → length out < 18446744073709551616 → out ≡ put ++ rest → (b ≡ false → rest ≡ []) →
+    now ≡ record { config = new.config; journal = new.journal; is_broken = b } → outboxes ≡ delivered put 1 (r.outboxes ++ joined e) → (b ≡ false → length outboxes < given) →
+    Keeps (record { ledger = now; outboxes = outboxes }) given
+keeps-queued r new now e out put rest b outboxes room_for given k added fits parts whole is_ledger is_outboxes spare =
+    let o : IsOpen r.ledger = allowed-open r.ledger e added.allowed in
+    let few : length put < 18446744073709551616 = omega (arith, fits, ap length parts, length-append put rest) in
+    let is : with_event r e put b ≡ record { ledger = now; outboxes = outboxes } =
+        ap (λ (l : Ledger). record { ledger = record { config = l.config; journal = l.journal; is_broken = b }; outboxes = delivered put 1 (r.outboxes ++ joined e) }) (sym added.next)
+        ∙ ap (λ (l : Ledger). record { ledger = l; outboxes = delivered put 1 (r.outboxes ++ joined e) }) (sym is_ledger)
+        ∙ ap (λ (os : List Outbox). record { ledger = now; outboxes = os }) (sym is_outboxes) in
+    subst (λ (x : Room). (b ≡ false → length x.outboxes < given) → Keeps x given) is
+    (λ s. record {
+      room = room-event r e put rest b k.room o.unbroken o.few added.lawful (sym added.told ∙ parts) whole;
+      counted = counted-event r e put few k.counted;
+      spare = s;
+    })
+    spare
+
+-- a ledger that has taken an event isn't broken
+pub entry-whole : (old new : Ledger) (e : Event) → new ≡ with_entry old e → new ≡ record { config = new.config; journal = new.journal; is_broken = false }
+entry-whole old new e h = h ∙ sym (ap (λ (l : Ledger). record { config = l.config; journal = l.journal; is_broken = false }) h)
+
+-- a call that its ledger refuses
+pub left-unadded : (r : Room) (new : Ledger) (e : Event) (why : RoomRefusal) → Unadded r.ledger new why → Left r (record { ledger = new; outboxes = r.outboxes }) e why
+left-unadded r new e why h = by why h
+  where
+    same : (x : Ledger) → new ≡ x → Rattle.std.proofs.Common.◌≡◌ {A = Room} (record { ledger = new; outboxes = r.outboxes }) (record { ledger = x; outboxes = r.outboxes })
+    same x is = ap (λ (y : Ledger). record { ledger = y; outboxes = r.outboxes }) is
+
+    by : (w : RoomRefusal) → Unadded r.ledger new w → Left r (record { ledger = new; outboxes = r.outboxes }) e w
+    by JournalFull is = same r.ledger is
+    by (Refused Broken) is = same r.ledger is
+    by (Refused Ended) is = same r.ledger is
+    by (Refused NoMember) is = same r.ledger is
+    by (Refused NoUser) is = same r.ledger is
+    by (Refused Full) is = same r.ledger is
+    by (Refused NoRequest) is = same r.ledger is
+    by (Refused Memory) is = inl (same (broken_off r.ledger) is)
+
+-- a call is refused as the call that it makes
+pub refused-as : (A B : Type 0) (p : Option RoomRefusal) (why : RoomRefusal) → IsRefusedBy {T = A} p (Err why) → IsRefusedBy {T = B} p (Err why)
+refused-as A B (Some y) why h = let known : why ≡ y = cc in ap (λ (z : RoomRefusal). Err z) known
+refused-as A B None why h = h
+
+-- what memory refuses, nothing else does
+pub refused-memory : (B : Type 0) (p : Option RoomRefusal) → p ≡ None → IsRefusedBy {T = B} p (Err (Refused Memory))
+refused-memory B p h = subst (λ (x : Option RoomRefusal). IsRefusedBy {T = B} x (Err (Refused Memory))) (sym h) refl
+
+-- the outboxes after a join
+pub joined-number : (r new : Room) (user : ℕ) (ps : List Parcel) → IsRoom r → new ≡ with_event r (Join user) ps false → length new.outboxes ≡ length (conference_of r.ledger).members + 1
+joined-number r new user ps k is =
+    ap (λ (x : Room). length x.outboxes) is
+    ∙ length-delivered ps 1 (r.outboxes ++ empty_outbox ∷ [])
+    ∙ length-append r.outboxes (empty_outbox ∷ [])
+    ∙ ap (λ (n : ℕ). n + 1) k.members

@@ -1,0 +1,95 @@
+-- One more event of a ledger, and how it stands.
+use Rattle.std.proofs.Common.{◌≡◌, ℕ, ◌<◌, ◌≤◌, Bool, true, false, cond, List, [], ◌∷◌, ◌++◌, length, Option, Some, None, refl, sym, ap, subst, ◌∙◌, arith, length-append}
+use Rattle.std.specs.Prelude.{not, nat_le, count_by}
+use Rattle.std.proofs.lemmas.Bool.Decides.{nat_tests}
+use Rattle.std.proofs.lemmas.List.Sums.{count_by-le-length}
+use Rattle.floor_machine.specs.declared.event.Event.{Event}
+use Rattle.floor_machine.specs.declared.machine.Refusal.TheVariants.{Broken, Ended}
+use Rattle.floor_machine.specs.Conference.{opening}
+use Rattle.floor_machine.specs.Change.{IsLawful, next}
+use Rattle.floor_machine.specs.Journal.{IsJournal}
+use Rattle.floor_machine.specs.Machine.{Machine, whole}
+use Rattle.floor_machine.proofs.Runs.{after_from-more, lawful-more, members-after}
+use Rattle.floor_room.specs.declared.refusal.RoomRefusal.{RoomRefusal}
+use Rattle.floor_room.specs.declared.refusal.RoomRefusal.TheVariants.{JournalFull, Refused}
+use Rattle.floor_room.specs.declared.status.Phase.{Phase}
+use Rattle.floor_room.specs.Kept.{IsLedger}
+use Rattle.floor_room.specs.Ledger.{Ledger, broken_off, closed, conference_of, first_of, refusal}
+use Rattle.floor_room.specs.Status.{IsStatus, phase_of}
+
+-- a ledger that isn't closed is not broken, is open, and its journal has room
+pub record IsOpen (l : Ledger) : Type 0 where
+  pub unbroken : l.is_broken ≡ false
+  pub open_now : (conference_of l).is_open ≡ true
+  pub few : length l.journal < 1000000
+
+pub opened : (l : Ledger) → None ≡ closed l → IsOpen l
+opened l h = by l.is_broken (conference_of l).is_open (nat_le 1000000 (length l.journal)) refl refl refl h
+  where
+    fewer : (n : ℕ) → nat_le 1000000 n ≡ false → n < 1000000
+    fewer n e = grind (arith, nat_tests)
+
+    by : (a b d : Bool) → l.is_broken ≡ a → (conference_of l).is_open ≡ b → nat_le 1000000 (length l.journal) ≡ d →
+        None ≡ cond a (Some (Refused Broken)) (cond (not b) (Some (Refused Ended)) (cond d (Some JournalFull) None)) → IsOpen l
+    by true b d e f g h = cc
+    by false false d e f g h = cc
+    by false true true e f g h = cc
+    by false true false e f g h = record { unbroken = e; open_now = f; few = fewer (length l.journal) g }
+
+-- a ledger that takes an event isn't closed
+pub allowed-open : (l : Ledger) (e : Event) → refusal l e ≡ None → IsOpen l
+allowed-open l e h = opened l (sym (by (closed l) _ h))
+  where
+    by : (a b : Option RoomRefusal) → first_of a b ≡ None → a ≡ None
+    by None b h = refl
+    by (Some r) b h = cc
+
+-- the journal with one more event
+pub journal-more : (l : Ledger) (e : Event) → IsJournal l.config l.journal → length l.journal < 1000000 → IsLawful (conference_of l) e → IsJournal l.config (l.journal ++ e ∷ [])
+journal-more l e j few lawful =
+    record {
+      count = omega (arith, length-append l.journal (e ∷ []));
+      lawful = lawful-more (opening l.config) l.journal e j.lawful lawful;
+    }
+
+-- the members before an event
+pub ledger-few : (l : Ledger) (m : Machine) → IsLedger l m → IsOpen l → length m.conference.members < 4294967295
+ledger-few l m k o =
+    let few : length (conference_of l).members < 4294967295 = omega (arith, members-after (opening l.config) l.journal, o.few) in
+    subst (λ (x : Machine). length x.conference.members < 4294967295) (sym (k.whole o.unbroken)) few
+
+-- a ledger that is broken off
+pub ledger-broken : (l : Ledger) (m now : Machine) → IsLedger l m → IsLedger (broken_off l) now
+ledger-broken l m now k = record { journal = k.journal; whole = λ h. cc }
+
+-- a ledger with an event that its machine has taken
+pub ledger-taken : (l : Ledger) (m now : Machine) (e : Event) (journal : List Event) → IsLedger l m → IsOpen l → IsLawful m.conference e → now ≡ whole (next m.conference e) →
+    journal ≡ l.journal ++ e ∷ [] → IsLedger (record { config = l.config; journal = journal; is_broken = false }) now
+ledger-taken l m now e journal k o lawful taken is =
+    subst (λ (x : List Event). IsLedger (record { config = l.config; journal = x; is_broken = false }) now) (sym is)
+    (record {
+      journal = journal-more l e k.journal o.few (subst (λ (x : Machine). IsLawful x.conference e) (k.whole o.unbroken) lawful);
+      whole = λ h.
+          taken
+          ∙ ap (λ (x : Machine). whole (next x.conference e)) (k.whole o.unbroken)
+          ∙ ap whole (sym (after_from-more (opening l.config) l.journal e));
+    })
+
+phase-is : (a b d : Bool) → (a ≡ false → b ≡ d) → phase_of a b ≡ phase_of a d
+phase-is true b d h = refl
+phase-is false b d h = ap (phase_of false) (h refl)
+
+-- how a ledger stands, by what its machine tells
+pub stands : (l : Ledger) (m : Machine) (live ongoing members requests events : ℕ) (phase : Phase) → IsLedger l m → live ≡ count_by (λ x. x.is_live) m.conference.members → ongoing ≡ length m.conference.ongoing →
+    ongoing ≤ 256 → (live < 4294967296 → members ≡ live) → (ongoing < 4294967296 → requests ≡ ongoing) → events ≡ length l.journal → phase ≡ phase_of l.is_broken m.conference.is_open →
+    IsStatus l (record { members = members; ongoing = requests; events = events; phase = phase })
+stands l m live ongoing members requests events phase k is_live is_ongoing few narrow narrow_ongoing is_events is_phase =
+    record {
+      phase = is_phase ∙ phase-is l.is_broken m.conference.is_open (conference_of l).is_open (λ h. ap (λ (x : Machine). x.conference.is_open) (k.whole h));
+      events = is_events;
+      members = λ h.
+          let now : live ≡ count_by (λ x. x.is_live) (conference_of l).members = is_live ∙ ap (λ (x : Machine). count_by (λ y. y.is_live) x.conference.members) (k.whole h) in
+          let bound : live < 4294967296 = omega (arith, now, count_by-le-length (λ x. x.is_live) (conference_of l).members, members-after (opening l.config) l.journal, k.journal.count) in
+          narrow bound ∙ now;
+      ongoing = λ h. narrow_ongoing (omega arith) ∙ is_ongoing ∙ ap (λ (x : Machine). length x.conference.ongoing) (k.whole h);
+    }

@@ -1,0 +1,7 @@
+pub mod Ledgers
+pub mod Delivering
+pub mod Joining
+pub mod Adding
+pub mod Taking
+pub mod RunAgain
+pub mod Lines

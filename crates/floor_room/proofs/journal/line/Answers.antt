@@ -1,0 +1,16 @@
+use Rattle.std.proofs.Common.{◌≡◌, ◌++◌, ℕ, List, ap, sym, ◌∙◌, rules}
+use Rattle.std.specs.Prelude.{codes, string_bytes}
+use Rattle.std.specs.Fmt.{decimal}
+use Rattle.std.proofs.lemmas.Result.{IfOk-weaker}
+use Rattle.hex.specs.Hex.{encode_lower}
+use Rattle.floor_room.specs.Text.{line}
+use Rattle.floor_room.proofs.journal.line.Goals as goal
+
+pub returns-in_ok-bytes-in-Message : goal.returns-in_ok-bytes-in-Message
+returns-in_ok-bytes-in-Message c =
+    let written : List ℕ → List ℕ = λ bs. decimal c.args.place ++ (codes " message " ++ (decimal c.in-Message.n ++ (codes " " ++ (bs ++ codes "\n")))) in
+    IfOk-weaker c.format-in-Message.result
+    (λ text. string_bytes text ≡ written (string_bytes c.in_ok-bytes-in-Message.bytes))
+    (λ text. string_bytes text ≡ line c.args.place c.args.event.now)
+    (λ text h. h ∙ ap written (c.in_ok-bytes-in-Message.ensures ∙ ap encode_lower c.bytes.ensures.same) ∙ sym (ap (line c.args.place) c.in-Message.is))
+    (search rules)

@@ -1,0 +1,10 @@
+pub mod Ledger
+pub mod Outbox
+pub mod Room
+pub mod Calls
+pub mod Kept
+pub mod Status
+pub mod Taking
+pub mod Replay
+pub mod Text
+pub mod Names

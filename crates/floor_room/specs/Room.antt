@@ -1,0 +1,54 @@
+-- One conference as it is kept: what a room is seen as, and what holds of each room.
+use Rattle.std.specs.Prelude.{◌≡◌, ℕ, ◌+◌, List, [], ◌∷◌, ◌++◌, length, map, Bool, false}
+use Rattle.floor_config.specs.Configuration.{Configuration}
+use Rattle.floor_machine.specs.Conference.{opening}
+use Rattle.floor_machine.specs.declared.event.Event.{Event}
+use Rattle.floor_machine.specs.declared.event.Event.TheVariants.{Join, Message, Leave, Revoke, Close}
+use Rattle.floor_machine.specs.Parcel.{Parcel}
+use Rattle.floor_machine.specs.Journal.{IsJournal, parcel, told_from}
+use Rattle.floor_room.specs.Ledger.{Ledger, broken_off, conference_of, new_ledger}
+use Rattle.floor_room.specs.Outbox.{Outbox, empty_outbox}
+
+-- the ledger, and each member's outbox, in the order of joining
+pub record Room : Type 0 where
+  pub ledger : Ledger
+  pub outboxes : List Outbox
+
+-- the room of a conference that opens
+abbrev pub new_room : Configuration → Room
+new_room config = record { ledger = new_ledger config; outboxes = [] }
+
+-- a room that is broken off
+abbrev pub broken_room : Room → Room
+broken_room r = record { ledger = broken_off r.ledger; outboxes = r.outboxes }
+
+-- the outbox that an event adds: that of the member that joins
+abbrev pub joined : Event → List Outbox
+joined (Join user) = empty_outbox ∷ []
+joined (Message n bytes) = []
+joined (Leave n) = []
+joined (Revoke request) = []
+joined Close = []
+
+-- what a journal calls for at n, as parcels
+abbrev pub parcels_to : Configuration → List Event → ℕ → List Parcel
+parcels_to config es n = map (parcel n) (told_from (opening config) es n)
+
+-- Of what is called for at a member, first so many parcels were taken, then those are held, and the rest was never queued. Nothing is left out unless an event was broken off.
+pub record IsSent (all : List Parcel) (o : Outbox) (is_broken : Bool) : Type 0 where
+  pub taken : List Parcel
+  pub count : length taken ≡ o.taken
+  pub rest : List Parcel
+  pub sent : all ≡ taken ++ o.held ++ rest
+  pub whole : is_broken ≡ false → rest ≡ []
+
+-- the same of each member from n on
+abbrev pub AreSent : Configuration → List Event → Bool → ℕ → List Outbox → Type 0
+AreSent config es is_broken n [] = Unit {0}
+AreSent config es is_broken n (o ∷ os) = IsSent (parcels_to config es n) o is_broken × AreSent config es is_broken (n + 1) os
+
+-- What holds of each room: its journal is a journal of its configuration, each member ever joined has an outbox, and each is sent what the journal calls for.
+pub record IsRoom (r : Room) : Type 0 where
+  pub journal : IsJournal r.ledger.config r.ledger.journal
+  pub members : length r.outboxes ≡ length (conference_of r.ledger).members
+  pub sent : AreSent r.ledger.config r.ledger.journal r.ledger.is_broken 1 r.outboxes

@@ -1,0 +1,73 @@
+//! What happened in a conference, event by event.
+
+ghost use Rattle.std.specs.Prelude.{◌≡◌, IfOk, string_bytes};
+ghost use Rattle.floor_room.specs.Text.{journal_text, line};
+
+use floor_machine::{Event, Frame};
+use std::alloc::{AllocError, Global};
+
+/// How many events a journal has at most.
+pub(crate) const MAX_EVENTS: usize = 1_000_000;
+
+/// The place of an event in the journal, from 1.
+pub type Place = u32;
+
+/// A copy of exactly the message's length.
+fn copy_of(alloc: Global, frame: &Frame) -> Result<Frame, AllocError>
+    ensures { IfOk result (λ copy. copy ≡ frame.now) }
+{
+    match Frame::of(alloc, frame.bytes())? {
+        Some(copy) => Ok(copy),
+        None => Err(AllocError),
+    }
+}
+
+/// The event, with an exact copy of its message, so that no buffer that it was cut from stays
+/// alive by it.
+pub(crate) fn exact(alloc: Global, event: Event) -> Result<Event, AllocError>
+    ensures { IfOk result (λ kept. kept ≡ event) }
+{
+    match event {
+        Event::Join { user } => Ok(Event::Join { user }),
+        Event::Message { n, frame } => {
+            let frame = copy_of(alloc, &frame)?;
+            Ok(Event::Message { n, frame })
+        }
+        Event::Leave { n } => Ok(Event::Leave { n }),
+        Event::Revoke { request } => Ok(Event::Revoke { request }),
+        Event::Close => Ok(Event::Close),
+    }
+}
+
+/// The lines of a journal: the place of each event and what happened; then `end` and their number.
+///
+/// Messages are in hexadecimal, lower case. Each line ends with a line feed.
+pub fn journal_text(alloc: Global, events: &[Event]) -> Result<String, AllocError>
+    ensures { IfOk result (λ text. string_bytes text ≡ journal_text events.now) }
+{
+    let mut text = String::new(alloc);
+    for (done, event) in events.iter().enumerate() {
+        let line = line(alloc, done + 1, event)?;
+        text.push_str(line.as_str())?;
+    }
+    let count = events.len();
+    let end = format!(in alloc; "end {count}\n")?;
+    text.push_str(end.as_str())?;
+    Ok(text)
+}
+
+/// The line of the event at this place.
+fn line(alloc: Global, place: usize, event: &Event) -> Result<String, AllocError>
+    ensures { IfOk result (λ text. string_bytes text ≡ line place event.now) }
+{
+    match event {
+        Event::Join { user } => format!(in alloc; "{place} join {user}\n"),
+        Event::Message { n, frame } => {
+            let bytes = hex::encode(alloc, frame.bytes())?;
+            format!(in alloc; "{place} message {n} {bytes}\n")
+        }
+        Event::Leave { n } => format!(in alloc; "{place} leave {n}\n"),
+        Event::Revoke { request } => format!(in alloc; "{place} revoke {request}\n"),
+        Event::Close => format!(in alloc; "{place} close\n"),
+    }
+}

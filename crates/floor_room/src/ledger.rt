@@ -1,0 +1,136 @@
+//! One conference with its journal.
+
+ghost use Rattle.std.specs.Prelude.{◌≡◌, IfErr, IfOk};
+ghost use Rattle.floor_machine.specs.Journal.{IsJournal};
+ghost use Rattle.floor_room.specs.Ledger.{Added, IsRefusedBy, Unadded, broken_off, closed, new_ledger, refusal};
+ghost use Rattle.floor_room.specs.Status.{IsStatus};
+
+use crate::journal::{MAX_EVENTS, exact};
+use crate::refusal::RoomRefusal;
+use crate::status::{Status, narrowed, phase_of};
+use floor_machine::{Config, Event, Machine, Parcel, Refusal};
+use std::alloc::{AllocError, Global};
+use std::marker::Model;
+
+/// One conference with its journal: it hands the parcels of each event to its caller.
+///
+/// Readers: `journal`, `closed` (why no event is taken), `status`. Changes: `add`, which changes
+/// nothing where it refuses, but that `Memory` breaks the ledger off, and `break_off`.
+#[derive(Debug, Drop)]
+pub struct Ledger {
+    config: Config,
+    machine: Machine,
+    journal: Vec<Event>,
+    is_broken: bool,
+}
+
+impl Model for Ledger {
+    ghost use Rattle.floor_room.specs.Ledger.{Ledger};
+
+    ghost Value = { Ledger };
+
+    ghost use Rattle.floor_room.specs.Kept.{IsLedger};
+
+    ghost view = { λ l. record {
+      config = l.config;
+      journal = l.journal.items;
+      is_broken = l.is_broken;
+    } };
+
+    ghost invariant = { λ l. IsLedger
+        record {
+          config = l.config;
+          journal = l.journal.items;
+          is_broken = l.is_broken;
+        }
+        l.machine };
+}
+
+impl Ledger {
+    /// The ledger of a conference that opens.
+    pub fn new(alloc: Global, config: Config) -> Result<Ledger, AllocError>
+        ensures value { IfOk result (λ ledger. ledger ≡ new_ledger config) }
+    {
+        let copy = config.copy(alloc)?;
+        let machine = Machine::new(alloc, copy)?;
+        Ok(Ledger {
+            config,
+            machine,
+            journal: Vec::new(alloc),
+            is_broken: false,
+        })
+    }
+
+    /// What happened so far. Takes no memory.
+    pub fn journal(&self) -> &[Event]
+        ensures value { result.now ≡ self.now.journal }
+        ensures kept { IsJournal self.now.config self.now.journal }
+    {
+        self.journal.as_slice()
+    }
+
+    /// Why no event is taken, whichever it is. Takes no memory.
+    pub fn closed(&self) -> Option<RoomRefusal>
+        ensures value { result ≡ closed self.now }
+    {
+        if self.is_broken {
+            Some(RoomRefusal::Refused(Refusal::Broken))
+        } else if !self.machine.is_open() {
+            Some(RoomRefusal::Refused(Refusal::Ended))
+        } else if self.journal.len() >= MAX_EVENTS {
+            Some(RoomRefusal::JournalFull)
+        } else {
+            None
+        }
+    }
+
+    /// How the conference stands. Takes no memory.
+    pub fn status(&self) -> Status
+        ensures value { IsStatus self.now result }
+    {
+        Status {
+            members: narrowed(self.machine.live_members()),
+            ongoing: narrowed(self.machine.ongoing_requests()),
+            events: self.journal.len() as u32,
+            phase: phase_of(self.is_broken, self.machine.is_open()),
+        }
+    }
+
+    /// Adds an event, where nothing refuses it, and gives the parcels that it calls for. A message
+    /// is kept as a copy of exactly its length. After `Memory` the ledger is broken off and its
+    /// journal is as it was; after every other refusal nothing has changed.
+    pub fn add(&mut self, event: Event) -> Result<Vec<Parcel>, RoomRefusal>
+        ensures took { IfOk result (λ out. Added self.old self.new event out.items) }
+        ensures refused { IsRefusedBy (refusal self.old event) result }
+        ensures left { IfErr result (Unadded self.old self.new) }
+    {
+        match self.closed() {
+            Some(refusal) => return Err(refusal),
+            None => {}
+        }
+        let alloc = *self.journal.allocator();
+        let mut out = Vec::new(alloc);
+        match self.machine.apply(&event, &mut out) {
+            Ok(()) => {}
+            Err(Refusal::Memory) => {
+                self.is_broken = true;
+                return Err(RoomRefusal::Refused(Refusal::Memory));
+            }
+            Err(refusal) => return Err(RoomRefusal::Refused(refusal)),
+        }
+        // Whatever breaks the event off leaves it so.
+        self.is_broken = true;
+        let kept = exact(alloc, event)?;
+        self.journal.reserve(1)?;
+        self.journal.push_reserved(kept);
+        self.is_broken = false;
+        Ok(out)
+    }
+
+    /// Breaks the conference off for good: no event is taken any more. Takes no memory.
+    pub fn break_off(&mut self)
+        ensures next { self.new ≡ broken_off self.old }
+    {
+        self.is_broken = true;
+    }
+}

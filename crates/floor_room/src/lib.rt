@@ -1,0 +1,26 @@
+//! One conference as it is kept: its machine, its journal, and what waits for each of its members.
+//!
+//! A `Ledger` is a machine with its journal, and hands the parcels of each event to its caller. A
+//! `Room` is a ledger with a queue for each member. It does no input or output, and waits for
+//! nothing.
+#![tactic(auto)]
+
+mod journal;
+mod ledger;
+mod outbox;
+mod refusal;
+mod replaying;
+mod room;
+mod status;
+
+pub use floor_machine::{Act, Config, Event, Frame, Parcel, Refusal};
+pub use journal::{Place, journal_text};
+pub use ledger::Ledger;
+pub use outbox::NoMember;
+pub use refusal::RoomRefusal;
+pub use replaying::{ReplayFault, replay};
+pub use room::Room;
+pub use status::{Phase, Status};
+
+#[cfg(test)]
+mod tests;

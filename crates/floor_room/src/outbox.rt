@@ -1,0 +1,164 @@
+//! What waits for the members.
+
+ghost use Rattle.std.specs.Prelude.{◌≡◌, ◌+◌, ◌++◌, ◌<◌, ◌∷◌, [], OnOk, OnErr, length, option_map, option_to_list, vec_capacity, vec_len};
+ghost use Rattle.floor_room.specs.Kept.{AreCounted};
+ghost use Rattle.floor_room.specs.Room.{joined};
+ghost use Rattle.std.specs.Option.{option_copied};
+ghost use Rattle.floor_room.specs.Taking.{Gives, held_of};
+ghost use Rattle.floor_room.specs.Outbox.{GaveHeld, IsInPart, delivered, empty_outbox, with_held};
+
+use floor_machine::{Event, Parcel};
+use std::alloc::{AllocError, Global};
+use std::collections::VecDeque;
+use std::marker::Model;
+
+/// Nobody has joined under the number.
+#[derive(Clone, Copy, Debug, PartialEq, Eq)]
+pub struct NoMember;
+
+/// What waits for one member, and how much of what it was sent was taken.
+#[derive(Debug, Drop)]
+pub(crate) struct Outbox {
+    taken: u128,
+    held: VecDeque<Parcel>,
+}
+
+impl Model for Outbox {
+    ghost use Rattle.floor_room.specs.Outbox.{Outbox};
+
+    ghost Value = { Outbox };
+
+    ghost view = { λ o. record { taken = o.taken; held = o.held.items } };
+}
+
+impl Outbox {
+    /// Nothing waits, and nothing was taken.
+    pub(crate) fn new(alloc: Global) -> Outbox
+        ensures { result ≡ empty_outbox }
+    {
+        Outbox {
+            taken: 0,
+            held: VecDeque::new(alloc),
+        }
+    }
+
+    /// Puts a parcel behind those that wait. After an error nothing has changed.
+    pub(crate) fn put(&mut self, parcel: Parcel) -> Result<(), AllocError>
+        ensures ok { OnOk result (self.new ≡ with_held self.old (parcel ∷ [])) }
+        ensures err { OnErr result (self.new ≡ self.old) }
+    {
+        self.held.push_back(parcel)?;
+        Ok(())
+    }
+
+    /// What waits, from the front on. Takes no memory.
+    pub(crate) fn held(&self) -> &VecDeque<Parcel>
+        ensures { result.now.items ≡ self.now.held }
+    {
+        &self.held
+    }
+
+    /// Takes the parcel that has waited longest.
+    fn take(&mut self) -> Option<Parcel>
+        requires { self.old.taken + length self.old.held < 340282366920938463463374607431768211456 }
+        ensures { GaveHeld self.old self.new self.old.held result }
+    {
+        let parcel = self.held.pop_front()?;
+        self.taken += 1;
+        Some(parcel)
+    }
+}
+
+/// The outbox of the member that an event adds. Takes no memory.
+pub(crate) fn outbox_for(alloc: Global, event: &Event) -> Option<Outbox>
+    ensures { option_to_list result ≡ joined event.now }
+{
+    match event {
+        Event::Join { .. } => Some(Outbox::new(alloc)),
+        Event::Message { .. } | Event::Leave { .. } | Event::Revoke { .. } | Event::Close => None,
+    }
+}
+
+/// Puts a parcel into the outbox of its member. After an error nothing has changed.
+fn put(outboxes: &mut Vec<Outbox>, parcel: Parcel) -> Result<(), AllocError>
+    ensures ok { OnOk result (outboxes.new.items ≡ delivered (parcel ∷ []) 1 outboxes.old.items) }
+    ensures err { OnErr result (outboxes.new.items ≡ outboxes.old.items) }
+{
+    let Some(place) = (parcel.n() as usize).checked_sub(1) else {
+        return Ok(());
+    };
+    match outboxes.get_mut(place) {
+        Some(outbox) => outbox.put(parcel),
+        None => Ok(()),
+    }
+}
+
+/// Puts each of these parcels, in order, into the outbox of its member. After an error some first
+/// of them were put.
+fn deliver(outboxes: &mut Vec<Outbox>, out: Vec<Parcel>) -> Result<(), AllocError>
+    ensures ok { OnOk result (outboxes.new.items ≡ delivered out.items 1 outboxes.old.items) }
+    ensures err { OnErr result (IsInPart out.items outboxes.old.items outboxes.new.items) }
+    ensures count { length out.items < 18446744073709551616 }
+{
+    let _count = out.len();
+    for parcel in out {
+        put(outboxes, parcel)?;
+    }
+    Ok(())
+}
+
+/// Adds the outbox of a member that joins, and puts each of these parcels, in order, into the
+/// outbox of its member. After an error some first of them were put; else there is room for the
+/// outbox of one more member.
+///
+/// That room is there before an event is taken, so that each member of the journal has its outbox
+/// also where memory is refused.
+pub(crate) fn queue(
+    outboxes: &mut Vec<Outbox>,
+    outbox: Option<Outbox>,
+    out: Vec<Parcel>,
+) -> Result<(), AllocError>
+    requires { vec_len outboxes.old < vec_capacity outboxes.old }
+    ensures ok { OnOk result (outboxes.new.items
+        ≡ delivered out.items 1 (outboxes.old.items ++ option_to_list outbox)) }
+    ensures spare { OnOk result (vec_len outboxes.new < vec_capacity outboxes.new) }
+    ensures err { OnErr result (IsInPart out.items
+        (outboxes.old.items ++ option_to_list outbox) outboxes.new.items) }
+    ensures count { length out.items < 18446744073709551616 }
+{
+    match outbox {
+        Some(outbox) => outboxes.push_reserved(outbox),
+        None => {}
+    }
+    deliver(outboxes, out)?;
+    outboxes.reserve(1)?;
+    Ok(())
+}
+
+/// What waits for a member, or None where nobody has joined under the number.
+pub(crate) fn held_of(outboxes: &[Outbox], n: u32) -> Option<&VecDeque<Parcel>>
+    ensures { option_map (λ held. held.items) (option_copied result) ≡ held_of outboxes.now n }
+{
+    let Some(place) = (n as usize).checked_sub(1) else {
+        return None;
+    };
+    match outboxes.get(place) {
+        Some(outbox) => Some(outbox.held()),
+        None => None,
+    }
+}
+
+/// Takes the first parcel that waits for a member.
+pub(crate) fn take(outboxes: &mut Vec<Outbox>, n: u32) -> Result<Option<Parcel>, NoMember>
+    requires { AreCounted 1000000 outboxes.old.items }
+    ensures given { Gives outboxes.old.items outboxes.new.items n result }
+    ensures capacity { vec_capacity outboxes.new ≡ vec_capacity outboxes.old }
+{
+    let Some(place) = (n as usize).checked_sub(1) else {
+        return Err(NoMember);
+    };
+    match outboxes.get_mut(place) {
+        Some(outbox) => Ok(outbox.take()),
+        None => Err(NoMember),
+    }
+}

@@ -1,0 +1,180 @@
+//! One conference with its journal and its outboxes.
+
+ghost use Rattle.std.specs.Prelude.{◌≡◌, ◌+◌, IfErr, IfOk, OnOk, length, option_map};
+ghost use Rattle.floor_machine.specs.declared.event.Event.TheVariants.{Join, Leave, Message};
+ghost use Rattle.floor_machine.specs.Machine.{event_of_act};
+ghost use Rattle.floor_room.specs.Calls.{Left, Took};
+ghost use Rattle.floor_room.specs.Ledger.{IsRefusedBy, closed, conference_of, refusal};
+ghost use Rattle.floor_room.specs.Room.{IsRoom, broken_room, new_room};
+ghost use Rattle.floor_room.specs.Status.{IsStatus};
+ghost use Rattle.floor_room.specs.Taking.{Gave, held_of};
+ghost use Rattle.std.specs.Option.{option_copied};
+
+use crate::journal::Place;
+use crate::ledger::Ledger;
+use crate::outbox::{NoMember, Outbox, held_of, outbox_for, queue, take};
+use crate::refusal::RoomRefusal;
+use crate::status::Status;
+use floor_machine::{Act, Config, Event, Frame, Parcel, Refusal};
+use std::alloc::{AllocError, Global};
+use std::collections::VecDeque;
+use std::marker::Model;
+
+/// One conference with its journal and its outboxes: whole messages of its members in, and what
+/// waits for each member out.
+///
+/// Readers: `journal`, `closed` (why no event is taken), `status`, `held`. Events: `join`, `serve`, `leave`
+/// and `admin`, each of which changes nothing where it refuses, but that `Memory` breaks the room
+/// off. `take` gives what waits, also in a room that takes no event. `break_off` is for a caller
+/// that meets want of memory itself.
+#[derive(Debug, Drop)]
+pub struct Room {
+    ledger: Ledger,
+    outboxes: Vec<Outbox>,
+}
+
+impl Model for Room {
+    ghost use Rattle.std.specs.Prelude.{vec_capacity};
+    ghost use Rattle.floor_room.specs.Room.{Room};
+
+    ghost Value = { Room };
+
+    ghost use Rattle.floor_room.specs.Kept.{Keeps};
+
+    ghost view = { λ r. record { ledger = r.ledger; outboxes = r.outboxes.items } };
+
+    ghost invariant = { λ r. Keeps
+        record { ledger = r.ledger; outboxes = r.outboxes.items }
+        (vec_capacity r.outboxes) };
+}
+
+impl Room {
+    /// The room of a conference that opens.
+    pub fn new(alloc: Global, config: Config) -> Result<Room, AllocError>
+        ensures value { IfOk result (λ room. room ≡ new_room config) }
+    {
+        let outboxes = Vec::with_capacity(alloc, 1)?;
+        let ledger = Ledger::new(alloc, config)?;
+        Ok(Room { ledger, outboxes })
+    }
+
+    /// What happened so far. Takes no memory.
+    pub fn journal(&self) -> &[Event]
+        ensures value { result.now ≡ self.now.ledger.journal }
+        ensures kept { IsRoom self.now }
+    {
+        self.ledger.journal()
+    }
+
+    /// Why no event is taken, whichever it is. Takes no memory.
+    pub fn closed(&self) -> Option<RoomRefusal>
+        ensures value { result ≡ closed self.now.ledger }
+    {
+        self.ledger.closed()
+    }
+
+    /// How the room stands. Takes no memory.
+    pub fn status(&self) -> Status
+        ensures value { IsStatus self.now.ledger result }
+    {
+        self.ledger.status()
+    }
+
+    /// What waits for a member, from the front on, or None where nobody has joined under the
+    /// number. Takes no memory.
+    pub fn held(&self, n: u32) -> Option<&VecDeque<Parcel>>
+        ensures value { option_map (λ held. held.items) (option_copied result)
+            ≡ held_of self.now.outboxes n }
+    {
+        held_of(self.outboxes.as_slice(), n)
+    }
+
+    /// Adds an event, where nothing refuses it, and queues what it tells.
+    fn add(&mut self, event: Event) -> Result<(), RoomRefusal>
+        ensures took { OnOk result (Took self.old self.new event) }
+        ensures refused { IsRefusedBy (refusal self.old.ledger event) result }
+        ensures left { IfErr result (Left self.old self.new event) }
+    {
+        let outbox = outbox_for(*self.outboxes.allocator(), &event);
+        match self.ledger.add(event) {
+            Err(refusal) => Err(refusal),
+            Ok(out) => match queue(&mut self.outboxes, outbox, out) {
+                Ok(()) => Ok(()),
+                Err(_) => {
+                    self.ledger.break_off();
+                    Err(RoomRefusal::Refused(Refusal::Memory))
+                }
+            },
+        }
+    }
+
+    /// Takes a connection of the user as a member, and gives its number: 1 for the first that ever
+    /// joined.
+    pub fn join(&mut self, user: u16) -> Result<u32, RoomRefusal>
+        ensures number { IfOk result (λ n. n
+            ≡ length (conference_of self.old.ledger).members + 1) }
+        ensures took { OnOk result (Took self.old self.new (Join user)) }
+        ensures refused { IsRefusedBy (refusal self.old.ledger (Join user)) result }
+        ensures left { IfErr result (Left self.old self.new (Join user)) }
+    {
+        // The outboxes are as many as the members.
+        let _journal = self.journal();
+        self.add(Event::Join { user })?;
+        Ok(self.members())
+    }
+
+    /// Takes a message of a member, and gives its place in the journal. What waits for the members
+    /// grows by what the message tells them.
+    pub fn serve(&mut self, n: u32, frame: Frame) -> Result<Place, RoomRefusal>
+        ensures place { IfOk result (λ place. place ≡ length self.new.ledger.journal) }
+        ensures took { OnOk result (Took self.old self.new (Message n frame)) }
+        ensures refused { IsRefusedBy (refusal self.old.ledger (Message n frame)) result }
+        ensures left { IfErr result (Left self.old self.new (Message n frame)) }
+    {
+        self.add(Event::Message { n, frame })?;
+        Ok(self.status().events)
+    }
+
+    /// Takes it that a member has left. What waits for it stays until it is taken.
+    pub fn leave(&mut self, n: u32) -> Result<(), RoomRefusal>
+        ensures took { OnOk result (Took self.old self.new (Leave n)) }
+        ensures refused { IsRefusedBy (refusal self.old.ledger (Leave n)) result }
+        ensures left { IfErr result (Left self.old self.new (Leave n)) }
+    {
+        self.add(Event::Leave { n })
+    }
+
+    /// Does what the administrator does. What waits for the members stays, also after a Close.
+    pub fn admin(&mut self, act: Act) -> Result<(), RoomRefusal>
+        ensures took { OnOk result (Took self.old self.new (event_of_act act)) }
+        ensures refused { IsRefusedBy (refusal self.old.ledger (event_of_act act)) result }
+        ensures left { IfErr result (Left self.old self.new (event_of_act act)) }
+    {
+        match act {
+            Act::Revoke(request) => self.add(Event::Revoke { request }),
+            Act::Close => self.add(Event::Close),
+        }
+    }
+
+    /// How many members ever joined. Takes no memory.
+    fn members(&self) -> u32
+        ensures { result ≡ length self.now.outboxes }
+    {
+        self.outboxes.len() as u32
+    }
+
+    /// Takes the first parcel that waits for a member, also for one that left. Takes no memory.
+    pub fn take(&mut self, n: u32) -> Result<Option<Parcel>, NoMember>
+        ensures took { Gave self.old self.new n result }
+    {
+        take(&mut self.outboxes, n)
+    }
+
+    /// Breaks the room off for good: no event is taken any more, and what waits stays. Takes no
+    /// memory.
+    pub fn break_off(&mut self)
+        ensures next { self.new ≡ broken_room self.old }
+    {
+        self.ledger.break_off();
+    }
+}
