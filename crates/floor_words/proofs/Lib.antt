@@ -1,0 +1,4 @@
+pub mod Parting
+pub mod Some
+pub mod Ends
+pub mod Digits

@@ -1,0 +1,5 @@
+use Rattle.floor_words.proofs.Parting.{words_are_read_back}
+use Rattle.floor_words.proofs.laws.words_are_read_back.Goals as goal
+
+pub returns : goal.returns
+returns c = words_are_read_back

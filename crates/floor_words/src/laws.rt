@@ -1,0 +1,13 @@
+//! Laws of the words of the contracts. Each is the contract of a function that does nothing.
+
+ghost use Rattle.floor_words.specs.Laws.{NumbersAreReadBack, WordsAreReadBack};
+
+/// Words without spaces, none of them empty, that a single space parts are read back as they are.
+pub fn words_are_read_back()
+    ensures { WordsAreReadBack }
+{}
+
+/// A number in decimal digits is read back, where it is below the limit and has ten digits at most.
+pub fn numbers_are_read_back()
+    ensures { NumbersAreReadBack }
+{}
