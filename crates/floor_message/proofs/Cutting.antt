@@ -1,13 +1,14 @@
 -- Where a text is cut.
-use Rattle.std.proofs.Common.{◌≡◌, inl, inr, ℕ, zero, suc, ◌<◌, ◌≤◌, Bool, true, false, cond, List, [], ◌∷◌, length, take, Option, Some, None, refl, ◌∙◌, ap, subst, arith}
+use Rattle.std.proofs.Common.{◌≡◌, inl, inr, ℕ, zero, suc, ◌<◌, ◌≤◌, Bool, true, false, cond, List, [], ◌∷◌, ◌++◌, length, take, drop, Option, Some, None, refl, sym, ◌∙◌, ap, subst, arith, length-append}
 use Rattle.std.specs.Prelude.{IsCharBoundary, IfSome}
 use Rattle.std.proofs.lemmas.Bool.Decides.{leb_tells, nat_tests}
-use Rattle.floor_message.specs.Text.{is_whole_at, cut_at_most, shortened, unless_empty, info_kept}
+use Rattle.floor_message.specs.Text.{is_whole_at, cut_at_most, shortened, unless_empty, info_kept, IsLongestFront}
 use Rattle.floor_message.specs.Fits.{TextFits}
 use Rattle.std.specs.Str.{is_utf8, IsUtf8}
-use Rattle.std.proofs.lemmas.Str.{IsCharBoundary-start, IsUtf8-take, IsUtf8-from_is_utf8, is_utf8-from_IsUtf8}
-use Rattle.std.proofs.lemmas.List.{length-take}
+use Rattle.std.proofs.lemmas.Str.{IsCharBoundary-start, IsCharBoundary-from_take, IsUtf8-take, IsUtf8-from_is_utf8, is_utf8-from_IsUtf8}
+use Rattle.std.proofs.lemmas.List.{length-take, length-take-le, take-append-drop, take_at}
 use Rattle.std.proofs.Math.Seq.{take-length}
+use Rattle.std.proofs.Common.{true≢false}
 
 whole_true : (text : List ℕ) (i : ℕ) → IsCharBoundary text i → is_whole_at text i ≡ true
 whole_true text i h = grind (arith, nat_tests)
@@ -84,3 +85,43 @@ kept_by text kept false u e = absurd (let no : ⊥ = cc in no)
 pub kept_fits : (info : Option (List ℕ)) (kept : Option (List ℕ)) → info_kept info ≡ Some kept → IfSome kept TextFits
 kept_fits None kept e = let P : Option (List ℕ) → Type 0 = λ k. IfSome k TextFits in let same : None ≡ kept = cc in subst P same tt
 kept_fits (Some text) kept e = kept_by text kept (is_utf8 text) refl e
+
+-- the cut is at the greatest place
+cut_step : (text : List ℕ) (n k : ℕ) (b : Bool) → is_whole_at text (suc n) ≡ b → k ≤ suc n → IsCharBoundary text k
+    → (k ≤ n → k ≤ cut_at_most text n) → k ≤ cond b (suc n) (cut_at_most text n)
+cut_step text n k true e h whole below = h
+cut_step text n k false e h whole below = elim (leb_tells k n) [
+  | inl w ↦ below w.1
+  | inr w ↦ let same : k ≡ suc n = omega (arith, w.1, h) in
+      absurd (true≢false (sym (whole_true text k whole) ∙ ap (λ i. is_whole_at text i) same ∙ e))
+]
+
+cut_greatest : (text : List ℕ) (n k : ℕ) → k ≤ n → IsCharBoundary text k → k ≤ cut_at_most text n
+cut_greatest text zero k h whole = h
+cut_greatest text (suc n) k h whole =
+    cut_step text n k (is_whole_at text (suc n)) refl h whole (λ l. cut_greatest text n k l whole)
+
+-- a front that is UTF-8 ends at a character
+front_ends : (text front more : List ℕ) → is_utf8 text ≡ true → text ≡ front ++ more → is_utf8 front ≡ true → IsCharBoundary text (length front)
+front_ends text front more u e v =
+    let same : take (length front) text ≡ front = ap (λ x. take (length front) x) e ∙ take_at front more (length front) refl in
+    IsCharBoundary-from_take text (length front) (IsUtf8-from_is_utf8 text u)
+    (omega (arith, ap length e, length-append front more))
+    (subst IsUtf8 (sym same) (IsUtf8-from_is_utf8 front v))
+
+-- no longer front could be kept
+pub shortened_longest : (text : List ℕ) → is_utf8 text ≡ true → IsLongestFront text (shortened text)
+shortened_longest text u =
+    let whole = cut_whole text 62 (IsUtf8-from_is_utf8 text u) in
+    record {
+      behind = drop (cut_at_most text 62) text;
+      whole = sym (take-append-drop (cut_at_most text 62) text) ∙ ap (λ x. x ++ drop (cut_at_most text 62) text) (sym (shortened_is text));
+      ends = shortened_utf8 text u;
+      short = shortened_short text;
+      longest = λ front more e v h. omega (
+        arith,
+        cut_greatest text 62 (length front) h (front_ends text front more u e v),
+        ap length (shortened_is text),
+        length-take-le (cut_at_most text 62) text whole.0,
+      );
+    }

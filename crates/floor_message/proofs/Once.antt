@@ -3,9 +3,9 @@ use Rattle.std.proofs.Common.{◌≡◌, ℕ, Bool, true, false, not, cond, ◌&
 use Rattle.std.specs.Prelude.{◌==◌}
 use Rattle.std.specs.List.{list_any}
 use Rattle.std.proofs.lemmas.List.{append-nil}
-use Rattle.floor_message.specs.Picked.{once_by, IsOnceBy}
+use Rattle.floor_message.specs.Picked.{once_by, IsOnceBy, KeepsFirst}
 use Rattle.floor_message.specs.Adding.{add_new, add_all}
-use Rattle.std.proofs.lemmas.Bool.{eqb-true}
+use Rattle.std.proofs.lemmas.Bool.{eqb-true, false≢true}
 use Rattle.std.proofs.Common.{true≢false}
 
 -- none of the items has this number
@@ -139,3 +139,45 @@ once_kept key q (x ∷ xs) h = elim (q x) as (λ c. IsOnceBy key (cond c (x ∷ 
 pub once_by-once : {A : Type 0} (key : A → ℕ) (xs : List A) → IsOnceBy key (once_by key xs)
 once_by-once key [] = tt
 once_by-once key (x ∷ xs) = (none_left (λ y. key y == key x) (once_by key xs), once_kept key (λ y. not (key y == key x)) (once_by key xs) (once_by-once key xs))
+
+any_step : {A : Type 0} (p q : A → Bool) (y : A) (ys : List A) (b c : Bool) → p y ≡ b → (b ≡ true → c ≡ true)
+    → list_any p (filter q ys) ≡ list_any p ys → list_any p (cond c (y ∷ filter q ys) (filter q ys)) ≡ (b || list_any p ys)
+any_step p q y ys b true e h rest = ap (λ x. x || list_any p (filter q ys)) e ∙ ap (λ x. b || x) rest
+any_step p q y ys true false e h rest = absurd (false≢true (h refl))
+any_step p q y ys false false e h rest = rest
+
+-- what a test passes isn't filtered out
+any_kept : {A : Type 0} (p q : A → Bool) → ((y : A) → p y ≡ true → q y ≡ true) → (ys : List A) → list_any p (filter q ys) ≡ list_any p ys
+any_kept p q h [] = refl
+any_kept p q h (y ∷ ys) = any_step p q y ys (p y) (q y) refl (h y) (any_kept p q h ys)
+
+other_kept : {A : Type 0} (key : A → ℕ) (n : ℕ) (x y : A) → (n == key x) ≡ false → (n == key y) ≡ true → not (key y == key x) ≡ true
+other_kept key n x y h e = ap (λ k. not (k == key x)) (sym (eqb-true n (key y) e)) ∙ ap not h
+
+any_case : {A : Type 0} (key : A → ℕ) (n : ℕ) (x : A) (xs : List A) (b : Bool) → (n == key x) ≡ b
+    → list_any (λ y. n == key y) (once_by key xs) ≡ list_any (λ y. n == key y) xs
+    → (b || list_any (λ y. n == key y) (filter (λ y. not (key y == key x)) (once_by key xs))) ≡ (b || list_any (λ y. n == key y) xs)
+any_case key n x xs true e rest = refl
+any_case key n x xs false e rest =
+    any_kept (λ y. n == key y) (λ y. not (key y == key x)) (λ y f. other_kept key n x y e f) (once_by key xs) ∙ rest
+
+-- a number stands in what is kept where it stands in the list
+any_once : {A : Type 0} (key : A → ℕ) (n : ℕ) (xs : List A) → list_any (λ y. n == key y) (once_by key xs) ≡ list_any (λ y. n == key y) xs
+any_once key n [] = refl
+any_once key n (x ∷ xs) = any_case key n x xs (n == key x) refl (any_once key n xs)
+
+one_or_none : {A : Type 0} (ys : List A) (x : A) (b : Bool) → cond b ys (ys ++ x ∷ []) ≡ ys ++ cond b [] (x ∷ [])
+one_or_none ys x true = sym (append-nil ys)
+one_or_none ys x false = refl
+
+once_by-more : {A : Type 0} (key : A → ℕ) (before : List A) (x : A)
+    → once_by key (before ++ x ∷ []) ≡ once_by key before ++ cond (list_any (λ y. key x == key y) before) [] (x ∷ [])
+once_by-more key before x =
+    sym (once_by_added key (before ++ x ∷ [])) ∙ add_all_append key [] before (x ∷ [])
+    ∙ ap (λ l. add_new key l x) (once_by_added key before)
+    ∙ ap (λ b. cond b (once_by key before) (once_by key before ++ x ∷ [])) (any_once key (key x) before)
+    ∙ one_or_none (once_by key before) x (list_any (λ y. key x == key y) before)
+
+-- the first of each number is kept
+pub keeps_first : (A : Type 0) (key : A → ℕ) → KeepsFirst A key
+keeps_first A key = record { none = refl; more = once_by-more key }

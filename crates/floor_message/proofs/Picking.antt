@@ -1,5 +1,5 @@
 -- What is picked from a list of attributes, one more of which is looked at.
-use Rattle.std.proofs.Common.{◌≡◌, ℕ, zero, suc, ◌+◌, ◌<◌, ◌≤◌, Bool, true, false, not, cond, ◌&&◌, List, [], ◌∷◌, ◌++◌, length, drop, get_or, map, filter, sym, ◌∙◌, ap, subst, arith}
+use Rattle.std.proofs.Common.{◌≡◌, ℕ, zero, suc, ◌+◌, ◌<◌, ◌≤◌, Bool, true, false, not, cond, ◌&&◌, List, [], ◌∷◌, ◌++◌, length, drop, get_or, map, filter, refl, sym, ◌∙◌, ap, subst, arith}
 use Rattle.std.specs.Prelude.{All, ◌==◌}
 use Rattle.std.proofs.lemmas.List.{at_drop_more, at_drop_all}
 use Rattle.floor_wire.specs.Attributes.{content_size, attributes_size, Content, num, pair, group, octets, Attributes, no_attributes, attribute}
@@ -74,6 +74,33 @@ mutual
 
 pub types_fit : (a : Attributes) → IsWritable a → All (λ t. t < 128) (distinct (mandatory a))
 types_fit a w = All_of (λ t. t < 128) (distinct (mandatory a)) (Each_distinct (λ t. t < 128) (mandatory a) (mandatory_fits a w))
+
+own_unknown_by : (kind : ℕ) (must b : Bool) → is_known kind ≡ b → Each (λ t. is_known t ≡ false) (cond (must && not b) (kind ∷ []) [])
+own_unknown_by kind true true e = tt
+own_unknown_by kind true false e = (e, tt)
+own_unknown_by kind false b e = tt
+
+own_unknown : (kind : ℕ) (must : Bool) → Each (λ t. is_known t ≡ false) (own_mandatory kind must)
+own_unknown kind must = own_unknown_by kind must (is_known kind) refl
+
+mutual
+  inside_unknown : (c : Content) → Each (λ t. is_known t ≡ false) (mandatory_inside c)
+  inside_unknown (num n) = tt
+  inside_unknown (pair a b) = tt
+  inside_unknown (group n i) = mandatory_unknown i
+  inside_unknown (octets os) = tt
+
+  mandatory_unknown : (a : Attributes) → Each (λ t. is_known t ≡ false) (mandatory a)
+  mandatory_unknown no_attributes = tt
+  mandatory_unknown (attribute k m c rest) =
+      Each_append (λ t. is_known t ≡ false) (own_mandatory k m ++ mandatory_inside c) (mandatory rest)
+      (Each_append (λ t. is_known t ≡ false) (own_mandatory k m) (mandatory_inside c) (own_unknown k m) (inside_unknown c))
+      (mandatory_unknown rest)
+
+-- the types that an Error names are unknown
+pub types_unknown : (a : Attributes) → All (λ t. is_known t ≡ false) (distinct (mandatory a))
+types_unknown a =
+    All_of (λ t. is_known t ≡ false) (distinct (mandatory a)) (Each_distinct (λ t. is_known t ≡ false) (mandatory a) (mandatory_unknown a))
 
 pub judged_done : (attrs : List Attr) (i : ℕ) (overall : _) (found : _) → length attrs ≤ i → overall ≡ overall_status attrs
     → add_all (λ v. v.0) found (map (judged overall) (groups 17 (drop i attrs))) ≡ add_all (λ v. v.0) [] (map (judged overall) (groups 17 attrs))

@@ -73,7 +73,7 @@ IsAnswer a (Ok None) = a ≡ unanswered
 IsAnswer a (Err fault.Memory) = Unit {0}
 IsAnswer a (Err (fault.Error code details)) = a ≡ refused code details
 
--- the details, if it is an Error, are at most 252 bytes, and so fit an ERROR-CODE
+-- the details, if it is an Error, name each of the 110 unknown types at most once, and so fit an ERROR-CODE
 abbrev pub HasShortDetails : AskFault → Type 0
 HasShortDetails fault.Memory = Unit {0}
-HasShortDetails (fault.Error code details) = length details ≤ 252
+HasShortDetails (fault.Error code details) = length details ≤ 110

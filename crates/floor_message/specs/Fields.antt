@@ -1,7 +1,7 @@
 -- What the attributes of a message from a client ask (RFC 8855, section 5.3).
 use Rattle.std.specs.Prelude.{ℕ, ◌/◌, ◌==◌, min, Bool, true, false, List, [], ◌∷◌, map, Option, Some, None, option_map, option_and_then, if◌then◌else◌}
+use Rattle.floor_wire.specs.Types.{BENEFICIARY_ID, FLOOR_ID, FLOOR_REQUEST_ID, PRIORITY, REQUEST_STATUS, PARTICIPANT_PROVIDED_INFO, FLOOR_REQUEST_INFORMATION, FLOOR_REQUEST_STATUS, OVERALL_REQUEST_STATUS}
 use Rattle.floor_wire.specs.declared.attribute.Attr.{Attr}
-use Rattle.floor_message.specs.declared.kind.TheConstants.{BENEFICIARY_ID, FLOOR_ID, FLOOR_REQUEST_ID, PRIORITY, REQUEST_STATUS, PARTICIPANT_PROVIDED_INFO, FLOOR_REQUEST_INFORMATION, FLOOR_REQUEST_STATUS, OVERALL_REQUEST_STATUS}
 use Rattle.floor_message.specs.Picked.{first, numbers, pairs, octet_strings, groups, distinct, once_by}
 use Rattle.floor_message.specs.Text.{info_kept}
 use Rattle.floor_message.specs.declared.primitive.Primitive.{Primitive}

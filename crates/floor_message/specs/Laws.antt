@@ -1,5 +1,6 @@
 -- Laws of messages: what is written is read, and what is read can be written.
-use Rattle.std.specs.Prelude.{◌≡◌, ℕ, ◌+◌, ◌≤◌, List, length, Some, Contains}
+use Rattle.std.specs.Prelude.{◌≡◌, ℕ, ◌+◌, ◌≤◌, true, List, length, Some, Contains}
+use Rattle.std.specs.Str.{is_utf8}
 use Rattle.floor_wire.specs.Attributes.{Content, num, pair, group, octets, Attributes, no_attributes, attribute}
 use Rattle.floor_wire.specs.Spelling.{IsWritable, canon}
 use Rattle.floor_wire.specs.View.{attributes_of}
@@ -8,6 +9,7 @@ use Rattle.floor_message.specs.Binding.{Binding}
 use Rattle.floor_message.specs.Fits.{AskFits, HeadFits, TellFits}
 use Rattle.floor_message.specs.Shown.{IsShown}
 use Rattle.floor_message.specs.Tell.{tell}
+use Rattle.floor_message.specs.Text.{IsLongestFront, shortened}
 use Rattle.floor_message.specs.Written.{ask_attrs, ask_bytes, tell_attrs, tell_bytes}
 use Rattle.floor_message.specs.declared.ask.Ask.{Ask}
 use Rattle.floor_message.specs.declared.ask.Ask.TheVariants.{FloorRequest, FloorRelease, FloorRequestQuery, UserQuery, FloorQuery, ChairAction, Hello}
@@ -42,6 +44,10 @@ CountsFit Hello = Unit {0}
 -- what a message asks can be written, where its floors and verdicts are not too many
 abbrev pub WhatIsAskedFits : Type 0
 WhatIsAskedFits = (bytes : List ℕ) (binding : Binding) (a : Ask) → ask bytes binding ≡ asks a → CountsFit a → AskFits a
+
+-- what is kept of a text is its longest front of at most 62 bytes that ends at a character
+abbrev pub ShortenedIsLongest : Type 0
+ShortenedIsLongest = (text : List ℕ) → is_utf8 text ≡ true → IsLongestFront text (shortened text)
 
 -- each group is written in at most 252 bytes, and each octet string has at most 253 octets, those inside groups too
 abbrev mutual

@@ -18,4 +18,5 @@ pub use Rattle.floor_wire.specs.Attributes
 pub use Rattle.floor_wire.specs.Header
 pub use Rattle.floor_wire.specs.Spelled
 pub use Rattle.floor_wire.specs.Spelling
+pub use Rattle.floor_wire.specs.Types
 pub use Rattle.floor_wire.specs.View

@@ -66,6 +66,12 @@ abbrev pub once_by : {A : Type 0} → (A → ℕ) → List A → List A
 once_by key [] = []
 once_by key (x ∷ xs) = x ∷ filter (λ y. not (key y == key x)) (once_by key xs)
 
+-- Of no items none is kept. An item behind others is kept behind what is kept of them, unless one of them has its number.
+pub record KeepsFirst (A : Type 0) (key : A → ℕ) : Type 0 where
+  pub none : once_by key [] ≡ []
+  pub more : (before : List A) (x : A)
+      → once_by key (before ++ x ∷ []) ≡ once_by key before ++ (if list_any (λ y. key x == key y) before then [] else x ∷ [])
+
 -- no two of them have the same number
 abbrev pub IsOnceBy : {A : Type 0} → (A → ℕ) → List A → Type 0
 IsOnceBy key [] = Unit {0}

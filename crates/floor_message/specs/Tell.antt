@@ -1,11 +1,11 @@
 -- What a message from the server tells (RFC 8855, sections 5.2 and 5.3).
 use Rattle.std.specs.Prelude.{ℕ, ◌/◌, ◌==◌, List, [], ◌∷◌, drop, map, Option, Some, None, option_map, option_and_then, if◌then◌else◌}
+use Rattle.floor_wire.specs.Types.{FLOOR_ID, PRIORITY, REQUEST_STATUS, ERROR_CODE, PARTICIPANT_PROVIDED_INFO, SUPPORTED_ATTRIBUTES, SUPPORTED_PRIMITIVES, USER_DISPLAY_NAME, USER_URI, BENEFICIARY_INFORMATION, FLOOR_REQUEST_INFORMATION, REQUESTED_BY_INFORMATION, FLOOR_REQUEST_STATUS, OVERALL_REQUEST_STATUS}
 use Rattle.floor_wire.specs.Header.{CommonHeader, header_of}
 use Rattle.floor_wire.specs.Attributes.{Attributes}
 use Rattle.floor_wire.specs.Spelled.{spelled}
 use Rattle.floor_wire.specs.View.{items}
 use Rattle.floor_wire.specs.declared.attribute.Attr.{Attr}
-use Rattle.floor_message.specs.declared.kind.TheConstants.{FLOOR_ID, PRIORITY, REQUEST_STATUS, ERROR_CODE, PARTICIPANT_PROVIDED_INFO, SUPPORTED_ATTRIBUTES, SUPPORTED_PRIMITIVES, USER_DISPLAY_NAME, USER_URI, BENEFICIARY_INFORMATION, FLOOR_REQUEST_INFORMATION, REQUESTED_BY_INFORMATION, FLOOR_REQUEST_STATUS, OVERALL_REQUEST_STATUS}
 use Rattle.floor_message.specs.Picked.{first, numbers, pairs, octet_strings, groups, mandatory}
 use Rattle.floor_message.specs.Fields.{priority_of}
 use Rattle.floor_message.specs.Primitive.{primitive_of}

@@ -1,5 +1,5 @@
 -- PARTICIPANT-PROVIDED-INFO as it is kept (RFC 8855, section 5.2.8).
-use Rattle.std.specs.Prelude.{ℕ, zero, suc, Bool, ◌&&◌, ◌||◌, nat_le, nat_lt, List, [], ◌∷◌, length, take, slice_index, Option, Some, None, if◌then◌else◌}
+use Rattle.std.specs.Prelude.{◌≡◌, ◌≤◌, ℕ, zero, suc, Bool, true, ◌&&◌, ◌||◌, nat_le, nat_lt, List, [], ◌∷◌, ◌++◌, length, take, slice_index, Option, Some, None, if◌then◌else◌}
 use Rattle.std.specs.Str.{is_utf8}
 
 -- no character of the text is cut at this place
@@ -15,6 +15,15 @@ cut_at_most text (suc n) = if is_whole_at text (suc n) then suc n else cut_at_mo
 -- the longest front of a text of at most 62 bytes that ends at a character
 unfoldable pub shortened : List ℕ → List ℕ
 shortened text = take (cut_at_most text 62) text
+
+-- what is kept is the longest front of the text that ends at a character and has at most 62 bytes
+pub record IsLongestFront (text kept : List ℕ) : Type 0 where
+  pub behind : List ℕ
+  pub whole : text ≡ kept ++ behind
+  pub ends : is_utf8 kept ≡ true
+  pub short : length kept ≤ 62
+  pub longest : (front more : List ℕ) → text ≡ front ++ more → is_utf8 front ≡ true → length front ≤ 62
+      → length front ≤ length kept
 
 -- a text that is empty counts as absent
 abbrev pub unless_empty : List ℕ → Option (List ℕ)

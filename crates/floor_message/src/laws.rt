@@ -1,6 +1,9 @@
 //! Laws of messages. Each is the contract of a function that does nothing.
 
-ghost use Rattle.floor_message.specs.Laws.{WhatIsAskedFits, WhatIsShownFits, WrittenAskIsRead, WrittenAskIsShort, WrittenTellIsRead, WrittenTellIsShort};
+ghost use Rattle.std.specs.Prelude.{ℕ, Option};
+ghost use Rattle.floor_message.specs.Picked.{KeepsFirst};
+ghost use Rattle.floor_message.specs.declared.ask.Verdict.{Verdict};
+ghost use Rattle.floor_message.specs.Laws.{ShortenedIsLongest, WhatIsAskedFits, WhatIsShownFits, WrittenAskIsRead, WrittenAskIsShort, WrittenTellIsRead, WrittenTellIsShort};
 
 use floor_wire::what_is_written_is_read;
 
@@ -27,6 +30,17 @@ pub fn what_is_asked_fits()
 /// most 62, at most 8 floors of a floor request and 256 floor requests.
 pub fn what_is_shown_fits()
     ensures { WhatIsShownFits }
+{}
+
+/// A text is kept as its longest front of at most 62 bytes that ends at a character.
+pub fn a_text_is_cut_at_its_longest()
+    ensures { ShortenedIsLongest }
+{}
+
+/// Of floors and verdicts that are named again the first is kept, each in its order.
+pub fn the_first_is_kept()
+    ensures floors { KeepsFirst ℕ (λ n. n) }
+    ensures verdicts { KeepsFirst (ℕ × Option Verdict) (λ v. v.0) }
 {}
 
 /// No group is written in more than 252 bytes, and no octet string with more than 253 octets.

@@ -8,5 +8,6 @@ pub mod Written
 pub mod Spelled
 pub mod Messages
 pub mod Writing
+pub mod Typed
 pub mod Rewritten
 pub mod Found

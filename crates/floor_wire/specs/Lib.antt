@@ -2,6 +2,7 @@ pub mod Attributes
 pub mod AttributesCode
 pub mod AttrsFalls
 pub mod Spelling
+pub mod Types
 pub mod View
 pub mod Fault
 pub mod FirstFault

@@ -7,6 +7,7 @@ ghost use Rattle.floor_wire.specs.Message.{Divides, IsMessage, messages, rest};
 ghost use Rattle.floor_wire.specs.Attributes.{Attributes};
 ghost use Rattle.floor_wire.specs.Spelling.{Spells, IsWritable, canon, cleared};
 ghost use Rattle.floor_wire.specs.Spelled.{spelled};
+ghost use Rattle.floor_wire.specs.Types.{FormatsAreOfTable};
 ghost use Rattle.floor_wire.specs.Fault.{HasFault, IsBytes};
 ghost use Rattle.floor_wire.specs.FirstFault.{IsFirstFault};
 ghost use Rattle.floor_wire.specs.declared.fault.Cause.{Cause};
@@ -38,6 +39,11 @@ pub fn messages_at_the_front_come_first()
 pub fn a_rest_holds_no_message()
     ensures none { (s : List ℕ) → messages (rest s) ≡ [] }
     ensures whole { (s : List ℕ) → messages s ≡ [] → rest s ≡ s }
+{}
+
+/// Each type of attribute has the format that the table of the RFC gives it (section 5.2).
+pub fn formats_are_those_of_the_table()
+    ensures { FormatsAreOfTable }
 {}
 
 /// Bytes spell at most one list of attributes.

@@ -8,5 +8,5 @@ pub returns-then-not-is_empty-clause-details : goal.returns-then-not-is_empty-cl
 returns-then-not-is_empty-clause-details c =
     let kinds : All (λ t. t < 128) (distinct (mandatory c.in-Some.attrs)) = search rules in
     let same : c.from_vec.result ≡ map (λ (k : ℕ). 2 * k) (distinct (mandatory c.in-Some.attrs)) = search rules in
-    let P : List ℕ → Type 0 = λ ds. length ds ≤ 252 in
+    let P : List ℕ → Type 0 = λ ds. length ds ≤ 110 in
     subst P (sym same) (details_short c.in-Some.attrs kinds)
