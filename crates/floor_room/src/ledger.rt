@@ -131,6 +131,6 @@ impl Ledger {
     pub fn break_off(&mut self)
         ensures next { self.new ≡ broken_off self.old }
     {
-        self.is_broken = true;
+        self.is_broken = true; // for good
     }
 }

@@ -175,6 +175,6 @@ impl Room {
     pub fn break_off(&mut self)
         ensures next { self.new ≡ broken_room self.old }
     {
-        self.ledger.break_off();
+        self.ledger.break_off(); // what waits stays
     }
 }
