@@ -7,12 +7,11 @@ use Rattle.floor_queue.specs.Order.{settle}
 use Rattle.floor_wire.specs.Message.{IsMessage}
 use Rattle.floor_machine.specs.declared.machine.Refusal.TheVariants.{Broken, Ended, NoMember, NoUser, Full}
 use Rattle.floor_machine.specs.declared.member.Member.{Member}
-use Rattle.floor_machine.specs.Conference.{Conference, is_user, is_live}
+use Rattle.floor_machine.specs.Conference.{Conference, is_user, is_live, is_numbered_from}
 use Rattle.floor_machine.specs.declared.event.Event.TheVariants.{Join, Message}
 use Rattle.floor_machine.specs.Shown.{entry_of}
 use Rattle.floor_machine.specs.Change.{change, shown, next, IsLawful}
 use Rattle.floor_machine.specs.Machine.{Machine, join_refusal, member_refusal}
-use Rattle.floor_machine.specs.Serving.{is_numbered_from}
 use Rattle.floor_machine.proofs.Entries.{ongoing_of-entries, ongoing_of-settled}
 use Rattle.floor_machine.proofs.Found.{and_left, and_right}
 

@@ -15,14 +15,14 @@ use Rattle.floor_machine.specs.declared.member.Member.{Member}
 use Rattle.floor_machine.specs.declared.sending.FloorUpdate.{FloorUpdate}
 use Rattle.floor_machine.specs.declared.sending.Reply.{Reply}
 use Rattle.floor_machine.specs.declared.sending.Update.{Update}
-use Rattle.floor_machine.specs.Conference.{Conference, binding, user_of}
+use Rattle.floor_machine.specs.Conference.{Conference, binding, user_of, is_numbered_from}
 use Rattle.floor_machine.specs.Shown.{Entry, entry_of}
 use Rattle.floor_machine.specs.Change.{Change, change, next, shown}
 use Rattle.floor_machine.specs.Fitting.{AreFloorsShown, AreUpdatesShown, IsReplyShown, IsToldShown}
 use Rattle.floor_machine.specs.Journal.{parcels_of}
 use Rattle.floor_machine.specs.Outgoing.{response_head}
 use Rattle.floor_machine.specs.Reply.{infos}
-use Rattle.floor_machine.specs.Serving.{IsJudged, changes_requests, ended_of, is_numbered_from, is_rising, judged_change, judged_tells, members_judged, numbers_in}
+use Rattle.floor_machine.specs.Serving.{IsJudged, changes_requests, ended_of, is_rising, judged_change, judged_tells, members_judged, numbers_in}
 use Rattle.floor_machine.specs.Steps.{answered_to, floor_update, parcels_to_all}
 use Rattle.floor_machine.specs.Told.{Changed, reply_to}
 use Rattle.floor_machine.proofs.Bounds.{told-shown}
@@ -53,7 +53,7 @@ kept s n (Refused code details) h = record { entries = refl; given = refl; is_op
 kept s n Unanswered h = record { entries = refl; given = refl; is_open = refl; members = refl }
 
 -- so the event changes the members at the most
-event-kept : (s : Conference) (n : ℕ) (bytes : List ℕ) (j : Judged) → IsJudged s n bytes j → changes_requests j ≡ false →
+pub event-kept : (s : Conference) (n : ℕ) (bytes : List ℕ) (j : Judged) → IsJudged s n bytes j → changes_requests j ≡ false →
     IsKept s (members_judged s.members n j) (change s (Message n bytes))
 event-kept s n bytes j is keeps =
     subst (IsKept s (members_judged s.members n j)) (sym (change-judged s n bytes (ask bytes (binding s n)) refl ∙ ap (judged_change s n) (sym is))) (kept s n j keeps)

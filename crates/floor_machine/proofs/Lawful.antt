@@ -1,5 +1,5 @@
 -- The events that are taken are the lawful ones.
-use Rattle.std.proofs.Common.{◌≡◌, ℕ, ◌<◌, Bool, true, false, cond, Some, None, refl, sym, arith}
+use Rattle.std.proofs.Common.{◌≡◌, ◌≢◌, ℕ, ◌<◌, Bool, true, false, cond, Some, None, refl, sym, ap, arith}
 use Rattle.std.specs.Prelude.{not, nat_le, count_by, is_some}
 use Rattle.std.proofs.lemmas.Bool.Decides.{nat_tests}
 use Rattle.floor_queue.specs.Queue.{request_at}
@@ -7,7 +7,7 @@ use Rattle.floor_machine.specs.declared.event.Act.{Act}
 use Rattle.floor_machine.specs.declared.event.Event.{Event}
 use Rattle.floor_machine.specs.declared.event.Event.TheVariants.{Join, Message, Leave, Revoke, Close}
 use Rattle.floor_machine.specs.declared.machine.Refusal.{Refusal}
-use Rattle.floor_machine.specs.declared.machine.Refusal.TheVariants.{Broken, Ended, NoMember, NoUser, Full, NoRequest}
+use Rattle.floor_machine.specs.declared.machine.Refusal.TheVariants.{Broken, Ended, NoMember, NoUser, Full, NoRequest, Memory}
 use Rattle.floor_machine.specs.Conference.{Conference, is_user, is_live}
 use Rattle.floor_machine.specs.Change.{IsLawful}
 use Rattle.floor_machine.specs.Laws.{IsWhole, TakenIsLawful}
@@ -67,6 +67,61 @@ taken_of-lawful s Close h = by s.is_open h
   where
     by : (b : Bool) → b ≡ true → cond (not b) (Some Ended) None ≡ None
     by b h = rw h refl
+
+-- of three refusals none is Memory
+never_third : (refusal : Refusal) (a b d : Bool) → (refusal ≡ Memory → ⊥) →
+    Some Memory ≡ cond a (Some Broken) (cond (not b) (Some Ended) (cond (not d) (Some refusal) None)) → ⊥
+never_third refusal true b d other h = cc
+never_third refusal false false d other h = cc
+never_third refusal false true false other h = let same : refusal ≡ Memory = cc in other same
+never_third refusal false true true other h = cc
+
+-- what no refusal stands against is lawful
+pub lawful_event : (m : Machine) (e : Event) → IsWhole e → None ≡ event_refusal m e → IsLawful m.conference e
+lawful_event m (Join user) framed h = join_lawful m user h
+lawful_event m (Message n bytes) framed h = message_lawful m n bytes h framed
+lawful_event m (Leave n) framed h = leave_lawful m n h
+lawful_event m (Revoke request) framed h = act_lawful m (Act.Revoke request) h
+lawful_event m Close framed h = act_lawful m Act.Close h
+
+broken_refuses : (m : Machine) (e : Event) → m.is_broken ≡ true → event_refusal m e ≡ Some Broken
+broken_refuses m (Join user) h = rw h refl
+broken_refuses m (Message n bytes) h = rw h refl
+broken_refuses m (Leave n) h = rw h refl
+broken_refuses m (Revoke request) h = rw h refl
+broken_refuses m Close h = rw h refl
+
+-- what a machine that isn't broken refuses isn't lawful
+pub unlawful_event : (m : Machine) (e : Event) (why : Refusal) → Some why ≡ event_refusal m e → why ≢ Broken → ¬ IsLawful m.conference e
+unlawful_event m e why h other lawful = by m.is_broken refl
+  where
+    by : (b : Bool) → b ≡ m.is_broken → ⊥
+    by true is = let broken = broken_refuses m e (sym is) in other cc
+    by false is =
+        let same : whole m.conference ≡ m = ap (λ (b : Bool). record m { is_broken = b }) is in
+        let taken : event_refusal (whole m.conference) e ≡ None = taken_of-lawful m.conference e lawful in
+        let refused : event_refusal (whole m.conference) e ≡ event_refusal m e = ap (λ (x : Machine). event_refusal x e) same in
+        cc
+
+-- no event is refused for want of memory before it begins
+pub never_memory : (m : Machine) (e : Event) → Some Memory ≡ event_refusal m e → ⊥
+never_memory m (Join user) h = by m.is_broken m.conference.is_open (is_user m.conference.config user) (nat_le 64 (count_by (λ m. m.is_live) m.conference.members)) h
+  where
+    by : (a b d f : Bool) → Some Memory ≡ cond a (Some Broken) (cond (not b) (Some Ended) (cond (not d) (Some NoUser) (cond f (Some Full) None))) → ⊥
+    by true b d f h = cc
+    by false false d f h = cc
+    by false true false f h = cc
+    by false true true true h = cc
+    by false true true false h = cc
+never_memory m (Message n bytes) h = never_third NoMember m.is_broken m.conference.is_open (is_live m.conference n) (λ e. cc) h
+never_memory m (Leave n) h = never_third NoMember m.is_broken m.conference.is_open (is_live m.conference n) (λ e. cc) h
+never_memory m (Revoke request) h = never_third NoRequest m.is_broken m.conference.is_open (is_some (request_at m.conference.ongoing request)) (λ e. cc) h
+never_memory m Close h = by m.is_broken m.conference.is_open h
+  where
+    by : (a b : Bool) → Some Memory ≡ cond a (Some Broken) (cond (not b) (Some Ended) None) → ⊥
+    by true b h = cc
+    by false false h = cc
+    by false true h = cc
 
 pub taken_is_lawful : TakenIsLawful
 taken_is_lawful = λ s e framed. (lawful_of-taken s e framed, taken_of-lawful s e)

@@ -23,3 +23,6 @@ pub mod Lawful
 pub mod Runs
 pub mod Bounds
 pub mod Members
+pub mod Reachable
+pub mod Together
+pub mod Alone

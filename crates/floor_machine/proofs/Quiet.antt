@@ -1,6 +1,6 @@
 -- An event that leaves each request as it is changes nothing that is shown: a join tells nobody anything, and a message its sender
 -- alone. A conference that ends tells nobody anything.
-use Rattle.std.proofs.Common.{◌≡◌, ℕ, zero, suc, ◌<◌, Bool, true, false, cond, List, [], ◌∷◌, ◌++◌, length, get_or, map, Option, Some, refl, sym, ap, ◌∙◌, arith}
+use Rattle.std.proofs.Common.{◌≡◌, ℕ, zero, suc, ◌<◌, Bool, true, false, cond, List, [], ◌∷◌, ◌++◌, length, get_or, map, Option, Some, None, refl, sym, ap, ◌∙◌, arith}
 use Rattle.std.specs.Prelude.{◌==◌, not, filter, find, option_map, is_none}
 use Rattle.std.specs.List.{flat_map, list_any}
 use Rattle.std.specs.Option.{option_map_or}
@@ -16,7 +16,7 @@ use Rattle.floor_machine.specs.declared.event.Event.TheVariants.{Join, Close}
 use Rattle.floor_machine.specs.declared.member.Member.{Member}
 use Rattle.floor_machine.specs.Parcel.{Parcel}
 use Rattle.floor_machine.specs.declared.sending.Reply.{Reply}
-use Rattle.floor_machine.specs.Conference.{Conference}
+use Rattle.floor_machine.specs.Conference.{Conference, member_with, is_numbered_from}
 use Rattle.floor_machine.specs.Shown.{Entry, entry_of, ongoing_of, settle_entries, info, info_of}
 use Rattle.floor_machine.specs.Same.{same_info, same_infos}
 use Rattle.floor_machine.specs.Change.{change, shown, next}
@@ -25,13 +25,12 @@ use Rattle.floor_machine.specs.Reply.{infos, infos_on, floor_status_tell}
 use Rattle.floor_machine.specs.Told.{Changed, changed_of, changed_requests, changed_floors, is_changed, is_told, reply_to, told_to, told}
 use Rattle.floor_machine.specs.Journal.{parcel, parcels_of}
 use Rattle.floor_machine.specs.Steps.{answered_to, floor_update, parcels_to_all}
-use Rattle.floor_machine.specs.Serving.{is_numbered_from}
 use Rattle.floor_machine.proofs.Entries.{ongoing_of-entries}
 use Rattle.floor_machine.proofs.Found.{request_at_place}
 use Rattle.floor_machine.proofs.SameInfo.{list_own, info_own}
 use Rattle.floor_machine.proofs.Sent.{numbered-next}
 use Rattle.floor_machine.proofs.Served.{next-config, next-made, next-ongoing}
-use Rattle.floor_machine.proofs.Telling.{flat_map-same, is_telling, parcels-told, parcels_of-members, update_for}
+use Rattle.floor_machine.proofs.Telling.{flat_map-same, is_telling, told-member, parcels-told, parcels_of-members, update_for}
 
 -- no parcels of a member
 abbrev no_parcels : Member → List Parcel
@@ -182,3 +181,11 @@ parcels_of-join s user settled ascending numbered =
     ∙ flat_map-same (λ m. cond m.is_live (map (parcel m.n) (told_to s (Join user) m)) []) no_parcels
     (λ m. live-nothing m.is_live m.n (told_to s (Join user) m) (told-join s user settled ascending m)) (next s (Join user)).members
     ∙ nothing (next s (Join user)).members
+
+-- no member is told that another joins
+pub told_of-join : (s : Conference) (user : ℕ) → settle s.config.floors s.ongoing ≡ s.ongoing → is_ascending s.ongoing ≡ true → (n : ℕ) → told s (Join user) n ≡ []
+told_of-join s user settled ascending n = told-member s (Join user) n refl ∙ by (member_with (next s (Join user)).members n)
+  where
+    by : (o : Option Member) → option_map_or (told_to s (Join user)) o [] ≡ []
+    by None = refl
+    by (Some m) = told-join s user settled ascending m

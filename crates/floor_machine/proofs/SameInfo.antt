@@ -4,9 +4,9 @@ use Rattle.std.specs.Prelude.{◌==◌, ◌&&◌}
 use Rattle.std.proofs.lemmas.Bool.Decides.{nat_tests}
 use Rattle.floor_message.specs.declared.tell.Who.{Who}
 use Rattle.floor_message.specs.declared.tell.Info.{Info}
-use Rattle.floor_machine.specs.Same.{same_list, same_option, same_number, same_octets, same_status, same_floor, same_who, same_info}
+use Rattle.floor_machine.specs.Same.{same_list, same_option, same_number, same_octets, same_status, same_floor, same_who, same_info, same_infos}
 use Rattle.floor_machine.proofs.Found.{and_left, and_right}
-use Rattle.floor_machine.specs.Laws.{SameIsEqual}
+use Rattle.floor_machine.specs.Laws.{InfosSameIsEqual, SameIsEqual}
 
 -- a test that is true exactly of equal values
 record Tells {A : Type 0} (same : A → A → Bool) : Type 0 where
@@ -135,3 +135,9 @@ info_own x =
 
 pub same_is_equal : SameIsEqual
 same_is_equal = λ x y. (info_equal x y, λ e. let P : Info → Type 0 = λ z. same_info x z ≡ true in subst P e (info_own x))
+
+pub infos_same_is_equal : InfosSameIsEqual
+infos_same_is_equal = λ xs ys. (
+  list_equal same_info info_equal xs ys,
+  λ e. let P : List Info → Type 0 = λ zs. same_infos xs zs ≡ true in subst P e (list_own same_info info_own xs),
+)

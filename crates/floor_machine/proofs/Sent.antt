@@ -11,7 +11,7 @@ use Rattle.floor_message.specs.declared.ask.Ask.{Ask}
 use Rattle.floor_message.specs.declared.ask.Ask.TheVariants.{FloorRequest, FloorRelease, FloorRequestQuery, UserQuery, FloorQuery, ChairAction, Hello}
 use Rattle.floor_machine.specs.declared.member.Member.{Member}
 use Rattle.floor_machine.specs.Parcel.{Parcel}
-use Rattle.floor_machine.specs.Conference.{Conference, opening, member_with, user_of, binding}
+use Rattle.floor_machine.specs.Conference.{Conference, opening, member_with, user_of, binding, is_numbered_from}
 use Rattle.floor_machine.specs.declared.event.Event.{Event}
 use Rattle.floor_machine.specs.declared.event.Event.TheVariants.{Join, Message, Leave, Revoke, Close}
 use Rattle.floor_machine.specs.Checks.{refusal}
@@ -19,7 +19,6 @@ use Rattle.floor_machine.specs.Change.{change, next, no_change, asked_change, me
 use Rattle.floor_machine.specs.Outgoing.{Outgoing}
 use Rattle.floor_machine.specs.Told.{told, told_to}
 use Rattle.floor_machine.specs.Journal.{parcel, parcels_of, parcels_from, told_from, sent_to}
-use Rattle.floor_machine.specs.Serving.{is_numbered_from}
 use Rattle.floor_machine.specs.Laws.{SentIsTold}
 use Rattle.floor_machine.proofs.Found.{and_left, and_right, same_number}
 use Rattle.floor_machine.proofs.Joining.{numbered-push}

@@ -1,5 +1,5 @@
 -- The state of one conference (RFC 8855, sections 3 and 4).
-use Rattle.std.specs.Prelude.{ℕ, ◌==◌, ◌&&◌, Bool, true, false, List, [], find, Option, is_some}
+use Rattle.std.specs.Prelude.{ℕ, ◌+◌, ◌==◌, ◌&&◌, Bool, true, false, List, [], ◌∷◌, find, Option, is_some}
 use Rattle.std.specs.List.{list_any}
 use Rattle.std.specs.Option.{option_map_or}
 use Rattle.floor_config.specs.Configuration.{Configuration, user_ids}
@@ -44,6 +44,11 @@ member_with members n = find (λ m. m.n == n && m.is_live) members
 -- n has joined and hasn't left
 abbrev pub is_live : Conference → ℕ → Bool
 is_live s n = is_some (member_with s.members n)
+
+-- the members are numbered from k on, in their order
+abbrev pub is_numbered_from : ℕ → List Member → Bool
+is_numbered_from k [] = true
+is_numbered_from k (m ∷ members) = m.n == k && is_numbered_from (k + 1) members
 
 -- the user whose connection n is
 abbrev pub user_of : Conference → ℕ → ℕ

@@ -9,12 +9,16 @@ use Rattle.floor_machine.specs.declared.event.Event.{Event}
 use Rattle.floor_machine.specs.declared.event.Event.TheVariants.{Message}
 use Rattle.floor_machine.specs.Change.{IsLawful}
 use Rattle.floor_machine.specs.Machine.{event_refusal, whole}
-use Rattle.floor_machine.specs.Same.{same_info}
+use Rattle.floor_machine.specs.Same.{same_info, same_infos}
 use Rattle.floor_machine.specs.Journal.{IsLawfulFrom, parcel, parcels_from, told_from, sent_to}
 
 -- two floor requests are shown alike exactly where all that is shown of them is equal
 abbrev pub SameIsEqual : Type 0
 SameIsEqual = (x y : Info) → (same_info x y ≡ true) ↔ (x ≡ y)
+
+-- two lists of floor requests are shown alike exactly where all that is shown of them is equal
+abbrev pub InfosSameIsEqual : Type 0
+InfosSameIsEqual = (xs ys : List Info) → (same_infos xs ys ≡ true) ↔ (xs ≡ ys)
 
 -- of all parcels of lawful events, those to n are what the events tell n
 abbrev pub SentIsTold : Type 0

@@ -12,5 +12,8 @@ pub mod Steps
 pub mod Fitting
 pub mod Serving
 pub mod Machine
+pub mod Names
+pub mod Reachable
+pub mod Membership
 pub mod Laws
 pub mod Examples

@@ -1,12 +1,16 @@
 -- The floor machine of one conference, as contracts see it.
-use Rattle.std.specs.Prelude.{◌≡◌, ℕ, ◌<◌, List, [], ◌∷◌, length, take, drop, not, nat_le, if◌then◌else◌, Bool, false, count_by, Option, Some, None, is_some, Result, Ok, Err}
+use Rattle.std.specs.Prelude.{◌≡◌, ◌≢◌, ℕ, ◌<◌, List, [], ◌∷◌, ◌++◌, true, length, take, drop, not, nat_le, if◌then◌else◌, Bool, false, count_by, Option, Some, None, is_some, Result, Ok, Err}
 use Rattle.floor_machine.specs.declared.machine.Refusal.{Refusal}
 use Rattle.floor_machine.specs.declared.machine.Refusal.TheVariants.{Broken, Ended, NoMember, NoUser, Full, NoRequest, Memory}
 use Rattle.floor_machine.specs.declared.event.Act.{Act}
+use Rattle.floor_machine.specs.declared.event.BorrowedEvent.{BorrowedEvent}
 use Rattle.floor_machine.specs.declared.event.Event.{Event}
 use Rattle.floor_queue.specs.Queue.{request_at}
 use Rattle.floor_machine.specs.Conference.{Conference, is_user, is_live}
-use Rattle.floor_machine.specs.Journal.{IsLawfulFrom, after_from}
+use Rattle.floor_machine.specs.Change.{IsLawful, next}
+use Rattle.floor_machine.specs.Fitting.{ToldFits}
+use Rattle.floor_machine.specs.Parcel.{Parcel}
+use Rattle.floor_machine.specs.Journal.{IsLawfulFrom, after_from, parcels_of}
 use Rattle.floor_machine.specs.declared.running.Stopped.{Stopped}
 
 -- the conference, and whether an event was broken off for want of memory
@@ -39,6 +43,13 @@ abbrev pub event_of_act : Act → Event
 event_of_act (Act.Revoke request) = Event.Revoke request
 event_of_act Act.Close = Event.Close
 
+-- the event that a call bears
+abbrev pub event_of : BorrowedEvent → Event
+event_of (BorrowedEvent.Join user) = Event.Join user
+event_of (BorrowedEvent.Message n frame) = Event.Message n frame.now
+event_of (BorrowedEvent.Leave n) = Event.Leave n
+event_of (BorrowedEvent.Admin act) = event_of_act act
+
 -- why an act of the administrator is not taken: it revokes a request that isn't ongoing
 abbrev pub act_refusal : Machine → Act → Option Refusal
 act_refusal m (Act.Revoke request) = refusal_of m (if not (is_some (request_at m.conference.ongoing request)) then Some NoRequest else None)
@@ -58,6 +69,27 @@ IsRefusedBy (Some refusal) result = result ≡ Err refusal
 IsRefusedBy None (Ok value) = Unit {0}
 IsRefusedBy None (Err Memory) = Unit {0}
 IsRefusedBy None (Err refusal) = ⊥
+
+-- What a call that took an event did: the event was lawful, the conference is the next one, the parcels stand behind those before
+-- them, and each of their messages can be written.
+pub record Took (old : Machine) (e : Event) (new : Machine) (before after : List Parcel) : Type 0 where
+  pub lawful : IsLawful old.conference e
+  pub next : new ≡ whole (next old.conference e)
+  pub out : after ≡ before ++ parcels_of old.conference e
+  pub fits : ToldFits old.conference e
+
+-- What a call that refused an event left: no parcel more, and the machine as it was, or a broken one where memory was refused. Why
+-- it refused, but for a broken machine and for memory, is that the event isn't lawful.
+pub record Left (old : Machine) (e : Event) (new : Machine) (before after : List Parcel) (why : Refusal) : Type 0 where
+  pub out : after ≡ before
+  pub unchanged : why ≢ Memory → new ≡ old
+  pub broken : why ≡ Memory → new.is_broken ≡ true
+  pub unlawful : why ≢ Broken → why ≢ Memory → ¬ IsLawful old.conference e
+
+-- the number of one more member fits, where one joins
+abbrev pub HasNumber : Conference → Event → Type 0
+HasNumber s (Event.Join user) = length s.members < 4294967295
+HasNumber s _ = Unit {0}
 
 -- a machine after these events, each of which it took
 abbrev pub machine_after : Machine → List Event → Machine

@@ -20,7 +20,7 @@ use Rattle.floor_machine.specs.declared.judged.Judged.{Judged}
 use Rattle.floor_machine.specs.declared.judged.Judged.TheVariants.{Accepted, Refused, Unanswered}
 use Rattle.floor_machine.specs.declared.member.Member.{Member}
 use Rattle.floor_machine.specs.declared.state.State.{State}
-use Rattle.floor_machine.specs.Conference.{Conference, binding, user_of}
+use Rattle.floor_machine.specs.Conference.{Conference, binding, is_numbered_from, user_of}
 use Rattle.floor_machine.specs.Shown.{Entry, ongoing_of, described}
 use Rattle.floor_machine.specs.Checks.{refusal, beneficiary_of, is_allowed}
 use Rattle.floor_machine.specs.Change.{Change, no_change, asked_change, is_final, decided_at, released, dismissed, watching}
@@ -31,11 +31,6 @@ use Rattle.floor_machine.specs.Steps.{entry_of_ended, shown_at}
 abbrev pub conference_of : State → Conference
 conference_of s =
     record { config = s.config; given = s.requests.given; ongoing = s.requests.ongoing; members = s.members.items; is_open = s.is_open }
-
--- the members are numbered from k on, in their order
-abbrev pub is_numbered_from : ℕ → List Member → Bool
-is_numbered_from k [] = true
-is_numbered_from k (m ∷ members) = m.n == k && is_numbered_from (k + 1) members
 
 -- What every state keeps: the users of the binding are those of the configuration; the floors of the requests are its floors; and
 -- the members are numbered from 1 on.

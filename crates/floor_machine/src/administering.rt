@@ -67,6 +67,7 @@ impl State {
         requires state { IsState self.old }
         ensures next { conference_of self.new ≡ change.next (conference_of self.old) Close }
         ensures told { parcels_of (conference_of self.old) Close ≡ [] }
+        ensures shown { IsToldShown (conference_of self.old) Close }
         ensures state { IsState self.new }
         ensures settled { IsSettled self.new.requests }
     {

@@ -2,6 +2,10 @@
 
 use floor_wire::Frame;
 
+/// How many events the journal of a conference has at most: our choice, so that what is kept of a
+/// conference has an end.
+pub const MAX_EVENTS: usize = 1_000_000;
+
 /// What happens to a conference.
 #[derive(Debug, Drop)]
 pub enum Event {
@@ -39,4 +43,31 @@ pub enum Act {
     Revoke(u16),
     /// Ends the conference.
     Close,
+}
+
+/// An event of which the message, where it is one, is borrowed.
+#[derive(Clone, Copy)]
+pub(crate) enum BorrowedEvent<'a> {
+    /// A connection of a user joins.
+    Join(u16),
+    /// A message of a member comes in.
+    Message(u32, &'a Frame),
+    /// A member leaves.
+    Leave(u32),
+    /// The administrator acts.
+    Admin(Act),
+}
+
+impl BorrowedEvent<'_> {
+    ghost use Rattle.floor_machine.specs.Laws.{IsWhole};
+    ghost use Rattle.floor_machine.specs.Machine.{event_of};
+
+    /// A message of it is one whole message, as each frame is. Does nothing.
+    pub fn is_whole(self)
+        ensures { IsWhole (event_of self.entry) }
+    {
+        if let BorrowedEvent::Message(_n, frame) = self {
+            let _bytes = frame.bytes();
+        }
+    }
 }

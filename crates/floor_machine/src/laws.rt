@@ -1,11 +1,18 @@
 //! Laws of the floor machine. Each is the contract of a function that does nothing.
 
-ghost use Rattle.floor_machine.specs.Laws.{SameIsEqual, SentIsTold, TakenIsLawful};
+ghost use Rattle.floor_machine.specs.Laws.{InfosSameIsEqual, SameIsEqual, SentIsTold, TakenIsLawful};
+ghost use Rattle.floor_machine.specs.Membership.{AfterBoth, BothLawful, JoinsAdd, JoinsLive, ParcelsOfBoth, SentToMembers, SettlesAsQueue, StaysLive, ToldByBoth, ToldOnceJoined, WasLive};
+ghost use Rattle.floor_machine.specs.Reachable.{Kept, Quiet, Sent};
+
+use floor_message::what_is_asked_fits;
+use floor_queue::{positions_fit, settles_once};
 
 /// Two floor requests are shown alike exactly where all that is shown of them is equal, so that a
-/// request is told again exactly where anything that is shown of it differs.
+/// request is told again exactly where anything that is shown of it differs. The same holds of
+/// lists of them, so that a floor is told again exactly where any of its requests is.
 pub fn shown_alike_is_equal()
-    ensures { SameIsEqual }
+    ensures one { SameIsEqual }
+    ensures many { InfosSameIsEqual }
 {}
 
 /// Of all parcels that lawful events call for, those to one member are what the events tell it.
@@ -13,8 +20,59 @@ pub fn sent_is_told()
     ensures { SentIsTold }
 {}
 
+/// Of all parcels that a journal calls for, those to one member have the bytes that it calls for
+/// there.
+pub fn sent_is_called_for()
+    ensures { Sent }
+{}
+
 /// A machine that isn't broken takes exactly the lawful events, where each message is one whole
 /// message: what it refuses, but for want of memory, may not happen then.
 pub fn taken_is_lawful()
     ensures { TakenIsLawful }
+{}
+
+/// Each journal of a configuration keeps its conference: the requests are settled and their numbers
+/// ascend, at most 256 are ongoing, no floor has more holders than room, each queue position fits a
+/// byte, and at most 64 members are live.
+pub fn journals_keep()
+    ensures { Kept }
+{
+    what_is_asked_fits();
+    settles_once();
+    positions_fit();
+}
+
+/// A message that is refused or left unanswered leaves the conference as it is, and tells nobody
+/// but its sender anything.
+pub fn refusals_are_quiet()
+    ensures { Quiet }
+{
+    what_is_asked_fits();
+    settles_once();
+}
+
+/// Who joins is live until it leaves, nobody else comes, and each parcel is to one of the members
+/// and after it joined.
+pub fn members_come_and_stay()
+    ensures joins { JoinsAdd }
+    ensures live { JoinsLive }
+    ensures stays { StaysLive }
+    ensures was { WasLive }
+    ensures sent { SentToMembers }
+    ensures told { ToldOnceJoined }
+{}
+
+/// A run of events and then another are the run of both.
+pub fn runs_add_up()
+    ensures after { AfterBoth }
+    ensures parcels { ParcelsOfBoth }
+    ensures told { ToldByBoth }
+    ensures lawful { BothLawful }
+{}
+
+/// An event settles the ongoing requests as the queue of floor requests does, of which the laws of
+/// floor_queue speak.
+pub fn settles_as_queue()
+    ensures { SettlesAsQueue }
 {}

@@ -4,6 +4,7 @@
 
 mod administering;
 mod answering;
+mod applying;
 mod checks;
 mod copying;
 mod course;
@@ -24,11 +25,14 @@ mod showing;
 mod state;
 mod status;
 
-pub use event::{Act, Event};
+pub use event::{Act, Event, MAX_EVENTS};
 pub use floor_config::{Config, Floor, User};
 pub use floor_message::{Ask, Head, Info, Tell};
 pub use floor_wire::{Frame, Numbers, Octets};
-pub use laws::{sent_is_told, shown_alike_is_equal, taken_is_lawful};
+pub use laws::{
+    journals_keep, members_come_and_stay, refusals_are_quiet, runs_add_up, sent_is_called_for,
+    sent_is_told, settles_as_queue, shown_alike_is_equal, taken_is_lawful,
+};
 pub use machine::{Machine, Refusal};
 pub use member::Member;
 pub use parcel::Parcel;

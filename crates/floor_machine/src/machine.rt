@@ -1,26 +1,23 @@
 //! The floor machine of one conference (RFC 8855, sections 8 to 13).
 
-ghost use Rattle.std.specs.Prelude.{◌≡◌, ◌+◌, ◌<◌, ◌≤◌, ◌++◌, [], true, IfOk, IfSome, OnOk, OnErr, Err, length, count_by};
-ghost use Rattle.floor_machine.specs.Change.{IsLawful, next};
+ghost use Rattle.std.specs.Prelude.{◌≡◌, ◌+◌, ◌<◌, ◌≤◌, [], IfOk, IfErr, OnOk, length, count_by};
 ghost use Rattle.floor_machine.specs.Conference.{opening};
 ghost use Rattle.floor_machine.specs.declared.event.Event.TheVariants.{Join, Message, Leave};
-ghost use Rattle.floor_machine.specs.Fitting.{ToldFits};
-ghost use Rattle.floor_machine.specs.Journal.{parcels_of};
-ghost use Rattle.floor_machine.specs.Machine.{IsRefusedBy, act_refusal, event_of_act, join_refusal, member_refusal, whole};
+ghost use Rattle.floor_machine.specs.Journal.{IsSilent};
+ghost use Rattle.floor_machine.specs.Machine.{HasNumber, IsRefusedBy, Left, Took, act_refusal, event_of, event_of_act, event_refusal, join_refusal, member_refusal, whole};
 
 use crate::checks::is_user;
-use crate::event::Act;
+use crate::event::{Act, BorrowedEvent, Event};
 use crate::member::Member;
 use crate::parcel::Parcel;
 use crate::state::State;
 use floor_config::Config;
-use floor_message::what_is_shown_fits;
 use floor_wire::Frame;
 use std::alloc::{AllocError, Global};
 use std::marker::Model;
 
 /// How many live members a conference has at most.
-const MOST_LIVE: usize = 64;
+const MAX_LIVE: usize = 64;
 
 /// Why an event is not taken. The first that applies is answered.
 #[derive(Clone, Copy, Debug, PartialEq, Eq)]
@@ -41,6 +38,25 @@ pub enum Refusal {
     Memory,
 }
 
+impl Refusal {
+    ghost use Rattle.floor_machine.specs.Names.{name_of};
+
+    /// The name of the variant. Takes no memory.
+    pub fn name(self) -> &'static str
+        ensures value { result.now ≡ name_of self }
+    {
+        match self {
+            Refusal::Broken => "Broken",
+            Refusal::Ended => "Ended",
+            Refusal::NoMember => "NoMember",
+            Refusal::NoUser => "NoUser",
+            Refusal::Full => "Full",
+            Refusal::NoRequest => "NoRequest",
+            Refusal::Memory => "Memory",
+        }
+    }
+}
+
 impl From<AllocError> for Refusal {
     ghost use Rattle.std.specs.Prelude.{◌≡◌};
     ghost use Rattle.floor_machine.specs.declared.machine.Refusal.TheVariants.{Memory};
@@ -53,6 +69,11 @@ impl From<AllocError> for Refusal {
 }
 
 /// The floor machine of one conference: whole messages of its members in, parcels to them out.
+///
+/// Readers, which take no memory: `joins`, `live_members`, `ongoing_requests`, `is_open`,
+/// `is_broken`. The one change is `apply`; `join`, `message`, `leave` and `admin` are its names for
+/// the events that they bear. A refused call changes nothing, but that `Memory` leaves the machine
+/// broken, and from then on it answers `Broken`.
 #[derive(Debug, Drop)]
 pub struct Machine {
     state: State,
@@ -79,7 +100,7 @@ fn live_members(members: &[Member]) -> usize
 impl Machine {
     /// The machine of a conference that opens.
     pub fn new(alloc: Global, config: Config) -> Result<Machine, AllocError>
-        ensures { IfOk result (λ machine. machine ≡ whole (opening config)) }
+        ensures value { IfOk result (λ machine. machine ≡ whole (opening config)) }
     {
         let state = State::new(alloc, config)?;
         Ok(Machine {
@@ -90,28 +111,28 @@ impl Machine {
 
     /// How many members ever joined. Takes no memory.
     pub fn joins(&self) -> usize
-        ensures { result ≡ length self.now.conference.members }
+        ensures value { result ≡ length self.now.conference.members }
     {
         self.state.members.len()
     }
 
     /// Whether the conference has not ended. Takes no memory.
     pub fn is_open(&self) -> bool
-        ensures { result ≡ self.now.conference.is_open }
+        ensures value { result ≡ self.now.conference.is_open }
     {
         self.state.is_open
     }
 
     /// Whether want of memory has broken off an event. Takes no memory.
     pub fn is_broken(&self) -> bool
-        ensures { result ≡ self.now.is_broken }
+        ensures value { result ≡ self.now.is_broken }
     {
         self.is_broken
     }
 
     /// How many members are live. Takes no memory.
     pub fn live_members(&self) -> usize
-        ensures { result ≡ count_by (λ m. m.is_live) self.now.conference.members }
+        ensures value { result ≡ count_by (λ m. m.is_live) self.now.conference.members }
     {
         live_members(&self.state.members)
     }
@@ -134,36 +155,11 @@ impl Machine {
             Some(Refusal::Ended)
         } else if !is_user(&self.state.config, user) {
             Some(Refusal::NoUser)
-        } else if live_members(&self.state.members) >= MOST_LIVE {
+        } else if live_members(&self.state.members) >= MAX_LIVE {
             Some(Refusal::Full)
         } else {
             None
         }
-    }
-
-    /// Takes a connection of the user as a member, and gives its number: 1 for the first that ever
-    /// joined. After a refusal nothing has changed, but that `Memory` leaves the machine broken.
-    pub fn join(&mut self, user: u16) -> Result<u32, Refusal>
-        requires { length self.old.conference.members < 4294967295 }
-        ensures number { IfOk result (λ n. n ≡ length self.old.conference.members + 1) }
-        ensures next { OnOk result (self.new ≡ whole (next self.old.conference (Join user))) }
-        ensures told { OnOk result (parcels_of self.old.conference (Join user) ≡ []) }
-
-        ensures refused { IsRefusedBy (join_refusal self.old user) result }
-        ensures lawful { OnOk result (IsLawful self.old.conference (Join user)) }
-
-        ensures err { IfSome (join_refusal self.old user) (λ refusal. self.new ≡ self.old) }
-        ensures memory { result ≡ Err Refusal.Memory → self.new.is_broken ≡ true }
-    {
-        match self.join_refusal(user) {
-            Some(refusal) => return Err(refusal),
-            None => {}
-        }
-        // Whatever breaks the event off leaves it so.
-        self.is_broken = true;
-        let n = self.state.join(user)?;
-        self.is_broken = false;
-        Ok(n)
     }
 
     /// Why nothing of this member is taken: neither a message, nor that it leaves.
@@ -179,62 +175,6 @@ impl Machine {
         } else {
             None
         }
-    }
-
-    /// Takes the message of a member, and appends what it tells the members to `out`, by ascending
-    /// member. After a refusal nothing has changed, but that `Memory` leaves the machine broken.
-    pub fn message(&mut self, n: u32, frame: &Frame, out: &mut Vec<Parcel>) -> Result<(), Refusal>
-        ensures next { OnOk result (self.new
-            ≡ whole (next self.old.conference (Message n frame.now))) }
-        ensures out { OnOk result (out.new.items
-            ≡ out.old.items ++ parcels_of self.old.conference (Message n frame.now)) }
-        ensures fits { OnOk result (ToldFits self.old.conference (Message n frame.now)) }
-
-        ensures refused { IsRefusedBy (member_refusal self.old n) result }
-        ensures lawful { OnOk result (IsLawful self.old.conference (Message n frame.now)) }
-
-        ensures err { IfSome (member_refusal self.old n) (λ refusal. self.new ≡ self.old) }
-        ensures memory { result ≡ Err Refusal.Memory → self.new.is_broken ≡ true }
-        ensures err_out { OnErr result (out.new.items ≡ out.old.items) }
-    {
-        match self.member_refusal(n) {
-            Some(refusal) => return Err(refusal),
-            None => {}
-        }
-        // Whatever breaks the event off leaves it so.
-        self.is_broken = true;
-        what_is_shown_fits();
-        self.state.message(n, frame, out)?;
-        self.is_broken = false;
-        Ok(())
-    }
-
-    /// Takes it that a member has left, and appends what that tells the others to `out`, by
-    /// ascending member. Where it was the last connection of its user, the floor requests for that
-    /// user end. After a refusal nothing has changed, but that `Memory` leaves the machine broken.
-    pub fn leave(&mut self, n: u32, out: &mut Vec<Parcel>) -> Result<(), Refusal>
-        ensures next { OnOk result (self.new ≡ whole (next self.old.conference (Leave n))) }
-        ensures out { OnOk result (out.new.items ≡ out.old.items
-            ++ parcels_of self.old.conference (Leave n)) }
-        ensures fits { OnOk result (ToldFits self.old.conference (Leave n)) }
-
-        ensures refused { IsRefusedBy (member_refusal self.old n) result }
-        ensures lawful { OnOk result (IsLawful self.old.conference (Leave n)) }
-
-        ensures err { IfSome (member_refusal self.old n) (λ refusal. self.new ≡ self.old) }
-        ensures memory { result ≡ Err Refusal.Memory → self.new.is_broken ≡ true }
-        ensures err_out { OnErr result (out.new.items ≡ out.old.items) }
-    {
-        match self.member_refusal(n) {
-            Some(refusal) => return Err(refusal),
-            None => {}
-        }
-        // Whatever breaks the event off leaves it so.
-        self.is_broken = true;
-        what_is_shown_fits();
-        self.state.leave(n, out)?;
-        self.is_broken = false;
-        Ok(())
     }
 
     /// Why the administrator's act is not taken.
@@ -259,35 +199,116 @@ impl Machine {
         }
     }
 
+    /// Why the event is not taken.
+    fn refusal(&self, event: BorrowedEvent<'_>) -> Option<Refusal>
+        ensures { result ≡ event_refusal self.now (event_of event.entry) }
+    {
+        match event {
+            BorrowedEvent::Join(user) => self.join_refusal(user),
+            BorrowedEvent::Message(n, _frame) => self.member_refusal(n),
+            BorrowedEvent::Leave(n) => self.member_refusal(n),
+            BorrowedEvent::Admin(act) => self.act_refusal(act),
+        }
+    }
+
+    /// Takes an event, and appends what it tells the members to `out`. Every change of a machine is
+    /// this call.
+    fn take(&mut self, event: BorrowedEvent<'_>, out: &mut Vec<Parcel>) -> Result<(), Refusal>
+        requires { HasNumber self.old.conference (event_of event) }
+        ensures took { OnOk result
+            (Took self.old (event_of event.entry) self.new out.old.items out.new.items) }
+        ensures silent { OnOk result (IsSilent self.old.conference (event_of event.entry)) }
+
+        ensures refused { IsRefusedBy (event_refusal self.old (event_of event.entry)) result }
+        ensures left { IfErr result
+            (Left self.old (event_of event.entry) self.new out.old.items out.new.items) }
+    {
+        match self.refusal(event) {
+            Some(refusal) => return Err(refusal),
+            None => {}
+        }
+        event.is_whole();
+        // Whatever breaks the event off leaves it so.
+        self.is_broken = true;
+        self.state.apply(event, out)?;
+        self.is_broken = false;
+        Ok(())
+    }
+
+    /// Takes an event, and appends what it tells the members to `out`, by ascending member. After a
+    /// refusal nothing has changed, but that `Memory` leaves the machine broken.
+    pub fn apply(&mut self, event: &Event, out: &mut Vec<Parcel>) -> Result<(), Refusal>
+        requires { length self.old.conference.members < 4294967295 }
+        ensures took { OnOk result
+            (Took self.old event.now self.new out.old.items out.new.items) }
+        ensures refused { IsRefusedBy (event_refusal self.old event.now) result }
+        ensures left { IfErr result
+            (Left self.old event.now self.new out.old.items out.new.items) }
+    {
+        match event {
+            Event::Join { user } => self.take(BorrowedEvent::Join(*user), out),
+            Event::Message { n, frame } => self.take(BorrowedEvent::Message(*n, frame), out),
+            Event::Leave { n } => self.take(BorrowedEvent::Leave(*n), out),
+            Event::Revoke { request } => {
+                self.take(BorrowedEvent::Admin(Act::Revoke(*request)), out)
+            }
+            Event::Close => self.take(BorrowedEvent::Admin(Act::Close), out),
+        }
+    }
+
+    /// Takes a connection of the user as a member, and gives its number: 1 for the first that ever
+    /// joined. Nobody is told. After a refusal nothing has changed, but that `Memory` leaves the
+    /// machine broken.
+    pub fn join(&mut self, user: u16) -> Result<u32, Refusal>
+        requires { length self.old.conference.members < 4294967295 }
+        ensures number { IfOk result (λ n. n ≡ length self.old.conference.members + 1) }
+        ensures took { OnOk result (Took self.old (Join user) self.new [] []) }
+        ensures refused { IsRefusedBy (join_refusal self.old user) result }
+        ensures left { IfErr result (Left self.old (Join user) self.new [] []) }
+    {
+        let n = (self.joins() + 1) as u32;
+        let mut out = Vec::new(*self.state.members.allocator());
+        match self.take(BorrowedEvent::Join(user), &mut out) {
+            Ok(()) => Ok(n),
+            Err(refusal) => Err(refusal),
+        }
+    }
+
+    /// Takes the message of a member, and appends what it tells the members to `out`, by ascending
+    /// member. After a refusal nothing has changed, but that `Memory` leaves the machine broken.
+    pub fn message(&mut self, n: u32, frame: &Frame, out: &mut Vec<Parcel>) -> Result<(), Refusal>
+        ensures took { OnOk result
+            (Took self.old (Message n frame.now) self.new out.old.items out.new.items) }
+        ensures refused { IsRefusedBy (member_refusal self.old n) result }
+        ensures left { IfErr result
+            (Left self.old (Message n frame.now) self.new out.old.items out.new.items) }
+    {
+        self.take(BorrowedEvent::Message(n, frame), out)
+    }
+
+    /// Takes it that a member has left, and appends what that tells the others to `out`, by
+    /// ascending member. Where it was the last connection of its user, the floor requests for that
+    /// user end. After a refusal nothing has changed, but that `Memory` leaves the machine broken.
+    pub fn leave(&mut self, n: u32, out: &mut Vec<Parcel>) -> Result<(), Refusal>
+        ensures took { OnOk result
+            (Took self.old (Leave n) self.new out.old.items out.new.items) }
+        ensures refused { IsRefusedBy (member_refusal self.old n) result }
+        ensures left { IfErr result
+            (Left self.old (Leave n) self.new out.old.items out.new.items) }
+    {
+        self.take(BorrowedEvent::Leave(n), out)
+    }
+
     /// Does what the administrator does, and appends what that tells the members to `out`, by
     /// ascending member: a Close tells nobody anything. After a refusal nothing has changed, but
     /// that `Memory` leaves the machine broken.
     pub fn admin(&mut self, act: Act, out: &mut Vec<Parcel>) -> Result<(), Refusal>
-        ensures next { OnOk result (self.new
-            ≡ whole (next self.old.conference (event_of_act act))) }
-        ensures out { OnOk result (out.new.items ≡ out.old.items
-            ++ parcels_of self.old.conference (event_of_act act)) }
-        ensures fits { OnOk result (ToldFits self.old.conference (event_of_act act)) }
-
+        ensures took { OnOk result
+            (Took self.old (event_of_act act) self.new out.old.items out.new.items) }
         ensures refused { IsRefusedBy (act_refusal self.old act) result }
-        ensures lawful { OnOk result (IsLawful self.old.conference (event_of_act act)) }
-
-        ensures err { IfSome (act_refusal self.old act) (λ refusal. self.new ≡ self.old) }
-        ensures memory { result ≡ Err Refusal.Memory → self.new.is_broken ≡ true }
-        ensures err_out { OnErr result (out.new.items ≡ out.old.items) }
+        ensures left { IfErr result
+            (Left self.old (event_of_act act) self.new out.old.items out.new.items) }
     {
-        match self.act_refusal(act) {
-            Some(refusal) => return Err(refusal),
-            None => {}
-        }
-        // Whatever breaks the event off leaves it so.
-        self.is_broken = true;
-        what_is_shown_fits();
-        match act {
-            Act::Revoke(request) => self.state.revoke(request, out)?,
-            Act::Close => self.state.close(),
-        }
-        self.is_broken = false;
-        Ok(())
+        self.take(BorrowedEvent::Admin(act), out)
     }
 }

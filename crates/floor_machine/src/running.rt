@@ -1,11 +1,10 @@
 //! A machine over a list of events, one after another.
 
-ghost use Rattle.std.specs.Prelude.{◌≡◌, ◌≢◌, ◌+◌, ◌<◌, ◌++◌, true, IfErr, IfSome, OnOk, OnErr, Err, length, take};
-ghost use Rattle.floor_machine.specs.Change.{IsLawful, next};
-ghost use Rattle.floor_machine.specs.Journal.{IsLawfulFrom, parcels_from, parcels_of};
-ghost use Rattle.floor_machine.specs.Machine.{IsRefusedBy, IsStopped, event_refusal, machine_after, whole};
+ghost use Rattle.std.specs.Prelude.{◌≡◌, ◌≢◌, ◌+◌, ◌<◌, ◌++◌, true, IfErr, OnOk, length, take};
+ghost use Rattle.floor_machine.specs.Journal.{IsLawfulFrom, parcels_from};
+ghost use Rattle.floor_machine.specs.Machine.{IsStopped, machine_after};
 
-use crate::event::{Act, Event};
+use crate::event::Event;
 use crate::machine::{Machine, Refusal};
 use crate::parcel::Parcel;
 
@@ -19,33 +18,6 @@ pub struct Stopped {
 }
 
 impl Machine {
-    /// Takes an event, and appends what it tells the members to `out`, by ascending member. After a
-    /// refusal nothing has changed, but that `Memory` leaves the machine broken.
-    pub fn apply(&mut self, event: &Event, out: &mut Vec<Parcel>) -> Result<(), Refusal>
-        requires { length self.old.conference.members < 4294967295 }
-        ensures next { OnOk result (self.new ≡ whole (next self.old.conference event.now)) }
-        ensures out { OnOk result (out.new.items ≡ out.old.items
-            ++ parcels_of self.old.conference event.now) }
-
-        ensures refused { IsRefusedBy (event_refusal self.old event.now) result }
-        ensures lawful { OnOk result (IsLawful self.old.conference event.now) }
-
-        ensures err { IfSome (event_refusal self.old event.now) (λ refusal. self.new ≡ self.old) }
-        ensures memory { result ≡ Err Refusal.Memory → self.new.is_broken ≡ true }
-        ensures err_out { OnErr result (out.new.items ≡ out.old.items) }
-    {
-        match event {
-            Event::Join { user } => {
-                let _n = self.join(*user)?;
-                Ok(())
-            }
-            Event::Message { n, frame } => self.message(*n, frame, out),
-            Event::Leave { n } => self.leave(*n, out),
-            Event::Revoke { request } => self.admin(Act::Revoke(*request), out),
-            Event::Close => self.admin(Act::Close, out),
-        }
-    }
-
     /// Takes these events, one after another, and appends what they tell the members to `out`. It
     /// stops at the first that is refused, after those before it.
     pub fn run(&mut self, events: &[Event], out: &mut Vec<Parcel>) -> Result<(), Stopped>

@@ -8,7 +8,7 @@ ghost use Rattle.floor_machine.specs.Change as change;
 ghost use Rattle.floor_machine.specs.Conference.{is_live, member_with, opening, user_of};
 ghost use Rattle.floor_machine.specs.declared.event.Event.TheVariants.{Join};
 ghost use Rattle.floor_machine.specs.Journal.{parcels_of};
-ghost use Rattle.floor_machine.specs.Fitting.{AreAddable, AreFloorsShown, AreUpdatesShown, IsReplyShown};
+ghost use Rattle.floor_machine.specs.Fitting.{AreAddable, AreFloorsShown, AreUpdatesShown, IsReplyShown, IsToldShown};
 ghost use Rattle.floor_machine.specs.Serving.{IsState, conference_of};
 ghost use Rattle.floor_machine.specs.Steps as steps;
 ghost use Rattle.floor_machine.specs.Steps.{infos_of, parcels_to_all};
@@ -103,6 +103,7 @@ impl State {
         ensures next { OnOk result (conference_of self.new
             ≡ change.next (conference_of self.old) (Join user)) }
         ensures told { OnOk result (parcels_of (conference_of self.old) (Join user) ≡ []) }
+        ensures shown { OnOk result (IsToldShown (conference_of self.old) (Join user)) }
         ensures state { IsState self.new }
         ensures settled { IsSettled self.new.requests }
     {

@@ -194,9 +194,9 @@ is_ascending-filter t (r ∷ rs) h = by (t r) (is_ascending-filter t rs (and_rig
     by true rest = and_both _ _ (list_all-filter (λ (q : Request). nat_lt r.number q.number) t rs (and_left _ _ h)) rest
     by false rest = rest
 
-pub IsQueue-end : (q : Queue) (request : ℕ) → IsQueue q → IsQueue (after_end q request)
-IsQueue-end q request h =
-    let t : Request → Bool = λ r. not (r.number == request) in
+-- of the requests those that pass a test are left
+pub IsQueue-filter : (q : Queue) (t : Request → Bool) → IsQueue q → IsQueue (record q { ongoing = filter t q.ongoing })
+IsQueue-filter q t h =
     record {
       rooms = h.rooms;
       ascending = is_ascending-filter t q.ongoing h.ascending;
@@ -205,3 +205,6 @@ IsQueue-end q request h =
       addable = All-filter t (λ (r : Request). IsAddable q.floors (new_of r)) q.ongoing h.addable;
       holders_fit = λ id. omega (arith, count_by-filter (λ (r : Request). r.is_granted && names r id) t q.ongoing, h.holders_fit id);
     }
+
+pub IsQueue-end : (q : Queue) (request : ℕ) → IsQueue q → IsQueue (after_end q request)
+IsQueue-end q request h = IsQueue-filter q (λ r. not (r.number == request)) h

@@ -28,7 +28,7 @@ fn bytes(alloc: Global, text: &str) -> Result<Vec<u8>, AllocError> {
     Ok(out)
 }
 
-fn join(machine: &mut Machine, user: u16) -> Result<u32, Refusal> {
+pub(super) fn join(machine: &mut Machine, user: u16) -> Result<u32, Refusal> {
     if machine.joins() < 100 {
         machine.join(user)
     } else {

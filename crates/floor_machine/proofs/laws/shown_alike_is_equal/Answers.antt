@@ -1,5 +1,5 @@
-use Rattle.floor_machine.proofs.SameInfo.{same_is_equal}
+use Rattle.floor_machine.proofs.SameInfo.{infos_same_is_equal, same_is_equal}
 use Rattle.floor_machine.proofs.laws.shown_alike_is_equal.Goals as goal
 
 pub returns : goal.returns
-returns c = same_is_equal
+returns c = record { one = same_is_equal; many = infos_same_is_equal }

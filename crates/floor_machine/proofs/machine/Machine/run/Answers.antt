@@ -16,7 +16,7 @@ loop-done-preserved c =
     let within : i < length es = omega arith in
     let before = c.loop-done.invariant in
     record {
-      next = run-next c.in-Ok.field-0 m c.loop-done.self c.apply.new.self es i e within c.index-events-done.is before.next c.in-Ok.ensures.refused c.in-Ok.ensures.next;
-      out = run-out m c.loop-done.self es i e c.loop-done.out.items c.apply.new.out.items c.args.out.now.items within c.index-events-done.is before.next before.out c.in-Ok.ensures.out;
-      lawful = run-lawful m c.loop-done.self es i e within c.index-events-done.is before.next before.lawful c.in-Ok.ensures.lawful;
+      next = run-next c.in-Ok.field-0 m c.loop-done.self c.apply.new.self es i e within c.index-events-done.is before.next c.in-Ok.ensures.refused c.in-Ok.ensures.took.next;
+      out = run-out m c.loop-done.self es i e c.loop-done.out.items c.apply.new.out.items c.args.out.now.items within c.index-events-done.is before.next before.out c.in-Ok.ensures.took.out;
+      lawful = run-lawful m c.loop-done.self es i e within c.index-events-done.is before.next before.lawful c.in-Ok.ensures.took.lawful;
     }

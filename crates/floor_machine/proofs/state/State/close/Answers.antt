@@ -1,6 +1,7 @@
 use Rattle.std.proofs.Common.{ap, false, ◌∙◌}
 use Rattle.floor_queue.specs.Queue.{Queue}
 use Rattle.floor_machine.specs.Serving.{conference_of}
+use Rattle.floor_machine.proofs.Bounds.{close-shown}
 use Rattle.floor_machine.proofs.Quiet.{next-close, parcels_of-close}
 use Rattle.floor_machine.proofs.state.State.close.Goals as goal
 
@@ -11,3 +12,6 @@ returns-clause-next c =
 
 pub returns-clause-told : goal.returns-clause-told
 returns-clause-told c = parcels_of-close (conference_of c.args.self.now)
+
+pub returns-clause-shown : goal.returns-clause-shown
+returns-clause-shown c = close-shown (conference_of c.args.self.now)

@@ -1,10 +1,15 @@
+use Rattle.floor_machine.specs.Conference.{is_numbered_from}
 use Rattle.std.proofs.Common.{◌≡◌, ◌+◌, ℕ, List, true, length, ap, sym, subst, rules}
 use Rattle.floor_config.specs.declared.config.Floor.{Floor}
 use Rattle.floor_queue.specs.Order.{settle}
 use Rattle.floor_machine.specs.declared.member.Member.{Member}
-use Rattle.floor_machine.specs.Serving.{conference_of, is_numbered_from}
+use Rattle.std.proofs.lemmas.List.Elements.{All-nil}
+use Rattle.floor_message.specs.Shown.{IsShown}
+use Rattle.floor_machine.specs.Fitting.{AreMessagesShown}
+use Rattle.floor_machine.specs.Outgoing.{Outgoing}
+use Rattle.floor_machine.specs.Serving.{conference_of}
 use Rattle.floor_machine.proofs.Joining.{next-join, numbered-push}
-use Rattle.floor_machine.proofs.Quiet.{parcels_of-join}
+use Rattle.floor_machine.proofs.Quiet.{parcels_of-join, told_of-join}
 use Rattle.floor_machine.proofs.state.State.join.Goals as goal
 
 pub returns-clause-next : goal.returns-clause-next
@@ -32,3 +37,10 @@ returns-clause-told c =
     let s = c.args.self.now in
     let P : List Floor → Type 0 = λ fs. settle fs s.requests.ongoing ≡ s.requests.ongoing in
     parcels_of-join (conference_of s) c.args.user (subst P c.requires.state.floors c.requires.settled) c.ongoing-ongoing.ensures.kept.ascending c.requires.state.numbered
+
+pub returns-clause-shown : goal.returns-clause-shown
+returns-clause-shown c =
+    let s = c.args.self.now in
+    let P : List Floor → Type 0 = λ fs. settle fs s.requests.ongoing ≡ s.requests.ongoing in
+    λ n. subst AreMessagesShown (sym (told_of-join (conference_of s) c.args.user (subst P c.requires.state.floors c.requires.settled) c.ongoing-ongoing.ensures.kept.ascending n))
+    (All-nil (λ (message : Outgoing). IsShown message.tell))

@@ -1,0 +1,232 @@
+-- What each journal of a configuration keeps.
+use Rattle.std.proofs.Common.{◌≡◌, ℕ, ◌+◌, ◌<◌, ◌≤◌, Bool, true, false, cond, List, [], ◌∷◌, ◌++◌, length, map, Option, Some, None, refl, sym, ap, subst, ◌∙◌, arith}
+use Rattle.std.specs.Prelude.{◌==◌, ◌&&◌, All, not, filter, count_by, is_some, IsTrue}
+use Rattle.std.specs.List.{list_any}
+use Rattle.std.proofs.lemmas.List.Elements.{All-nil, All-weaker}
+use Rattle.std.proofs.lemmas.List.Sums.{sum_by_push}
+use Rattle.floor_config.specs.Configuration.{Configuration, IsConfiguration, IsFloor}
+use Rattle.floor_config.specs.declared.config.Floor.{Floor}
+use Rattle.floor_queue.specs.declared.request.Request.{Request}
+use Rattle.floor_queue.specs.Order.{settle, position}
+use Rattle.floor_queue.specs.Queue.{Queue, IsAddable, IsQueue, IsSettled, after_settle, first_request, new_of, without}
+use Rattle.floor_queue.proofs.Counts.{count-cons, count_by-map, one}
+use Rattle.floor_queue.proofs.Kept.{IsQueue-add, IsQueue-end, IsQueue-filter, IsQueue-set_floor, IsQueue-settle}
+use Rattle.floor_message.specs.Ask.{Answer, asks, refused, unanswered, ask}
+use Rattle.floor_message.specs.Fits.{AskFits}
+use Rattle.floor_message.specs.Laws.{CountsFit, WhatIsAskedFits}
+use Rattle.floor_message.specs.declared.ask.Ask.{Ask}
+use Rattle.floor_message.specs.declared.ask.Ask.TheVariants.{FloorRequest, FloorRelease, FloorRequestQuery, UserQuery, FloorQuery, ChairAction, Hello}
+use Rattle.floor_message.specs.declared.ask.Verdict.{Verdict}
+use Rattle.floor_message.specs.declared.code.ErrorCode.{ErrorCode}
+use Rattle.floor_machine.specs.declared.event.Event.{Event}
+use Rattle.floor_machine.specs.declared.event.Event.TheVariants.{Join, Message, Leave, Revoke, Close}
+use Rattle.floor_machine.specs.declared.judged.Judged.TheVariants.{Accepted}
+use Rattle.floor_machine.specs.declared.member.Member.{Member}
+use Rattle.floor_machine.specs.Conference.{Conference, binding, is_numbered_from, is_present, opening, user_of}
+use Rattle.floor_machine.specs.Shown.{Entry, entry_of, ongoing_of}
+use Rattle.floor_machine.specs.Checks.{beneficiary_of, refusal}
+use Rattle.floor_machine.specs.Change.{Change, IsLawful, asked_change, change, decided_at, dismissed, ending, ends_at, ends_without, entries_after, given_after, is_final, leaving, members_after, message_change, next, no_change, released, shown, watching, word_of}
+use Rattle.floor_machine.specs.Journal.{IsJournal, IsLawfulFrom, after_from}
+use Rattle.floor_machine.specs.Reachable.{IsReachable}
+use Rattle.floor_machine.specs.Serving.{MayServe, new_of_ask}
+use Rattle.floor_machine.proofs.Allowed.{may_serve}
+use Rattle.floor_machine.proofs.Changing.{entries-added, ongoing_of-decided, ongoing_of-ending}
+use Rattle.floor_machine.proofs.Ended.{ongoing_of-ends}
+use Rattle.floor_machine.proofs.Entries.{ongoing_of-entries, ongoing_of-settled}
+use Rattle.floor_machine.proofs.Sent.{numbered-next}
+use Rattle.floor_machine.proofs.Verdicts.{undecided, word-after}
+
+-- the floors and requests of a conference
+abbrev pub queue_of : Conference → Queue
+queue_of s = record { floors = s.config.floors; given = s.given; ongoing = s.ongoing }
+
+-- those that an event leaves, before they are settled
+abbrev queue_changed : Conference → ℕ → List Request → Queue
+queue_changed s given rs = record { floors = s.config.floors; given = given; ongoing = rs }
+
+-- the ongoing ones of some entries
+queue-of_entries : (s : Conference) (given : ℕ) (es : List Entry) (rs : List Request) → ongoing_of es ≡ rs → IsQueue (queue_changed s given rs) → IsQueue (queue_changed s given (ongoing_of es))
+queue-of_entries s given es rs is h = let P : List Request → Type 0 = λ xs. IsQueue (queue_changed s given xs) in subst P (sym is) h
+
+queue-unchanged : (s : Conference) → IsQueue (queue_of s) → IsQueue (queue_changed s s.given (ongoing_of (map entry_of s.ongoing)))
+queue-unchanged s h = queue-of_entries s s.given (map entry_of s.ongoing) s.ongoing (ongoing_of-entries s.ongoing) h
+
+-- after the words of a chair
+queue-decided : (q : Queue) (k : ℕ) (verdicts : List (ℕ × Verdict)) → IsQueue q → IsQueue (record q { ongoing = map (decided_at k verdicts) q.ongoing })
+queue-decided q k [] h = let P : List Request → Type 0 = λ rs. IsQueue (record q { ongoing = rs }) in subst P (sym (undecided k q.ongoing)) h
+queue-decided q k (v ∷ verdicts) h =
+    let P : List Request → Type 0 = λ rs. IsQueue (record q { ongoing = rs }) in
+    subst P (word-after k v verdicts q.ongoing)
+    (IsQueue-set_floor (record q { ongoing = map (decided_at k verdicts) q.ongoing }) k v.0 (word_of v.1) (queue-decided q k verdicts h))
+
+-- after what an accepted message does
+queue-asked : (s : Conference) (user : ℕ) (a : Ask) → MayServe s user (Accepted a) → IsQueue (queue_of s) → IsQueue (queue_changed s (given_after s a) (ongoing_of (entries_after s user a)))
+queue-asked s user (FloorRequest beneficiary floors priority info) may h =
+    queue-of_entries s (s.given + 1) (entries_after s user (FloorRequest beneficiary floors priority info))
+    (s.ongoing ++ first_request s.config.floors (s.given + 1) (new_of_ask user beneficiary floors priority info) ∷ [])
+    (entries-added s.ongoing (first_request s.config.floors (s.given + 1) (new_of_ask user beneficiary floors priority info)))
+    (IsQueue-add (queue_of s) (new_of_ask user beneficiary floors priority info) h may.1.few may.0)
+queue-asked s user (FloorRelease request) may h =
+    queue-of_entries s s.given (ending s (ends_at request released)) (without request s.ongoing) (ongoing_of-ending request released s.ongoing) (IsQueue-end (queue_of s) request h)
+queue-asked s user (FloorRequestQuery request) may h = queue-unchanged s h
+queue-asked s user (UserQuery beneficiary) may h = queue-unchanged s h
+queue-asked s user (FloorQuery floors) may h = queue-unchanged s h
+queue-asked s user (ChairAction request verdicts) may h = by (list_any (λ v. is_final v.1) verdicts)
+  where
+    by : (b : Bool) → IsQueue (queue_changed s s.given (ongoing_of (cond b (ending s (ends_at request dismissed)) (map (λ r. entry_of (decided_at request verdicts r)) s.ongoing))))
+    by true =
+        queue-of_entries s s.given (ending s (ends_at request dismissed)) (without request s.ongoing) (ongoing_of-ending request dismissed s.ongoing) (IsQueue-end (queue_of s) request h)
+    by false =
+        queue-of_entries s s.given (map (λ r. entry_of (decided_at request verdicts r)) s.ongoing) (map (decided_at request verdicts) s.ongoing)
+        (ongoing_of-decided request verdicts s.ongoing) (queue-decided (queue_of s) request verdicts h)
+queue-asked s user Hello may h = queue-unchanged s h
+
+-- after a message
+queue-message : (s : Conference) (n : ℕ) (a : Answer) → ((x : Ask) → a ≡ asks x → CountsFit x → AskFits x) → IsQueue (queue_of s) →
+    IsQueue (queue_changed s (message_change s n a).given (ongoing_of (message_change s n a).entries))
+queue-message s n unanswered fits h = queue-unchanged s h
+queue-message s n (refused code details) fits h = queue-unchanged s h
+queue-message s n (asks a) fits h = by (refusal s (user_of s n) a) refl
+  where
+    by : (o : Option ErrorCode) → o ≡ refusal s (user_of s n) a →
+        (let c : Change = cond (is_some o) (no_change s) (asked_change s n a) in IsQueue (queue_changed s c.given (ongoing_of c.entries)))
+    by None is = queue-asked s (user_of s n) a (may_serve s (user_of s n) a (fits a refl) is) h
+    by (Some code) is = queue-unchanged s h
+
+-- after a leave
+queue-left : (s : Conference) (members : List Member) (user : ℕ) → IsQueue (queue_of s) → IsQueue (queue_changed s s.given (ongoing_of (ending s (ends_without members user))))
+queue-left s members user h =
+    let ends : Request → Bool = λ r. r.beneficiary == user && not (is_present members user) in
+    queue-of_entries s s.given (ending s (ends_without members user)) (filter (λ r. not (ends r)) s.ongoing) (ongoing_of-ends ends released s.ongoing)
+    (IsQueue-filter (queue_of s) (λ r. not (ends r)) h)
+
+-- after any event
+queue-change : (s : Conference) (e : Event) → WhatIsAskedFits → IsQueue (queue_of s) → IsQueue (queue_changed s (change s e).given (ongoing_of (change s e).entries))
+unfolding change
+queue-change s (Join user) law h = queue-unchanged s h
+queue-change s (Message n bytes) law h = queue-message s n (ask bytes (binding s n)) (λ x is. law bytes (binding s n) x is) h
+queue-change s (Leave n) law h = queue-left s (map (leaving n) s.members) (user_of s n) h
+queue-change s (Revoke request) law h =
+    queue-of_entries s s.given (ending s (ends_at request dismissed)) (without request s.ongoing) (ongoing_of-ending request dismissed s.ongoing) (IsQueue-end (queue_of s) request h)
+queue-change s Close law h =
+    record {
+      rooms = h.rooms;
+      ascending = refl;
+      numbers = All-nil (λ (r : Request). (1 ≤ r.number) × (r.number ≤ s.given));
+      few = omega arith;
+      addable = All-nil (λ (r : Request). IsAddable s.config.floors (new_of r));
+      holders_fit = λ floor. omega arith;
+    }
+
+-- the floors and requests after an event are those of its change, settled
+queue-next : (s : Conference) (e : Event) → queue_of (next s e) ≡ after_settle (queue_changed s (change s e).given (ongoing_of (change s e).entries))
+unfolding next shown
+queue-next s e = ap (queue_changed s (change s e).given) (ongoing_of-settled s.config.floors (change s e).entries)
+
+is_live-watching : (n : ℕ) (floors : List ℕ) (m : Member) → (watching n floors m).is_live ≡ m.is_live
+is_live-watching n floors m = by (m.n == n)
+  where
+    by : (b : Bool) → (cond b (record m { watched = floors }) m).is_live ≡ m.is_live
+    by true = refl
+    by false = refl
+
+live-leaving : (n : ℕ) (ms : List Member) → count_by (λ m. m.is_live) (map (leaving n) ms) ≤ count_by (λ m. m.is_live) ms
+live-leaving n [] = omega arith
+live-leaving n (m ∷ ms) =
+    omega (arith, count-cons (λ (x : Member). x.is_live) (leaving n m) (map (leaving n) ms), count-cons (λ (x : Member). x.is_live) m ms, live-leaving n ms, by (m.n == n))
+  where
+    by : (b : Bool) → one (cond b (record m { is_live = false }) m).is_live ≤ one m.is_live
+    by true = omega arith
+    by false = omega arith
+
+live-asked : (s : Conference) (n : ℕ) (a : Ask) → count_by (λ m. m.is_live) s.members ≤ 64 → count_by (λ m. m.is_live) (members_after s n a) ≤ 64
+live-asked s n (FloorRequest beneficiary floors priority info) h = h
+live-asked s n (FloorRelease request) h = h
+live-asked s n (FloorRequestQuery request) h = h
+live-asked s n (UserQuery beneficiary) h = h
+live-asked s n (FloorQuery floors) h =
+    omega (arith, count_by-map (λ (m : Member). m.is_live) (λ (m : Member). m.is_live) (watching n floors) (is_live-watching n floors) s.members, h)
+live-asked s n (ChairAction request verdicts) h = h
+live-asked s n Hello h = h
+
+live-message : (s : Conference) (n : ℕ) (a : Answer) → count_by (λ m. m.is_live) s.members ≤ 64 → count_by (λ m. m.is_live) (message_change s n a).members ≤ 64
+live-message s n unanswered h = h
+live-message s n (refused code details) h = h
+live-message s n (asks a) h = by (is_some (refusal s (user_of s n) a))
+  where
+    by : (b : Bool) → count_by (λ m. m.is_live) (cond b (no_change s) (asked_change s n a)).members ≤ 64
+    by true = h
+    by false = live-asked s n a h
+
+live-change : (s : Conference) (e : Event) → IsLawful s e → count_by (λ m. m.is_live) s.members ≤ 64 → count_by (λ m. m.is_live) (change s e).members ≤ 64
+unfolding change
+live-change s (Join user) lawful h =
+    omega (arith, sum_by_push (λ (m : Member). cond m.is_live 1 0) s.members record { n = length s.members + 1; user = user; watched = []; is_live = true }, lawful.2)
+live-change s (Message n bytes) lawful h = live-message s n (ask bytes (binding s n)) h
+live-change s (Leave n) lawful h = omega (arith, live-leaving n s.members, h)
+live-change s (Revoke request) lawful h = h
+live-change s Close lawful h = h
+
+live-next : (s : Conference) (e : Event) → IsLawful s e → count_by (λ m. m.is_live) s.members ≤ 64 → count_by (λ m. m.is_live) (next s e).members ≤ 64
+unfolding next
+live-next s e lawful h = live-change s e lawful h
+
+-- what each lawful event keeps
+pub record Keeps (s : Conference) : Type 0 where
+  pub queue : IsQueue (queue_of s)
+  pub settled : IsSettled (queue_of s)
+  pub numbered : is_numbered_from 1 s.members ≡ true
+  pub live : count_by (λ m. m.is_live) s.members ≤ 64
+
+-- settling twice is settling once
+abbrev pub SettlesOnce : Type 0
+SettlesOnce = (floors : List Floor) (requests : List Request) → settle floors (settle floors requests) ≡ settle floors requests
+
+keeps-next : (s : Conference) (e : Event) → WhatIsAskedFits → SettlesOnce → IsLawful s e → Keeps s → Keeps (next s e)
+keeps-next s e law once lawful k =
+    let q : Queue = queue_changed s (change s e).given (ongoing_of (change s e).entries) in
+    record {
+      queue = subst IsQueue (sym (queue-next s e)) (IsQueue-settle q (queue-change s e law k.queue));
+      settled = subst IsSettled (sym (queue-next s e)) (once q.floors q.ongoing);
+      numbered = numbered-next s e k.numbered;
+      live = live-next s e lawful k.live;
+    }
+
+-- each run of lawful events keeps it
+pub keeps-after : (s : Conference) (es : List Event) → WhatIsAskedFits → SettlesOnce → IsLawfulFrom s es → Keeps s → Keeps (after_from s es)
+keeps-after s [] law once lawful k = k
+keeps-after s (e ∷ es) law once lawful k = keeps-after (next s e) es law once lawful.1 (keeps-next s e law once lawful.0 k)
+
+-- a conference that opens has it
+pub keeps-opening : (config : Configuration) → IsConfiguration config → Keeps (opening config)
+keeps-opening config h =
+    record {
+      queue = record {
+        rooms = All-weaker IsFloor (λ (f : Floor). 1 ≤ f.room) (λ f k. k.room_least) config.floors h.floors;
+        ascending = refl;
+        numbers = All-nil (λ (r : Request). (1 ≤ r.number) × (r.number ≤ 0));
+        few = omega arith;
+        addable = All-nil (λ (r : Request). IsAddable config.floors (new_of r));
+        holders_fit = λ floor. omega arith;
+      };
+      settled = refl;
+      numbered = refl;
+      live = omega arith;
+    }
+
+-- queue positions fit
+abbrev pub PositionsFit : Type 0
+PositionsFit = (q : Queue) → IsQueue q → IsSettled q → All (λ r. (floor : ℕ) → position q.floors q.ongoing r floor ≤ 255) q.ongoing
+
+pub reachable : (s : Conference) → PositionsFit → Keeps s → IsReachable s
+reachable s positions k =
+    record {
+      ascending = k.queue.ascending;
+      numbers = k.queue.numbers;
+      few = k.queue.few;
+      room = k.queue.holders_fit;
+      settled = k.settled;
+      positions = positions (queue_of s) k.queue k.settled;
+      numbered = k.numbered;
+      live = k.live;
+    }

@@ -1,0 +1,52 @@
+-- What holds of each conference that a journal leads to.
+use Rattle.std.specs.Prelude.{◌≡◌, ◌≢◌, ◌≤◌, ℕ, Bool, true, List, [], length, map, count_by, All, IsTrue, is_some}
+use Rattle.floor_config.specs.Configuration.{Configuration, IsConfiguration}
+use Rattle.floor_queue.specs.Order.{holders, position, room_of, settle}
+use Rattle.floor_queue.specs.Queue.{is_ascending}
+use Rattle.floor_message.specs.Ask.{Answer, asks, refused, unanswered, ask}
+use Rattle.floor_machine.specs.Parcel.{Parcel}
+use Rattle.floor_machine.specs.Conference.{Conference, binding, is_numbered_from, opening, user_of}
+use Rattle.floor_machine.specs.declared.event.Event.{Event}
+use Rattle.floor_machine.specs.declared.event.Event.TheVariants.{Message}
+use Rattle.floor_machine.specs.Checks.{refusal}
+use Rattle.floor_machine.specs.Change.{next}
+use Rattle.floor_machine.specs.Told.{told}
+use Rattle.floor_machine.specs.Journal.{IsJournal, after, parcels, parcels_from, sent_to}
+
+-- What a journal keeps: the numbers of the ongoing requests ascend, none above the number of requests that were accepted; at most
+-- 256 are ongoing; no floor has more holders than room; the requests are settled; no queue position is above 255; the members are
+-- numbered 1, 2, .. in the order of joining; and at most 64 of them are live.
+pub record IsReachable (s : Conference) : Type 0 where
+  pub ascending : IsTrue (is_ascending s.ongoing)
+  pub numbers : All (λ r. (1 ≤ r.number) × (r.number ≤ s.given)) s.ongoing
+  pub few : length s.ongoing ≤ 256
+  pub room : (floor : ℕ) → holders s.ongoing floor ≤ room_of s.config.floors floor
+  pub settled : settle s.config.floors s.ongoing ≡ s.ongoing
+  pub positions : All (λ r. (floor : ℕ) → position s.config.floors s.ongoing r floor ≤ 255) s.ongoing
+  pub numbered : IsTrue (is_numbered_from 1 s.members)
+  pub live : count_by (λ m. m.is_live) s.members ≤ 64
+
+-- each journal of a configuration leads to such a conference
+abbrev pub Kept : Type 0
+Kept = (config : Configuration) (es : List Event) → IsConfiguration config → IsJournal config es → IsReachable (after config es)
+
+-- the message, as it is read, is refused by its form or by a check of its own, or is left unanswered
+abbrev pub is_unaccepted : Conference → ℕ → Answer → Bool
+is_unaccepted s user unanswered = true
+is_unaccepted s user (refused code details) = true
+is_unaccepted s user (asks a) = is_some (refusal s user a)
+
+-- such a message of n leaves the conference as it is, and tells nobody but n anything
+pub record LeavesAlone (s : Conference) (n : ℕ) (bytes : List ℕ) : Type 0 where
+  pub next : next s (Message n bytes) ≡ s
+  pub told : (k : ℕ) → k ≢ n → told s (Message n bytes) k ≡ []
+
+-- after each journal, a message that isn't accepted leaves all but its sender alone
+abbrev pub Quiet : Type 0
+Quiet = (config : Configuration) (es : List Event) (n : ℕ) (bytes : List ℕ) → IsConfiguration config → IsJournal config es →
+    (let s = after config es in is_unaccepted s (user_of s n) (ask bytes (binding s n)) ≡ true → LeavesAlone s n bytes)
+
+-- the bytes of the parcels to n, of all that a journal calls for, are those that it calls for at n
+abbrev pub Sent : Type 0
+Sent = (config : Configuration) (es : List Event) (n : ℕ) → IsJournal config es →
+    map (λ (p : Parcel). p.bytes) (sent_to n (parcels_from (opening config) es)) ≡ parcels config es n
