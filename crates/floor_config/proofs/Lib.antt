@@ -4,3 +4,4 @@ pub mod Tables
 pub mod Plain
 pub mod Shown
 pub mod Kept
+pub mod Agreeing

@@ -9,7 +9,7 @@ use Rattle.floor_config.specs.Limits.{chairs_are_known}
 use Rattle.floor_config.specs.Building.{without_empty_texts}
 use Rattle.floor_config.proofs.Limits.{chairs_known}
 
-user_ids-plain : (users : List User) → user_ids (map without_empty_texts users) ≡ user_ids users
+pub user_ids-plain : (users : List User) → user_ids (map without_empty_texts users) ≡ user_ids users
 user_ids-plain [] = refl
 user_ids-plain (u ∷ users) = ap (λ (ids : List ℕ). u.id ∷ ids) (user_ids-plain users)
 

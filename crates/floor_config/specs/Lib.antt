@@ -6,4 +6,5 @@ pub mod Limits
 pub mod Values
 pub mod Reading
 pub mod Building
+pub mod Parts
 pub mod Demonstration

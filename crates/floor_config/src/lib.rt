@@ -22,7 +22,7 @@ mod values;
 pub use config::{Config, Floor, User};
 pub use fault::ConfigFault;
 pub use floors::Floors;
-pub use laws::{doubles_are_found, kept_is_built};
+pub use laws::{doubles_are_found, kept_is_built, read_is_built};
 pub use reading::read_configs;
 pub use text::Text;
 pub use users::Users;
