@@ -1,26 +1,15 @@
 -- How refusals and phases are called.
 use Rattle.std.specs.Prelude.{ℕ, List, codes}
-use Rattle.floor_machine.specs.declared.machine.Refusal.{Refusal}
-use Rattle.floor_machine.specs.declared.machine.Refusal.TheVariants.{Broken, Ended, NoMember, NoUser, Full, NoRequest, Memory}
+use Rattle.floor_machine.specs.Names as machine
 use Rattle.floor_room.specs.declared.refusal.RoomRefusal.{RoomRefusal}
 use Rattle.floor_room.specs.declared.refusal.RoomRefusal.TheVariants.{JournalFull, Refused}
 use Rattle.floor_room.specs.declared.status.Phase.{Phase}
 use Rattle.floor_room.specs.declared.status.Phase.TheVariants as phase
 
--- the name of a machine's refusal, in ASCII
-abbrev pub machine_name : Refusal → List ℕ
-machine_name Broken = codes "Broken"
-machine_name Ended = codes "Ended"
-machine_name NoMember = codes "NoMember"
-machine_name NoUser = codes "NoUser"
-machine_name Full = codes "Full"
-machine_name NoRequest = codes "NoRequest"
-machine_name Memory = codes "Memory"
-
 -- the refusal's own name, or that of the machine's refusal that it is
 abbrev pub name_of : RoomRefusal → List ℕ
 name_of JournalFull = codes "JournalFull"
-name_of (Refused refusal) = machine_name refusal
+name_of (Refused refusal) = machine.name_of refusal
 
 -- the word for a phase, as an administrator reads it
 abbrev pub phase_name : Phase → List ℕ

@@ -1,220 +1,269 @@
-//! Runs of a room: the worked examples, each refusal, and a full journal.
+//! Runs of a room, as lines that act on it and lines that they answer, and a full journal.
 
 use crate::{
-    Act, Config, Event, Frame, Ledger, NoMember, Phase, Place, Refusal, ReplayFault, Room,
-    RoomRefusal, Status, journal_text, replay,
+    Act, Config, Event, Frame, Ledger, ReplayFault, Room, RoomRefusal, journal_text, replay,
 };
 use std::alloc::Global;
 use std::process::Abort;
 use std::test::Fail;
 
-const HELLO: &str = "200b0000 00000001 0001 000a";
+const HELLO: [u8; 12] = [0x20, 0x0b, 0, 0, 0, 0, 0, 1, 0, 1, 0, 10];
 
-/// Users 10 and 11 ask for floor 1, and 10 gives it back.
-const RELEASE_PASSES_THE_FLOOR_ON: &str = "1 20010001 00000001 0002 000a 04040001
-2 20010001 00000001 0001 000b 04040001
-1 20020001 00000001 0003 000a 06040001";
+/// Each line of a script, and behind a `>` what it answers. Spaces behind the `>` are passed over.
+/// Users 10 and 11 ask for floor 1, and 10 gives it back; what user 11 is sent is 80 bytes.
+const RELEASE_PASSES_THE_FLOOR_ON: &str = "join 10 > ok 1
+join 11 > ok 2
+serve 1 20010001000000010002000a04040001 > ok 3
+serve 2 20010001000000010001000b04040001 > ok 4
+serve 1 20020001000000010003000a06040001 > ok 5
+status > 2 1 5 open
+waits 2 > 2
+replay 2 > 20040007 00000001 0001 000b 1e1c0002 24080002 0a040201 22080001 0a040201 1c04000b 08044000 20040007 00000001 0000 000b 1e1c0002 24080002 0a040300 22080001 0a040300 1c04000b 08044000
+take 2 > 20040007 00000001 0001 000b 1e1c0002 24080002 0a040201 22080001 0a040201 1c04000b 08044000
+take 2 > 20040007 00000001 0000 000b 1e1c0002 24080002 0a040300 22080001 0a040300 1c04000b 08044000
+take 2 > none
+replay 3 > none
+revoke 9 > NoRequest
+revoke 2 > ok
+leave 2 > ok
+close > ok
+journal > 1 join 10|2 join 11|3 message 1 20010001000000010002000a04040001|4 message 2 20010001000000010001000b04040001|5 message 1 20020001000000010003000a06040001|6 revoke 2|7 leave 2|8 close|end 8|
+status > 1 0 8 ended";
 
-/// What user 11 is sent meanwhile: its request waits, and then it is granted.
-const TOLD_TO_USER_11: &str = "20040007 00000001 0001 000b 1e1c0002 24080002 0a040201 22080001
-0a040201 1c04000b 08044000
-20040007 00000001 0000 000b 1e1c0002 24080002 0a040300 22080001 0a040300 1c04000b 08044000";
+/// A refused line adds no event, and a room that is broken off keeps what waits.
+const REFUSALS: &str = "journal > end 0|
+join 99 > NoUser
+leave 1 > NoMember
+take 1 > NoMember
+waits 1 > NoMember
+join 10 > ok 1
+serve 2 200b0000000000010001000a > NoMember
+serve 0 200b0000000000010001000a > NoMember
+revoke 1 > NoRequest
+serve 1 20010001000000010002000a04040001 > ok 2
+closed > no
+break_off > ok
+closed > Broken
+serve 1 200b0000000000010001000a > Broken
+close > Broken
+take 1 > 20040007 00000001 0002 000a 1e1c0001 24080001 0a040300 22080001 0a040300 1c04000a 08044000
+take 1 > none
+status > 1 1 2 broken";
 
-const REQUEST_GRANTED: &str = "20040007 00000001 0002 000a 1e1c0001 24080001 0a040300 22080001
-0a040300 1c04000a 08044000";
+/// A conference that has ended takes nothing, and keeps what waits.
+const ENDED: &str = "join 12 > ok 1
+serve 1 20010001000000010002000c04040001 > ok 2
+leave 1 > ok
+close > ok
+join 10 > Ended
+leave 1 > Ended
+close > Ended
+waits 1 > 1";
 
-/// The bytes that a text in hexadecimal spells. White space is passed over.
-fn bytes(alloc: Global, text: &str) -> Result<Vec<u8>, Fail> {
-    let mut digits = Vec::new(alloc);
-    for digit in text.as_bytes() {
-        if !digit.is_ascii_whitespace() {
-            digits.push(*digit)?;
-        }
-    }
-    match hex::decode(alloc, digits.as_slice()) {
-        Ok(bytes) => Ok(bytes),
+fn number(word: &str) -> Result<u32, Fail> {
+    Ok(word.parse()?)
+}
+
+fn frame(alloc: Global, text: &str) -> Result<Frame, Fail> {
+    match hex::decode(alloc, text.as_bytes()) {
+        Ok(bytes) => Ok(Frame::of(alloc, bytes.as_slice())?.ok_or("no message")?),
         Err(_) => Err(Fail::from("no hexadecimal")),
     }
 }
 
-fn frame(alloc: Global, text: &str) -> Result<Frame, Fail> {
-    let bytes = bytes(alloc, text)?;
-    Ok(Frame::of(alloc, bytes.as_slice())?.ok_or("no message")?)
+fn numbered(alloc: Global, outcome: Result<u32, RoomRefusal>) -> Result<String, Fail> {
+    match outcome {
+        Ok(number) => Ok(format!(in alloc; "ok {number}")?),
+        Err(refusal) => Ok(String::from_str(alloc, refusal.name())?),
+    }
 }
 
-/// All that waits for a member, which is taken.
-fn taken(alloc: Global, room: &mut Room, n: u32) -> Result<Vec<u8>, Fail> {
-    let mut bytes = Vec::new(alloc);
-    for _ in 0..100 {
-        match room.take(n) {
-            Ok(Some(parcel)) => {
-                bytes.extend_from_slice(parcel.header())?;
-                bytes.extend_from_slice(parcel.payload())?;
-            }
-            Ok(None) => return Ok(bytes),
-            Err(NoMember) => return Err(Fail::from("no member")),
+fn done(alloc: Global, outcome: Result<(), RoomRefusal>) -> Result<String, Fail> {
+    match outcome {
+        Ok(()) => Ok(String::from_str(alloc, "ok")?),
+        Err(refusal) => Ok(String::from_str(alloc, refusal.name())?),
+    }
+}
+
+fn serve(alloc: Global, room: &mut Room, words: &str) -> Result<String, Fail> {
+    let (n, message) = words.split_once(' ').ok_or("no message")?;
+    let frame = frame(alloc, message)?;
+    numbered(alloc, room.serve(number(n)?, frame))
+}
+
+fn take(alloc: Global, room: &mut Room, n: u32) -> Result<String, Fail> {
+    match room.take(n) {
+        Err(_) => Ok(String::from_str(alloc, "NoMember")?),
+        Ok(None) => Ok(String::from_str(alloc, "none")?),
+        Ok(Some(parcel)) => {
+            let mut text = hex::encode(alloc, parcel.header())?;
+            let payload = hex::encode(alloc, parcel.payload())?;
+            text.push_str(payload.as_str())?;
+            Ok(text)
         }
     }
-    Err(Fail::from("too many parcels"))
 }
 
-/// A room of the demonstration configuration that these users have joined.
-fn joined(alloc: Global, users: &[u16]) -> Result<Room, Fail> {
+fn waits(alloc: Global, room: &Room, n: u32) -> Result<String, Fail> {
+    match room.held(n) {
+        None => Ok(String::from_str(alloc, "NoMember")?),
+        Some(held) => {
+            let count = held.len();
+            Ok(format!(in alloc; "{count}")?)
+        }
+    }
+}
+
+fn status(alloc: Global, room: &Room) -> Result<String, Fail> {
+    let status = room.status();
+    let (members, ongoing) = (status.members, status.ongoing);
+    let (events, phase) = (status.events, status.phase.name());
+    Ok(format!(in alloc; "{members} {ongoing} {events} {phase}")?)
+}
+
+fn replayed(alloc: Global, events: &[Event], n: u32) -> Result<String, Fail> {
+    let config = Config::demonstration(alloc)?;
+    match replay(alloc, &config, events, n) {
+        Ok(bytes) if bytes.is_empty() => Ok(String::from_str(alloc, "none")?),
+        Ok(bytes) => Ok(hex::encode(alloc, bytes.as_slice())?),
+        Err(ReplayFault::NotAJournal(place)) => Ok(format!(in alloc; "NotAJournal {place}")?),
+        Err(ReplayFault::Memory) => Err(Fail::from("no memory")),
+    }
+}
+
+fn closed(alloc: Global, room: &Room) -> Result<String, Fail> {
+    match room.closed() {
+        None => Ok(String::from_str(alloc, "no")?),
+        Some(refusal) => Ok(String::from_str(alloc, refusal.name())?),
+    }
+}
+
+/// What a line of a script answers.
+fn answer(alloc: Global, room: &mut Room, line: &str) -> Result<String, Fail> {
+    let (word, rest) = line.split_once(' ').unwrap_or((line, ""));
+    match word {
+        "join" => {
+            let user: u16 = rest.parse()?;
+            numbered(alloc, room.join(user))
+        }
+        "serve" => serve(alloc, room, rest),
+        "leave" => done(alloc, room.leave(number(rest)?)),
+        "revoke" => {
+            let request: u16 = rest.parse()?;
+            done(alloc, room.admin(Act::Revoke(request)))
+        }
+        "close" => done(alloc, room.admin(Act::Close)),
+        "take" => take(alloc, room, number(rest)?),
+        "waits" => waits(alloc, room, number(rest)?),
+        "status" => status(alloc, room),
+        "journal" => Ok(journal_text(alloc, room.journal())?),
+        "replay" => replayed(alloc, room.journal(), number(rest)?),
+        "closed" => closed(alloc, room),
+        _ => {
+            room.break_off();
+            done(alloc, Ok(()))
+        }
+    }
+}
+
+/// A text without its spaces, and with a bar for each line feed.
+fn squeezed(alloc: Global, text: &str) -> Result<Vec<u8>, Fail> {
+    let mut out = Vec::new(alloc);
+    for byte in text.as_bytes() {
+        match *byte {
+            b' ' => {}
+            b'\n' => out.push(b'|')?,
+            byte => out.push(byte)?,
+        }
+    }
+    Ok(out)
+}
+
+/// Each line of a script answers what stands behind it.
+fn assert_answers(rt: &impl Abort, alloc: Global, script: &str) -> Result<(), Fail> {
     let mut room = Room::new(alloc, Config::demonstration(alloc)?)?;
-    for user in users {
-        if room.join(*user).is_err() {
-            return Err(Fail::from("a join is refused"));
-        }
-    }
-    Ok(room)
-}
-
-/// Serves the messages of a text, each on a line behind the number of its member.
-fn serve_lines(alloc: Global, room: &mut Room, text: &str) -> Result<(), Fail> {
-    for line in text.lines() {
-        let n = if line.starts_with('1') { 1 } else { 2 };
-        let message = line.strip_prefix('1').or(line.strip_prefix('2'));
-        let frame = frame(alloc, message.ok_or("no member")?)?;
-        if room.serve(n, frame).is_err() {
-            return Err(Fail::from("a message is refused"));
-        }
+    for line in script.lines() {
+        let (line, wanted) = line.split_once(" > ").ok_or("no answer")?;
+        let answered = answer(alloc, &mut room, line)?;
+        let answered = squeezed(alloc, answered.as_str())?;
+        let wanted = squeezed(alloc, wanted)?;
+        assert_eq!(rt; answered.as_slice(), wanted.as_slice(), "{line}");
     }
     Ok(())
 }
 
 #[test]
 fn a_journal_that_is_run_again_sends_what_was_sent(rt: HostRuntime) -> Result<(), Fail> {
-    let alloc = rt.alloc();
-    let mut room = joined(alloc, &[10, 11])?;
-    serve_lines(alloc, &mut room, RELEASE_PASSES_THE_FLOOR_ON)?;
-    let config = Config::demonstration(alloc)?;
-    let Ok(again) = replay(alloc, &config, room.journal(), 2) else {
-        return Err(Fail::from("no journal"));
-    };
-    let told = bytes(alloc, TOLD_TO_USER_11)?;
-    assert_eq!(rt; told.len(), 80);
-    assert_eq!(rt; again.as_slice(), told.as_slice());
-    assert_eq!(rt; room.held(2).map(|held| held.len()), Some(2));
-    assert_eq!(rt; taken(alloc, &mut room, 2)?.as_slice(), told.as_slice());
-    let Ok(nobody) = replay(alloc, &config, room.journal(), 3) else {
-        return Err(Fail::from("no journal"));
-    };
-    assert_eq!(rt; nobody.len(), 0);
-    let mut alone = Vec::new(alloc);
-    alone.push(Event::Leave { n: 1 })?;
-    let fault = replay(alloc, &config, alone.as_slice(), 1);
-    assert!(rt; matches!(fault, Err(ReplayFault::NotAJournal(1))));
-    Ok(())
+    assert_answers(&rt, rt.alloc(), RELEASE_PASSES_THE_FLOOR_ON)
 }
 
 #[test]
-fn a_journal_is_a_line_for_each_event(rt: HostRuntime) -> Result<(), Fail> {
-    let alloc = rt.alloc();
-    let mut room = joined(alloc, &[10, 11])?;
-    serve_lines(alloc, &mut room, "1 20010001 00000001 0002 000A 04040001")?;
-    assert_eq!(rt; room.admin(Act::Revoke(1)), Ok(()));
-    assert_eq!(rt; room.leave(2), Ok(()));
-    assert_eq!(rt; room.admin(Act::Close), Ok(()));
-    let text = journal_text(alloc, room.journal())?;
-    assert_eq!(rt;
-        text.as_str(),
-        "1 join 10\n2 join 11\n3 message 1 20010001000000010002000a04040001\n4 revoke 1\n5 leave 2\n\
-         6 close\nend 6\n"
-    );
-    let none = journal_text(alloc, &[])?;
-    assert_eq!(rt; none.as_str(), "end 0\n");
-    Ok(())
+fn a_refused_event_is_named_and_a_broken_room_keeps_what_waits(
+    rt: HostRuntime,
+) -> Result<(), Fail> {
+    assert_answers(&rt, rt.alloc(), REFUSALS)
 }
 
 #[test]
-fn each_refusal_has_its_name_and_adds_no_event(rt: HostRuntime) -> Result<(), Fail> {
-    let alloc = rt.alloc();
-    let mut room = joined(alloc, &[10])?;
-    let mut names = Vec::new(alloc);
-    names.push(room.join(99).err())?;
-    names.push(room.leave(7).err())?;
-    names.push(room.serve(0, frame(alloc, HELLO)?).err())?;
-    names.push(room.admin(Act::Revoke(1)).err())?;
-    for _ in 0..63 {
-        assert!(rt; room.join(12).is_ok());
-    }
-    names.push(room.join(11).err())?;
-    assert_eq!(rt; room.admin(Act::Close), Ok(()));
-    names.push(room.leave(1).err())?;
-    room.break_off();
-    names.push(room.admin(Act::Close).err())?;
-    let mut text = String::new(alloc);
-    for name in names.as_slice() {
-        text.push_str(name.ok_or("an event is taken")?.name())?;
-        text.push(' ')?;
-    }
-    assert_eq!(rt;
-        text.as_str(),
-        "NoUser NoMember NoMember NoRequest Full Ended Broken "
-    );
-    assert_eq!(rt; room.journal().len(), 65);
-    assert!(rt; matches!(room.take(65), Err(NoMember)));
-    Ok(())
+fn a_conference_that_has_ended_keeps_what_waits(rt: HostRuntime) -> Result<(), Fail> {
+    assert_answers(&rt, rt.alloc(), ENDED)
 }
 
 #[test]
-fn a_room_that_is_broken_off_keeps_what_waits(rt: HostRuntime) -> Result<(), Fail> {
-    let alloc = rt.alloc();
-    let mut room = joined(alloc, &[10])?;
-    assert_eq!(rt; room.status().phase.name(), "open");
-    serve_lines(alloc, &mut room, "1 20010001 00000001 0002 000a 04040001")?;
-    assert_eq!(rt; room.closed(), None);
-    room.break_off();
-    let granted = bytes(alloc, REQUEST_GRANTED)?;
-    assert_eq!(rt; taken(alloc, &mut room, 1)?.as_slice(), granted.as_slice());
-    let broken = RoomRefusal::Refused(Refusal::Broken);
-    assert_eq!(rt; room.serve(1, frame(alloc, HELLO)?), Err(broken));
-    assert_eq!(rt; room.closed(), Some(broken));
-    assert_eq!(rt; room.status().phase.name(), "broken");
-    assert_eq!(rt; room.status().events, 2);
+fn an_event_that_comes_too_early_has_its_place(rt: HostRuntime) -> Result<(), Fail> {
+    let events = [Event::Leave { n: 1 }];
+    let answered = replayed(rt.alloc(), &events, 1)?;
+    assert_eq!(rt; answered.as_str(), "NotAJournal 1");
     Ok(())
 }
 
 #[test]
 fn a_ledger_gives_the_parcels_of_its_event(rt: HostRuntime) -> Result<(), Fail> {
-    let alloc = rt.alloc();
-    let mut ledger = Ledger::new(alloc, Config::demonstration(alloc)?)?;
+    let mut ledger = Ledger::new(rt.alloc(), Config::demonstration(rt.alloc())?)?;
     assert!(rt; ledger.add(Event::Join { user: 10 }).is_ok());
-    let request = frame(alloc, "20010001 00000001 0002 000a 04040001")?;
-    let Ok(out) = ledger.add(Event::Message { n: 1, frame: request }) else {
-        return Err(Fail::from("a message is refused"));
-    };
-    assert_eq!(rt; out.len(), 1);
-    assert_eq!(rt; ledger.journal().len(), 2);
-    let status = Status {
-        members: 1,
-        ongoing: 1,
-        events: 2,
-        phase: Phase::Running,
-    };
-    assert_eq!(rt; ledger.status(), status);
-    assert!(rt; ledger.add(Event::Close).is_ok());
-    assert_eq!(rt; ledger.status().phase.name(), "ended");
+    let frame = Frame::of(rt.alloc(), &HELLO)?.ok_or("no message")?;
+    let told = ledger.add(Event::Message { n: 1, frame });
+    assert_eq!(rt; told.map(|out| out.len()), Ok(1));
+    assert_eq!(rt; ledger.status().events, 2);
     ledger.break_off();
-    assert_eq!(rt; ledger.closed(), Some(RoomRefusal::Refused(Refusal::Broken)));
+    assert_eq!(rt; ledger.closed().map(|why| why.name()), Some("Broken"));
+    assert_eq!(rt; ledger.journal().len(), 2);
     Ok(())
+}
+
+/// Serves so many Hellos of the first member, and takes what each is answered. Gives how many were
+/// served at their places.
+fn serve_hellos(alloc: Global, room: &mut Room, count: u32) -> Result<u32, Fail> {
+    let mut served = 0;
+    for hello in 0..count {
+        let frame = Frame::of(alloc, &HELLO)?.ok_or("no message")?;
+        if room.serve(1, frame) == Ok(hello.wrapping_add(2)) && matches!(room.take(1), Ok(Some(_))) {
+            served = hello.wrapping_add(1);
+        }
+    }
+    Ok(served)
 }
 
 #[test]
 fn a_journal_is_full_at_a_million_events(rt: HostRuntime) -> Result<(), Fail> {
-    let alloc = rt.alloc();
-    let mut room = joined(alloc, &[10])?;
-    let hello = bytes(alloc, HELLO)?;
-    for place in 2..1_000_001u32 {
-        let frame = Frame::of(alloc, hello.as_slice())?.ok_or("no message")?;
-        let served: Result<Place, RoomRefusal> = room.serve(1, frame);
-        assert_eq!(rt; served, Ok(place));
-        assert!(rt; matches!(room.take(1), Ok(Some(_))));
-    }
-    let full = RoomRefusal::JournalFull;
-    assert_eq!(rt; room.serve(1, frame(alloc, HELLO)?), Err(full));
-    assert_eq!(rt; room.leave(1), Err(full));
-    assert_eq!(rt; full.name(), "JournalFull");
+    let mut room = Room::new(rt.alloc(), Config::demonstration(rt.alloc())?)?;
+    assert_eq!(rt; room.join(10), Ok(1));
+    assert_eq!(rt; serve_hellos(rt.alloc(), &mut room, 999_999)?, 999_999);
+    assert_eq!(rt; serve_hellos(rt.alloc(), &mut room, 1)?, 0);
+    assert_eq!(rt; room.leave(1), Err(RoomRefusal::JournalFull));
     assert_eq!(rt; room.status().events, 1_000_000);
+    Ok(())
+}
+
+/// 64 members at most are live, and one more may join where one has left.
+#[test]
+fn a_room_is_full_at_64_live_members(rt: HostRuntime) -> Result<(), Fail> {
+    let mut room = Room::new(rt.alloc(), Config::demonstration(rt.alloc())?)?;
+    for n in 1..65u32 {
+        assert_eq!(rt; room.join(12), Ok(n));
+    }
+    assert_eq!(rt; room.join(12).map_err(|why| why.name()), Err("Full"));
+    assert_eq!(rt; room.leave(3), Ok(()));
+    assert_eq!(rt; room.join(12), Ok(65));
     Ok(())
 }
