@@ -1,5 +1,7 @@
 use super::shown::bytes;
-use crate::{Attr, Body, Frame, Framer, SharedFrame};
+use crate::{
+    Attr, Attrs, Body, Frame, Framer, SharedFrame, WireFault, fits_message, read_attrs, write_attrs,
+};
 use std::test::Fail;
 
 const HELLO: &str = "200b0000 00000001 0001 000a";
@@ -147,5 +149,47 @@ fn ten_thousand_waiting_messages_are_taken_one_by_one(rt: HostRuntime) -> Result
         assert_eq!(rt; frame.bytes(), hello.as_slice(), "after {taken}");
     }
     assert!(rt; framer.next()?.is_none());
+    Ok(())
+}
+
+#[test]
+fn a_message_of_the_greatest_length_is_written_framed_and_read(
+    rt: HostRuntime,
+) -> Result<(), Fail> {
+    let alloc = rt.alloc();
+    let mut attrs = Vec::new(alloc);
+    for number in 0..65_534u16 {
+        attrs.push(Attr {
+            kind: 2,
+            must: false,
+            body: Body::Num(number),
+        })?;
+    }
+    let none = Attrs::from_vec(Vec::new(alloc));
+    attrs.push(Attr {
+        kind: 14,
+        must: false,
+        body: Body::Group(10, none),
+    })?;
+    assert!(rt; fits_message(&attrs));
+    let mut written = write_attrs(alloc, &attrs)?;
+    assert_eq!(rt; written.len(), 262_140);
+    assert_eq!(rt; read_attrs(alloc, &written)?.as_slice().len(), 65_535);
+
+    let frame = Frame::of_attributes(alloc, 7, 1, 2, 10, &attrs)?;
+    assert_eq!(rt; frame.header().payload_length(), 65_535);
+    assert!(rt; Frame::of(alloc, frame.bytes())?.is_some());
+    assert_eq!(rt; frame.addressed(alloc, 11)?.len(), 262_152);
+    let mut framer = Framer::new(alloc);
+    framer.push(frame.copy(alloc)?.bytes())?;
+    assert!(rt; framer.ready());
+    let taken = framer.next()?.ok_or("no message")?;
+    assert_eq!(rt; taken.bytes(), frame.bytes());
+
+    written.extend_from_slice(&[0x1c, 5, 0, 1])?;
+    match read_attrs(alloc, &written) {
+        Ok(_) => assert!(rt; false, "a group of Length 5"),
+        Err(fault) => assert_eq!(rt; fault, WireFault::BadLength(262_140)),
+    }
     Ok(())
 }
