@@ -10,5 +10,5 @@ second_part n first rest all long is =
 pub returns : goal.returns
 returns c = record {
   value = c.as_slice.ensures
-    ∙ second_part 12 c.self.inside.header c.self.inside.payload c.args.self.now c.self.invariant.0 c.self.view_is;
+      ∙ second_part 12 c.self.inside.header c.self.inside.payload c.args.self.now c.self.invariant.0 c.self.view_is;
 }
