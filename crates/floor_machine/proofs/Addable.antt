@@ -20,11 +20,11 @@ use Rattle.floor_machine.specs.Conference.{Conference, user_of}
 use Rattle.floor_machine.specs.Shown.{Entry, entry_of}
 use Rattle.floor_machine.specs.Checks.{beneficiary_of}
 use Rattle.floor_machine.specs.Change.{Change, change, leaving, ends_without, ending, ends_at, entries_after, released, dismissed, decided_at, is_final}
-use Rattle.floor_machine.specs.Steps.{entry_of_ended}
-use Rattle.floor_machine.specs.Serving.{IsChanged, IsState, MayServe, ended_of, judged_change}
-use Rattle.floor_machine.specs.Fitting.{AreAddable, DetailsFit}
+use Rattle.floor_machine.specs.steps.Telling.{entry_of_ended}
+use Rattle.floor_machine.specs.steps.Serving.{IsChanged, IsState, MayServe, ended_of, judged_change}
+use Rattle.floor_machine.specs.steps.Fitting.{AreAddable, DetailsFit}
 use Rattle.floor_machine.proofs.Entries.{ended_of-entries}
-use Rattle.floor_machine.proofs.Changing.{none-ended-added}
+use Rattle.floor_machine.proofs.Changing.{ended_of-decided, none-ended-added}
 
 -- what holds of all ongoing requests holds of those that end
 ending_all : (P : Request → Type 0) (ends : Request → Option RequestStatus) (rs : List Request) → All P rs →
@@ -38,11 +38,6 @@ ending_all P ends (r ∷ rs) h = by (ends r) (h 0 r (omega arith)) (ending_all P
     by : (o : Option RequestStatus) → P r → All (λ e. P e.request) others → All (λ e. P e.request) (ended_of (record { request = r; ending = o } ∷ map {A = Request} (λ r. record { request = r; ending = ends r }) rs))
     by None own rest = rest
     by (Some status) own rest = All-cons (λ e. P e.request) (record { request = r; ending = Some status }) others own rest
-
--- none of the ongoing ones ended
-none_ended : (f : Request → Request) (rs : List Request) → ended_of (map (λ r. entry_of (f r)) rs) ≡ []
-none_ended f [] = refl
-none_ended f (r ∷ rs) = none_ended f rs
 
 -- what holds of the entries that ended holds of what the course has noted
 noted_all : (P : Request → Type 0) (ended : List Ended) → All (λ e. P e.request) (map entry_of_ended ended) → All (λ d. P d.request) ended
@@ -64,7 +59,7 @@ asked_all P s user (ChairAction request verdicts) h = by (list_any (λ v. is_fin
   where
     by : (b : Bool) → All (λ e. P e.request) (ended_of (cond b (ending s (ends_at request dismissed)) (map (λ r. entry_of (decided_at request verdicts r)) s.ongoing)))
     by true = ending_all P (ends_at request dismissed) s.ongoing h
-    by false = none_all P (ended_of (map (λ r. entry_of (decided_at request verdicts r)) s.ongoing)) (none_ended (decided_at request verdicts) s.ongoing)
+    by false = none_all P (ended_of (map (λ r. entry_of (decided_at request verdicts r)) s.ongoing)) (ended_of-decided request verdicts s.ongoing)
 asked_all P s user Hello h = none_all P (ended_of (map entry_of s.ongoing)) (ended_of-entries s.ongoing)
 
 judged_all : (P : Request → Type 0) (s : Conference) (n : ℕ) (j : Judged) → All P s.ongoing → All (λ e. P e.request) (ended_of (judged_change s n j).entries)

@@ -20,7 +20,7 @@ use Rattle.floor_message.specs.declared.code.ErrorCode.TheVariants.{FloorRequest
 use Rattle.floor_machine.specs.declared.judged.Judged.TheVariants.{Accepted}
 use Rattle.floor_machine.specs.Conference.{Conference, is_user, has_proxy, chair_is}
 use Rattle.floor_machine.specs.Checks.{Check, when, first_of, beneficiary_of, requests_for, release_checks, chair_checks, is_allowed, refusal}
-use Rattle.floor_machine.specs.Serving.{HasRoom, MayServe}
+use Rattle.floor_machine.specs.steps.Serving.{HasRoom, MayServe}
 use Rattle.floor_machine.proofs.Found.{and_left, and_right}
 
 -- of six checks that none refuses by, the third, the fourth and the sixth don't apply

@@ -24,7 +24,7 @@ use Rattle.floor_machine.specs.Outgoing.{Outgoing, notice, outgoing_bytes}
 use Rattle.floor_machine.specs.Parcel.{Parcel}
 use Rattle.floor_machine.specs.Reachable.{LeavesAlone, Sent, is_unaccepted}
 use Rattle.floor_machine.specs.Reply.{floor_status_tell, reply}
-use Rattle.floor_machine.specs.Serving.{changes_requests, judged, members_judged}
+use Rattle.floor_machine.specs.steps.Serving.{changes_requests, judged, members_judged}
 use Rattle.floor_machine.specs.Told.{Changed, changed_floors, changed_requests, is_told, reply_to, told, told_to}
 use Rattle.floor_machine.proofs.Found.{and_left}
 use Rattle.floor_machine.proofs.Kept.{IsKept, event-kept, next-message}

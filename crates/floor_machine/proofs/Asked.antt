@@ -16,8 +16,8 @@ use Rattle.floor_machine.specs.Shown.{entry_of}
 use Rattle.floor_machine.specs.Conference.{Conference, user_of}
 use Rattle.floor_machine.specs.Change.{Change, no_change, asked_change, ending, ends_at, released, dismissed, is_final, decided_at}
 use Rattle.floor_machine.specs.Reply.{infos}
-use Rattle.floor_machine.specs.Steps.{entry_of_ended}
-use Rattle.floor_machine.specs.Serving.{IsChanged, IsState, MayDecide, after_decide, conference_of, ended_by, is_rising, new_of_ask}
+use Rattle.floor_machine.specs.steps.Telling.{entry_of_ended}
+use Rattle.floor_machine.specs.steps.Serving.{IsChanged, IsState, MayDecide, after_decide, conference_of, ended_by, is_rising, new_of_ask}
 use Rattle.floor_machine.proofs.Entries.{ongoing_of-entries, ended_of-entries, numbers_in-entries}
 use Rattle.floor_machine.proofs.Changing.{rising-numbers, rising-next, entries-added, none-ended-added, numbers-added, ongoing_of-ending, ended_of-ending, numbers_in-ending, ongoing_of-decided, ended_of-decided, numbers_in-decided}
 
@@ -78,8 +78,8 @@ changed-request s course course' n user beneficiary floors priority info state q
     }
 
 -- nothing has ended as an event begins
-none-ended : (s : State) (course : Course) → IsChanged (conference_of s) (no_change (conference_of s)) (conference_of s) course → course.ended.items ≡ []
-none-ended s course begun = empty course.ended.items (begun.ended ∙ ended_of-entries s.requests.ongoing)
+pub none-ended : (s : Conference) (course : Course) → IsChanged s (no_change s) s course → course.ended.items ≡ []
+none-ended s course begun = empty course.ended.items (begun.ended ∙ ended_of-entries s.ongoing)
   where
     empty : (es : List Ended) → map entry_of_ended es ≡ [] → es ≡ []
     empty [] h = refl
@@ -110,7 +110,7 @@ changed-end s how course course' request queue begun ongoing noted numbers befor
     by : (o : Option Request) → IsSome o → IfSome o (λ r. course'.ended.items ≡ course.ended.items ++ record { request = r; ending = how r } ∷ []) →
         map entry_of_ended course'.ended.items ≡ option_map_or (λ r. entry_of_ended record { request = r; ending = how r } ∷ []) o []
     by None some h = cc
-    by (Some r) some h = ap (map entry_of_ended) (h ∙ ap (λ (es : List Ended). es ++ record { request = r; ending = how r } ∷ []) (none-ended s course begun))
+    by (Some r) some h = ap (map entry_of_ended) (h ∙ ap (λ (es : List Ended). es ++ record { request = r; ending = how r } ∷ []) (none-ended (conference_of s) course begun))
 
 -- a FloorRelease has ended its request
 pub changed-release : (s : State) (course course' : Course) (n request : ℕ) →
@@ -140,7 +140,7 @@ changed-words s course course' request verdicts queue begun ended numbers before
       members = refl;
       is_open = refl;
       ongoing = sym (ongoing_of-decided request verdicts rs);
-      ended = ap (map entry_of_ended) (ended ∙ append-nil course.ended.items ∙ none-ended s course begun) ∙ sym (ended_of-decided request verdicts rs);
+      ended = ap (map entry_of_ended) (ended ∙ append-nil course.ended.items ∙ none-ended (conference_of s) course begun) ∙ sym (ended_of-decided request verdicts rs);
       numbers = same ∙ sym (numbers_in-decided request verdicts rs);
       rising = ap is_rising same ∙ rising-numbers rs ∙ queue.ascending;
       before = ap (λ x. x.items) before ∙ begun.before;

@@ -22,11 +22,12 @@ use Rattle.floor_machine.specs.declared.sending.Update.{Update}
 use Rattle.floor_machine.specs.declared.state.State.{State}
 use Rattle.floor_machine.specs.Conference.{Conference, member_with}
 use Rattle.floor_machine.specs.Change.{change, next, shown}
-use Rattle.floor_machine.specs.Serving.{IsChanged, IsState, conference_of, ended_of, is_rising, numbers_in}
-use Rattle.floor_machine.specs.Fitting.{AreFloorsShown, AreMessagesShown, AreUpdatesShown, IsReplyShown, IsToldShown, ToldFits}
+use Rattle.floor_machine.specs.steps.Serving.{IsChanged, IsState, conference_of, ended_of, is_rising, numbers_in}
+use Rattle.floor_machine.specs.Fitting.{ToldFits}
+use Rattle.floor_machine.specs.steps.Fitting.{AreFloorsShown, AreMessagesShown, AreUpdatesShown, IsReplyShown, IsToldShown}
 use Rattle.floor_machine.specs.Outgoing.{Outgoing, notice}
 use Rattle.floor_machine.specs.Reply.{infos, floor_status_tell}
-use Rattle.floor_machine.specs.Steps.{answered, answered_to, entry_of_ended, floor_update, floor_updates, infos_of, is_to, updates}
+use Rattle.floor_machine.specs.steps.Telling.{answered, answered_to, entry_of_ended, floor_update, floor_updates, infos_of, is_to, updates}
 use Rattle.floor_machine.specs.Told.{Changed, changed_floors, changed_requests, floor_notices, request_notices, is_told, reply_to, told, told_to}
 use Rattle.floor_machine.proofs.Telling.{is_telling, told-member, update_for}
 use Rattle.floor_machine.proofs.Served.{ended-shown, floors-message, next-config, numbers-shown, settled-state, updates-message}

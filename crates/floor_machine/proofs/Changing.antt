@@ -12,8 +12,8 @@ use Rattle.floor_message.specs.declared.ask.Verdict.{Verdict}
 use Rattle.floor_machine.specs.declared.status.RequestStatus.{RequestStatus}
 use Rattle.floor_machine.specs.Shown.{Entry, entry_of, ongoing_of}
 use Rattle.floor_machine.specs.Change.{ends_at, decided, decided_at}
-use Rattle.floor_machine.specs.Steps.{entry_of_ended}
-use Rattle.floor_machine.specs.Serving.{ended_of, numbers_in, is_rising}
+use Rattle.floor_machine.specs.steps.Telling.{entry_of_ended}
+use Rattle.floor_machine.specs.steps.Serving.{ended_of, numbers_in, is_rising}
 use Rattle.floor_machine.proofs.Found.{and_left, and_right}
 use Rattle.floor_machine.proofs.Entries.{ongoing_of-entries, ended_of-entries, numbers_in-entries, ongoing_of-append, ended_of-append}
 

@@ -7,7 +7,7 @@ use Rattle.floor_queue.specs.declared.request.Request.{Request}
 use Rattle.floor_queue.specs.Queue.{request_at, numbers_of, is_ascending, without}
 use Rattle.floor_machine.specs.declared.status.RequestStatus.{RequestStatus}
 use Rattle.floor_machine.specs.Shown.{Entry, ongoing_of}
-use Rattle.floor_machine.specs.Serving.{ended_of, numbers_in}
+use Rattle.floor_machine.specs.steps.Serving.{ended_of, numbers_in}
 use Rattle.floor_machine.proofs.Found.{and_left, and_right}
 
 -- the first request that passes, of which k is the number, and what is left without it

@@ -11,8 +11,8 @@ use Rattle.floor_queue.specs.Queue.{request_at, numbers_of}
 use Rattle.floor_machine.specs.declared.course.Ended.{Ended}
 use Rattle.floor_machine.specs.declared.status.RequestStatus.{RequestStatus}
 use Rattle.floor_machine.specs.Shown.{Entry, entry_of, ongoing_of, settle_entries}
-use Rattle.floor_machine.specs.Steps.{entry_of_ended, entry_at}
-use Rattle.floor_machine.specs.Serving.{ended_of, numbers_in, is_rising}
+use Rattle.floor_machine.specs.steps.Telling.{entry_of_ended, entry_at}
+use Rattle.floor_machine.specs.steps.Serving.{ended_of, numbers_in, is_rising}
 use Rattle.floor_machine.proofs.Found.{and_left, and_right, or_right, same_number}
 
 pub ongoing_of-entries : (rs : List Request) → ongoing_of (map entry_of rs) ≡ rs

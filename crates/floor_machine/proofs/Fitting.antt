@@ -19,9 +19,9 @@ use Rattle.floor_machine.specs.declared.sending.FloorUpdate.{FloorUpdate}
 use Rattle.floor_machine.specs.Conference.{user_with}
 use Rattle.floor_machine.specs.Shown.{Entry, info_of, named, described, floor_shown}
 use Rattle.floor_machine.specs.Reply.{infos_on}
-use Rattle.floor_machine.specs.Steps.{floor_update, floor_updates, is_floor_changed, update_if, update_of}
+use Rattle.floor_machine.specs.steps.Telling.{floor_update, floor_updates, is_floor_changed, update_if, update_of}
 use Rattle.floor_machine.specs.Told.{is_changed}
-use Rattle.floor_machine.specs.Fitting.{AreFloorsShown, AreUpdatesShown, HasNumbers}
+use Rattle.floor_machine.specs.steps.Fitting.{AreFloorsShown, AreUpdatesShown, HasNumbers}
 
 -- what holds of all holds of the one that is found
 pub find_all : {A : Type 0} (P : A → Type 0) (p : A → Bool) (xs : List A) → All P xs → IfSome (find p xs) P

@@ -18,12 +18,12 @@ use Rattle.floor_machine.specs.declared.sending.Update.{Update}
 use Rattle.floor_machine.specs.Conference.{Conference, binding, user_of, is_numbered_from}
 use Rattle.floor_machine.specs.Shown.{Entry, entry_of}
 use Rattle.floor_machine.specs.Change.{Change, change, next, shown}
-use Rattle.floor_machine.specs.Fitting.{AreFloorsShown, AreUpdatesShown, IsReplyShown, IsToldShown}
+use Rattle.floor_machine.specs.steps.Fitting.{AreFloorsShown, AreUpdatesShown, IsReplyShown, IsToldShown}
 use Rattle.floor_machine.specs.Journal.{parcels_of}
 use Rattle.floor_machine.specs.Outgoing.{response_head}
 use Rattle.floor_machine.specs.Reply.{infos}
-use Rattle.floor_machine.specs.Serving.{IsJudged, changes_requests, ended_of, is_rising, judged_change, judged_tells, members_judged, numbers_in}
-use Rattle.floor_machine.specs.Steps.{answered_to, floor_update, parcels_to_all}
+use Rattle.floor_machine.specs.steps.Serving.{IsJudged, changes_requests, ended_of, is_rising, judged_change, judged_tells, members_judged, numbers_in}
+use Rattle.floor_machine.specs.steps.Telling.{answered_to, floor_update, parcels_to_all}
 use Rattle.floor_machine.specs.Told.{Changed, reply_to}
 use Rattle.floor_machine.proofs.Bounds.{told-shown}
 use Rattle.floor_machine.proofs.Changing.{rising-numbers}

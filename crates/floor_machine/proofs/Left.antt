@@ -12,10 +12,11 @@ use Rattle.floor_machine.specs.declared.state.State.{State}
 use Rattle.floor_machine.specs.Shown.{Entry, entry_of}
 use Rattle.floor_machine.specs.Conference.{Conference, user_of, is_present}
 use Rattle.floor_machine.specs.Change.{Change, no_change, change, ending, ends_at, ends_without, leaving, released, dismissed}
-use Rattle.floor_machine.specs.Steps.{entry_of_ended}
-use Rattle.floor_machine.specs.Serving.{IsChanged, conference_of, after_release_for, is_rising, released_for}
+use Rattle.floor_machine.specs.steps.Telling.{entry_of_ended}
+use Rattle.floor_machine.specs.steps.Serving.{IsChanged, conference_of, after_release_for, is_rising, released_for}
 use Rattle.floor_machine.proofs.Entries.{ended_of-entries, numbers_in-entries}
 use Rattle.floor_machine.proofs.Changing.{rising-numbers, ongoing_of-ending, ended_of-ending, numbers_in-ending}
+use Rattle.floor_machine.proofs.Asked.{none-ended}
 use Rattle.floor_machine.proofs.Ended.{ended_entry, ending_if, ongoing_of-ends, ended_of-ends, numbers_in-ends}
 
 -- what is left of a conference that a connection of this user left, with these requests
@@ -53,14 +54,6 @@ all-without user rs = map-same (entry_without user false) (ending_if (λ r. r.be
     by : (r : Request) (b : Bool) → entry_if r (b && true) ≡ entry_if r b
     by r true = refl
     by r false = refl
-
--- none is noted as an event begins
-none-ended : (s : Conference) (course : Course) → IsChanged s (no_change s) s course → course.ended.items ≡ []
-none-ended s course begun = empty course.ended.items (begun.ended ∙ ended_of-entries s.ongoing)
-  where
-    empty : (es : List Ended) → map entry_of_ended es ≡ [] → es ≡ []
-    empty [] h = refl
-    empty (e ∷ es) h = cc
 
 -- a member has left whose user is still present
 pub changed-present : (s : State) (course : Course) (n user : ℕ) (members : Vec Member Global) → user ≡ user_of (conference_of s) n → IsQueue s.requests →

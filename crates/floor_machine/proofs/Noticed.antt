@@ -11,7 +11,7 @@ use Rattle.floor_machine.specs.declared.sending.Reply.{Reply}
 use Rattle.floor_machine.specs.declared.sending.Update.{Update}
 use Rattle.floor_machine.specs.Journal.{parcel}
 use Rattle.floor_machine.specs.Outgoing.{notice, notice_head, outgoing_bytes}
-use Rattle.floor_machine.specs.Steps.{answered_to, floor_notice, floor_notice_to, floor_update_to, is_due_to, is_noticed, is_watched, noticed_to, noticed_to_all, parcels_to, parcels_to_all, update_to}
+use Rattle.floor_machine.specs.steps.Telling.{answered_to, floor_notice, floor_notice_to, floor_update_to, is_due_to, is_noticed, is_watched, noticed_to, noticed_to_all, parcels_to, parcels_to_all, update_to}
 use Rattle.floor_machine.proofs.Telling.{flat_map-same}
 
 -- a message that is written for nobody and then addressed is the message to the user

@@ -24,7 +24,7 @@ use Rattle.floor_machine.specs.Outgoing.{Outgoing, notice}
 use Rattle.floor_machine.specs.Reply.{infos, infos_on, floor_status_tell}
 use Rattle.floor_machine.specs.Told.{Changed, changed_of, changed_requests, changed_floors, is_changed, is_told, reply_to, told_to, told}
 use Rattle.floor_machine.specs.Journal.{parcel, parcels_of}
-use Rattle.floor_machine.specs.Steps.{answered_to, floor_update, parcels_to_all}
+use Rattle.floor_machine.specs.steps.Telling.{answered_to, floor_update, parcels_to_all}
 use Rattle.floor_machine.proofs.Entries.{ongoing_of-entries}
 use Rattle.floor_machine.proofs.Found.{request_at_place}
 use Rattle.floor_machine.proofs.SameInfo.{list_own, info_own}

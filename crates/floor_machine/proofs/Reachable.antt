@@ -28,7 +28,7 @@ use Rattle.floor_machine.specs.Checks.{beneficiary_of, refusal}
 use Rattle.floor_machine.specs.Change.{Change, IsLawful, asked_change, change, decided_at, dismissed, ending, ends_at, ends_without, entries_after, given_after, is_final, leaving, members_after, message_change, next, no_change, released, shown, watching, word_of}
 use Rattle.floor_machine.specs.Journal.{IsJournal, IsLawfulFrom, after_from}
 use Rattle.floor_machine.specs.Reachable.{IsReachable}
-use Rattle.floor_machine.specs.Serving.{MayServe, new_of_ask}
+use Rattle.floor_machine.specs.steps.Serving.{MayServe, new_of_ask}
 use Rattle.floor_machine.proofs.Allowed.{may_serve}
 use Rattle.floor_machine.proofs.Changing.{entries-added, ongoing_of-decided, ongoing_of-ending}
 use Rattle.floor_machine.proofs.Ended.{ongoing_of-ends}

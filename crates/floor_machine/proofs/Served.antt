@@ -35,8 +35,8 @@ use Rattle.floor_machine.specs.Outgoing.{Outgoing, response_head}
 use Rattle.floor_machine.specs.Reply.{infos, infos_of_user, request_answer, answer_tells, reply_tells, headed, reply}
 use Rattle.floor_machine.specs.Told.{changed_of, changed_requests, changed_floors, is_changed, reply_to}
 use Rattle.floor_machine.specs.Journal.{parcels_of}
-use Rattle.floor_machine.specs.Steps.{entry_of_ended, entry_at, shown_of, infos_of, updates, floor_update, floor_updates, answered, answered_to, parcels_to_all}
-use Rattle.floor_machine.specs.Serving.{IsChanged, IsState, conference_of, judged, judged_change, judged_tells, accepted_tells, status_tells, ended_of, numbers_in, is_rising}
+use Rattle.floor_machine.specs.steps.Telling.{entry_of_ended, entry_at, shown_of, infos_of, updates, floor_update, floor_updates, answered, answered_to, parcels_to_all}
+use Rattle.floor_machine.specs.steps.Serving.{IsChanged, IsState, conference_of, judged, judged_change, judged_tells, accepted_tells, status_tells, ended_of, numbers_in, is_rising}
 use Rattle.floor_machine.proofs.Entries.{ongoing_of-settled, ended_of-settled, numbers_in-settled, entry_with, filter-number}
 use Rattle.floor_machine.proofs.Telling.{is_telling, finds, update_for, updates-changed, headed-answered, parcels-told}
 

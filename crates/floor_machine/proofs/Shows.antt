@@ -11,7 +11,7 @@ use Rattle.floor_machine.specs.declared.course.Ended.{Ended}
 use Rattle.floor_machine.specs.declared.course.Shown.{Shown}
 use Rattle.floor_machine.specs.Shown.{Entry, entry_of, info, info_of, overall_status, status_number, floor_shown}
 use Rattle.floor_machine.specs.Reply.{infos_on}
-use Rattle.floor_machine.specs.Steps.{ended_floor_shown, entry_of_ended, info_with, position_shown, shown_of}
+use Rattle.floor_machine.specs.steps.Telling.{ended_floor_shown, entry_of_ended, info_with, position_shown, shown_of}
 
 map-map : {A B C : Type 0} (f : B → C) (g : A → B) (xs : List A) → map f (map g xs) ≡ map (λ x. f (g x)) xs
 map-map f g [] = refl

@@ -26,8 +26,8 @@ use Rattle.floor_machine.specs.Outgoing.{Outgoing, notice}
 use Rattle.floor_machine.specs.Reply.{infos, floor_status_tell, headed}
 use Rattle.floor_machine.specs.Told.{Changed, changed_of, changed_requests, changed_floors, is_changed, is_status_of, is_told, reply_to, request_notices, floor_notices, told_to, told}
 use Rattle.floor_machine.specs.Journal.{parcel, parcels_of}
-use Rattle.floor_machine.specs.Steps.{entry_of_ended, entry_at, shown_of, update_of, update_if, update_at, updates, floor_update, answered, answered_to, is_answered, is_due_to, is_watched, is_to, update_to, floor_update_to, parcels_to, parcels_to_all}
-use Rattle.floor_machine.specs.Serving.{ended_of, numbers_in, is_rising}
+use Rattle.floor_machine.specs.steps.Telling.{entry_of_ended, entry_at, shown_of, update_of, update_if, update_at, updates, floor_update, answered, answered_to, is_answered, is_due_to, is_watched, is_to, update_to, floor_update_to, parcels_to, parcels_to_all}
+use Rattle.floor_machine.specs.steps.Serving.{ended_of, numbers_in, is_rising}
 use Rattle.floor_machine.proofs.Found.{and_left, and_right, same_number}
 use Rattle.floor_machine.proofs.Entries.{entry_at-find, entry_with, find_entry, by_number}
 

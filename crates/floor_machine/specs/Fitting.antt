@@ -1,56 +1,9 @@
--- What the machine tells shows no more than a conference has, and so fits a message (RFC 8855, sections 5.1 and 5.2).
-use Rattle.std.specs.Prelude.{ℕ, ◌^◌, ◌<◌, ◌≤◌, List, length, All, Option, IfSome}
-use Rattle.floor_config.specs.declared.config.Floor.{Floor}
-use Rattle.floor_queue.specs.declared.request.Request.{Request}
-use Rattle.floor_queue.specs.Queue.{IsAddable, new_of}
+-- Each message that an event tells fits (RFC 8855, sections 5.1 and 5.2).
+use Rattle.std.specs.Prelude.{ℕ, All}
 use Rattle.floor_message.specs.Fits.{TellFits}
-use Rattle.floor_message.specs.Shown.{IsShown}
-use Rattle.floor_machine.specs.declared.course.Ended.{Ended}
-use Rattle.floor_machine.specs.declared.judged.Judged.{Judged}
-use Rattle.floor_machine.specs.declared.judged.Judged.TheVariants.{Accepted, Refused, Unanswered}
-use Rattle.floor_machine.specs.declared.sending.Reply.{Reply}
-use Rattle.floor_machine.specs.declared.sending.Update.{Update}
-use Rattle.floor_machine.specs.declared.sending.FloorUpdate.{FloorUpdate}
 use Rattle.floor_machine.specs.declared.event.Event.{Event}
 use Rattle.floor_machine.specs.Conference.{Conference}
-use Rattle.floor_machine.specs.Outgoing.{Outgoing}
 use Rattle.floor_machine.specs.Told.{told}
-
--- the numbers of a floor request and of its users are of 16 bits
-pub record HasNumbers (r : Request) : Type 0 where
-  pub number : r.number < 2 ^ 16
-  pub requester : r.requester < 2 ^ 16
-  pub beneficiary : r.beneficiary < 2 ^ 16
-
--- each request that ended is one that could be added: at most 8 floors, a priority of at most 4, a text of at most 62 bytes
-abbrev pub AreAddable : List Floor → List Ended → Type 0
-AreAddable floors ended = All (λ d. IsAddable floors (new_of d.request)) ended
-
--- the details of a refusal are at most 252 bytes
-abbrev pub DetailsFit : Judged → Type 0
-DetailsFit (Accepted a) = Unit {0}
-DetailsFit (Refused code details) = length details ≤ 252
-DetailsFit Unanswered = Unit {0}
-
--- the messages of the reply, if there is one, show no more than a conference has
-abbrev pub IsReplyShown : Option Reply → Type 0
-IsReplyShown reply = IfSome reply (λ r. All IsShown r.tells.items)
-
--- so do the statuses of the changed requests
-abbrev pub AreUpdatesShown : List Update → Type 0
-AreUpdatesShown updates = All (λ u. IsShown u.tell) updates
-
--- and those of the changed floors
-abbrev pub AreFloorsShown : List FloorUpdate → Type 0
-AreFloorsShown updates = All (λ u. IsShown u.tell) updates
-
--- messages that show no more than a conference has
-abbrev pub AreMessagesShown : List Outgoing → Type 0
-AreMessagesShown messages = All (λ message. IsShown message.tell) messages
-
--- each message that the event tells a member shows no more than a conference has
-abbrev pub IsToldShown : Conference → Event → Type 0
-IsToldShown s e = (n : ℕ) → AreMessagesShown (told s e n)
 
 -- each message that the event tells a member can be written
 abbrev pub ToldFits : Conference → Event → Type 0

@@ -1,11 +1,10 @@
 -- Whole runs of one conference: journals, and what they call for.
-use Rattle.std.specs.Prelude.{◌≡◌, ℕ, ◌≤◌, ◌==◌, List, [], ◌∷◌, ◌++◌, length, map, filter}
+use Rattle.std.specs.Prelude.{ℕ, ◌≤◌, ◌==◌, List, [], ◌∷◌, ◌++◌, length, map, filter}
 use Rattle.std.specs.List.{concat, flat_map}
 use Rattle.floor_config.specs.Configuration.{Configuration}
 use Rattle.floor_machine.specs.Parcel.{Parcel}
 use Rattle.floor_machine.specs.Conference.{Conference, opening}
 use Rattle.floor_machine.specs.declared.event.Event.{Event}
-use Rattle.floor_machine.specs.declared.event.Event.TheVariants.{Join}
 use Rattle.floor_machine.specs.Change.{next, IsLawful}
 use Rattle.floor_machine.specs.Outgoing.{Outgoing, outgoing_bytes}
 use Rattle.floor_machine.specs.Told.{told}
@@ -17,11 +16,6 @@ parcel n message = record { n = n; bytes = outgoing_bytes message }
 -- all that an event tells the members, by ascending number
 unfoldable pub parcels_of : Conference → Event → List Parcel
 parcels_of s e = flat_map (λ m. map (parcel m.n) (told s e m.n)) (next s e).members
-
--- a join tells nobody anything
-abbrev pub IsSilent : Conference → Event → Type 0
-IsSilent s (Join user) = parcels_of s (Join user) ≡ []
-IsSilent s _ = Unit {0}
 
 -- the conference after these events, one after another
 abbrev pub after_from : Conference → List Event → Conference

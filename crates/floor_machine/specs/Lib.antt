@@ -1,3 +1,4 @@
+-- What a reader has to believe, in the order of reading.
 pub mod Conference
 pub mod Shown
 pub mod Checks
@@ -8,12 +9,12 @@ pub mod Reply
 pub mod Same
 pub mod Told
 pub mod Journal
-pub mod Steps
 pub mod Fitting
-pub mod Serving
 pub mod Machine
 pub mod Names
+pub mod Laws
 pub mod Reachable
 pub mod Membership
-pub mod Laws
 pub mod Examples
+-- the steps of the proofs
+pub mod steps

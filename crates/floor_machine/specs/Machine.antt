@@ -3,7 +3,6 @@ use Rattle.std.specs.Prelude.{◌≡◌, ◌≢◌, ℕ, ◌<◌, List, [], ◌�
 use Rattle.floor_machine.specs.declared.machine.Refusal.{Refusal}
 use Rattle.floor_machine.specs.declared.machine.Refusal.TheVariants.{Broken, Ended, NoMember, NoUser, Full, NoRequest, Memory}
 use Rattle.floor_machine.specs.declared.event.Act.{Act}
-use Rattle.floor_machine.specs.declared.event.BorrowedEvent.{BorrowedEvent}
 use Rattle.floor_machine.specs.declared.event.Event.{Event}
 use Rattle.floor_queue.specs.Queue.{request_at}
 use Rattle.floor_machine.specs.Conference.{Conference, is_user, is_live}
@@ -43,13 +42,6 @@ abbrev pub event_of_act : Act → Event
 event_of_act (Act.Revoke request) = Event.Revoke request
 event_of_act Act.Close = Event.Close
 
--- the event that a call bears
-abbrev pub event_of : BorrowedEvent → Event
-event_of (BorrowedEvent.Join user) = Event.Join user
-event_of (BorrowedEvent.Message n frame) = Event.Message n frame.now
-event_of (BorrowedEvent.Leave n) = Event.Leave n
-event_of (BorrowedEvent.Admin act) = event_of_act act
-
 -- why an act of the administrator is not taken: it revokes a request that isn't ongoing
 abbrev pub act_refusal : Machine → Act → Option Refusal
 act_refusal m (Act.Revoke request) = refusal_of m (if not (is_some (request_at m.conference.ongoing request)) then Some NoRequest else None)
@@ -85,11 +77,6 @@ pub record Left (old : Machine) (e : Event) (new : Machine) (before after : List
   pub unchanged : why ≢ Memory → new ≡ old
   pub broken : why ≡ Memory → new.is_broken ≡ true
   pub unlawful : why ≢ Broken → why ≢ Memory → ¬ IsLawful old.conference e
-
--- the number of one more member fits, where one joins
-abbrev pub HasNumber : Conference → Event → Type 0
-HasNumber s (Event.Join user) = length s.members < 4294967295
-HasNumber s _ = Unit {0}
 
 -- a machine after these events, each of which it took
 abbrev pub machine_after : Machine → List Event → Machine

@@ -4,9 +4,9 @@ ghost use Rattle.std.specs.Prelude.{◌≡◌, ◌++◌, [], IsSome, OnOk, OnErr
 ghost use Rattle.floor_queue.specs.Queue.{IsQueue, IsSettled, request_at};
 ghost use Rattle.floor_machine.specs.Change as change;
 ghost use Rattle.floor_machine.specs.declared.event.Event.TheVariants.{Revoke, Close};
-ghost use Rattle.floor_machine.specs.Fitting.{IsToldShown};
+ghost use Rattle.floor_machine.specs.steps.Fitting.{IsToldShown};
 ghost use Rattle.floor_machine.specs.Journal.{parcels_of};
-ghost use Rattle.floor_machine.specs.Serving.{IsBegun, IsChanged, IsState, conference_of};
+ghost use Rattle.floor_machine.specs.steps.Serving.{IsBegun, IsChanged, IsState, conference_of};
 
 use crate::course::Course;
 use crate::ending::dismiss_request;

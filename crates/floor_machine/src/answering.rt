@@ -3,11 +3,11 @@
 ghost use Rattle.std.specs.Prelude.{◌≡◌, ◌∷◌, [], All, IfOk, IfSome, Some, map, option_map, unwrap_or};
 ghost use Rattle.floor_queue.specs.Queue.{IsSettled};
 ghost use Rattle.floor_message.specs.Shown.{AreShown, IsDescribed, IsShown};
-ghost use Rattle.floor_machine.specs.Fitting.{AreAddable, DetailsFit};
+ghost use Rattle.floor_machine.specs.steps.Fitting.{AreAddable, DetailsFit};
 ghost use Rattle.floor_machine.specs.Reply as spec;
 ghost use Rattle.floor_machine.specs.Shown as shown;
-ghost use Rattle.floor_machine.specs.Serving as serving;
-ghost use Rattle.floor_machine.specs.Serving.{conference_of};
+ghost use Rattle.floor_machine.specs.steps.Serving as serving;
+ghost use Rattle.floor_machine.specs.steps.Serving.{conference_of};
 
 use crate::course::{Ended, floor_status, shown_at};
 use crate::judged::Judged;

@@ -5,9 +5,10 @@ ghost use Rattle.floor_queue.specs.Queue.{IsSettled};
 ghost use Rattle.floor_machine.specs.Change as change;
 ghost use Rattle.floor_machine.specs.Change.{IsLawful};
 ghost use Rattle.floor_machine.specs.Fitting.{ToldFits};
-ghost use Rattle.floor_machine.specs.Journal.{IsSilent, parcels_of};
-ghost use Rattle.floor_machine.specs.Machine.{HasNumber, event_of};
-ghost use Rattle.floor_machine.specs.Serving.{IsState, conference_of};
+ghost use Rattle.floor_machine.specs.Journal.{parcels_of};
+ghost use Rattle.floor_machine.specs.steps.Events.{IsSilent};
+ghost use Rattle.floor_machine.specs.steps.Events.{HasNumber, event_of};
+ghost use Rattle.floor_machine.specs.steps.Serving.{IsState, conference_of};
 
 use crate::event::{Act, BorrowedEvent};
 use crate::parcel::Parcel;

@@ -8,18 +8,12 @@ ghost use Rattle.floor_queue.specs.Queue.{is_floor};
 ghost use Rattle.floor_machine.specs.Checks as spec;
 ghost use Rattle.floor_machine.specs.Checks.{first_of, when, request_checks, release_checks, chair_checks, on_request};
 ghost use Rattle.floor_machine.specs.Conference.{is_user, has_proxy, chair_is};
-ghost use Rattle.floor_machine.specs.Serving.{conference_of};
+ghost use Rattle.floor_machine.specs.steps.Serving.{conference_of};
 
 use crate::state::State;
 use floor_config::{Config, Floor, User};
 use floor_message::{Ask, ErrorCode, Verdict};
-use floor_queue::Request;
-
-/// How many floors a request may name, so that its description fits a group (section 5.2.15).
-const MOST_FLOORS: usize = 8;
-
-/// How many requests may be ongoing, so that each queue position fits its byte (section 5.2.5).
-const MOST_ONGOING: usize = 256;
+use floor_queue::{MAX_FLOORS, MAX_ONGOING, Request, is_floor};
 
 /// The user with this number.
 pub(crate) fn find_user(users: &[User], id: u16) -> Option<&User>
@@ -46,12 +40,6 @@ fn has_proxy(config: &Config, id: u16) -> bool
         Some(user) => user.proxy,
         None => false,
     }
-}
-
-fn is_floor(floors: &[Floor], floor: u16) -> bool
-    ensures { result ≡ is_floor floors.now floor }
-{
-    floors.iter().any(|f| f.id == floor)
 }
 
 fn are_floors(known: &[Floor], floors: &[u16]) -> bool
@@ -108,7 +96,7 @@ impl State {
         if !are_floors(self.config.floors(), floors) {
             return Some(ErrorCode::InvalidFloorId);
         }
-        if floors.len() > MOST_FLOORS {
+        if floors.len() > MAX_FLOORS {
             return Some(ErrorCode::GenericError);
         }
         if is_at_some_limit(
@@ -119,7 +107,7 @@ impl State {
         ) {
             return Some(ErrorCode::MaximumFloorRequestsReached);
         }
-        if self.requests.len() >= MOST_ONGOING || self.requests.given() == u16::MAX {
+        if self.requests.len() >= MAX_ONGOING || self.requests.given() == u16::MAX {
             return Some(ErrorCode::GenericError);
         }
         None

@@ -5,10 +5,10 @@ ghost use Rattle.std.specs.Prelude.{◌≡◌, ◌==◌, ◌++◌, [], IfOk, IfS
 ghost use Rattle.std.specs.Option.{option_copied};
 ghost use Rattle.floor_queue.specs.Queue.{IsAddable, IsSettled, new_of, request_at};
 ghost use Rattle.floor_message.specs.Shown.{AreShown, IsShown, IsShownInfo};
-ghost use Rattle.floor_machine.specs.Fitting.{AreAddable, AreFloorsShown, AreUpdatesShown};
+ghost use Rattle.floor_machine.specs.steps.Fitting.{AreAddable, AreFloorsShown, AreUpdatesShown};
 ghost use Rattle.floor_machine.specs.Shown.{entry_of};
-ghost use Rattle.floor_machine.specs.Steps as spec;
-ghost use Rattle.floor_machine.specs.Steps.{entry_of_ended, shown_of};
+ghost use Rattle.floor_machine.specs.steps.Telling as spec;
+ghost use Rattle.floor_machine.specs.steps.Telling.{entry_of_ended, shown_of};
 ghost use Rattle.floor_machine.specs.Same as same;
 ghost use Rattle.floor_machine.specs.Reply as reply;
 ghost use Rattle.floor_machine.specs.Told as told;

@@ -4,7 +4,7 @@ ghost use Rattle.std.specs.Prelude.{◌≡◌, ◌++◌, All, OnOk, map};
 ghost use Rattle.std.specs.List.{list_any};
 ghost use Rattle.floor_queue.specs.Queue.{MaySetFloor};
 ghost use Rattle.floor_machine.specs.Change as change;
-ghost use Rattle.floor_machine.specs.Serving.{MayDecide, after_decide, ended_by};
+ghost use Rattle.floor_machine.specs.steps.Serving.{MayDecide, after_decide, ended_by};
 
 use crate::course::Ended;
 use crate::ending::dismiss_request;

@@ -3,7 +3,7 @@
 ghost use Rattle.std.specs.Prelude.{◌≡◌, ◌==◌, ◌++◌, ◌∷◌, [], IfSome, IsSome, OnOk, find, option_map};
 ghost use Rattle.floor_queue.specs.Queue.{IsQueue, after_end, request_at};
 ghost use Rattle.floor_machine.specs.Change as change;
-ghost use Rattle.floor_machine.specs.Serving.{after_release_for, released_for};
+ghost use Rattle.floor_machine.specs.steps.Serving.{after_release_for, released_for};
 
 use crate::course::Ended;
 use crate::status::RequestStatus;

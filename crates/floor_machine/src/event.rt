@@ -60,7 +60,7 @@ pub(crate) enum BorrowedEvent<'a> {
 
 impl BorrowedEvent<'_> {
     ghost use Rattle.floor_machine.specs.Laws.{IsWhole};
-    ghost use Rattle.floor_machine.specs.Machine.{event_of};
+    ghost use Rattle.floor_machine.specs.steps.Events.{event_of};
 
     /// A message of it is one whole message, as each frame is. Does nothing.
     pub fn is_whole(self)

@@ -1,7 +1,7 @@
 //! What becomes of a message: it is accepted, answered by an Error, or left unanswered.
 
 ghost use Rattle.std.specs.Prelude.{◌≡◌};
-ghost use Rattle.floor_machine.specs.Serving.{changes_requests};
+ghost use Rattle.floor_machine.specs.steps.Serving.{changes_requests};
 
 use floor_message::{Ask, ErrorCode};
 use floor_wire::Octets;

@@ -6,9 +6,9 @@ ghost use Rattle.floor_queue.specs.Queue.{IsQueue, IsSettled};
 ghost use Rattle.floor_machine.specs.Change as change;
 ghost use Rattle.floor_machine.specs.Conference.{is_present, user_of};
 ghost use Rattle.floor_machine.specs.declared.event.Event.TheVariants.{Leave};
-ghost use Rattle.floor_machine.specs.Fitting.{IsToldShown};
+ghost use Rattle.floor_machine.specs.steps.Fitting.{IsToldShown};
 ghost use Rattle.floor_machine.specs.Journal.{parcels_of};
-ghost use Rattle.floor_machine.specs.Serving.{IsBegun, IsChanged, IsState, conference_of};
+ghost use Rattle.floor_machine.specs.steps.Serving.{IsBegun, IsChanged, IsState, conference_of};
 
 use crate::course::Course;
 use crate::ending::release_all_for;

@@ -3,8 +3,9 @@
 ghost use Rattle.std.specs.Prelude.{◌≡◌, ◌+◌, ◌<◌, ◌≤◌, [], IfOk, IfErr, OnOk, length, count_by};
 ghost use Rattle.floor_machine.specs.Conference.{opening};
 ghost use Rattle.floor_machine.specs.declared.event.Event.TheVariants.{Join, Message, Leave};
-ghost use Rattle.floor_machine.specs.Journal.{IsSilent};
-ghost use Rattle.floor_machine.specs.Machine.{HasNumber, IsRefusedBy, Left, Took, act_refusal, event_of, event_of_act, event_refusal, join_refusal, member_refusal, whole};
+ghost use Rattle.floor_machine.specs.steps.Events.{IsSilent};
+ghost use Rattle.floor_machine.specs.Machine.{IsRefusedBy, Left, Took, act_refusal, event_of_act, event_refusal, join_refusal, member_refusal, whole};
+ghost use Rattle.floor_machine.specs.steps.Events.{HasNumber, event_of};
 
 use crate::checks::is_user;
 use crate::event::{Act, BorrowedEvent, Event};
@@ -82,7 +83,7 @@ pub struct Machine {
 
 impl Model for Machine {
     ghost use Rattle.floor_machine.specs.Machine.{Machine};
-    ghost use Rattle.floor_machine.specs.Serving.{IsMachine, conference_of};
+    ghost use Rattle.floor_machine.specs.steps.Serving.{IsMachine, conference_of};
 
     ghost Value = { Machine };
 

@@ -3,10 +3,10 @@
 ghost use Rattle.std.specs.Prelude.{◌≡◌, ◌==◌, ◌||◌, ◌∷◌, [], ◌++◌, All, IfOk, OnOk, map, filter, if◌then◌else◌};
 ghost use Rattle.std.specs.List.{list_any};
 ghost use Rattle.floor_message.specs.Shown.{IsShown};
-ghost use Rattle.floor_machine.specs.Fitting.{AreFloorsShown, AreUpdatesShown, IsReplyShown};
+ghost use Rattle.floor_machine.specs.steps.Fitting.{AreFloorsShown, AreUpdatesShown, IsReplyShown};
 ghost use Rattle.floor_machine.specs.Told.{is_status_of};
 ghost use Rattle.floor_machine.specs.Journal.{parcel};
-ghost use Rattle.floor_machine.specs.Steps.{answered, answered_to, floor_notice, floor_notice_to, is_answered, is_due_to, is_noticed, noticed_to, noticed_to_all, parcels_to_all, update_to};
+ghost use Rattle.floor_machine.specs.steps.Telling.{answered, answered_to, floor_notice, floor_notice_to, is_answered, is_due_to, is_noticed, noticed_to, noticed_to_all, parcels_to_all, update_to};
 
 use crate::member::Member;
 use crate::parcel::Parcel;

@@ -11,9 +11,9 @@ ghost use Rattle.floor_machine.specs.Change as change;
 ghost use Rattle.floor_machine.specs.Conference.{user_of};
 ghost use Rattle.floor_machine.specs.declared.event.Event.TheVariants.{Message};
 ghost use Rattle.floor_machine.specs.Journal.{parcels_of};
-ghost use Rattle.floor_machine.specs.Fitting.{IsToldShown};
-ghost use Rattle.floor_machine.specs.Serving as serving;
-ghost use Rattle.floor_machine.specs.Serving.{HasRoom, IsBegun, IsChanged, IsJudged, IsState, MayServe, changes_requests, conference_of, judged_change, members_judged};
+ghost use Rattle.floor_machine.specs.steps.Fitting.{IsToldShown};
+ghost use Rattle.floor_machine.specs.steps.Serving as serving;
+ghost use Rattle.floor_machine.specs.steps.Serving.{HasRoom, IsBegun, IsChanged, IsJudged, IsState, MayServe, changes_requests, conference_of, judged_change, members_judged};
 ghost use Rattle.floor_machine.specs.Outgoing.{response_head};
 
 use crate::course::Course;

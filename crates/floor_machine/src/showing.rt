@@ -5,10 +5,10 @@ ghost use Rattle.floor_config.specs.Configuration.{IsConfiguration};
 ghost use Rattle.floor_queue.specs.Order.{names};
 ghost use Rattle.floor_queue.specs.Queue.{IsAddable, IsSettled, involves, new_of, request_at};
 ghost use Rattle.floor_message.specs.Shown.{AreShown, IsShownInfo};
-ghost use Rattle.floor_machine.specs.Fitting.{HasNumbers};
+ghost use Rattle.floor_machine.specs.steps.Fitting.{HasNumbers};
 ghost use Rattle.floor_machine.specs.Shown as spec;
 ghost use Rattle.floor_machine.specs.Shown.{entry_of, info, info_of, overall_status};
-ghost use Rattle.floor_machine.specs.Steps.{ended_floor_shown, entry_of_ended, info_with, infos_of, position_shown};
+ghost use Rattle.floor_machine.specs.steps.Telling.{ended_floor_shown, entry_of_ended, info_with, infos_of, position_shown};
 
 use crate::checks::find_user;
 use crate::course::Ended;

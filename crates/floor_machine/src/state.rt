@@ -8,10 +8,10 @@ ghost use Rattle.floor_machine.specs.Change as change;
 ghost use Rattle.floor_machine.specs.Conference.{is_live, member_with, opening, user_of};
 ghost use Rattle.floor_machine.specs.declared.event.Event.TheVariants.{Join};
 ghost use Rattle.floor_machine.specs.Journal.{parcels_of};
-ghost use Rattle.floor_machine.specs.Fitting.{AreAddable, AreFloorsShown, AreUpdatesShown, IsReplyShown, IsToldShown};
-ghost use Rattle.floor_machine.specs.Serving.{IsState, conference_of};
-ghost use Rattle.floor_machine.specs.Steps as steps;
-ghost use Rattle.floor_machine.specs.Steps.{infos_of, parcels_to_all};
+ghost use Rattle.floor_machine.specs.steps.Fitting.{AreAddable, AreFloorsShown, AreUpdatesShown, IsReplyShown, IsToldShown};
+ghost use Rattle.floor_machine.specs.steps.Serving.{IsState, conference_of};
+ghost use Rattle.floor_machine.specs.steps.Telling as steps;
+ghost use Rattle.floor_machine.specs.steps.Telling.{infos_of, parcels_to_all};
 
 use crate::course::{Course, floor_updates, updates};
 use crate::member::Member;

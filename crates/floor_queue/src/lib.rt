@@ -13,6 +13,7 @@ mod request;
 mod requested_floor;
 mod requests;
 
+pub use addable::{MAX_FLOORS, is_floor};
 pub use floor_config::{Config, Floor};
 pub use floor_wire::{Numbers, Octets};
 pub use laws::{
@@ -20,7 +21,7 @@ pub use laws::{
 };
 pub use request::{New, Request};
 pub use requested_floor::{FloorStatus, RequestedFloor, RequestedFloors, Word};
-pub use requests::{AddRefusal, Requests};
+pub use requests::{AddRefusal, MAX_ONGOING, Requests};
 
 #[cfg(test)]
 mod tests;

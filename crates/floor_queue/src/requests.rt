@@ -16,7 +16,7 @@ use std::marker::Model;
 
 /// How many floor requests may be ongoing in one conference, so that each queue position fits the
 /// byte that it is told in (RFC 8855, section 5.2.5).
-const MOST_ONGOING: usize = 256;
+pub const MAX_ONGOING: usize = 256;
 
 /// Why no floor request is added. The first that applies is answered.
 #[derive(Clone, Copy, Debug, PartialEq, Eq)]
@@ -190,7 +190,7 @@ impl Requests {
             ↔ ((length self.old.ongoing < 256) × (self.old.given ≡ 65535)) }
         ensures err { OnErr result (self.new ≡ self.old) }
     {
-        if self.ongoing.len() >= MOST_ONGOING {
+        if self.ongoing.len() >= MAX_ONGOING {
             return Err(AddRefusal::Full);
         }
         if self.given == u16::MAX {

@@ -216,6 +216,12 @@ fn print_waiting<W: Write>(
 fn print_parcel<W: Write>(alloc: Global, parcel: &Parcel, output: &mut W) -> Result<(), RunFault> {
     let header = hex::encode(alloc, parcel.header())?;
     let payload = hex::encode(alloc, parcel.payload())?;
-    writeln!(output, "{} {}{}", parcel.n(), header.as_str(), payload.as_str())?;
+    writeln!(
+        output,
+        "{} {}{}",
+        parcel.n(),
+        header.as_str(),
+        payload.as_str()
+    )?;
     Ok(())
 }

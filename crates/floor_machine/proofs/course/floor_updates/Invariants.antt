@@ -1,5 +1,5 @@
 use Rattle.std.proofs.Common.{◌≡◌, take}
-use Rattle.floor_machine.specs.Steps.{floor_updates}
+use Rattle.floor_machine.specs.steps.Telling.{floor_updates}
 use Rattle.floor_machine.proofs.course.floor_updates.Given as goal
 
 abbrev pub invariant-loop-floor : goal.invariant-loop-floor

@@ -5,7 +5,7 @@ use Rattle.floor_queue.specs.Queue.{IsAddable, new_of, request_at}
 use Rattle.floor_machine.specs.declared.course.Ended.{Ended}
 use Rattle.floor_machine.specs.declared.course.Shown.{Shown}
 use Rattle.floor_machine.specs.Shown.{entry_of}
-use Rattle.floor_machine.specs.Steps.{entry_of_ended, shown_of}
+use Rattle.floor_machine.specs.steps.Telling.{entry_of_ended, shown_of}
 use Rattle.floor_machine.proofs.Fitting.{found_all}
 use Rattle.floor_machine.proofs.Shows.{shown_of-ended}
 use Rattle.floor_machine.proofs.course.shown_at.Goals as goal

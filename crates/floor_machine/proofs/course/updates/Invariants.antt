@@ -1,6 +1,6 @@
 use Rattle.std.proofs.Common.{◌≡◌, take}
-use Rattle.floor_machine.specs.Steps.{updates}
-use Rattle.floor_machine.specs.Fitting.{AreUpdatesShown}
+use Rattle.floor_machine.specs.steps.Telling.{updates}
+use Rattle.floor_machine.specs.steps.Fitting.{AreUpdatesShown}
 use Rattle.floor_machine.proofs.course.updates.Given as goal
 
 abbrev pub invariant-loop-number : goal.invariant-loop-number

@@ -4,7 +4,7 @@ use Rattle.floor_queue.specs.declared.request.Request.{Request}
 use Rattle.floor_queue.specs.Queue.{Queue, after_end}
 use Rattle.floor_machine.specs.declared.course.Ended.{Ended}
 use Rattle.floor_machine.specs.Change.{released}
-use Rattle.floor_machine.specs.Serving.{after_release_for, released_for}
+use Rattle.floor_machine.specs.steps.Serving.{after_release_for, released_for}
 use Rattle.floor_machine.proofs.Ended.{first-passing, none-passing, all-left}
 use Rattle.floor_machine.proofs.ending.release_all_for.Goals as goal
 

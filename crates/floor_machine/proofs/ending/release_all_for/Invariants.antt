@@ -1,5 +1,5 @@
 use Rattle.std.proofs.Common.{◌≡◌, ◌++◌, length}
-use Rattle.floor_machine.specs.Serving.{after_release_for, released_for}
+use Rattle.floor_machine.specs.steps.Serving.{after_release_for, released_for}
 use Rattle.floor_machine.proofs.ending.release_all_for.Given as goal
 
 abbrev pub invariant-loop-request : goal.invariant-loop-request

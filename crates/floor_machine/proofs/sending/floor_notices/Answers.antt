@@ -1,6 +1,6 @@
 use Rattle.std.proofs.Common.{◌<◌, length, arith, refl}
 use Rattle.std.proofs.lemmas.List.{map_more}
-use Rattle.floor_machine.specs.Steps.{floor_notice}
+use Rattle.floor_machine.specs.steps.Telling.{floor_notice}
 use Rattle.floor_machine.proofs.sending.floor_notices.Goals as goal
 
 pub loop-update-preserved : goal.loop-update-preserved

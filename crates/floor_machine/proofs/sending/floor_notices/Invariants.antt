@@ -1,5 +1,5 @@
 use Rattle.std.proofs.Common.{◌≡◌, take, map}
-use Rattle.floor_machine.specs.Steps.{floor_notice}
+use Rattle.floor_machine.specs.steps.Telling.{floor_notice}
 use Rattle.floor_machine.proofs.sending.floor_notices.Given as goal
 
 abbrev pub invariant-loop-update : goal.invariant-loop-update

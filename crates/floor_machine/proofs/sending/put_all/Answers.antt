@@ -1,7 +1,7 @@
 use Rattle.std.proofs.Common.{◌++◌, List, ap, ◌∙◌}
 use Rattle.floor_machine.specs.Parcel.{Parcel}
 use Rattle.floor_machine.specs.declared.sending.FloorNotice.{FloorNotice}
-use Rattle.floor_machine.specs.Steps.{noticed_to_all}
+use Rattle.floor_machine.specs.steps.Telling.{noticed_to_all}
 use Rattle.floor_machine.proofs.Asked.{on_ok}
 use Rattle.floor_machine.proofs.Noticed.{noticed-all}
 use Rattle.floor_machine.proofs.sending.put_all.Goals as goal

@@ -1,6 +1,6 @@
 use Rattle.std.proofs.Common.{◌≡◌, ◌++◌, drop, map}
 use Rattle.floor_machine.specs.Journal.{parcel}
-use Rattle.floor_machine.specs.Steps.{answered}
+use Rattle.floor_machine.specs.steps.Telling.{answered}
 use Rattle.floor_machine.proofs.sending.put_answer.Given as goal
 
 -- what is put and what is left are all the messages

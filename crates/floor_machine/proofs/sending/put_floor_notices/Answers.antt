@@ -1,5 +1,5 @@
 use Rattle.std.proofs.Common.{◌<◌, ◌≡◌, ◌∙◌, sym, true, false, length, arith}
-use Rattle.floor_machine.specs.Steps.{floor_notice_to, is_noticed}
+use Rattle.floor_machine.specs.steps.Telling.{floor_notice_to, is_noticed}
 use Rattle.floor_machine.proofs.Filtered.{step_yes, step_no}
 use Rattle.floor_machine.proofs.sending.put_floor_notices.Goals as goal
 use Rattle.floor_machine.proofs.sending.put_floor_notices.Goals.{then-watches+in_ok-put_floor_notice, else-watches}

@@ -1,6 +1,6 @@
 use Rattle.std.proofs.Common.{◌≡◌, ◌++◌, take, map}
 use Rattle.std.specs.Prelude.{filter}
-use Rattle.floor_machine.specs.Steps.{floor_notice_to, is_noticed}
+use Rattle.floor_machine.specs.steps.Telling.{floor_notice_to, is_noticed}
 use Rattle.floor_machine.proofs.sending.put_floor_notices.Given as goal
 
 abbrev pub invariant-loop-notice : goal.invariant-loop-notice

@@ -1,5 +1,5 @@
 use Rattle.std.proofs.Common.{◌≡◌, ◌++◌, drop}
-use Rattle.floor_machine.specs.Steps.{noticed_to_all}
+use Rattle.floor_machine.specs.steps.Telling.{noticed_to_all}
 use Rattle.floor_machine.proofs.sending.put_members.Given as goal
 
 -- what is put and what is left are all the parcels

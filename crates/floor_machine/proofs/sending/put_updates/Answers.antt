@@ -1,7 +1,7 @@
 use Rattle.std.proofs.Common.{◌<◌, ◌≡◌, ◌∙◌, sym, true, false, length, arith}
 use Rattle.floor_machine.specs.declared.sending.Update.{Update}
 use Rattle.floor_machine.specs.Journal.{parcel}
-use Rattle.floor_machine.specs.Steps.{is_due_to, update_to}
+use Rattle.floor_machine.specs.steps.Telling.{is_due_to, update_to}
 use Rattle.floor_machine.proofs.Filtered.{step_yes, step_no}
 use Rattle.floor_machine.proofs.sending.put_updates.Goals as goal
 use Rattle.floor_machine.proofs.sending.put_updates.Goals.{then-is_due_to+in_ok-put_notice, else-is_due_to}

@@ -1,7 +1,7 @@
 use Rattle.std.proofs.Common.{◌≡◌, ◌++◌, take, map}
 use Rattle.std.specs.Prelude.{filter}
 use Rattle.floor_machine.specs.Journal.{parcel}
-use Rattle.floor_machine.specs.Steps.{is_due_to, update_to}
+use Rattle.floor_machine.specs.steps.Telling.{is_due_to, update_to}
 use Rattle.floor_machine.proofs.sending.put_updates.Given as goal
 
 abbrev pub invariant-loop-update : goal.invariant-loop-update

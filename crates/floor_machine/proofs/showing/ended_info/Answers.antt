@@ -2,7 +2,7 @@ use Rattle.std.proofs.Common.{◌≡◌, ◌∙◌, ap, subst, ℕ, List, [], Op
 use Rattle.std.specs.Prelude.{IfOk}
 use Rattle.floor_message.specs.declared.tell.Info.{Info}
 use Rattle.floor_machine.specs.Shown.{status_number}
-use Rattle.floor_machine.specs.Steps.{entry_of_ended, info_with, ended_floor_shown}
+use Rattle.floor_machine.specs.steps.Telling.{entry_of_ended, info_with, ended_floor_shown}
 use Rattle.floor_machine.proofs.Fitting.{info_given}
 use Rattle.floor_machine.proofs.Shows.{info_with-ended}
 use Rattle.floor_machine.proofs.showing.ended_info.Goals as goal

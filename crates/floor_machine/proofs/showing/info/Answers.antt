@@ -3,7 +3,7 @@ use Rattle.std.specs.Prelude.{IfOk}
 use Rattle.floor_config.specs.declared.config.Floor.{Floor}
 use Rattle.floor_message.specs.declared.tell.Info.{Info}
 use Rattle.floor_machine.specs.Shown.{status_number, overall_status, entry_of, floor_shown}
-use Rattle.floor_machine.specs.Steps.{info_with}
+use Rattle.floor_machine.specs.steps.Telling.{info_with}
 use Rattle.floor_machine.proofs.Fitting.{info_given, ongoing_addable}
 use Rattle.floor_machine.proofs.Shows.{info_with-ongoing}
 use Rattle.floor_machine.proofs.showing.info.Goals as goal

@@ -7,7 +7,7 @@ use Rattle.floor_machine.specs.declared.course.Course.{Course}
 use Rattle.floor_machine.specs.declared.judged.Judged.TheVariants.{Accepted}
 use Rattle.floor_machine.specs.declared.state.State.{State}
 use Rattle.floor_machine.specs.Change.{asked_change}
-use Rattle.floor_machine.specs.Serving.{IsChanged, MayDecide, MayServe, conference_of}
+use Rattle.floor_machine.specs.steps.Serving.{IsChanged, MayDecide, MayServe, conference_of}
 use Rattle.floor_machine.proofs.Asked.{on_ok_both, changed-request, changed-release, changed-decide}
 use Rattle.floor_machine.proofs.state.State.change_asked.Goals as goal
 

@@ -5,7 +5,7 @@ use Rattle.floor_machine.specs.declared.event.Event.TheVariants.{Leave}
 use Rattle.floor_machine.specs.declared.member.Member.{Member}
 use Rattle.floor_machine.specs.Change.{change}
 use Rattle.floor_machine.specs.Conference.{is_present, is_numbered_from}
-use Rattle.floor_machine.specs.Serving.{IsChanged, conference_of}
+use Rattle.floor_machine.specs.steps.Serving.{IsChanged, conference_of}
 use Rattle.floor_machine.proofs.Asked.{on_ok, on_ok_both}
 use Rattle.floor_machine.proofs.Left.{changed-absent, changed-present}
 use Rattle.floor_machine.proofs.Sent.{numbered-leaving}

@@ -3,7 +3,7 @@ use Rattle.floor_queue.specs.Queue.{Queue}
 use Rattle.floor_machine.specs.declared.course.Course.{Course}
 use Rattle.floor_machine.specs.declared.event.Event.TheVariants.{Revoke}
 use Rattle.floor_machine.specs.Change.{change}
-use Rattle.floor_machine.specs.Serving.{IsChanged, conference_of}
+use Rattle.floor_machine.specs.steps.Serving.{IsChanged, conference_of}
 use Rattle.floor_machine.proofs.Asked.{on_ok_both}
 use Rattle.floor_machine.proofs.Left.{changed-revoke}
 use Rattle.floor_machine.proofs.state.State.change_revoked.Goals as goal

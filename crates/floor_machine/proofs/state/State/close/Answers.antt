@@ -1,6 +1,6 @@
 use Rattle.std.proofs.Common.{ap, false, ◌∙◌}
 use Rattle.floor_queue.specs.Queue.{Queue}
-use Rattle.floor_machine.specs.Serving.{conference_of}
+use Rattle.floor_machine.specs.steps.Serving.{conference_of}
 use Rattle.floor_machine.proofs.Bounds.{close-shown}
 use Rattle.floor_machine.proofs.Quiet.{next-close, parcels_of-close}
 use Rattle.floor_machine.proofs.state.State.close.Goals as goal

@@ -5,9 +5,9 @@ use Rattle.floor_queue.specs.Order.{settle}
 use Rattle.floor_machine.specs.declared.member.Member.{Member}
 use Rattle.std.proofs.lemmas.List.Elements.{All-nil}
 use Rattle.floor_message.specs.Shown.{IsShown}
-use Rattle.floor_machine.specs.Fitting.{AreMessagesShown}
+use Rattle.floor_machine.specs.steps.Fitting.{AreMessagesShown}
 use Rattle.floor_machine.specs.Outgoing.{Outgoing}
-use Rattle.floor_machine.specs.Serving.{conference_of}
+use Rattle.floor_machine.specs.steps.Serving.{conference_of}
 use Rattle.floor_machine.proofs.Joining.{next-join, numbered-push}
 use Rattle.floor_machine.proofs.Quiet.{parcels_of-join, told_of-join}
 use Rattle.floor_machine.proofs.state.State.join.Goals as goal

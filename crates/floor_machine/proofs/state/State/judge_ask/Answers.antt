@@ -1,4 +1,4 @@
-use Rattle.floor_machine.specs.Serving.{conference_of}
+use Rattle.floor_machine.specs.steps.Serving.{conference_of}
 use Rattle.floor_machine.proofs.Allowed.{may_serve}
 use Rattle.floor_machine.proofs.state.State.judge_ask.Goals as goal
 

@@ -9,8 +9,8 @@ use Rattle.floor_machine.specs.Parcel.{Parcel}
 use Rattle.floor_machine.specs.declared.sending.Reply.{Reply}
 use Rattle.floor_machine.specs.Conference.{Conference, user_of, is_numbered_from}
 use Rattle.floor_machine.specs.Change.{next}
-use Rattle.floor_machine.specs.Serving.{conference_of, judged_tells}
-use Rattle.floor_machine.specs.Steps.{answered_to, parcels_to_all}
+use Rattle.floor_machine.specs.steps.Serving.{conference_of, judged_tells}
+use Rattle.floor_machine.specs.steps.Telling.{answered_to, parcels_to_all}
 use Rattle.floor_machine.specs.Told.{reply_to}
 use Rattle.floor_machine.proofs.Kept.{next-message, parcels-message, replied-message, shown-message}
 use Rattle.floor_machine.proofs.Sent.{numbered-next}

@@ -3,7 +3,7 @@ use Rattle.floor_machine.specs.declared.event.Event.{Event}
 use Rattle.floor_machine.specs.declared.event.Event.TheVariants.{Revoke}
 use Rattle.floor_machine.specs.Parcel.{Parcel}
 use Rattle.floor_machine.specs.Change.{change}
-use Rattle.floor_machine.specs.Serving.{conference_of}
+use Rattle.floor_machine.specs.steps.Serving.{conference_of}
 use Rattle.floor_machine.proofs.Addable.{revoked_addable, queue_addable}
 use Rattle.floor_machine.proofs.Asked.{begun, on_ok, on_ok_all, on_ok_both}
 use Rattle.floor_machine.proofs.Bounds.{changed-shown}

@@ -7,10 +7,10 @@ use Rattle.floor_machine.specs.Conference.{Conference, binding, user_of}
 use Rattle.floor_machine.specs.declared.event.Event.{Event}
 use Rattle.floor_machine.specs.declared.event.Event.TheVariants.{Message}
 use Rattle.floor_machine.specs.Change.{change, next}
-use Rattle.floor_machine.specs.Serving.{IsChanged, conference_of, judged, judged_change, judged_tells, is_rising}
+use Rattle.floor_machine.specs.steps.Serving.{IsChanged, conference_of, judged, judged_change, judged_tells, is_rising}
 use Rattle.floor_machine.proofs.Asked.{begun, on_ok, on_ok_all, on_ok_both}
 use Rattle.floor_machine.proofs.Bounds.{served-shown}
-use Rattle.floor_machine.specs.Fitting.{AreAddable}
+use Rattle.floor_machine.specs.steps.Fitting.{AreAddable}
 use Rattle.floor_machine.proofs.Addable.{details_fit, judged_addable, queue_addable}
 use Rattle.floor_machine.proofs.Served.{change-judged, settled-state, ended-shown, numbers-shown, reply-answered, parcels-served}
 use Rattle.floor_machine.proofs.state.State.serve.Goals as goal

@@ -25,7 +25,7 @@ use Rattle.floor_machine.specs.Shown.{Entry, ongoing_of, described}
 use Rattle.floor_machine.specs.Checks.{refusal, beneficiary_of, is_allowed}
 use Rattle.floor_machine.specs.Change.{Change, no_change, asked_change, is_final, decided_at, released, dismissed, watching}
 use Rattle.floor_machine.specs.Reply.{infos, infos_of_user, floor_answers, supported_primitives, supported_attributes}
-use Rattle.floor_machine.specs.Steps.{entry_of_ended, shown_at}
+use Rattle.floor_machine.specs.steps.Telling.{entry_of_ended, shown_at}
 
 -- the conference that a state is
 abbrev pub conference_of : State → Conference

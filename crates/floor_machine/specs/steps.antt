@@ -1,0 +1,5 @@
+-- The steps by which the machine serves an event. Nobody has to believe them: no public clause rests on them.
+pub mod Fitting
+pub mod Telling
+pub mod Serving
+pub mod Events
