@@ -90,11 +90,11 @@ text_any most (Some v) t e =
 
 -- five steps, three of which are tests
 user_steps : (id : ℕ) (name uri : Option (List ℕ)) (proxy : Option Bool) (port : Option ℕ) (a b c : Bool) → (do
-      n ← Tested a (option_and_then unless_empty name)
-      u ← Tested b (option_and_then unless_empty uri)
-      x ← Ok proxy
-      p ← Tested c port
-      Ok (record { id = id; name = n; uri = u; proxy = unwrap_or x false; port = p })) ≡ Tested (a && (b && c)) (without_empty_texts (record { id = id; name = name; uri = uri; proxy = unwrap_or proxy false; port = port }))
+  n ← Tested a (option_and_then unless_empty name)
+  u ← Tested b (option_and_then unless_empty uri)
+  x ← Ok proxy
+  p ← Tested c port
+  Ok (record { id = id; name = n; uri = u; proxy = unwrap_or x false; port = p })) ≡ Tested (a && (b && c)) (without_empty_texts (record { id = id; name = name; uri = uri; proxy = unwrap_or proxy false; port = port }))
 user_steps id name uri proxy port true true true = refl
 user_steps id name uri proxy port true true false = refl
 user_steps id name uri proxy port true false c = refl
@@ -139,9 +139,9 @@ abbrev made_floor : ℕ → Option ℕ → Option ℕ → Floor
 made_floor id room chair = record { id = id; room = unwrap_or room 1; chair = chair }
 
 floor_steps : (id : ℕ) (room chair : Option ℕ) (a : Bool) → (do
-      r ← Tested a room
-      c ← Ok chair
-      okay (made_floor id r c)) ≡ Tested a (made_floor id room chair)
+  r ← Tested a room
+  c ← Ok chair
+  okay (made_floor id r c)) ≡ Tested a (made_floor id room chair)
 floor_steps id room chair true = refl
 floor_steps id room chair false = refl
 
@@ -161,9 +161,9 @@ floor_any t f e =
     floor_read t a.0 b.0 c.0 a.1 b.1 c.1 ∙ ap (λ (x : Floor). Tested (floor_fits x) x) (same_ok _ f c.2)
 
 more_steps : {A : Type 0} (b c : Bool) (x : A) (xs : List A) → (do
-      first ← Tested b x
-      others ← Tested c xs
-      Ok (first ∷ others)) ≡ Tested (b && c) (x ∷ xs)
+  first ← Tested b x
+  others ← Tested c xs
+  Ok (first ∷ others)) ≡ Tested (b && c) (x ∷ xs)
 more_steps true true x xs = refl
 more_steps true false x xs = refl
 more_steps false c x xs = refl
@@ -261,17 +261,17 @@ made id limit users floors = record { conference = id; limit = unwrap_or limit 4
 
 -- the checks of a conference, in their order
 conference_steps : (id : ℕ) (limit : Option ℕ) (us : List User) (fs : List Floor) (a u du f df c : Bool) → chairs_are_known us fs ≡ c → (do
-      l ← Tested a limit
-      users ← checked u du DoubleUser us
-      floors ← checked f df DoubleFloor fs
-      cond (chairs_are_known users floors) (okay (made id l users floors)) (Err UnknownChair)) ≡ (do
-      limit_fits ← unless a OutOfRange
-      users_fit ← unless u OutOfRange
-      users_differ ← unless (not du) DoubleUser
-      floors_fit ← unless f OutOfRange
-      floors_differ ← unless (not df) DoubleFloor
-      chairs_known ← unless c UnknownChair
-      okay (made id limit us fs))
+  l ← Tested a limit
+  users ← checked u du DoubleUser us
+  floors ← checked f df DoubleFloor fs
+  cond (chairs_are_known users floors) (okay (made id l users floors)) (Err UnknownChair)) ≡ (do
+    limit_fits ← unless a OutOfRange
+    users_fit ← unless u OutOfRange
+    users_differ ← unless (not du) DoubleUser
+    floors_fit ← unless f OutOfRange
+    floors_differ ← unless (not df) DoubleFloor
+    chairs_known ← unless c UnknownChair
+    okay (made id limit us fs))
 conference_steps id limit us fs false u du f df c h = refl
 conference_steps id limit us fs true false du f df c h = refl
 conference_steps id limit us fs true true true f df c h = refl

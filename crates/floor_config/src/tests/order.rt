@@ -1,9 +1,10 @@
 //! The order of faults, and counts.
 
 use super::fault_of;
-use crate::ConfigFault;
+use crate::{ConfigFault, read_configs};
 use std::alloc::{AllocError, Global};
 use std::fmt::Write;
+use std::test::Fail;
 
 #[test]
 fn of_two_faults_the_first_in_order_is_told(rt: HostRuntime) {
@@ -235,4 +236,54 @@ fn a_conference_has_at_most_256_users_and_32_floors(rt: HostRuntime) {
             Err(_) => assert!(rt; false, "{name}: no memory"),
         }
     }
+}
+
+/// Adds a conference of so many users, each with a port of its own.
+fn push_conference(
+    text: &mut String,
+    conference: u16,
+    users: u16,
+    ports: &mut u16,
+) -> Result<(), AllocError> {
+    write!(text, "[[conference]]\nid = {conference}\n")?;
+    for user in 0..users {
+        *ports = ports.wrapping_add(1);
+        write!(
+            text,
+            "[[conference.user]]\nid = {user}\nport = {}\n",
+            *ports
+        )?;
+    }
+    Ok(())
+}
+
+/// So many conferences of so many users each, and a text behind them.
+fn text_of_ports(
+    alloc: Global,
+    conferences: u16,
+    users: u16,
+    end: &str,
+) -> Result<String, AllocError> {
+    let mut text = String::new(alloc);
+    let mut ports = 0;
+    for conference in 0..conferences {
+        push_conference(&mut text, conference, users, &mut ports)?;
+    }
+    text.push_str(end)?;
+    Ok(text)
+}
+
+#[test]
+fn a_text_may_have_sixteen_conferences_and_many_ports(rt: HostRuntime) -> Result<(), Fail> {
+    let alloc = rt.alloc();
+    let ports = text_of_ports(alloc, 16, 17, "")?;
+    assert_eq!(rt; read_configs(alloc, &ports)?.len(), 16, "272 ports");
+    let users = text_of_ports(alloc, 1, 128, "")?;
+    for config in &read_configs(alloc, &users)? {
+        assert_eq!(rt; config.copy(alloc)?.users().len(), 128, "128 users");
+    }
+    let broken = text_of_ports(alloc, 16, 17, "[")?;
+    assert!(rt; broken.len() > 4096);
+    assert_eq!(rt; fault_of(alloc, &broken), Some(ConfigFault::Syntax));
+    Ok(())
 }
