@@ -8,6 +8,10 @@ use Rattle.floor_words.specs.Words.{is_space, is_word, number, words}
 abbrev pub is_plain : List ℕ → Bool
 is_plain word = is_word word && list_all (λ b. not (is_space b)) word
 
+-- each word of a line is plain
+abbrev pub WordsArePlain : Type 0
+WordsArePlain = (line : List ℕ) → IsTrue (list_all is_plain (words line))
+
 -- the words of plain words with a space between each two are those words
 abbrev pub WordsAreReadBack : Type 0
 WordsAreReadBack = (ws : List (List ℕ)) → IsTrue (list_all is_plain ws) → words (join_with_byte 32 ws) ≡ ws

@@ -58,7 +58,8 @@ pub fn read_hexadecimal(alloc: Global, words: &[&str]) -> Result<Vec<u8>, Hexade
     ensures value { IfOk result
         (λ bytes. spelled (map (λ w. w.now) words.now) ≡ Some bytes.items) }
     ensures refused { IfErr result
-        (λ fault. (fault ≡ Memory) ⊎ (fault ≡ BadHex) × (spelled (map (λ w. w.now) words.now) ≡ None)) }
+        (λ fault. (fault ≡ Memory)
+        ⊎ (fault ≡ BadHex) × (spelled (map (λ w. w.now) words.now) ≡ None)) }
 {
     let text = join(alloc, words)?;
     match hex::decode(alloc, text.as_slice()) {

@@ -1,6 +1,11 @@
 //! Laws of the words of the contracts. Each is the contract of a function that does nothing.
 
-ghost use Rattle.floor_words.specs.Laws.{NumbersAreReadBack, WordsAreReadBack};
+ghost use Rattle.floor_words.specs.Laws.{NumbersAreReadBack, WordsArePlain, WordsAreReadBack};
+
+/// No word of a line is empty or has a space.
+pub fn words_are_plain()
+    ensures { WordsArePlain }
+{}
 
 /// Words without spaces, none of them empty, that a single space parts are read back as they are.
 pub fn words_are_read_back()

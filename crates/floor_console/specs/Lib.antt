@@ -1,0 +1,4 @@
+pub mod Names
+pub mod Command
+pub mod Answer
+pub mod Laws
