@@ -1,19 +1,18 @@
 -- A command that was read can be printed, and what is printed is read back.
-use Rattle.std.proofs.Common.{◌≡◌, ◌==◌, ◌<◌, ◌^◌, ◌&&◌, ◌++◌, ℕ, Bool, true, false, cond, nat_lt, nat_le, List, [], ◌∷◌, length, refl, sym, ◌∙◌, ap, subst, arith, rules}
-use Rattle.std.specs.Prelude.{IsTrue, Option, Some, None, Result, Ok, Err, codes, ⊤}
+use Rattle.std.proofs.Common.{◌≡◌, ◌<◌, ◌^◌, ◌&&◌, ℕ, Bool, true, false, cond, nat_lt, List, [], ◌∷◌, length, refl, ◌∙◌, ap, subst, arith}
+use Rattle.std.specs.Prelude.{Some, None, Result, Ok, Err, codes, ⊤}
 use Rattle.std.specs.Fmt.{decimal}
 use Rattle.std.specs.List.{join_with_byte, list_all}
 use Rattle.std.specs.Str.{bytes_eq}
 use Rattle.std.specs.Str.Parse.{digits_value}
 use Rattle.std.proofs.lemmas.Bool.{false≢true, ltb-true}
 use Rattle.floor_words.specs.Laws.{NumbersAreReadBack, WordsArePlain, WordsAreReadBack, is_plain}
-use Rattle.floor_words.specs.Words.{is_numeral, is_word, number, words}
-use Rattle.floor_console.specs.Command.{command_of, number_of, number_or_fault, of_number, of_numbers, of_words, one_word, three_words, two_words}
+use Rattle.floor_words.specs.Words.{is_numeral, words}
+use Rattle.floor_console.specs.Command.{command_of, number_of, number_or_fault, of_number, of_numbers, of_words}
 use Rattle.floor_console.specs.Laws.{PrintedIsReadBack, printed}
 use Rattle.floor_console.specs.declared.command.Command.{Command}
 use Rattle.floor_console.specs.declared.command.Command.TheVariants.{Empty, Open, Close, Revoke, Status, Journal, Stop}
 use Rattle.floor_console.specs.declared.command.ConsoleFault.{ConsoleFault}
-use Rattle.floor_console.specs.declared.command.ConsoleFault.TheVariants.{UnknownCommand, BadNumber, Memory}
 
 and_left : (a b : Bool) → (a && b) ≡ true → a ≡ true
 and_left true b e = refl
@@ -57,10 +56,10 @@ limited false v limit h = tt
 below : (limit : ℕ) (word : List ℕ) → Below limit (number_of limit word)
 below limit word =
     limited (is_numeral word && nat_lt (digits_value 10 word) limit) (digits_value 10 word) limit
-      (λ e. ltb-true (digits_value 10 word) limit (and_right (is_numeral word) _ e))
+    (λ e. ltb-true (digits_value 10 word) limit (and_right (is_numeral word) _ e))
 
 made : (limit : ℕ) (make : ℕ → Command) → ((n : ℕ) → n < limit → IsWritten (make n))
-  → (r : Result ℕ ConsoleFault) → Below limit r → Written (of_number make r)
+    → (r : Result ℕ ConsoleFault) → Below limit r → Written (of_number make r)
 made limit make h (Ok n) few = h n few
 made limit make h (Err fault) few = tt
 
@@ -76,12 +75,12 @@ written (name ∷ []) e = chosen (bytes_eq name (codes "stop")) _ _ tt tt
 written (name ∷ word ∷ []) e =
     let few = below (2 ^ 32) word in
     chosen (bytes_eq name (codes "open")) _ _ (and_left (is_plain word) _ (and_right (is_plain name) _ e))
-      (chosen (bytes_eq name (codes "close")) _ _ (made (2 ^ 32) Close (λ n h. h) (number_of (2 ^ 32) word) few)
-        (chosen (bytes_eq name (codes "status")) _ _ (made (2 ^ 32) Status (λ n h. h) (number_of (2 ^ 32) word) few)
-          (chosen (bytes_eq name (codes "journal")) _ _ (made (2 ^ 32) Journal (λ n h. h) (number_of (2 ^ 32) word) few) tt)))
+    (chosen (bytes_eq name (codes "close")) _ _ (made (2 ^ 32) Close (λ n h. h) (number_of (2 ^ 32) word) few)
+    (chosen (bytes_eq name (codes "status")) _ _ (made (2 ^ 32) Status (λ n h. h) (number_of (2 ^ 32) word) few)
+    (chosen (bytes_eq name (codes "journal")) _ _ (made (2 ^ 32) Journal (λ n h. h) (number_of (2 ^ 32) word) few) tt)))
 written (name ∷ conference ∷ request ∷ []) e =
     chosen (bytes_eq name (codes "revoke")) _ _
-      (revoking (number_of (2 ^ 32) conference) (number_of (2 ^ 16) request) (below (2 ^ 32) conference) (below (2 ^ 16) request)) tt
+    (revoking (number_of (2 ^ 32) conference) (number_of (2 ^ 16) request) (below (2 ^ 32) conference) (below (2 ^ 16) request)) tt
 written (a ∷ b ∷ c ∷ d ∷ more) e = tt
 
 -- what a line asks for can be written
@@ -96,11 +95,8 @@ module _ (back : WordsAreReadBack) (numbers : NumbersAreReadBack) where
   of_line (b ∷ line) some = refl
 
   of_plain : (line : List ℕ) (ws : List (List ℕ)) → line ≡ join_with_byte 32 ws → 0 < length line
-    → list_all is_plain ws ≡ true → command_of line ≡ of_words ws
+      → list_all is_plain ws ≡ true → command_of line ≡ of_words ws
   of_plain line ws same some plain = of_line line some ∙ ap of_words (ap words same ∙ back ws plain)
-
-  ten_digits : (n limit : ℕ) → n < limit → limit ≡ 2 ^ 32 → n < 10 ^ 10
-  ten_digits n limit h e = omega (arith, h, e)
 
   -- a conference's number is read back
   conference_back : (n : ℕ) → n < 2 ^ 32 → number_of (2 ^ 32) (decimal n) ≡ Ok n
@@ -114,7 +110,7 @@ module _ (back : WordsAreReadBack) (numbers : NumbersAreReadBack) where
 
   -- `name` and one plain word
   two_plain : (name word : List ℕ) → is_plain name ≡ true → is_plain word ≡ true
-    → list_all is_plain (name ∷ word ∷ []) ≡ true
+      → list_all is_plain (name ∷ word ∷ []) ≡ true
   two_plain name word e h = both (is_plain name) _ e (both (is_plain word) _ h refl)
 
   read_back : (command : Command) → IsWritten command → command_of (printed command) ≡ Ok command
@@ -123,19 +119,19 @@ module _ (back : WordsAreReadBack) (numbers : NumbersAreReadBack) where
       of_plain _ (codes "open" ∷ path ∷ []) refl (omega arith) (two_plain (codes "open") path refl h)
   read_back (Close c) h =
       of_plain _ (codes "close" ∷ decimal c ∷ []) refl (omega arith) (two_plain (codes "close") (decimal c) refl (plain_number c h))
-        ∙ ap (of_number Close) (conference_back c h)
+      ∙ ap (of_number Close) (conference_back c h)
   read_back (Revoke c r) (h, k) =
       let small : r < 2 ^ 32 = omega (arith, k) in
       of_plain _ (codes "revoke" ∷ decimal c ∷ decimal r ∷ []) refl (omega arith)
-          (both (is_plain (codes "revoke")) _ refl (two_plain (decimal c) (decimal r) (plain_number c h) (plain_number r small)))
-        ∙ ap (λ n. of_numbers Revoke n (number_of (2 ^ 16) (decimal r))) (conference_back c h)
-        ∙ ap (of_number (Revoke c)) (request_back r k)
+      (both (is_plain (codes "revoke")) _ refl (two_plain (decimal c) (decimal r) (plain_number c h) (plain_number r small)))
+      ∙ ap (λ n. of_numbers Revoke n (number_of (2 ^ 16) (decimal r))) (conference_back c h)
+      ∙ ap (of_number (Revoke c)) (request_back r k)
   read_back (Status c) h =
       of_plain _ (codes "status" ∷ decimal c ∷ []) refl (omega arith) (two_plain (codes "status") (decimal c) refl (plain_number c h))
-        ∙ ap (of_number Status) (conference_back c h)
+      ∙ ap (of_number Status) (conference_back c h)
   read_back (Journal c) h =
       of_plain _ (codes "journal" ∷ decimal c ∷ []) refl (omega arith) (two_plain (codes "journal") (decimal c) refl (plain_number c h))
-        ∙ ap (of_number Journal) (conference_back c h)
+      ∙ ap (of_number Journal) (conference_back c h)
   read_back Stop h = refl
 
   -- the command of any line is read back

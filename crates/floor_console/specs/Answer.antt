@@ -1,5 +1,5 @@
 -- The text that answers a line.
-use Rattle.std.specs.Prelude.{◌≡◌, ◌++◌, ℕ, Bool, true, false, not, Result, Ok, Err, List, [], codes}
+use Rattle.std.specs.Prelude.{◌≡◌, ◌++◌, ℕ, Bool, true, not, Result, Ok, Err, List, [], codes}
 use Rattle.std.specs.Fmt.{decimal}
 use Rattle.floor_room.specs.Names.{phase_name}
 use Rattle.floor_room.specs.declared.status.Status.{Status as Standing}

@@ -1,5 +1,5 @@
 -- A command that is printed is read back.
-use Rattle.std.specs.Prelude.{◌≡◌, ◌++◌, ℕ, Result, Ok, List, [], codes}
+use Rattle.std.specs.Prelude.{◌≡◌, ◌++◌, ℕ, Ok, List, [], codes}
 use Rattle.std.specs.Fmt.{decimal}
 use Rattle.floor_console.specs.Command.{command_of}
 use Rattle.floor_console.specs.declared.command.Command.{Command}

@@ -4,7 +4,7 @@ use Rattle.floor_config.specs.Names as configuration
 use Rattle.floor_config.specs.declared.fault.ConfigFault.TheVariants as fault
 use Rattle.floor_machine.specs.declared.machine.Refusal.TheVariants as machine
 use Rattle.floor_room.specs.Names as room
-use Rattle.floor_room.specs.declared.refusal.RoomRefusal.TheVariants.{JournalFull, Refused}
+use Rattle.floor_room.specs.declared.refusal.RoomRefusal.TheVariants.{Refused}
 use Rattle.floor_console.specs.declared.command.ConsoleFault.{ConsoleFault}
 use Rattle.floor_console.specs.declared.command.ConsoleFault.TheVariants as line
 use Rattle.floor_console.specs.declared.board.BoardRefusal.{BoardRefusal}

@@ -61,8 +61,7 @@ pub(crate) fn standing(alloc: Global, conference: u32, status: Status) -> Result
         phase,
     } = status;
     let phase = phase.name();
-    format!(
-        in alloc;
+    format!(in alloc;
         "conference {conference} members {members} ongoing {ongoing} events {events} {phase}\n"
     )
 }

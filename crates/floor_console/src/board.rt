@@ -96,10 +96,15 @@ pub trait Board {
     ghost use Rattle.floor_console.specs.declared.board.Stopped.{Stopped};
 
     ghost opens: { Self → List ℕ → Result ℕ BoardRefusal → Self → Type 0 };
+
     ghost closes: { Self → ℕ → Result (Unit {0}) BoardRefusal → Self → Type 0 };
+
     ghost revokes: { Self → ℕ → ℕ → Result (Unit {0}) BoardRefusal → Self → Type 0 };
+
     ghost stands: { Self → ℕ → Result Status BoardRefusal → Self → Type 0 };
+
     ghost lists: { Self → ℕ → Result (List ℕ) BoardRefusal → Self → Type 0 };
+
     ghost stops: { Self → Result Stopped StopRefusal → Self → Type 0 };
 
     /// Opens the conferences of the configuration that the file has, and tells how many.

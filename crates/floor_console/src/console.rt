@@ -15,15 +15,15 @@ use std::alloc::{AllocError, Global};
 /// Carries out a line, which has no line feed, and gives the text that answers it: lines that each
 /// end with a line feed, none for an empty line.
 ///
-/// A refusal is part of the text. `Err` is want of memory, here or on the board: the line is carried
-/// out or not, and its answer is lost.
+/// A refusal is part of the text. `Err` is want of memory, here or on the board: the line is
+/// carried out or not, and its answer is lost.
 pub fn run_line<B: Board>(alloc: Global, board: &mut B, line: &str) -> Result<String, AllocError>
     ensures value { IfOk result (λ text.
         Answers B.opens B.closes B.revokes B.stands B.lists B.stops
-            (command_of line.now) board.old (string_bytes text) board.new) }
+        (command_of line.now) board.old (string_bytes text) board.new) }
     ensures left { OnErr result ((board.new ≡ board.old)
         ⊎ Did B.opens B.closes B.revokes B.stands B.lists B.stops
-            (command_of line.now) board.old board.new) }
+        (command_of line.now) board.old board.new) }
 {
     match parse_line(alloc, line) {
         Ok(command) => carry_out(alloc, board, &command),
@@ -39,10 +39,10 @@ fn carry_out<B: Board>(
 ) -> Result<String, AllocError>
     ensures value { IfOk result (λ text.
         Answers B.opens B.closes B.revokes B.stands B.lists B.stops
-            (Ok command.now) board.old (string_bytes text) board.new) }
+        (Ok command.now) board.old (string_bytes text) board.new) }
     ensures left { OnErr result
         (Did B.opens B.closes B.revokes B.stands B.lists B.stops
-            (Ok command.now) board.old board.new) }
+        (Ok command.now) board.old board.new) }
 {
     match command {
         Command::Empty => Ok(String::new(alloc)),
@@ -72,7 +72,7 @@ fn open<B: Board>(alloc: Global, board: &mut B, path: &Text) -> Result<String, A
 fn close<B: Board>(alloc: Global, board: &mut B, conference: u32) -> Result<String, AllocError>
     ensures value { IfOk result (λ text.
         Tells (λ a. B.closes board.old conference a board.new)
-            (closed conference) (string_bytes text)) }
+        (closed conference) (string_bytes text)) }
     ensures left { OnErr result (Gave (λ a. B.closes board.old conference a board.new)) }
 {
     match board.close(conference) {
@@ -89,7 +89,7 @@ fn revoke<B: Board>(
 ) -> Result<String, AllocError>
     ensures value { IfOk result (λ text.
         Tells (λ a. B.revokes board.old conference request a board.new)
-            (revoked conference request) (string_bytes text)) }
+        (revoked conference request) (string_bytes text)) }
     ensures left { OnErr result (Gave (λ a. B.revokes board.old conference request a board.new)) }
 {
     match board.revoke(conference, request) {
@@ -101,7 +101,7 @@ fn revoke<B: Board>(
 fn status<B: Board>(alloc: Global, board: &mut B, conference: u32) -> Result<String, AllocError>
     ensures value { IfOk result (λ text.
         Tells (λ a. B.stands board.old conference a board.new)
-            (stands conference) (string_bytes text)) }
+        (stands conference) (string_bytes text)) }
     ensures left { OnErr result (Gave (λ a. B.stands board.old conference a board.new)) }
 {
     match board.status(conference) {

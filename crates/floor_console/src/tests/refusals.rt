@@ -89,10 +89,7 @@ fn each_refusal_is_told_by_name(rt: HostRuntime) -> Result<(), Fail> {
 fn a_fault_of_the_stop_is_told(rt: HostRuntime) -> Result<(), Fail> {
     let alloc = rt.alloc();
     let cases = [
-        (
-            StopRefusal::Broken { conference: 7 },
-            "error Broken 7\n",
-        ),
+        (StopRefusal::Broken { conference: 7 }, "error Broken 7\n"),
         (
             StopRefusal::Mismatch {
                 conference: 7,
