@@ -68,7 +68,11 @@ impl Model for Client {
 
     ghost Value = { Client };
 
-    ghost view = { λ c. record { conference = c.conference; user = c.user; transactions = c.transactions } };
+    ghost view = { λ c. record {
+      conference = c.conference;
+      user = c.user;
+      transactions = c.transactions;
+    } };
 }
 
 impl Client {

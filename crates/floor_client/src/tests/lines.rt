@@ -5,8 +5,8 @@ use crate::{Client, Frame, render};
 use std::alloc::Global;
 use std::test::Fail;
 
-/// Notices to user 10 of conference 1: the primitive and the payload, `=`, and the line, without the
-/// word `notice` before it.
+/// Notices to user 10 of conference 1: the primitive and the payload, `=`, and the line, without
+/// the word `notice` before it.
 const LINES: &str = r#"
 04 1e1c0001 24080001 0a040300 22080001 0a040300 1c04000a 08044000=FloorRequestStatus request 1 overall Granted:0 floor 1:Granted:0 for 10 priority 2
 04 1e040007=FloorRequestStatus request 7
