@@ -1,0 +1,2 @@
+-- Definitions that speak of private types, for the proofs alone.
+pub mod Line

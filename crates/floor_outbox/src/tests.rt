@@ -1,0 +1,46 @@
+//! What no clause says of an outbox.
+
+use super::*;
+use floor_wire::Frame;
+use std::alloc::Global;
+use std::test::*;
+
+/// A parcel for member 1: a Hello with this transaction.
+fn parcel(alloc: Global, transaction: u8) -> Result<Parcel, Fail> {
+    let bytes = [0x20, 0x0b, 0, 0, 0, 0, 0, 1, 0, transaction, 0, 10];
+    let hello = Frame::of(alloc, &bytes)?.ok_or("no message")?;
+    Ok(Parcel::new(1, hello))
+}
+
+/// The transaction of a parcel.
+fn transaction_of(parcel: Option<Parcel>) -> Option<u8> {
+    parcel.and_then(|parcel| parcel.header().get(9).copied())
+}
+
+#[test]
+fn parcels_are_taken_in_order_and_the_rest_is_popped(rt: HostRuntime) -> Result<(), Fail> {
+    let alloc = rt.alloc();
+    let (mut sender, mut taker) = pair(alloc)?;
+    assert_eq!(rt; transaction_of(taker.take(&rt)), None);
+    assert!(rt; sender.put(&rt, parcel(alloc, 1)?).is_ok());
+    assert!(rt; sender.put(&rt, parcel(alloc, 2)?).is_ok());
+    taker.wait(&rt);
+    assert_eq!(rt; transaction_of(taker.take(&rt)), Some(1));
+    let mut outbox = rejoin(&rt, sender, taker);
+    assert_eq!(rt; transaction_of(outbox.pop(&rt)), Some(2));
+    assert_eq!(rt; transaction_of(outbox.pop(&rt)), None);
+    Ok(())
+}
+
+#[test]
+fn the_closed_mark_stays_and_wakes(rt: HostRuntime) -> Result<(), Fail> {
+    let alloc = rt.alloc();
+    let (sender, mut taker) = pair(alloc)?;
+    assert!(rt; !taker.closed());
+    sender.close();
+    taker.wait(&rt);
+    assert!(rt; taker.closed());
+    assert_eq!(rt; transaction_of(taker.take(&rt)), None);
+    assert!(rt; taker.closed());
+    Ok(())
+}

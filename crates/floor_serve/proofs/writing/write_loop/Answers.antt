@@ -1,0 +1,44 @@
+use Rattle.std.proofs.Common.{◌≡◌, ◌∙◌, ◌++◌, List, ℕ, refl, sym, ap, subst}
+use Rattle.floor_machine.specs.Parcel.{Parcel}
+use Rattle.floor_outbox.specs.Ends.{Taker}
+use Rattle.floor_serve.specs.Written.{Gathered}
+use Rattle.floor_serve.proofs.Growing.{gathered-start, gathered-more, gathered-flushed, stopped-gathering, stopped-flushing}
+use Rattle.floor_serve.proofs.writing.write_loop.Goals as goal
+
+pub loop-init : goal.loop-init
+loop-init g c = record { unmarked = c.requires; pair = refl; gathered = gathered-start _ _ _ c.gathering-buffer.ensures }
+
+pub returns-in-Err-clause-stopped : goal.returns-in-Err-clause-stopped
+returns-in-Err-clause-stopped g c =
+    let was = g.S.Sink.contents c.loop.sink in
+    let now = g.S.Sink.contents c.gather_taken.new.sink in
+    stopped-gathering _ c.loop.taker.taken _ _ was now c.loop.buffer.items c.loop.parcels c.loop.bytes c.in-Err.fault.bytes c.in-Some-take.parcel c.loop.invariant.gathered (ap (λ (t : Taker). t.taken) c.in-Some-take.ensures.took)
+    c.in-Err.ensures.failed
+
+pub loop-preserved-in-Ok : goal.loop-preserved-in-Ok
+loop-preserved-in-Ok g c =
+    let was = g.S.Sink.contents c.loop.sink in
+    let now = g.S.Sink.contents c.gather_taken.new.sink in
+    record {
+      unmarked = c.in-Ok.ensures.unmarked;
+      pair = ap (λ (t : Taker). t.pair) c.in-Some-take.ensures.took ∙ c.loop.invariant.pair;
+      gathered = gathered-more _ c.loop.taker.taken _ _ was now c.loop.buffer.items c.gather_taken.new.buffer.items c.loop.parcels c.loop.bytes _ c.gather_taken.new.total c.in-Some-take.parcel c.loop.invariant.gathered (ap (λ (t : Taker). t.taken) c.in-Some-take.ensures.took)
+          c.in-Ok.ensures.moved c.saturating_add-parcels.ensures;
+    }
+
+pub returns-in-Err-flush-clause-stopped : goal.returns-in-Err-flush-clause-stopped
+returns-in-Err-flush-clause-stopped g c =
+    stopped-flushing _ _ (g.S.Sink.contents c.args.sink.now) (g.S.Sink.contents c.loop.sink) (g.S.Sink.contents c.flush.new.sink) c.loop.buffer.items c.loop.parcels c.loop.bytes c.in-Err-flush.fault.bytes
+    (subst (λ (ps : List Parcel). Gathered c.args.taker.now.taken ps (g.S.Sink.contents c.args.sink.now) (g.S.Sink.contents c.loop.sink) c.loop.buffer.items c.loop.parcels c.loop.bytes) (sym (ap (λ (t : Taker). t.taken) c.in-None-take.ensures.none)) c.loop.invariant.gathered)
+    c.in-Err-flush.ensures.failed
+
+pub loop-preserved : goal.loop-preserved
+loop-preserved g c =
+    let kept = c.wait.ensures in
+    record {
+      unmarked = c.in-Ok-flush.ensures.unmarked;
+      pair = ap (λ (t : Taker). t.pair) kept ∙ ap (λ (t : Taker). t.pair) c.in-None-take.ensures.none ∙ c.loop.invariant.pair;
+      gathered = gathered-flushed _ _ (g.S.Sink.contents c.args.sink.now) (g.S.Sink.contents c.loop.sink) (g.S.Sink.contents c.flush.new.sink) c.loop.buffer.items c.flush.new.buffer.items c.loop.parcels c.loop.bytes c.flush.new.total
+          (subst (λ (ps : List Parcel). Gathered c.args.taker.now.taken ps (g.S.Sink.contents c.args.sink.now) (g.S.Sink.contents c.loop.sink) c.loop.buffer.items c.loop.parcels c.loop.bytes) (sym (ap (λ (t : Taker). t.taken) kept ∙ ap (λ (t : Taker). t.taken) c.in-None-take.ensures.none)) c.loop.invariant.gathered)
+          c.in-Ok-flush.ensures.grew c.in-Ok-flush.ensures.empty c.in-Ok-flush.ensures.total;
+    }

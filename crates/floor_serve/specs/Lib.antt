@@ -1,0 +1,10 @@
+pub mod Seat
+pub mod Senders
+pub mod Booth
+pub mod Fits
+pub mod Read
+pub mod Written
+pub mod Table
+pub mod Finish
+pub mod Names
+pub mod steps

@@ -1,0 +1,3 @@
+-- Definitions that speak of private types, for the proofs alone.
+pub mod Slots
+pub mod First

@@ -1,0 +1,226 @@
+//! One conference with its journal, and the sender of each member that ever joined.
+
+ghost use Rattle.std.specs.Prelude.{◌≡◌, ◌↔◌, IsTrue, ◌+◌, ◌-◌, ◌++◌, ◌⊎◌, [], true, None, IfErr, IfOk, IsSomeAnd, OnOk, OnErr, Err, length, slice_set};
+ghost use Rattle.floor_machine.specs.declared.event.Event.TheVariants.{Join, Message, Leave};
+ghost use Rattle.floor_machine.specs.Machine.{event_of_act};
+ghost use Rattle.floor_room.specs.declared.refusal.RoomRefusal.TheVariants.{Refused};
+ghost use Rattle.floor_machine.specs.declared.machine.Refusal.TheVariants.{Memory};
+ghost use Rattle.floor_room.specs.Ledger.{Added, IsRefusedBy, Unadded, broken_off, conference_of, refusal};
+ghost use Rattle.floor_room.specs.Room.{joined, parcels_to};
+ghost use Rattle.floor_room.specs.Status.{IsStatus};
+ghost use Rattle.floor_serve.specs.Booth.{IsBooth, IsGone, Left, LeftJoin, Took, new_booth, opened};
+ghost use Rattle.floor_serve.specs.Fits.{messages_of};
+ghost use Rattle.floor_serve.specs.Senders.{IsInPart, IsPut, fed, sender_of};
+
+use crate::fitting::fits;
+use crate::seat::Seat;
+use crate::senders::{close, close_all, deliver};
+use floor_outbox::{Outbox, Parcel, Sender, Taker, pair, rejoin};
+use floor_room::{Act, Config, Event, Frame, Ledger, Phase, Place, Refusal, RoomRefusal, Status};
+use std::alloc::{AllocError, Global};
+use std::marker::Model;
+use std::sync::Wait;
+
+/// One conference with its journal, and the sender of each member that ever joined.
+#[derive(Drop)]
+pub struct Booth {
+    ledger: Ledger,
+    senders: Vec<Option<Sender>>,
+}
+
+impl Model for Booth {
+    ghost use Rattle.floor_serve.specs.Booth.{Booth, IsBooth};
+
+    ghost Value = { Booth };
+
+    ghost view = { λ b. record { ledger = b.ledger; senders = b.senders.items } };
+
+    ghost invariant = { λ b. IsBooth record { ledger = b.ledger; senders = b.senders.items } };
+}
+
+impl Booth {
+    /// The booth of a conference that opens.
+    pub fn new(alloc: Global, config: Config) -> Result<Booth, AllocError>
+        ensures { IfOk result (λ booth. booth ≡ new_booth config) }
+    {
+        let ledger = Ledger::new(alloc, config)?;
+        Ok(Booth {
+            ledger,
+            senders: Vec::new(alloc),
+        })
+    }
+
+    /// What happened so far. Takes no memory.
+    pub fn journal(&self) -> &[Event]
+        ensures value { result.now ≡ self.now.ledger.journal }
+        ensures kept { IsBooth self.now }
+    {
+        self.ledger.journal()
+    }
+
+    /// How the conference stands. Takes no memory.
+    pub fn status(&self) -> Status
+        ensures value { IsStatus self.now.ledger result }
+    {
+        self.ledger.status()
+    }
+
+    /// Whether an event was broken off. Takes no memory.
+    pub(crate) fn is_broken(&self) -> bool
+        ensures { result ≡ self.now.ledger.is_broken }
+    {
+        self.status().phase == Phase::Broken
+    }
+
+    /// Whether what the seat recorded is all that the journal has of its member.
+    pub fn fits(&self, seat: &Seat) -> bool
+        ensures { IsTrue result ↔ (seat.now.sent ≡ messages_of self.now.ledger.journal seat.now.n) }
+    {
+        fits(self.journal(), seat.n(), seat.sent())
+    }
+
+    /// How many members ever joined. Takes no memory.
+    fn members(&self) -> u32
+        ensures { result ≡ length self.now.senders }
+    {
+        self.senders.len() as u32
+    }
+
+    /// Adds an event that is no join, where nothing refuses it, and puts what it tells.
+    fn add<R: Wait>(&mut self, rt: &R, event: Event) -> Result<(), RoomRefusal>
+        requires { joined event ≡ [] }
+        ensures took { OnOk result (Took self.old self.new event []) }
+        ensures refused { IsRefusedBy (refusal self.old.ledger event) result }
+        ensures left { IfErr result (Left self.old self.new event) }
+    {
+        let out = add(&mut self.ledger, &self.senders, event)?;
+        feed(rt, &mut self.ledger, &mut self.senders, out)
+    }
+
+    /// Takes a connection of the user as a member, and gives its number and what takes its parcels.
+    pub fn join<R: Wait>(&mut self, rt: &R, user: u16) -> Result<(u32, Taker), RoomRefusal>
+        ensures number { IfOk result (λ r. r.0 ≡ length (conference_of self.old.ledger).members + 1) }
+        ensures taken { IfOk result (λ r. r.1.taken ≡ []) }
+        ensures took { IfOk result (λ r. Took self.old self.new (Join user) (opened r.1.pair)) }
+        ensures refused { IsRefusedBy (refusal self.old.ledger (Join user)) result
+            ⊎ ((result ≡ Err (Refused Memory)) × (self.new ≡ self.old)) }
+        ensures left { IfErr result (LeftJoin self.old self.new (Join user)) }
+    {
+        // The senders are as many as the members.
+        let _journal = self.journal();
+        let (sender, taker) = pair(*self.senders.allocator())?;
+        self.senders.reserve(1)?;
+        let out = add(&mut self.ledger, &self.senders, Event::Join { user })?;
+        self.senders.push_reserved(Some(sender));
+        feed(rt, &mut self.ledger, &mut self.senders, out)?;
+        Ok((self.members(), taker))
+    }
+
+    /// Takes a message of a member, and gives its place in the journal.
+    pub fn submit<R: Wait>(&mut self, rt: &R, n: u32, frame: Frame) -> Result<Place, RoomRefusal>
+        ensures place { IfOk result (λ place. place ≡ length self.new.ledger.journal) }
+        ensures took { OnOk result (Took self.old self.new (Message n frame) []) }
+        ensures refused { IsRefusedBy (refusal self.old.ledger (Message n frame)) result }
+        ensures left { IfErr result (Left self.old self.new (Message n frame)) }
+    {
+        self.add(rt, Event::Message { n, frame })?;
+        Ok(self.journal().len() as u32)
+    }
+
+    /// Takes it that a member has left. Its sender's closed mark is set, also after a refusal.
+    pub fn leave<R: Wait>(&mut self, rt: &R, n: u32) -> Result<(), RoomRefusal>
+        ensures took { OnOk result (Took self.old self.new (Leave n) []) }
+        ensures refused { IsRefusedBy (refusal self.old.ledger (Leave n)) result }
+        ensures left { IfErr result (Left self.old self.new (Leave n)) }
+    {
+        let left = self.add(rt, Event::Leave { n });
+        close_of(&self.senders, n);
+        left
+    }
+
+    /// Does what the administrator does. A Close sets the closed mark of every sender.
+    pub fn admin<R: Wait>(&mut self, rt: &R, act: Act) -> Result<(), RoomRefusal>
+        ensures took { OnOk result (Took self.old self.new (event_of_act act) []) }
+        ensures refused { IsRefusedBy (refusal self.old.ledger (event_of_act act)) result }
+        ensures left { IfErr result (Left self.old self.new (event_of_act act)) }
+    {
+        match act {
+            Act::Revoke(request) => self.add(rt, Event::Revoke { request }),
+            Act::Close => {
+                self.add(rt, Event::Close)?;
+                close_all(&self.senders);
+                Ok(())
+            }
+        }
+    }
+
+    /// Both ends of the outbox of a member that isn't live any more, or of any where the conference
+    /// has ended or is broken off.
+    pub fn reclaim<R: Wait>(&mut self, rt: &R, n: u32, taker: Taker) -> Outbox
+        requires pair { IsSomeAnd (sender_of self.old.senders n) (λ s. s.pair ≡ taker.pair) }
+        requires gone { IsGone self.old n }
+        ensures next { self.new ≡ record self.old { senders = slice_set self.old.senders (n - 1) None } }
+        ensures taken { result.taken ≡ taker.taken }
+        ensures all { result.put ≡ result.taken ++ result.held }
+        ensures sent { IsPut (parcels_to self.old.ledger.config self.old.ledger.journal n)
+            result.put self.old.ledger.is_broken }
+    {
+        let Some(sender) = self.senders[n as usize - 1].take() else {
+            unreachable!()
+        };
+        rejoin(rt, sender, taker)
+    }
+}
+
+/// Adds an event to the ledger, where nothing refuses it, and gives what it tells. Where it is
+/// broken off, every closed mark is set.
+fn add(
+    ledger: &mut Ledger,
+    senders: &[Option<Sender>],
+    event: Event,
+) -> Result<Vec<Parcel>, RoomRefusal>
+    ensures took { IfOk result (λ out. Added ledger.old ledger.new event out.items) }
+    ensures refused { IsRefusedBy (refusal ledger.old event) result }
+    ensures left { IfErr result (Unadded ledger.old ledger.new) }
+{
+    let added = ledger.add(event);
+    match &added {
+        Err(RoomRefusal::Refused(Refusal::Memory)) => close_all(senders),
+        Ok(_) | Err(_) => {}
+    }
+    added
+}
+
+/// Puts what an event tells. Where memory is refused, the ledger is broken off.
+fn feed<R: Wait>(
+    rt: &R,
+    ledger: &mut Ledger,
+    senders: &mut Vec<Option<Sender>>,
+    out: Vec<Parcel>,
+) -> Result<(), RoomRefusal>
+    ensures senders { OnOk result (senders.new.items ≡ fed out.items 1 senders.old.items) }
+    ensures ledger { OnOk result (ledger.new ≡ ledger.old) }
+    ensures memory { IfErr result (λ refusal. refusal ≡ Refused Memory) }
+    ensures left { OnErr result (IsInPart out.items senders.old.items senders.new.items) }
+    ensures broken { OnErr result (ledger.new ≡ broken_off ledger.old) }
+{
+    match deliver(rt, senders, out) {
+        Ok(()) => Ok(()),
+        Err(_) => {
+            ledger.break_off();
+            close_all(senders);
+            Err(RoomRefusal::Refused(Refusal::Memory))
+        }
+    }
+}
+
+/// Sets the closed mark of the member's pair.
+fn close_of(senders: &[Option<Sender>], n: u32) {
+    let Some(index) = (n as usize).checked_sub(1) else {
+        return;
+    };
+    match senders.get(index) {
+        Some(place) => close(place),
+        None => {}
+    }
+}

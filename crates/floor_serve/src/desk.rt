@@ -1,0 +1,118 @@
+//! One conference as threads share it.
+
+ghost use Rattle.std.specs.Prelude.{◌≡◌, ◌∷◌, ◌++◌, [], IfOk, OnErr};
+
+use crate::booth::Booth;
+use crate::gate::Gate;
+use crate::seat::{Receipt, Seat, Sent};
+use floor_outbox::Taker;
+use floor_room::{Act, Frame, RoomRefusal, Status, journal_text};
+use floor_wire::Octets;
+use std::alloc::{AllocError, Global};
+use std::marker::Model;
+use std::sync::{Arc, Mutex, Wait};
+
+/// One conference as threads share it. Each call is one hold of the conference's lock. Contracts
+/// see its number.
+///
+/// Changes: `join`, `submit` and `leave` of a member, `admin` of the administrator. Readers:
+/// `conference`, `status`, `journal_text`. What the calls do to the conference stands in the
+/// contracts of [`Booth`].
+#[derive(Drop)]
+pub struct Desk {
+    conference: u32,
+    booth: Arc<Mutex<Booth>, Global>,
+    pub(crate) alloc: Global,
+}
+
+impl Model for Desk {
+    ghost use Rattle.floor_serve.specs.Seat.{Desk};
+
+    ghost Value = { Desk };
+
+    ghost view = { λ d. record { conference = d.conference } };
+}
+
+impl Desk {
+    /// A desk of the conference with this number.
+    pub(crate) fn new(alloc: Global, conference: u32, booth: Arc<Mutex<Booth>, Global>) -> Desk
+        ensures { result.conference ≡ conference }
+    {
+        Desk {
+            conference,
+            booth,
+            alloc,
+        }
+    }
+
+    /// The number of the conference. Takes no memory.
+    pub fn conference(&self) -> u32
+        ensures { result ≡ self.now.conference }
+    {
+        self.conference
+    }
+
+    /// Takes a connection of the user as a member, and gives its seat and what takes its parcels.
+    /// Refused as [`Booth::join`].
+    pub fn join<R: Wait>(&self, rt: &R, user: u16) -> Result<(Seat, Taker), RoomRefusal>
+        ensures seat { IfOk result (λ joined. joined.0.conference ≡ self.now.conference) }
+        ensures sent { IfOk result (λ joined. joined.0.sent ≡ []) }
+        ensures taken { IfOk result (λ joined. joined.1.taken ≡ []) }
+    {
+        let (n, taker) = self.booth.lock(rt).join(rt, user)?;
+        Ok((Seat::new(self.alloc, self.conference, n), taker))
+    }
+
+    /// Submits a message of the seat's member, which keeps it with its place in the journal. After
+    /// a refusal the seat is as it was. Refused as [`Booth::submit`], and with `Memory` and nothing
+    /// changed where the seat can't grow.
+    pub fn submit<G: Gate, R: Wait>(
+        &self,
+        rt: &R,
+        seat: &mut Seat,
+        frame: Frame,
+        gate: &G,
+    ) -> Result<Receipt, RoomRefusal>
+        requires { seat.old.conference ≡ self.now.conference }
+        ensures took { IfOk result (λ receipt. seat.new ≡ record seat.old {
+          sent = seat.old.sent ++ record { place = receipt.place; bytes = frame } ∷ [];
+        }) }
+        ensures left { OnErr result (seat.new ≡ seat.old) }
+    {
+        // The seat's memory is taken first, so that a message that was taken is recorded.
+        let bytes = Octets::from_vec(Vec::from_slice(self.alloc, frame.bytes())?);
+        seat.sent.reserve(1)?;
+        let mut booth = self.booth.lock(rt);
+        let place = booth.submit(rt, seat.n(), frame)?;
+        gate.pass(seat.conference(), seat.n());
+        drop(booth);
+        seat.sent.push_reserved(Sent { place, bytes });
+        Ok(Receipt { place })
+    }
+
+    /// Takes it that the seat's member has left, and lets its writer end, also after a refusal.
+    /// Refused as [`Booth::leave`].
+    pub fn leave<R: Wait>(&self, rt: &R, seat: &mut Seat) -> Result<(), RoomRefusal>
+        requires { seat.old.conference ≡ self.now.conference }
+        ensures kept { seat.new ≡ seat.old }
+    {
+        self.booth.lock(rt).leave(rt, seat.n())
+    }
+
+    /// Does what the administrator does. A Close lets every writer end. Refused as
+    /// [`Booth::admin`].
+    pub fn admin<R: Wait>(&self, rt: &R, act: Act) -> Result<(), RoomRefusal> {
+        self.booth.lock(rt).admin(rt, act)
+    }
+
+    /// How the conference stands. Takes no memory.
+    pub fn status<R: Wait>(&self, rt: &R) -> Status {
+        self.booth.lock(rt).status()
+    }
+
+    /// The lines of the conference's journal, a line for each event, and their number.
+    pub fn journal_text<R: Wait>(&self, rt: &R) -> Result<String, AllocError> {
+        let booth = self.booth.lock(rt);
+        journal_text(self.alloc, booth.journal())
+    }
+}

@@ -1,0 +1,67 @@
+//! What is put for the members of a conference.
+
+ghost use Rattle.std.specs.Prelude.{◌≡◌, ◌∷◌, [], OnOk, OnErr};
+ghost use Rattle.floor_serve.specs.Senders.{IsInPart, fed, with_put};
+
+use floor_outbox::{Parcel, Sender};
+use std::alloc::AllocError;
+use std::sync::Wait;
+
+/// Puts a parcel by a sender that is still there. After an error nothing was put.
+fn put_by<R: Wait>(rt: &R, place: &mut Option<Sender>, parcel: Parcel) -> Result<(), AllocError>
+    ensures ok { OnOk result (place.new ≡ with_put place.old (parcel ∷ [])) }
+    ensures err { OnErr result (place.new ≡ place.old) }
+{
+    match place {
+        Some(sender) => match sender.put(rt, parcel) {
+            Ok(()) => Ok(()),
+            Err(_) => Err(AllocError),
+        },
+        None => Ok(()),
+    }
+}
+
+/// Puts a parcel by the sender of its member. After an error nothing was put.
+fn put<R: Wait>(rt: &R, senders: &mut Vec<Option<Sender>>, parcel: Parcel) -> Result<(), AllocError>
+    ensures ok { OnOk result (senders.new.items ≡ fed (parcel ∷ []) 1 senders.old.items) }
+    ensures err { OnErr result (senders.new.items ≡ senders.old.items) }
+{
+    let Some(index) = (parcel.n() as usize).checked_sub(1) else {
+        return Ok(());
+    };
+    match senders.get_mut(index) {
+        Some(place) => put_by(rt, place, parcel),
+        None => Ok(()),
+    }
+}
+
+/// Puts each of these parcels, in order, by the sender of its member. After an error some first of
+/// them were put.
+pub(crate) fn deliver<R: Wait>(
+    rt: &R,
+    senders: &mut Vec<Option<Sender>>,
+    out: Vec<Parcel>,
+) -> Result<(), AllocError>
+    ensures ok { OnOk result (senders.new.items ≡ fed out.items 1 senders.old.items) }
+    ensures err { OnErr result (IsInPart out.items senders.old.items senders.new.items) }
+{
+    for parcel in out {
+        put(rt, senders, parcel)?;
+    }
+    Ok(())
+}
+
+/// Sets the closed mark of each pair.
+pub(crate) fn close_all(senders: &[Option<Sender>]) {
+    for place in senders {
+        close(place);
+    }
+}
+
+/// Sets the closed mark of a pair whose sender is still there.
+pub(crate) fn close(place: &Option<Sender>) {
+    match place {
+        Some(sender) => sender.close(),
+        None => {}
+    }
+}

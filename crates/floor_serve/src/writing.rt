@@ -1,0 +1,229 @@
+//! What the writer of a connection does.
+
+ghost use Rattle.std.specs.Prelude.{◌≡◌, ◌+◌, ◌-◌, ◌++◌, ◌≤◌, [], length, take, true, false, OnOk, IfOk, IfErr, MatchOption};
+ghost use Rattle.std.specs.Io.KnownBytes.{Appends};
+ghost use Rattle.floor_serve.specs.Written.{Failed, Moved, Stopped, Wrote, capped};
+
+use crate::fault::WriteFault;
+use crate::marked::Sink;
+use floor_outbox::{Parcel, Taker};
+use std::alloc::Global;
+use std::sync::Wait;
+
+/// How many bytes are gathered into one write.
+const GATHERED: usize = 65_536;
+
+/// What was written. Each count stops at the greatest value.
+#[derive(Clone, Copy, Debug, PartialEq, Eq)]
+pub struct Written {
+    /// How many parcels.
+    pub parcels: u64,
+    /// How many bytes.
+    pub bytes: u64,
+}
+
+/// Writes the parcels in order as they come, until the queue is empty after its sender was closed.
+///
+/// What waits goes into one write, as far as 64 KiB hold it. Where memory for that is refused, each
+/// parcel is written by itself, its header and then its payload.
+pub fn write_loop<S: Sink, R: Wait>(
+    rt: &R,
+    alloc: Global,
+    sink: &mut S,
+    taker: &mut Taker,
+) -> Result<Written, WriteFault>
+    requires { S.marked sink.old ≡ false }
+    ensures pair { taker.new.pair ≡ taker.old.pair }
+    ensures wrote { IfOk result (λ w. Wrote taker.old.taken taker.new.taken
+        (S.contents sink.old) (S.contents sink.new) w.parcels w.bytes) }
+    ensures unmarked { OnOk result (S.marked sink.new ≡ false) }
+
+    ensures stopped { IfErr result (λ f. Stopped taker.old.taken taker.new.taken
+        (S.contents sink.old) (S.contents sink.new) f.bytes) }
+    ensures marked { IfErr result (λ f. S.marked sink.new ≡ true) }
+{
+    let mut buffer = gathering(alloc);
+    let mut parcels = 0u64;
+    let mut bytes = 0u64;
+    for _ in rt.forever() {
+        let closed = taker.closed();
+        match taker.take(rt) {
+            Some(parcel) => {
+                parcels = parcels.saturating_add(1);
+                match gather_taken(sink, &mut buffer, parcel, &mut bytes) {
+                    Ok(()) => {}
+                    Err(fault) => return Err(fault),
+                }
+            }
+            None => {
+                match flush(sink, &mut buffer, &mut bytes) {
+                    Ok(()) => {}
+                    Err(fault) => return Err(fault),
+                }
+                if closed {
+                    return Ok(Written { parcels, bytes });
+                }
+                taker.wait(rt);
+            }
+        }
+    }
+    unreachable!()
+}
+
+/// The bytes that are gathered, none yet.
+fn gathering(alloc: Global) -> Vec<u8>
+    ensures { result.items ≡ [] }
+{
+    match Vec::with_capacity(alloc, GATHERED) {
+        Ok(buffer) => buffer,
+        Err(_) => Vec::new(alloc),
+    }
+}
+
+/// Puts a parcel that was taken behind the bytes that are gathered.
+fn gather_taken<S: Sink>(
+    sink: &mut S,
+    buffer: &mut Vec<u8>,
+    parcel: Parcel,
+    total: &mut u64,
+) -> Result<(), WriteFault>
+    requires { S.marked sink.old ≡ false }
+    ensures moved { OnOk result (Moved (S.contents sink.old) (S.contents sink.new)
+        (buffer.old.items ++ parcel.bytes) buffer.new.items total.old total.new) }
+    ensures unmarked { OnOk result (S.marked sink.new ≡ false) }
+
+    ensures failed { IfErr result (λ f. Failed (S.contents sink.old) (S.contents sink.new)
+        (buffer.old.items ++ parcel.bytes) total.old f.bytes) }
+    ensures marked { IfErr result (λ f. S.marked sink.new ≡ true) }
+{
+    gather_parcel(sink, buffer, &parcel, total)
+}
+
+/// Puts a parcel behind the bytes that are gathered, its header and then its payload.
+fn gather_parcel<S: Sink>(
+    sink: &mut S,
+    buffer: &mut Vec<u8>,
+    parcel: &Parcel,
+    total: &mut u64,
+) -> Result<(), WriteFault>
+    requires { S.marked sink.old ≡ false }
+    ensures moved { OnOk result (Moved (S.contents sink.old) (S.contents sink.new)
+        (buffer.old.items ++ parcel.now.bytes) buffer.new.items total.old total.new) }
+    ensures unmarked { OnOk result (S.marked sink.new ≡ false) }
+
+    ensures failed { IfErr result (λ f. Failed (S.contents sink.old) (S.contents sink.new)
+        (buffer.old.items ++ parcel.now.bytes) total.old f.bytes) }
+    ensures marked { IfErr result (λ f. S.marked sink.new ≡ true) }
+{
+    match gather(sink, buffer, parcel.header(), total) {
+        Ok(()) => {}
+        Err(fault) => return Err(fault),
+    }
+    gather(sink, buffer, parcel.payload(), total)
+}
+
+/// Puts bytes behind those that are gathered. Where they don't fit behind them, those are written
+/// first; where they fit nowhere, they are written too.
+fn gather<S: Sink>(
+    sink: &mut S,
+    buffer: &mut Vec<u8>,
+    bytes: &[u8],
+    total: &mut u64,
+) -> Result<(), WriteFault>
+    requires { S.marked sink.old ≡ false }
+    ensures moved { OnOk result (Moved (S.contents sink.old) (S.contents sink.new)
+        (buffer.old.items ++ bytes.now) buffer.new.items total.old total.new) }
+    ensures unmarked { OnOk result (S.marked sink.new ≡ false) }
+
+    ensures failed { IfErr result (λ f. Failed (S.contents sink.old) (S.contents sink.new)
+        (buffer.old.items ++ bytes.now) total.old f.bytes) }
+    ensures marked { IfErr result (λ f. S.marked sink.new ≡ true) }
+{
+    let _before = *total;
+    match put_behind(buffer, bytes) {
+        Some(()) => return Ok(()),
+        None => {}
+    }
+    flush(sink, buffer, total)?;
+    match put_behind(buffer, bytes) {
+        Some(()) => Ok(()),
+        None => write_all(sink, bytes, total),
+    }
+}
+
+/// Puts bytes behind those that are gathered, where they fit.
+fn put_behind(buffer: &mut Vec<u8>, bytes: &[u8]) -> Option<()>
+    ensures { MatchOption result (buffer.new.items ≡ buffer.old.items)
+        (λ _. buffer.new.items ≡ buffer.old.items ++ bytes.now) }
+{
+    if bytes.len() > GATHERED.saturating_sub(buffer.len()) {
+        return None;
+    }
+    match buffer.extend_from_slice(bytes) {
+        Ok(()) => Some(()),
+        Err(_) => None,
+    }
+}
+
+/// Writes what is gathered.
+fn flush<S: Sink>(sink: &mut S, buffer: &mut Vec<u8>, total: &mut u64) -> Result<(), WriteFault>
+    requires { S.marked sink.old ≡ false }
+    ensures grew { OnOk result (Appends (S.contents sink.old) (S.contents sink.new)
+        buffer.old.items) }
+    ensures empty { OnOk result (buffer.new.items ≡ []) }
+    ensures total { OnOk result (total.new ≡ capped (total.old + length buffer.old.items)) }
+    ensures unmarked { OnOk result (S.marked sink.new ≡ false) }
+
+    ensures failed { IfErr result (λ f. Failed (S.contents sink.old) (S.contents sink.new)
+        buffer.old.items total.old f.bytes) }
+    ensures marked { IfErr result (λ f. S.marked sink.new ≡ true) }
+{
+    write_all(sink, buffer.as_slice(), total)?;
+    buffer.clear();
+    Ok(())
+}
+
+/// Writes the bytes of a parcel.
+pub fn write_parcel<S: Sink>(sink: &mut S, parcel: &Parcel) -> Result<(), WriteFault>
+    requires { S.marked sink.old ≡ false }
+    ensures grew { OnOk result (Appends (S.contents sink.old) (S.contents sink.new)
+        parcel.now.bytes) }
+    ensures unmarked { OnOk result (S.marked sink.new ≡ false) }
+
+    ensures failed { IfErr result (λ f. Failed (S.contents sink.old) (S.contents sink.new)
+        parcel.now.bytes 0 f.bytes) }
+    ensures marked { IfErr result (λ f. S.marked sink.new ≡ true) }
+{
+    let mut total = 0u64;
+    match write_all(sink, parcel.header(), &mut total) {
+        Ok(()) => {}
+        Err(fault) => return Err(fault),
+    }
+    write_all(sink, parcel.payload(), &mut total)
+}
+
+/// Writes bytes, and adds to the count of those that were written.
+fn write_all<S: Sink>(sink: &mut S, bytes: &[u8], total: &mut u64) -> Result<(), WriteFault>
+    requires { S.marked sink.old ≡ false }
+    ensures grew { OnOk result (Appends (S.contents sink.old) (S.contents sink.new) bytes.now) }
+    ensures total { OnOk result (total.new ≡ capped (total.old + length bytes.now)) }
+    ensures unmarked { OnOk result (S.marked sink.new ≡ false) }
+
+    ensures failed { IfErr result (λ f. Failed (S.contents sink.old) (S.contents sink.new)
+        bytes.now total.old f.bytes) }
+    ensures marked { IfErr result (λ f. S.marked sink.new ≡ true) }
+{
+    let mut at = 0;
+    while at < bytes.len() {
+        match sink.write(&bytes[at..]) {
+            Some(k) => at += k,
+            None => {
+                return Err(WriteFault {
+                    bytes: total.saturating_add(at as u64),
+                });
+            }
+        }
+    }
+    *total = total.saturating_add(at as u64);
+    Ok(())
+}
