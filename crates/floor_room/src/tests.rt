@@ -60,6 +60,20 @@ leave 1 > Ended
 close > Ended
 waits 1 > 1";
 
+/// A journal of a million events is full: 999,999 Hellos stand behind the join.
+const FULL_JOURNAL: &str = "join 10 > ok 1
+fill 1000000 > 999999
+serve 1 200b0000000000010001000a > JournalFull
+leave 1 > JournalFull
+closed > JournalFull
+status > 1 0 1000000 open";
+
+/// 64 members at most are live, and one more may join where one has left.
+const FULL_ROOM: &str = "joins 64 > ok 64
+joins 1 > Full
+leave 3 > ok
+joins 1 > ok 65";
+
 fn number(word: &str) -> Result<u32, Fail> {
     Ok(word.parse()?)
 }
@@ -138,15 +152,45 @@ fn closed(alloc: Global, room: &Room) -> Result<String, Fail> {
     }
 }
 
-/// What a line of a script answers.
-fn answer(alloc: Global, room: &mut Room, line: &str) -> Result<String, Fail> {
-    let (word, rest) = line.split_once(' ').unwrap_or((line, ""));
+/// Whether a Hello of the first member is served at this place, and answered.
+fn is_served_at(alloc: Global, room: &mut Room, place: u32) -> Result<bool, Fail> {
+    let frame = Frame::of(alloc, &HELLO)?.ok_or("no message")?;
+    match room.serve(1, frame) {
+        Ok(given) if given == place => Ok(matches!(room.take(1), Ok(Some(_)))),
+        Ok(_) | Err(_) => Ok(false),
+    }
+}
+
+/// How many Hellos are served at the places from 2 to this one.
+fn fill(alloc: Global, room: &mut Room, place: u32) -> Result<String, Fail> {
+    let mut served = 0u32;
+    for before in 1..place {
+        if is_served_at(alloc, room, before.wrapping_add(1))? {
+            served = served.wrapping_add(1);
+        }
+    }
+    Ok(format!(in alloc; "{served}")?)
+}
+
+/// The answer to the last of so many joins of one user.
+fn join_often(alloc: Global, room: &mut Room, joins: u32) -> Result<String, Fail> {
+    let mut answered = String::new(alloc);
+    for _ in 0..joins {
+        answered = numbered(alloc, room.join(12))?;
+    }
+    Ok(answered)
+}
+
+/// What a line of a script answers that changes the room.
+fn change(alloc: Global, room: &mut Room, word: &str, rest: &str) -> Result<String, Fail> {
     match word {
         "join" => {
             let user: u16 = rest.parse()?;
             numbered(alloc, room.join(user))
         }
+        "joins" => join_often(alloc, room, number(rest)?),
         "serve" => serve(alloc, room, rest),
+        "fill" => fill(alloc, room, number(rest)?),
         "leave" => done(alloc, room.leave(number(rest)?)),
         "revoke" => {
             let request: u16 = rest.parse()?;
@@ -154,15 +198,23 @@ fn answer(alloc: Global, room: &mut Room, line: &str) -> Result<String, Fail> {
         }
         "close" => done(alloc, room.admin(Act::Close)),
         "take" => take(alloc, room, number(rest)?),
+        _ => {
+            room.break_off();
+            done(alloc, Ok(()))
+        }
+    }
+}
+
+/// What a line of a script answers.
+fn answer(alloc: Global, room: &mut Room, line: &str) -> Result<String, Fail> {
+    let (word, rest) = line.split_once(' ').unwrap_or((line, ""));
+    match word {
         "waits" => waits(alloc, room, number(rest)?),
         "status" => status(alloc, room),
         "journal" => Ok(journal_text(alloc, room.journal())?),
         "replay" => replayed(alloc, room.journal(), number(rest)?),
         "closed" => closed(alloc, room),
-        _ => {
-            room.break_off();
-            done(alloc, Ok(()))
-        }
+        _ => change(alloc, room, word, rest),
     }
 }
 
@@ -218,52 +270,35 @@ fn an_event_that_comes_too_early_has_its_place(rt: HostRuntime) -> Result<(), Fa
 }
 
 #[test]
-fn a_ledger_gives_the_parcels_of_its_event(rt: HostRuntime) -> Result<(), Fail> {
-    let mut ledger = Ledger::new(rt.alloc(), Config::demonstration(rt.alloc())?)?;
-    assert!(rt; ledger.add(Event::Join { user: 10 }).is_ok());
-    let frame = Frame::of(rt.alloc(), &HELLO)?.ok_or("no message")?;
-    let told = ledger.add(Event::Message { n: 1, frame });
-    assert_eq!(rt; told.map(|out| out.len()), Ok(1));
-    assert_eq!(rt; ledger.status().events, 2);
-    ledger.break_off();
-    assert_eq!(rt; ledger.closed().map(|why| why.name()), Some("Broken"));
-    assert_eq!(rt; ledger.journal().len(), 2);
-    Ok(())
-}
-
-/// Serves so many Hellos of the first member, and takes what each is answered. Gives how many were
-/// served at their places.
-fn serve_hellos(alloc: Global, room: &mut Room, count: u32) -> Result<u32, Fail> {
-    let mut served = 0;
-    for hello in 0..count {
-        let frame = Frame::of(alloc, &HELLO)?.ok_or("no message")?;
-        if room.serve(1, frame) == Ok(hello.wrapping_add(2)) && matches!(room.take(1), Ok(Some(_))) {
-            served = hello.wrapping_add(1);
-        }
-    }
-    Ok(served)
-}
-
-#[test]
 fn a_journal_is_full_at_a_million_events(rt: HostRuntime) -> Result<(), Fail> {
-    let mut room = Room::new(rt.alloc(), Config::demonstration(rt.alloc())?)?;
-    assert_eq!(rt; room.join(10), Ok(1));
-    assert_eq!(rt; serve_hellos(rt.alloc(), &mut room, 999_999)?, 999_999);
-    assert_eq!(rt; serve_hellos(rt.alloc(), &mut room, 1)?, 0);
-    assert_eq!(rt; room.leave(1), Err(RoomRefusal::JournalFull));
-    assert_eq!(rt; room.status().events, 1_000_000);
-    Ok(())
+    assert_answers(&rt, rt.alloc(), FULL_JOURNAL)
 }
 
-/// 64 members at most are live, and one more may join where one has left.
 #[test]
 fn a_room_is_full_at_64_live_members(rt: HostRuntime) -> Result<(), Fail> {
-    let mut room = Room::new(rt.alloc(), Config::demonstration(rt.alloc())?)?;
-    for n in 1..65u32 {
-        assert_eq!(rt; room.join(12), Ok(n));
+    assert_answers(&rt, rt.alloc(), FULL_ROOM)
+}
+
+/// How many parcels a Hello of the first member calls for.
+fn told(alloc: Global, ledger: &mut Ledger) -> Result<String, Fail> {
+    let frame = Frame::of(alloc, &HELLO)?.ok_or("no message")?;
+    match ledger.add(Event::Message { n: 1, frame }) {
+        Ok(out) => {
+            let count = out.len();
+            Ok(format!(in alloc; "told {count}")?)
+        }
+        Err(refusal) => Ok(String::from_str(alloc, refusal.name())?),
     }
-    assert_eq!(rt; room.join(12).map_err(|why| why.name()), Err("Full"));
-    assert_eq!(rt; room.leave(3), Ok(()));
-    assert_eq!(rt; room.join(12), Ok(65));
+}
+
+fn told_behind_a_join(alloc: Global) -> Result<String, Fail> {
+    let mut ledger = Ledger::new(alloc, Config::demonstration(alloc)?)?;
+    let _joined = ledger.add(Event::Join { user: 10 });
+    told(alloc, &mut ledger)
+}
+
+#[test]
+fn a_ledger_gives_the_parcels_of_its_event(rt: HostRuntime) -> Result<(), Fail> {
+    assert_eq!(rt; told_behind_a_join(rt.alloc())?.as_str(), "told 1");
     Ok(())
 }
