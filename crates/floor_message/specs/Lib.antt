@@ -1,6 +1,7 @@
 pub mod Adding
 pub mod Ask
 pub mod Binding
+pub mod Checks
 pub mod Code
 pub mod Fields
 pub mod Fits
