@@ -1,0 +1,4 @@
+pub mod Appending
+pub mod Numbering
+pub mod Responses
+pub mod Turns

@@ -1,0 +1,5 @@
+//! The worked examples of a client, all numbers open, and lines in every form.
+
+mod conversing;
+mod lines;
+mod shared;
