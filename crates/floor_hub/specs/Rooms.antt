@@ -2,7 +2,7 @@
 use Rattle.std.specs.Prelude.{◌≡◌, ◌⊎◌, ℕ, ◌+◌, List, [], ◌∷◌, ◌++◌, ◌||◌, nat_eq, Bool, true, false, Option, Some, None, Result, Ok, Err}
 use Rattle.floor_config.specs.Configuration.{Configuration}
 use Rattle.floor_machine.specs.declared.event.Event.{Event}
-use Rattle.floor_machine.specs.declared.parcel.Parcel.{Parcel}
+use Rattle.floor_machine.specs.Parcel.{Parcel}
 use Rattle.floor_machine.specs.declared.machine.Refusal.TheVariants.{Broken, Ended, NoMember, NoUser, Full, NoRequest, Memory}
 use Rattle.floor_room.specs.declared.refusal.RoomRefusal.TheVariants.{JournalFull, Refused as ByMachine}
 use Rattle.floor_room.specs.Outbox.{Outbox}
@@ -41,6 +41,26 @@ is_want (Some Used) = false
 is_want (Some NoMemory) = false
 is_want None = false
 
+-- the call was told that the room is broken
+abbrev pub is_told : Option HubRefusal → Bool
+is_told (Some (ByRoom (ByMachine Broken))) = true
+is_told (Some (ByRoom (ByMachine Memory))) = false
+is_told (Some (ByRoom (ByMachine Ended))) = false
+is_told (Some (ByRoom (ByMachine NoMember))) = false
+is_told (Some (ByRoom (ByMachine NoUser))) = false
+is_told (Some (ByRoom (ByMachine Full))) = false
+is_told (Some (ByRoom (ByMachine NoRequest))) = false
+is_told (Some (ByRoom JournalFull)) = false
+is_told (Some NoConference) = false
+is_told (Some NoConnection) = false
+is_told (Some Used) = false
+is_told (Some NoMemory) = false
+is_told None = false
+
+-- what a broken room answers
+abbrev pub by_broken : Option HubRefusal
+by_broken = Some (ByRoom (ByMachine Broken))
+
 -- what waited goes on to wait, and nothing was taken; who is new has had nothing taken
 abbrev pub QueuesMore : List Outbox → List Outbox → Type 0
 QueuesMore [] [] = Unit {0}
@@ -52,27 +72,28 @@ QueuesMore (o ∷ os) (p ∷ ps) = (p.taken ≡ o.taken) × ((more : List Parcel
 abbrev pub HasOneMore : List Event → List Event → Type 0
 HasOneMore old new = (new ≡ old) ⊎ ((e : Event) × (new ≡ old ++ e ∷ []))
 
--- A room after a call that was refused so, if at all. Want of memory alone breaks it off, and for good; a broken room is left as it is.
-pub record RoomAfter (why : Option HubRefusal) (old new : Room) : Type 0 where
+-- A room after a call that was refused by why, if at all. Want of memory alone breaks it off, and for good. A broken room is left as it is and answers so, and no other room does.
+pub record RoomAfter (shut_by why : Option HubRefusal) (old new : Room) : Type 0 where
   pub broken : new.ledger.is_broken ≡ (old.ledger.is_broken || is_want why)
-  pub shut : old.ledger.is_broken ≡ true → new ≡ old
+  pub shut : old.ledger.is_broken ≡ true → (why ≡ shut_by) × (new ≡ old)
+  pub told : is_told why ≡ true → old.ledger.is_broken ≡ true
   pub journal : HasOneMore old.ledger.journal new.ledger.journal
   pub outboxes : QueuesMore old.outboxes new.outboxes
 
-abbrev pub RoomAfterIn : Option HubRefusal → Option Room → Option Room → Type 0
-RoomAfterIn why None new = new ≡ None
-RoomAfterIn why (Some r) None = ⊥
-RoomAfterIn why (Some r) (Some s) = RoomAfter why r s
+abbrev pub RoomAfterIn : Option HubRefusal → Option HubRefusal → Option Room → Option Room → Type 0
+RoomAfterIn shut_by why None new = (new ≡ None) × (is_want why ≡ false) × (is_told why ≡ false)
+RoomAfterIn shut_by why (Some r) None = ⊥
+RoomAfterIn shut_by why (Some r) (Some s) = RoomAfter shut_by why r s
 
 -- The call was for this conference's room: every other is as it was.
-pub record OneRoom (why : Option HubRefusal) (c : ℕ) (old new : Hub) : Type 0 where
+pub record OneRoom (shut_by why : Option HubRefusal) (c : ℕ) (old new : Hub) : Type 0 where
   pub others : (d : ℕ) → nat_eq c d ≡ false → room_at new d ≡ room_at old d
-  pub own : RoomAfterIn why (room_at old c) (room_at new c)
+  pub own : RoomAfterIn shut_by why (room_at old c) (room_at new c)
 
 -- The call was for this connection's room; without a connection nothing has changed.
-abbrev pub RoomOf : Option HubRefusal → Option Connection → Hub → Hub → Type 0
-RoomOf why None old new = SameHub old new
-RoomOf why (Some x) old new = OneRoom why x.conference old new
+abbrev pub RoomOf : Option HubRefusal → Option HubRefusal → Option Connection → Hub → Hub → Type 0
+RoomOf shut_by why None old new = SameHub old new × (is_want why ≡ false) × (is_told why ≡ false)
+RoomOf shut_by why (Some x) old new = OneRoom shut_by why x.conference old new
 
 -- the conference has a room now, and the others are as they were
 pub record Opens (config : Configuration) (old new : Hub) : Type 0 where

@@ -3,7 +3,7 @@
 ghost use Rattle.std.specs.Prelude.{false, [], ◌≡◌, ◌+◌, ℕ, Ok, Err, nat_eq, length, IfErr, IsErr, MatchResult, Option, Result, OnErr, OnOk, None, Some};
 ghost use Rattle.indexmap.specs.IndexMap.{Updates, get};
 ghost use Rattle.floor_machine.specs.declared.event.Event.TheVariants.{Join};
-ghost use Rattle.floor_machine.specs.declared.parcel.Parcel.{Parcel};
+ghost use Rattle.floor_machine.specs.Parcel.{Parcel};
 ghost use Rattle.floor_room.specs.Calls.{Took};
 ghost use Rattle.floor_room.specs.Status.{IsStatus};
 ghost use Rattle.floor_room.specs.Taking.{Gave};
@@ -13,7 +13,7 @@ ghost use Rattle.floor_room.specs.Ledger.{conference_of};
 ghost use Rattle.floor_room.specs.Room.{Room as Kept};
 ghost use Rattle.floor_hub.specs.Connections.{Puts, SameConnections, connection_at};
 ghost use Rattle.floor_hub.specs.Hub.{room_at};
-ghost use Rattle.floor_hub.specs.Rooms.{OneRoom, Opens, RoomOf, SameHub, refusal_in};
+ghost use Rattle.floor_hub.specs.Rooms.{OneRoom, Opens, RoomOf, SameHub, by_broken, refusal_in};
 ghost use Rattle.floor_hub.specs.StandsFor.{StandsFor};
 ghost use Rattle.floor_hub.specs.Steps.{AttachFailsIn, Fails, FailsGone, FailsSame, LeaveFailsIn, LeavesIn, Turns, answer_of};
 ghost use Rattle.floor_hub.specs.World.{World, nothing};
@@ -104,7 +104,7 @@ impl Hub {
         ensures next { (w : World) → StandsFor self.old w → MatchResult result
             (λ number. Turns self.new w (Attach conference user) (Attached number))
             (λ r. Fails self.new w (Attach conference user) r) }
-        ensures room { OneRoom (refusal_in result) conference self.old self.new }
+        ensures room { OneRoom by_broken (refusal_in result) conference self.old self.new }
     {
         let number = self.arrivals + 1;
         let joined = attach_at(
@@ -143,8 +143,8 @@ impl Hub {
         ensures next { (w : World) → StandsFor self.old w → MatchResult result
             (λ found. Turns self.new w (Serve number) (answer_of found))
             (λ r. Fails self.new w (Serve number) r) }
-        ensures room { RoomOf (refusal_in result) (connection_at self.old.connections number)
-            self.old self.new }
+        ensures room { RoomOf by_broken (refusal_in result)
+            (connection_at self.old.connections number) self.old self.new }
     {
         self.connections.serve(&mut self.rooms, number)
     }
@@ -156,8 +156,8 @@ impl Hub {
         ensures next { (w : World) → StandsFor self.old w → MatchResult result
             (λ _. Turns self.new w (Leave number) Done)
             (λ r. FailsGone self.new w (Leave number) r) }
-        ensures room { RoomOf (refusal_in result) (connection_at self.old.connections number)
-            self.old self.new }
+        ensures room { RoomOf None (refusal_in result)
+            (connection_at self.old.connections number) self.old self.new }
     {
         leave_at(&mut self.rooms, &mut self.connections, number)
     }
@@ -169,7 +169,7 @@ impl Hub {
         ensures next { (w : World) → StandsFor self.old w → MatchResult result
             (λ _. Turns self.new w (Admin conference act) Done)
             (λ r. Fails self.new w (Admin conference act) r) }
-        ensures room { OneRoom (refusal_in result) conference self.old self.new }
+        ensures room { OneRoom by_broken (refusal_in result) conference self.old self.new }
     {
         admin_at(&mut self.rooms, conference, act)
     }

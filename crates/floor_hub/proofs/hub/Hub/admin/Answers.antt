@@ -11,7 +11,7 @@ use Rattle.floor_hub.specs.declared.step.Step.TheVariants.{Admin}
 use Rattle.floor_hub.specs.declared.step.Answer.TheVariants.{Done}
 use Rattle.floor_hub.specs.Connections.{connection_at}
 use Rattle.floor_hub.specs.Hub.{Hub, room_at}
-use Rattle.floor_hub.specs.Rooms.{OneRoom, refusal_in}
+use Rattle.floor_hub.specs.Rooms.{by_broken, OneRoom, refusal_in}
 use Rattle.floor_hub.specs.StandsFor.{StandsFor}
 use Rattle.floor_hub.specs.Steps.{Fails, Turns}
 use Rattle.floor_hub.specs.World.{World}
@@ -44,6 +44,6 @@ pub returns-clause-next : goal.returns-clause-next
 returns-clause-next c = λ w st. turns c w (subst (λ h. StandsFor h w) (sym c.self.view_is) st)
 
 pub returns-clause-room : goal.returns-clause-room
-returns-clause-room c = subst (λ h. OneRoom (refusal_in c.admin_at.result) c.args.conference h (new c)) c.self.view_is
+returns-clause-room c = subst (λ h. OneRoom by_broken (refusal_in c.admin_at.result) c.args.conference h (new c)) c.self.view_is
     (event-room c.args.conference (event_of_act c.args.act) (old c) (new c) c.admin_at.result (room_at (old c) c.args.conference) refl c.admin_at.ensures.absent
     (λ r is. let t = c.admin_at.ensures.rooms r is in (t.0, t.1.1, t.1.2, t.2, t.3)))

@@ -8,7 +8,7 @@ use Rattle.floor_hub.specs.declared.step.Step.TheVariants.{Attach}
 use Rattle.floor_hub.specs.declared.step.Answer.TheVariants.{Attached}
 use Rattle.floor_hub.specs.Connections.{connection_at}
 use Rattle.floor_hub.specs.Hub.{Hub, room_at}
-use Rattle.floor_hub.specs.Rooms.{OneRoom, refusal_in}
+use Rattle.floor_hub.specs.Rooms.{by_broken, OneRoom, refusal_in}
 use Rattle.floor_hub.specs.StandsFor.{StandsFor}
 use Rattle.floor_hub.specs.Steps.{Fails, Turns}
 use Rattle.floor_hub.specs.World.{World}
@@ -51,7 +51,7 @@ returns-in-Ok-clause-next c = λ w st. turns_ok c w (subst (λ h. StandsFor h w)
 
 pub returns-in-Ok-clause-room : goal.returns-in-Ok-clause-room
 returns-in-Ok-clause-room c =
-    subst (λ h. OneRoom Rattle.std.proofs.Common.None c.args.conference h (new_ok c)) c.self.view_is
+    subst (λ h. OneRoom by_broken Rattle.std.proofs.Common.None c.args.conference h (new_ok c)) c.self.view_is
     (attach-room c.args.conference c.args.user (old_ok c) (new_ok c) (Ok tt) (room_at (old_ok c) c.args.conference) refl c.in-Ok.ensures.absent
     (λ r is. let t = c.in-Ok.ensures.rooms r is in (t.0, t.1, t.2, t.3.0, tt)))
 
@@ -79,6 +79,6 @@ returns-in-Err-clause-next c = λ w st. turns_err c w (subst (λ h. StandsFor h 
 
 pub returns-in-Err-clause-room : goal.returns-in-Err-clause-room
 returns-in-Err-clause-room c =
-    subst (λ h. OneRoom (Rattle.std.proofs.Common.Some c.in-Err.refusal) c.args.conference h (new_err c)) c.self.view_is
+    subst (λ h. OneRoom by_broken (Rattle.std.proofs.Common.Some c.in-Err.refusal) c.args.conference h (new_err c)) c.self.view_is
     (attach-room c.args.conference c.args.user (old_err c) (new_err c) (Err c.in-Err.refusal) (room_at (old_err c) c.args.conference) refl c.in-Err.ensures.absent
     c.in-Err.ensures.rooms)

@@ -43,6 +43,6 @@ pub returns-clause-next : goal.returns-clause-next
 returns-clause-next c = λ w st. turns c w (subst (λ h. StandsFor h w) (sym c.self.view_is) st)
 
 pub returns-clause-room : goal.returns-clause-room
-returns-clause-room c = subst (λ h. RoomOf (refusal_in c.leave_at.result) (connection_at h.connections c.args.number) h (new c)) c.self.view_is
+returns-clause-room c = subst (λ h. RoomOf Rattle.std.proofs.Common.None (refusal_in c.leave_at.result) (connection_at h.connections c.args.number) h (new c)) c.self.view_is
     (leave-room c.args.number (old c) (new c) c.self.invariant.0 c.self.invariant.1 c.leave_at.result (connection_at c.self.inside.connections c.args.number) refl c.leave_at.ensures.absent refl
     c.leave_at.ensures.there)

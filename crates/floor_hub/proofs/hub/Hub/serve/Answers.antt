@@ -12,7 +12,7 @@ use Rattle.floor_hub.specs.declared.step.Step.TheVariants.{Admin, Attach, Leave,
 use Rattle.floor_hub.specs.declared.step.Answer.TheVariants.{Attached, Done}
 use Rattle.floor_hub.specs.Connections.{connection_at}
 use Rattle.floor_hub.specs.Hub.{Hub, room_at}
-use Rattle.floor_hub.specs.Rooms.{OneRoom, RoomOf, refusal_in}
+use Rattle.floor_hub.specs.Rooms.{by_broken, OneRoom, RoomOf, refusal_in}
 use Rattle.floor_hub.specs.StandsFor.{StandsFor}
 use Rattle.floor_hub.specs.Steps.{Fails, FailsGone, FailsSame, Turns, answer_of}
 use Rattle.floor_hub.specs.World.{World, turn}
@@ -45,6 +45,6 @@ pub returns-clause-next : goal.returns-clause-next
 returns-clause-next c = λ w st. turns c w (subst (λ h. StandsFor h w) (sym c.self.view_is) st)
 
 pub returns-clause-room : goal.returns-clause-room
-returns-clause-room c = subst (λ h. RoomOf (refusal_in c.serve.result) (connection_at h.connections c.args.number) h (new c)) c.self.view_is
+returns-clause-room c = subst (λ h. RoomOf by_broken (refusal_in c.serve.result) (connection_at h.connections c.args.number) h (new c)) c.self.view_is
     (serve-room c.args.number (old c) (new c) c.self.invariant.0 c.self.invariant.1 c.serve.result (connection_at c.self.inside.connections c.args.number) refl c.serve.ensures.absent refl
     (λ x is r room. let t = c.serve.ensures.there x is r room in (t.0, t.1, t.2.1, t.2.2, t.4)))
