@@ -10,7 +10,6 @@ use Rattle.floor_machine.specs.Parcel.{Parcel}
 use Rattle.floor_machine.specs.declared.machine.Refusal.{Refusal}
 use Rattle.floor_machine.specs.Conference.{Conference, is_live, is_user}
 use Rattle.floor_machine.specs.Machine.{event_refusal, whole}
-use Rattle.floor_queue.specs.Queue.{request_at}
 use Rattle.std.specs.Option.{option_map}
 use Rattle.floor_machine.specs.Journal.{parcels_of, sent_to}
 use Rattle.floor_room.specs.declared.refusal.RoomRefusal.{RoomRefusal}
@@ -132,7 +131,7 @@ event_not : (s : Conference) (e : Event) → event_refusal (whole s) e ≡ Some 
 event_not s (Join user) h = join_not s.is_open (is_user s.config user) (nat_le 64 (count_by (λ m. m.is_live) s.members)) h
 event_not s (Message n bytes) h = member_not s.is_open (is_live s n) h
 event_not s (Leave n) h = member_not s.is_open (is_live s n) h
-event_not s (Revoke request) h = request_not s.is_open (is_some (request_at s.ongoing request)) h
+event_not s (Revoke request) h = request_not s.is_open _ h
 event_not s Close h = close_not s.is_open h
 
 -- a room that isn't broken doesn't refuse as broken
