@@ -127,7 +127,7 @@ places_own c k l Served h = sym (ap (solo c) h)
 places_own c k l (Refused r) h = sym (ap (solo c) h)
 
 -- a step for c does the same to both
-step_own : (c : ℕ) (w v : World) (o : Offered) → CountsOffer (arrivals_in (w.parts c)) o → Same c w v → Same c (put w c o).world (put v c o).world
+pub step_own : (c : ℕ) (w v : World) (o : Offered) → CountsOffer (arrivals_in (w.parts c)) o → Same c w v → Same c (put w c o).world (put v c o).world
 step_own c w v o counts same = record {
   part = update_here v.parts c o.part ∙ sym (update_here w.parts c o.part);
   places = ap (λ ps. places_after ps c o.answer) same.places ∙ places_own c (arrivals_in (w.parts c)) (arrivals_in o.part) o.answer counts
@@ -204,7 +204,7 @@ get_solo c (suc k) j d h = elim (lt_or_le j k) [
     ∙ ap (λ i. record { conference = c; n = suc i }) (sym same)
   ]
 
-known : (c k n : ℕ) → IsKnown c k n (place (solo c k) n)
+pub known : (c k n : ℕ) → IsKnown c k n (place (solo c k) n)
 known c k zero = inr (refl, λ part h. refl)
 known c k (suc j) = elim (lt_or_le j k) [
   inl less ↦

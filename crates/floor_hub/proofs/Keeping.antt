@@ -1,12 +1,13 @@
 -- Each step of the world keeps a kept world.
 use Rattle.std.proofs.Common.{◌≡◌, ◌≢◌, ◌⊎◌, inl, inr, ℕ, zero, suc, ◌+◌, ◌<◌, ◌≤◌, Bool, true, false, cond, List, [], ◌∷◌, ◌++◌, length, get_or, refl, sym, ◌∙◌, ap, subst, arith, length-append, append_assoc, Some, None}
-use Rattle.std.specs.Prelude.{Option, not, nat_le, is_some, if◌then◌else◌, ◌==◌, All, slice_get, nat_eq}
+use Rattle.std.specs.Prelude.{Option, not, nat_le, is_some, if◌then◌else◌, ◌==◌, All, map, slice_get, nat_eq}
 use Rattle.std.specs.Option.{option_map, option_map_or}
 use Rattle.std.specs.Map.{update}
 use Rattle.std.proofs.lemmas.Bool.{eqb-true, eqb-false}
 use Rattle.std.proofs.lemmas.Bool.Decides.{nat_tests}
 use Rattle.std.proofs.lemmas.Option.{none-some, slice_get_within, get_or_from_slice_get}
 use Rattle.std.proofs.lemmas.List.Elements.{All-get_or}
+use Rattle.std.proofs.lemmas.List.{map-append}
 use Rattle.std.proofs.lemmas.List.Sums.{sum_by-append}
 use Rattle.std.proofs.lemmas.Map.{update_here, update_apart}
 use Rattle.floor_config.specs.Configuration.{Configuration}
@@ -39,8 +40,8 @@ use Rattle.floor_hub.specs.World as world
 use Rattle.floor_hub.specs.World.{World, Part, Place, Arrival, Aim, Turn, Offered, arrival, aimed, nothing, offer, place, places_after, put, refused, ledger_of, state_of, turn, turn_at, unserved, with_arrival, with_events}
 use Rattle.floor_hub.specs.Runs.{run, events_in, events, configuration}
 use Rattle.floor_hub.specs.Kept.{IsKept, IsKeptPart, KeptIn, arrivals_in, first_numbers, is_join, joins, numbers_of}
-use Rattle.floor_hub.specs.Laws.{EventsAreAJournal, StepKeeps}
-use Rattle.floor_hub.proofs.Alone.{Counts, CountsOffer, offer_counts}
+use Rattle.floor_hub.specs.Laws.{EventsAreAJournal, NumbersAlone, StepKeeps}
+use Rattle.floor_hub.proofs.Alone.{Counts, CountsOffer, all_alone, offer_counts, solo, starts_same}
 use Rattle.floor_hub.proofs.Arrivals.{arrival_set, arrival_set_other, live_there}
 
 lawful_open : (s : Conference) (e : Event) → IsLawful s e → s.is_open ≡ true
@@ -89,7 +90,7 @@ live_more p e n k open_now (inl h) = live-next (state_of p) e n h.3 (k.live n h.
 live_more p e n k open_now (inr h) = h
 
 -- one more event
-kept_event : (p : Part) (e : Event) (now : List Arrival) → IsKeptPart p → IsLawful (state_of p) e → length p.events < 1000000 →
+pub kept_event : (p : Part) (e : Event) (now : List Arrival) → IsKeptPart p → IsLawful (state_of p) e → length p.events < 1000000 →
     length now ≡ length p.arrivals + joins_by e → IsLiveFrom p e now → IsKeptPart (record { config = p.config; events = p.events ++ e ∷ []; arrivals = now })
 kept_event p e now k lawful few count from = record {
   journal = record {
@@ -159,7 +160,7 @@ attach_kept p user None is k =
     ]
 
 -- where one arrival was changed, each is that one or as it was
-abbrev IsSetFrom : Part → ℕ → Arrival → ℕ → Arrival → Type 0
+abbrev pub IsSetFrom : Part → ℕ → Arrival → ℕ → Arrival → Type 0
 IsSetFrom p n c m b = ((m ≡ n) × (b ≡ c)) ⊎ ((m ≢ n) × (arrival p m ≡ Some b))
 
 pub set_from : (p : Part) (n m : ℕ) (a b c : Arrival) → arrival p n ≡ Some a → arrival (with_arrival p n c) m ≡ Some b → IsSetFrom p n c m b
@@ -378,3 +379,20 @@ journal_in (Some p) config k e = subst (λ (x : Configuration). IsJournal x p.ev
 -- what steps give a conference is a journal
 pub journal_of : EventsAreAJournal
 journal_of c config steps e = journal_in ((run nothing steps).parts c) config ((run_kept nothing steps nothing_kept).parts c) e
+
+-- the places of a conference that is alone are numbered by n
+solo_is : (c k : ℕ) → solo c k ≡ map (λ n. record { conference = c; n = n }) (first_numbers k)
+solo_is c zero = refl
+solo_is c (suc k) =
+    ap (λ (ps : List Place). ps ++ record { conference = c; n = suc k } ∷ []) (solo_is c k)
+    ∙ sym (map-append (λ n. record { conference = c; n = n }) (first_numbers k) (suc k ∷ []))
+
+arrivals_joins : (z : Option Part) → KeptIn z → arrivals_in z ≡ joins (events_in z)
+arrivals_joins None k = refl
+arrivals_joins (Some p) k = k.joins
+
+pub numbers_alone : NumbersAlone
+numbers_alone c steps =
+    (all_alone c nothing nothing steps (starts_same c)).world.places
+    ∙ solo_is c (arrivals_in ((run nothing steps).parts c))
+    ∙ ap (λ (k : ℕ). map (λ n. record { conference = c; n = n }) (first_numbers k)) (arrivals_joins ((run nothing steps).parts c) ((run_kept nothing steps nothing_kept).parts c))

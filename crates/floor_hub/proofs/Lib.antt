@@ -7,8 +7,13 @@ pub mod Unserved
 pub mod Opening
 pub mod Arrivals
 pub mod Alone
+pub mod Sent
 pub mod Keeping
 pub mod Numbers
+pub mod Queueing
+pub mod Stepping
+pub mod Idle
+pub mod FullJournal
 pub mod Here
 pub mod Attending
 pub mod Departing

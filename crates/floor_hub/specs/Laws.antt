@@ -1,13 +1,15 @@
 -- The laws of worlds: what holds of every list of steps, whatever a floor machine does.
-use Rattle.std.specs.Prelude.{◌≡◌, ℕ, ◌≤◌, List, [], ◌∷◌, ◌++◌, Option, Some, length, All}
+use Rattle.std.specs.Prelude.{◌≡◌, ℕ, ◌≤◌, List, [], ◌∷◌, ◌++◌, Option, Some, length, map}
 use Rattle.floor_config.specs.Configuration.{Configuration}
 use Rattle.floor_machine.specs.declared.event.Event.{Event}
 use Rattle.floor_machine.specs.Journal.{IsJournal, Q}
 use Rattle.floor_hub.specs.declared.step.Step.{Step}
 use Rattle.floor_hub.specs.declared.step.Step.TheVariants.{Open, Attach, Piece, Serve, Leave, Admin}
+use Rattle.floor_hub.specs.declared.step.Answer.{Answer}
+use Rattle.floor_hub.specs.declared.step.Answer.TheVariants.{Done, Attached, Nothing, Served, Refused}
 use Rattle.floor_hub.specs.declared.transcript.Transcript.{Transcript}
 use Rattle.floor_hub.specs.World.{World, Place, nothing, turn}
-use Rattle.floor_hub.specs.Kept.{IsKept, IsNumbered, joins}
+use Rattle.floor_hub.specs.Kept.{IsKept, IsNumbered, first_numbers, joins}
 use Rattle.floor_hub.specs.Runs.{IsRunOf, added, alone, answers, answers_to, called_for, configuration, events, queued, queued_in, run, steps_of}
 
 -- a step of a kept world leaves a kept world
@@ -27,6 +29,19 @@ abbrev pub ConfigurationStays : Type 0
 ConfigurationStays = (c : ℕ) (config : Configuration) (steps : List Step) (s : Step) →
     configuration c steps ≡ Some config → configuration c (steps ++ s ∷ []) ≡ Some config
 
+-- the step was refused, or found no message
+abbrev pub IsIdle : Answer → Type 0
+IsIdle (Refused r) = Unit {0}
+IsIdle Nothing = Unit {0}
+IsIdle Done = ⊥
+IsIdle (Attached number) = ⊥
+IsIdle Served = ⊥
+
+-- a step that is refused, or that finds no message, changes nothing
+abbrev pub IdleStays : Type 0
+IdleStays = (w : World) (s : Step) → IsIdle (turn w s).answer →
+    ((c : ℕ) → (turn w s).world.parts c ≡ w.parts c) × ((turn w s).world.places ≡ w.places)
+
 -- each journal of a configuration is the events of its own steps
 abbrev pub JournalsAreEvents : Type 0
 JournalsAreEvents = (config : Configuration) (es : List Event) → IsJournal config es → events config.conference (steps_of config es) ≡ es
@@ -43,6 +58,11 @@ EventsAlone = (c : ℕ) (steps : List Step) → events c (alone c steps) ≡ eve
 -- the steps of a conference have the same answers alone, but for the arrivals' numbers, which are n
 abbrev pub AnswersAlone : Type 0
 AnswersAlone = (c : ℕ) (steps : List Step) → answers nothing (alone c steps) ≡ answers_to c nothing steps
+
+-- alone, the number of each arrival is its n, from 1 on
+abbrev pub NumbersAlone : Type 0
+NumbersAlone = (c : ℕ) (steps : List Step) →
+    (run nothing (alone c steps)).places ≡ map (λ n. record { conference = c; n = n }) (first_numbers (joins (events c steps)))
 
 -- what steps queue to n of a conference is what its events call for at n
 abbrev pub QueuedIsCalledFor : Type 0

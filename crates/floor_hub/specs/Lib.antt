@@ -8,3 +8,4 @@ pub mod Steps
 pub mod Rooms
 pub mod Runs
 pub mod Laws
+pub mod Examples

@@ -114,7 +114,7 @@ abbrev pub sends : Option Part → List Event → ℕ → List (List ℕ)
 sends None es n = []
 sends (Some p) es n = parcels_after (state_of p) es n
 
--- the parcels that steps have for n of the conference c, step by step: those that the events that it adds have for n
+-- the parcels that steps have for n of the conference c, step by step: what the events that each adds have for n
 abbrev pub sent : ℕ → World → List Step → ℕ → List (List ℕ)
 sent c w [] n = []
 sent c w (s ∷ ss) n = sends (w.parts c) (added c w s) n ++ sent c (turn w s).world ss n

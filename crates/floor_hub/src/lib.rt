@@ -7,6 +7,7 @@
 mod connection;
 mod connections;
 mod hub;
+mod laws;
 mod refusal;
 mod rooms;
 mod step;
@@ -16,6 +17,10 @@ pub use connection::ConnNo;
 pub use floor_room::{Act, Config, Event, Frame, Parcel, Refusal, RoomRefusal, Status};
 pub use floor_wire::Octets;
 pub use hub::Hub;
+pub use laws::{
+    arrivals_fit, conference_alone, each_journal_is_run, headline, kept_worlds, step_adds,
+    two_worlds,
+};
 pub use refusal::HubRefusal;
 pub use step::{Answer, Served, Step};
 pub use transcript::{Answers, Queued, Queues, Transcript};
