@@ -1,0 +1,338 @@
+-- What a call has done to its room, in the words of the hub.
+use Rattle.std.proofs.Common.{◌≡◌, ◌≢◌, ◌⊎◌, inl, inr, ℕ, ◌+◌, Bool, true, false, cond, length, List, [], ◌∷◌, ◌++◌, refl, sym, ◌∙◌, ap, subst, append-nil, append_assoc, Some, None}
+use Rattle.std.specs.Prelude.{Option, is_some, count_by, nat_eq, nat_le, not, ◌||◌, Result, Ok, Err, IfErr, IfOk, OnOk}
+use Rattle.std.proofs.lemmas.Bool.{ne_eqb}
+use Rattle.std.proofs.lemmas.Option.{none-some}
+use Rattle.floor_machine.specs.declared.event.Event.{Event}
+use Rattle.floor_machine.specs.declared.event.Event.TheVariants.{Join, Message, Leave, Revoke, Close}
+use Rattle.floor_machine.specs.declared.machine.Refusal.TheVariants.{Broken, Ended, NoMember, NoUser, Full, NoRequest, Memory}
+use Rattle.floor_machine.specs.Parcel.{Parcel}
+use Rattle.floor_machine.specs.declared.machine.Refusal.{Refusal}
+use Rattle.floor_machine.specs.Conference.{Conference, is_live, is_user}
+use Rattle.floor_machine.specs.Machine.{event_refusal, whole}
+use Rattle.std.specs.Option.{option_map}
+use Rattle.floor_machine.specs.Journal.{parcels_of, sent_to}
+use Rattle.floor_room.specs.declared.refusal.RoomRefusal.{RoomRefusal}
+use Rattle.floor_room.specs.declared.refusal.RoomRefusal.TheVariants.{JournalFull, Refused as ByMachine}
+use Rattle.floor_room.specs.Calls.{Began, Left, Took, with_event}
+use Rattle.floor_room.specs.Ledger.{IsRefusedBy, Ledger, broken_off, closed, conference_of, first_of, refusal}
+use Rattle.floor_room.specs.Outbox.{Outbox, delivered, empty_outbox, with_held}
+use Rattle.floor_room.specs.Room.{Room, broken_room, joined}
+use Rattle.floor_room.proofs.Ledgers.{allowed-open, opened}
+use Rattle.floor_hub.specs.declared.refusal.HubRefusal.{HubRefusal}
+use Rattle.floor_hub.specs.declared.refusal.HubRefusal.TheVariants.{NoConference, NoConnection, ByRoom}
+use Rattle.floor_hub.specs.declared.step.Served.{Served}
+use Rattle.floor_hub.specs.declared.connection.Connection.{Connection}
+use Rattle.floor_hub.specs.Connections.{SameConnections, connection_at}
+use Rattle.floor_hub.specs.Hub.{Hub, room_at}
+use Rattle.floor_hub.specs.World.{World}
+use Rattle.floor_hub.specs.StandsFor.{StandsFor}
+use Rattle.floor_hub.specs.Rooms.{HasOneMore, OneRoom, QueuesMore, RoomAfter, RoomAfterIn, RoomOf, by_broken, is_told, is_want, refusal_in}
+use Rattle.floor_hub.proofs.Here.{here}
+use Rattle.floor_hub.specs.Steps.{AttachFailsIn, LeaveFailsIn, IsServable, LeavesIn, ServeFailsIn, ServedIn, ServesIn}
+
+true_false : true ≡ false → ⊥
+true_false e = cc
+
+-- nothing more waits
+pub queues-same : (os : List Outbox) → QueuesMore os os
+queues-same [] = tt
+queues-same (o ∷ os) = (refl, ([], sym (append-nil o.held)), queues-same os)
+
+queues-new : (put : List Parcel) (n : ℕ) (e : Event) → QueuesMore [] (delivered put n (joined e))
+queues-new put n (Join user) = (refl, tt)
+queues-new put n (Message m bytes) = tt
+queues-new put n (Leave m) = tt
+queues-new put n (Revoke request) = tt
+queues-new put n Close = tt
+
+-- what an event tells waits behind what waited
+pub queues-more : (put : List Parcel) (n : ℕ) (e : Event) (os : List Outbox) → QueuesMore os (delivered put n (os ++ joined e))
+queues-more put n e [] = queues-new put n e
+queues-more put n e (o ∷ os) = (refl, (sent_to n put, refl), queues-more put (n + 1) e os)
+
+-- nothing has changed
+pub room-same : (shut_by why : Option HubRefusal) (r s : Room) → is_want why ≡ false → (r.ledger.is_broken ≡ true → why ≡ shut_by) → (is_told why ≡ true → r.ledger.is_broken ≡ true) →
+    s ≡ r → RoomAfter shut_by why r s
+room-same shut_by why r s calm shut told e = record {
+  broken = ap (λ (x : Room). x.ledger.is_broken) e ∙ same r.ledger.is_broken (is_want why) calm;
+  shut = λ b. (shut b, e);
+  told = told;
+  journal = inl (ap (λ (x : Room). x.ledger.journal) e);
+  outboxes = subst (λ (x : Room). QueuesMore r.outboxes x.outboxes) (sym e) (queues-same r.outboxes);
+}
+  where
+    same : (a b : Bool) → b ≡ false → a ≡ (a || b)
+    same true b e = refl
+    same false b e = sym e
+
+false_true : false ≡ true → ⊥
+false_true e = cc
+
+room-event : (shut_by why : Option HubRefusal) (r s : Room) (e : Event) (put : List Parcel) (b : Bool) → r.ledger.is_broken ≡ false → is_want why ≡ b → is_told why ≡ false →
+    s ≡ with_event r e put b → RoomAfter shut_by why r s
+room-event shut_by why r s e put b sound want told is = record {
+  broken = ap (λ (x : Room). x.ledger.is_broken) is ∙ sym want ∙ sym (ap (λ (x : Bool). x || is_want why) sound);
+  shut = λ broken. absurd (true_false (sym broken ∙ sound));
+  told = λ t. absurd (true_false (sym t ∙ told));
+  journal = inr (e, ap (λ (x : Room). x.ledger.journal) is);
+  outboxes = subst (λ (x : Room). QueuesMore r.outboxes x.outboxes) (sym is) (queues-more put 1 e r.outboxes);
+}
+
+pub room-took : (shut_by : Option HubRefusal) (r s : Room) (e : Event) → Took r s e → RoomAfter shut_by None r s
+room-took shut_by r s e t = room-event shut_by None r s e (parcels_of (conference_of r.ledger) e) false (allowed-open r.ledger e t.allowed).unbroken refl refl t.next
+
+-- a room that isn't broken is broken off
+room-off : (shut_by : Option HubRefusal) (r s : Room) → r.ledger.is_broken ≡ false → s ≡ broken_room r → RoomAfter shut_by (Some (ByRoom (ByMachine Memory))) r s
+room-off shut_by r s sound e = record {
+  broken = ap (λ (x : Room). x.ledger.is_broken) e ∙ sym (ap (λ (x : Bool). x || true) sound);
+  shut = λ broken. absurd (true_false (sym broken ∙ sound));
+  told = λ t. absurd (false_true t);
+  journal = inl (ap (λ (x : Room). x.ledger.journal) e);
+  outboxes = subst (λ (x : Room). QueuesMore r.outboxes x.outboxes) (sym e) (queues-same r.outboxes);
+}
+
+-- a broken room refuses by nothing else
+shut-by : (x : Option RoomRefusal) (why : RoomRefusal) → x ≡ Some (ByMachine Broken) → IsRefusedBy {T = Unit {0}} x (Err why) → why ≡ ByMachine Broken
+shut-by None why e h = cc
+shut-by (Some y) why e h = err_is why y h ∙ some_is y (ByMachine Broken) e
+  where
+    err_is : (a b : RoomRefusal) → ◌≡◌ {A = Result (Unit {0}) RoomRefusal} (Err a) (Err b) → a ≡ b
+    err_is a b e = cc
+
+    some_is : (a b : RoomRefusal) → ◌≡◌ {A = Option RoomRefusal} (Some a) (Some b) → a ≡ b
+    some_is a b e = cc
+
+refuses-broken : (l : Ledger) (e : Event) → l.is_broken ≡ true → refusal l e ≡ Some (ByMachine Broken)
+refuses-broken l e is = ap (λ (b : Bool). refusal (record { config = l.config; journal = l.journal; is_broken = b }) e) is
+
+-- a machine that isn't broken doesn't refuse as broken
+join_not : (a b d : Bool) → ◌≡◌ {A = Option Refusal} (cond (not a) (Some Ended) (cond (not b) (Some NoUser) (cond d (Some Full) None))) (Some Broken) → ⊥
+join_not false b d e = cc
+join_not true false d e = cc
+join_not true true true e = cc
+join_not true true false e = cc
+
+member_not : (a b : Bool) → ◌≡◌ {A = Option Refusal} (cond (not a) (Some Ended) (cond (not b) (Some NoMember) None)) (Some Broken) → ⊥
+member_not false b e = cc
+member_not true false e = cc
+member_not true true e = cc
+
+request_not : (a b : Bool) → ◌≡◌ {A = Option Refusal} (cond (not a) (Some Ended) (cond (not b) (Some NoRequest) None)) (Some Broken) → ⊥
+request_not false b e = cc
+request_not true false e = cc
+request_not true true e = cc
+
+close_not : (a : Bool) → ◌≡◌ {A = Option Refusal} (cond (not a) (Some Ended) None) (Some Broken) → ⊥
+close_not false e = cc
+close_not true e = cc
+
+event_not : (s : Conference) (e : Event) → event_refusal (whole s) e ≡ Some Broken → ⊥
+event_not s (Join user) h = join_not s.is_open (is_user s.config user) (nat_le 64 (count_by (λ m. m.is_live) s.members)) h
+event_not s (Message n bytes) h = member_not s.is_open (is_live s n) h
+event_not s (Leave n) h = member_not s.is_open (is_live s n) h
+event_not s (Revoke request) h = request_not s.is_open _ h
+event_not s Close h = close_not s.is_open h
+
+-- a room that isn't broken doesn't refuse as broken
+told-broken : (l : Ledger) (e : Event) (b : Bool) → l.is_broken ≡ b → IsRefusedBy {T = Unit {0}} (refusal l e) (Err (ByMachine Broken)) → b ≡ true
+told-broken l e true is h = refl
+told-broken l e false is h =
+    absurd (by (conference_of l).is_open (nat_le 1000000 (length l.journal)) (event_refusal (whole (conference_of l)) e) (event_not (conference_of l) e)
+      (subst (λ (b : Bool). IsRefusedBy {T = Unit {0}} (refusal (record { config = l.config; journal = l.journal; is_broken = b }) e) (Err (ByMachine Broken))) is h))
+  where
+    by : (o f : Bool) (x : Option Refusal) → (x ≡ Some Broken → ⊥) →
+        IsRefusedBy {T = Unit {0}} (first_of (cond (not o) (Some (ByMachine Ended)) (cond f (Some JournalFull) None)) (option_map ByMachine x)) (Err (ByMachine Broken)) → ⊥
+    by false f x ne h = cc
+    by true true x ne h = cc
+    by true false None ne h = cc
+    by true false (Some y) ne h = ne (same y h)
+      where
+        same : (y : Refusal) → ◌≡◌ {A = Result (Unit {0}) RoomRefusal} (Err (ByMachine Broken)) (Err (ByMachine y)) → ◌≡◌ {A = Option Refusal} (Some y) (Some Broken)
+        same y e = cc
+
+-- where an event found no memory, the room wasn't broken before
+sound-before : (r : Room) (e : Event) (b : Bool) → r.ledger.is_broken ≡ b → IsRefusedBy {T = Unit {0}} (refusal r.ledger e) (Err (ByMachine Memory)) → b ≡ false
+sound-before r e false is h = refl
+sound-before r e true is h = absurd (apart (shut-by (refusal r.ledger e) (ByMachine Memory) (refuses-broken r.ledger e is) h))
+  where
+    apart : ByMachine Memory ≡ ByMachine Broken → ⊥
+    apart e = cc
+
+-- refused, and as it was
+left-same : (r s : Room) (e : Event) (why : RoomRefusal) → is_want (Some (ByRoom why)) ≡ false → (is_told (Some (ByRoom why)) ≡ true → why ≡ ByMachine Broken) →
+    IsRefusedBy {T = Unit {0}} (refusal r.ledger e) (Err why) → s ≡ r → RoomAfter by_broken (Some (ByRoom why)) r s
+left-same r s e why calm told by same = room-same by_broken (Some (ByRoom why)) r s calm
+    (λ b. ap (λ (y : RoomRefusal). Some (ByRoom y)) (shut-by (refusal r.ledger e) why (refuses-broken r.ledger e b) by))
+    (λ t. told-broken r.ledger e r.ledger.is_broken refl (subst (λ (y : RoomRefusal). IsRefusedBy {T = Unit {0}} (refusal r.ledger e) (Err y)) (told t) by)) same
+
+pub room-left : (r s : Room) (e : Event) (why : RoomRefusal) → IsRefusedBy {T = Unit {0}} (refusal r.ledger e) (Err why) → Left r s e why → RoomAfter by_broken (Some (ByRoom why)) r s
+room-left r s e JournalFull by left = left-same r s e JournalFull refl (λ t. cc) by left
+room-left r s e (ByMachine Broken) by left = left-same r s e (ByMachine Broken) refl (λ t. refl) by left
+room-left r s e (ByMachine Ended) by left = left-same r s e (ByMachine Ended) refl (λ t. cc) by left
+room-left r s e (ByMachine NoMember) by left = left-same r s e (ByMachine NoMember) refl (λ t. cc) by left
+room-left r s e (ByMachine NoUser) by left = left-same r s e (ByMachine NoUser) refl (λ t. cc) by left
+room-left r s e (ByMachine Full) by left = left-same r s e (ByMachine Full) refl (λ t. cc) by left
+room-left r s e (ByMachine NoRequest) by left = left-same r s e (ByMachine NoRequest) refl (λ t. cc) by left
+room-left r s e (ByMachine Memory) by (inl off) = room-off by_broken r s (sound-before r e r.ledger.is_broken refl by) off
+room-left r s e (ByMachine Memory) by (inr began) =
+    room-event by_broken (Some (ByRoom (ByMachine Memory))) r s e began.put true (sound-before r e r.ledger.is_broken refl by) refl refl began.next
+
+-- where the room wasn't broken, what a broken one answers is another matter
+other-shut : (other shut_by why : Option HubRefusal) (r s : Room) → r.ledger.is_broken ≡ false → RoomAfter other why r s → RoomAfter shut_by why r s
+other-shut other shut_by why r s sound a = record {
+  broken = a.broken;
+  shut = λ b. absurd (true_false (sym b ∙ sound));
+  told = a.told;
+  journal = a.journal;
+  outboxes = a.outboxes;
+}
+
+-- the room was joined, and broken off then
+room-unjoined : (r mid s : Room) (e : Event) → Took r mid e → s ≡ broken_room mid → RoomAfter by_broken (Some (ByRoom (ByMachine Memory))) r s
+room-unjoined r mid s e t off =
+    room-event by_broken (Some (ByRoom (ByMachine Memory))) r s e (parcels_of (conference_of r.ledger) e) true (allowed-open r.ledger e t.allowed).unbroken refl refl (off ∙ ap broken_room t.next)
+
+pub room-attach-fails : (r s : Room) (user : ℕ) (why : RoomRefusal) → AttachFailsIn r s user why → RoomAfter by_broken (Some (ByRoom why)) r s
+room-attach-fails r s user why (inl f) = room-left r s (Join user) why f.0 f.1
+room-attach-fails r s user why (inr f) = subst (λ (y : RoomRefusal). RoomAfter by_broken (Some (ByRoom y)) r s) (sym f.0) (room-unjoined r f.1.0 s (Join user) f.1.1 f.1.2)
+
+some_is : (y z : RoomRefusal) → ◌≡◌ {A = Option RoomRefusal} (Some y) (Some z) → y ≡ z
+some_is y z e = cc
+
+-- a closed room that was left as it was
+closed-same : (r s : Room) (why : RoomRefusal) → closed r.ledger ≡ Some why → s ≡ r → RoomAfter by_broken (Some (ByRoom why)) r s
+closed-same r s why is same = by r.ledger.is_broken (conference_of r.ledger).is_open (nat_le 1000000 (length r.ledger.journal)) refl is
+  where
+    so : (x : RoomRefusal) → x ≡ why → RoomAfter by_broken (Some (ByRoom x)) r s → RoomAfter by_broken (Some (ByRoom why)) r s
+    so x e a = subst (λ (y : RoomRefusal). RoomAfter by_broken (Some (ByRoom y)) r s) e a
+
+    by : (a b d : Bool) → r.ledger.is_broken ≡ a →
+        cond a (Some (ByMachine Broken)) (cond (not b) (Some (ByMachine Ended)) (cond d (Some JournalFull) None)) ≡ Some why → RoomAfter by_broken (Some (ByRoom why)) r s
+    by true b d f e =
+        so (ByMachine Broken) (some_is (ByMachine Broken) why e) (room-same by_broken (Some (ByRoom (ByMachine Broken))) r s refl (λ x. refl) (λ t. f) same)
+    by false false d f e =
+        so (ByMachine Ended) (some_is (ByMachine Ended) why e)
+        (room-same by_broken (Some (ByRoom (ByMachine Ended))) r s refl (λ x. absurd (true_false (sym x ∙ f))) (λ t. absurd (false_true t)) same)
+    by false true true f e =
+        so JournalFull (some_is JournalFull why e) (room-same by_broken (Some (ByRoom JournalFull)) r s refl (λ x. absurd (true_false (sym x ∙ f))) (λ t. absurd (false_true t)) same)
+    by false true false f e = absurd (none-some why e)
+
+servable : (r : Room) → IsServable (closed r.ledger) → r.ledger.is_broken ≡ false
+servable r h = by r.ledger.is_broken (conference_of r.ledger).is_open h
+  where
+    by : (a b : Bool) → IsServable (cond a (Some (ByMachine Broken)) (cond (not b) (Some (ByMachine Ended)) (cond (nat_le 1000000 (length r.ledger.journal)) (Some JournalFull) None))) → a ≡ false
+    by true b h = absurd h
+    by false b h = refl
+
+room-serves : (r s : Room) (n : ℕ) (held rest : List ℕ) (found : Served) → ServesIn r s n held rest found → RoomAfter by_broken None r s
+room-serves r s n held rest Served.Nothing f =
+    room-same by_broken None r s refl (λ b. absurd (true_false (sym b ∙ servable r f.0))) (λ t. absurd (false_true t)) f.2
+room-serves r s n held rest Served.Message f = room-took by_broken r s (Message n f.0) f.3
+
+room-serve-fails : (r s : Room) (n : ℕ) (held rest : List ℕ) (why : RoomRefusal) → ServeFailsIn r s n held rest why → RoomAfter by_broken (Some (ByRoom why)) r s
+room-serve-fails r s n held rest why (inl f) = closed-same r s why f.0 f.2
+room-serve-fails r s n held rest why (inr (inl f)) =
+    subst (λ (y : RoomRefusal). RoomAfter by_broken (Some (ByRoom y)) r s) (sym f.0) (room-off by_broken r s (opened r.ledger (sym f.1)).unbroken f.2)
+room-serve-fails r s n held rest why (inr (inr f)) = room-left r s (Message n f.0) why f.2 f.3
+
+pub room-served : (r s : Room) (n : ℕ) (held rest : List ℕ) (res : Result Served HubRefusal) → ServedIn r s n held rest res → RoomAfter by_broken (refusal_in res) r s
+room-served r s n held rest (Ok found) f = room-serves r s n held rest found f.served
+room-served r s n held rest (Err x) f = subst (λ (y : HubRefusal). RoomAfter by_broken (Some y) r s) (sym f.failed.1) (room-serve-fails r s n held rest f.failed.0 f.failed.2)
+
+pub room-leaves : (r s : Room) (n : ℕ) → LeavesIn r s n → RoomAfter None None r s
+room-leaves r s n (inl f) = room-same None None r s refl (λ b. refl) (λ t. absurd (false_true t)) f.1
+room-leaves r s n (inr t) = room-took None r s (Leave n) t
+
+pub room-leave-fails : (r s : Room) (n : ℕ) (why : RoomRefusal) → LeaveFailsIn r s n why → RoomAfter None (Some (ByRoom why)) r s
+room-leave-fails r s n why f =
+    other-shut by_broken None (Some (ByRoom why)) r s (opened r.ledger (sym f.opened)).unbroken (room-left r s (Leave n) why f.refused f.after)
+
+module _ (shut_by why : Option HubRefusal) (c : ℕ) (old new : Hub) where
+  -- there is no such room, and nothing has changed
+  pub one-none : room_at old c ≡ None → is_want why ≡ false → is_told why ≡ false → ((d : ℕ) → room_at new d ≡ room_at old d) → OneRoom shut_by why c old new
+  one-none is calm told same = record {
+    others = λ d ne. same d;
+    own = subst (λ (y : Option Room). RoomAfterIn shut_by why y (room_at new c)) (sym is) (same c ∙ is, calm, told);
+  }
+
+  pub one-at : (r s : Room) → room_at old c ≡ Some r → room_at new c ≡ Some s → ((d : ℕ) → nat_eq c d ≡ false → room_at new d ≡ room_at old d) → RoomAfter shut_by why r s → OneRoom shut_by why c old new
+  one-at r s is now others after = record {
+    others = others;
+    own = subst (λ (y : Option Room). RoomAfterIn shut_by why y (room_at new c)) (sym is) (subst (RoomAfterIn shut_by why (Some r)) (sym now) after);
+  }
+
+module _ (c : ℕ) (e : Event) (old new : Hub) where
+  event-at : (res : Result (Unit {0}) HubRefusal) (r s : Room) → OnOk res (Took r s e) →
+      IfErr res (λ x. (why : RoomRefusal) × (x ≡ ByRoom why) × IsRefusedBy {T = Unit {0}} (refusal r.ledger e) (Err why) × Left r s e why) → RoomAfter by_broken (refusal_in res) r s
+  event-at (Ok v) r s ok err = room-took by_broken r s e ok
+  event-at (Err x) r s ok err = subst (λ (y : HubRefusal). RoomAfter by_broken (Some y) r s) (sym err.1) (room-left r s e err.0 err.2 err.3)
+
+  -- an act of the administrator
+  pub event-room : (res : Result (Unit {0}) HubRefusal) (y : Option Room) → room_at old c ≡ y →
+      (room_at old c ≡ None → (res ≡ Err NoConference) × ((d : ℕ) → room_at new d ≡ room_at old d)) →
+      ((r : Room) → room_at old c ≡ Some r → (s : Room) × (room_at new c ≡ Some s) × ((d : ℕ) → nat_eq c d ≡ false → room_at new d ≡ room_at old d) × OnOk res (Took r s e)
+        × IfErr res (λ x. (why : RoomRefusal) × (x ≡ ByRoom why) × IsRefusedBy {T = Unit {0}} (refusal r.ledger e) (Err why) × Left r s e why)) →
+      OneRoom by_broken (refusal_in res) c old new
+  event-room res None is absent there =
+      let a = absent is in
+      subst (λ (x : Result (Unit {0}) HubRefusal). OneRoom by_broken (refusal_in x) c old new) (sym a.0) (one-none by_broken (Some NoConference) c old new is refl refl a.1)
+  event-room res (Some r) is absent there =
+      let t = there r is in
+      one-at by_broken (refusal_in res) c old new r t.0 is t.1 t.2 (event-at res r t.0 t.3 t.4)
+
+-- an attach
+module _ (c user : ℕ) (old new : Hub) where
+  attach-at : (res : Result (Unit {0}) HubRefusal) (r s : Room) → OnOk res (Took r s (Join user)) →
+      IfErr res (λ x. (why : RoomRefusal) × (x ≡ ByRoom why) × AttachFailsIn r s user why) → RoomAfter by_broken (refusal_in res) r s
+  attach-at (Ok v) r s ok err = room-took by_broken r s (Join user) ok
+  attach-at (Err x) r s ok err = subst (λ (z : HubRefusal). RoomAfter by_broken (Some z) r s) (sym err.1) (room-attach-fails r s user err.0 err.2)
+
+  pub attach-room : (res : Result (Unit {0}) HubRefusal) (y : Option Room) → room_at old c ≡ y →
+      (room_at old c ≡ None → (res ≡ Err NoConference) × ((d : ℕ) → room_at new d ≡ room_at old d)) →
+      ((r : Room) → room_at old c ≡ Some r → (s : Room) × (room_at new c ≡ Some s) × ((d : ℕ) → nat_eq c d ≡ false → room_at new d ≡ room_at old d)
+        × OnOk res (Took r s (Join user)) × IfErr res (λ x. (why : RoomRefusal) × (x ≡ ByRoom why) × AttachFailsIn r s user why)) →
+      OneRoom by_broken (refusal_in res) c old new
+  attach-room res None is absent there =
+      let a = absent is in
+      subst (λ (x : Result (Unit {0}) HubRefusal). OneRoom by_broken (refusal_in x) c old new) (sym a.0) (one-none by_broken (Some NoConference) c old new is refl refl a.1)
+  attach-room res (Some r) is absent there =
+      let t = there r is in
+      one-at by_broken (refusal_in res) c old new r t.0 is t.1 t.2 (attach-at res r t.0 t.3 t.4)
+
+-- where a connection's room is
+pub room_there : (h : Hub) (w : World) → StandsFor h w → (number : ℕ) (x : Connection) → connection_at h.connections number ≡ Some x → (r : Room) × (room_at h x.conference ≡ Some r)
+room_there h w st number x is =
+    let at = here (room_at h) (connection_at h.connections) h.arrivals w number x st.stands is in
+    (at.r, ap (room_at h) at.conference ∙ at.room)
+
+module _ (number : ℕ) (old new : Hub) (w : World) (st : StandsFor old w) where
+  pub serve-room : (res : Result Served HubRefusal) (y : Option Connection) → connection_at old.connections number ≡ y →
+      (connection_at old.connections number ≡ None → (res ≡ Err NoConnection) × ((d : ℕ) → room_at new d ≡ room_at old d) × SameConnections old.connections new.connections) →
+      new.arrivals ≡ old.arrivals →
+      ((x : Connection) → connection_at old.connections number ≡ Some x → (r : Room) → room_at old x.conference ≡ Some r → (s : Room) × (rest : List ℕ) × (room_at new x.conference ≡ Some s)
+        × ((d : ℕ) → nat_eq x.conference d ≡ false → room_at new d ≡ room_at old d) × ServedIn r s x.n x.held rest res) →
+      RoomOf by_broken (refusal_in res) y old new
+  serve-room res None is absent arrivals there = let a = absent is in subst (λ (z : Result Served HubRefusal). RoomOf by_broken (refusal_in z) None old new) (sym a.0) (record { rooms = a.1; connections = a.2; arrivals = arrivals }, refl, refl)
+  serve-room res (Some x) is absent arrivals there =
+      let r = room_there old w st number x is in
+      let t = there x is r.0 r.1 in
+      one-at by_broken (refusal_in res) x.conference old new r.0 t.0 r.1 t.2 t.3 (room-served r.0 t.0 x.n x.held t.1 res t.4)
+
+  leave-at : (res : Result (Unit {0}) HubRefusal) (r s : Room) (n : ℕ) → OnOk res (LeavesIn r s n) → IfErr res (λ y. (why : RoomRefusal) × (y ≡ ByRoom why) × LeaveFailsIn r s n why) →
+      RoomAfter None (refusal_in res) r s
+  leave-at (Ok v) r s n ok err = room-leaves r s n ok
+  leave-at (Err x) r s n ok err = subst (λ (y : HubRefusal). RoomAfter None (Some y) r s) (sym err.1) (room-leave-fails r s n err.0 err.2)
+
+  pub leave-room : (res : Result (Unit {0}) HubRefusal) (y : Option Connection) → connection_at old.connections number ≡ y →
+      (connection_at old.connections number ≡ None → (res ≡ Err NoConnection) × ((d : ℕ) → room_at new d ≡ room_at old d) × SameConnections old.connections new.connections) →
+      new.arrivals ≡ old.arrivals →
+      ((x : Connection) → connection_at old.connections number ≡ Some x → (r : Room) → room_at old x.conference ≡ Some r → (s : Room) × (room_at new x.conference ≡ Some s)
+        × ((d : ℕ) → nat_eq x.conference d ≡ false → room_at new d ≡ room_at old d) × OnOk res (LeavesIn r s x.n)
+        × IfErr res (λ y. (why : RoomRefusal) × (y ≡ ByRoom why) × LeaveFailsIn r s x.n why)) →
+      RoomOf None (refusal_in res) y old new
+  leave-room res None is absent arrivals there = let a = absent is in subst (λ (z : Result (Unit {0}) HubRefusal). RoomOf None (refusal_in z) None old new) (sym a.0) (record { rooms = a.1; connections = a.2; arrivals = arrivals }, refl, refl)
+  leave-room res (Some x) is absent arrivals there =
+      let r = room_there old w st number x is in
+      let t = there x is r.0 r.1 in
+      one-at None (refusal_in res) x.conference old new r.0 t.0 r.1 t.1 t.2 (leave-at res r.0 t.0 x.n t.3 t.4)

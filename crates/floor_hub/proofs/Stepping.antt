@@ -1,0 +1,401 @@
+-- Each journal is the events of its own steps.
+use Rattle.std.proofs.Common.{◌≡◌, ◌≢◌, ◌⊎◌, inl, inr, ℕ, zero, suc, ◌+◌, ◌<◌, ◌≤◌, Bool, true, false, cond, List, [], ◌∷◌, ◌++◌, length, map, refl, sym, ◌∙◌, ap, subst, arith, length-append, append_assoc, append-nil, Some, None}
+use Rattle.std.specs.Prelude.{Option, All, not, ◌==◌, ◌&&◌, is_some, if◌then◌else◌, nat_eq, nat_le, slice_get}
+use Rattle.std.specs.List.{concat, flat_map}
+use Rattle.std.specs.Option.{option_map}
+use Rattle.std.specs.Map.{update}
+use Rattle.std.proofs.lemmas.Bool.{eqb-true, eqb-false, eq-eqb}
+use Rattle.std.proofs.lemmas.Bool.Decides.{nat_tests}
+use Rattle.std.proofs.lemmas.List.Elements.{All-nil, All-cons, All-append}
+use Rattle.std.proofs.lemmas.Map.{update_here}
+use Rattle.std.proofs.lemmas.Option.{none-some}
+use Rattle.floor_config.specs.Configuration.{Configuration}
+use Rattle.floor_wire.specs.Message.{IsMessage, messages}
+use Rattle.floor_wire.proofs.Messages.{messages-concat}
+use Rattle.floor_machine.specs.declared.event.Act.{Act}
+use Rattle.floor_machine.specs.declared.event.Event.{Event}
+use Rattle.floor_machine.specs.declared.event.Event.TheVariants.{Join, Message, Leave as Leaves, Revoke, Close}
+use Rattle.floor_machine.specs.declared.machine.Refusal.{Refusal}
+use Rattle.floor_machine.specs.declared.machine.Refusal.TheVariants.{Ended}
+use Rattle.floor_machine.specs.declared.member.Member.{Member}
+use Rattle.floor_machine.specs.Conference.{Conference, is_live, member_with, opening}
+use Rattle.floor_machine.specs.Change.{IsLawful, change, leaving, next}
+use Rattle.floor_machine.specs.Journal.{IsJournal, IsLawfulFrom, after}
+use Rattle.floor_machine.specs.Laws.{IsWhole}
+use Rattle.floor_machine.specs.Machine.{event_of_act, event_refusal, whole}
+use Rattle.floor_machine.proofs.Lawful.{taken_is_lawful}
+use Rattle.floor_machine.specs.Membership.{joins}
+use Rattle.floor_machine.proofs.Members.{live-before}
+use Rattle.floor_room.specs.declared.refusal.RoomRefusal.{RoomRefusal}
+use Rattle.floor_room.specs.declared.refusal.RoomRefusal.TheVariants.{JournalFull, Refused as ByMachine}
+use Rattle.floor_room.specs.Ledger.{closed, first_of}
+use Rattle.floor_hub.specs.declared.refusal.HubRefusal.TheVariants.{ByRoom}
+use Rattle.floor_hub.specs.declared.step.Step.{Step}
+use Rattle.floor_hub.specs.declared.step.Step.TheVariants.{Open, Attach, Piece, Serve, Leave, Admin}
+use Rattle.floor_hub.specs.declared.step.Answer.TheVariants.{Served}
+use Rattle.floor_hub.specs.World as world
+use Rattle.floor_hub.specs.World.{World, Part, Arrival, Place, Aim, aim, aimed, arrival, if_live, is_full, joined, nothing, offer, opened, place, put, refused, ledger_of, state_of, turn, turn_at, unserved, with_arrival, with_events}
+use Rattle.floor_hub.specs.Kept.{IsKeptPart, KeptIn, arrivals_in}
+use Rattle.floor_hub.specs.Runs.{configuration, events, events_in, run, steps_for, steps_of}
+use Rattle.floor_hub.specs.Laws.{JournalsAreEvents, JournalsAreOpened}
+use Rattle.floor_hub.proofs.Alone.{IsKnown, Same, known, offer_counts, solo, step_own}
+use Rattle.floor_hub.proofs.Arrivals.{arrival_set, arrival_set_other, there_live}
+use Rattle.floor_hub.proofs.Keeping.{IsSetFrom, kept_event, offer_kept, opened_kept, set_from, state_more}
+use Rattle.floor_hub.proofs.Sent.{left_is, run_append}
+
+-- an event that is lawful, and for which there is room, isn't refused
+unfull : (n : ℕ) → n < 1000000 → nat_le 1000000 n ≡ false
+unfull n h = grind (arith, nat_tests)
+
+opened_now : (s : Conference) (e : Event) → IsLawful s e → s.is_open ≡ true
+opened_now s (Join user) h = h.0
+opened_now s (Message n bytes) h = h.0
+opened_now s (Leaves n) h = h.0
+opened_now s (Revoke request) h = h.0
+opened_now s Close h = h
+
+accepted : (p : Part) (e : Event) → IsWhole e → IsLawful (state_of p) e → length p.events < 1000000 → refused p e ≡ None
+accepted p e framed lawful few =
+    let taken : event_refusal (whole (state_of p)) e ≡ None = (taken_is_lawful (state_of p) e framed).1 lawful in
+    let free : closed (ledger_of p) ≡ None = by (state_of p).is_open (nat_le 1000000 (length p.events)) (opened_now (state_of p) e lawful) (unfull (length p.events) few) in
+    ap (λ (x : Option RoomRefusal). first_of x (option_map ByMachine (event_refusal (whole (state_of p)) e))) free ∙ ap (option_map ByMachine) taken
+  where
+    by : (a b : Bool) → a ≡ true → b ≡ false → (if not a then Some (ByMachine Ended) else if b then Some JournalFull else None) ≡ None
+    by true false h f = refl
+    by true true h f = cc
+    by false b h f = cc
+
+-- the world has this part under c, and is of c alone
+pub record At (c : ℕ) (v : World) (p : Part) : Type 0 where
+  pub is : v.parts c ≡ Some p
+  pub same : Same c v v
+
+-- a step for c leads to what is offered
+moved : (c : ℕ) (v : World) (p q : Part) (s : Step) → At c v p → aimed v s ≡ Some record { conference = c; step = s } → (offer (Some p) s).part ≡ Some q → At c (turn v s).world q
+moved c v p q s h aims is =
+    let same_turn : turn v s ≡ put v c (offer (v.parts c) s) = ap (turn_at v) aims in record {
+      is =
+          ap (λ (t : world.Turn). t.world.parts c) same_turn
+          ∙ update_here v.parts c (offer (v.parts c) s).part
+          ∙ ap (λ (z : Option Part). (offer z s).part) h.is
+          ∙ is;
+      same =
+          subst (λ (t : world.Turn). Same c t.world t.world) (sym same_turn)
+          (step_own c v v (offer (v.parts c) s) (offer_counts (v.parts c) s) h.same);
+    }
+
+-- the place of an arrival is known by n
+placed : (c : ℕ) (v : World) (p : Part) (n : ℕ) (a : Arrival) → At c v p → arrival p n ≡ Some a → place v.places n ≡ Some record { conference = c; n = n }
+placed c v p n a h there =
+    ap (λ (ps : List Place). place ps n) (h.same.places ∙ ap (λ (z : Option Part). solo c (arrivals_in z)) h.is)
+    ∙ by (place (solo c (length p.arrivals)) n) (known c (length p.arrivals) n)
+  where
+    by : (x : Option Place) → IsKnown c (length p.arrivals) n x → x ≡ Some record { conference = c; n = n }
+    by x (inl e) = e
+    by x (inr e) = absurd (none-some a (sym (e.1 p refl) ∙ there))
+
+-- all that came from an arrival are messages, and they are served
+pub record AllServed (a : Arrival) : Type 0 where
+  pub ms : List (List ℕ)
+  pub messages : All IsMessage ms
+  pub bytes : a.bytes ≡ concat ms
+  pub served : a.served ≡ length ms
+
+-- the world follows its events: the arrivals of live members are live, and have nothing left to be served
+pub record Follows (c : ℕ) (v : World) (p : Part) : Type 0 where
+  pub at : At c v p
+  pub kept : IsKeptPart p
+  pub here : (n : ℕ) → is_live (state_of p) n ≡ true → (a : Arrival) × (arrival p n ≡ Some a) × (a.live ≡ true)
+  pub idle : (n : ℕ) (a : Arrival) → arrival p n ≡ Some a → AllServed a
+
+kept_by : (p q : Part) (s : Step) → IsKeptPart p → (offer (Some p) s).part ≡ Some q → IsKeptPart q
+kept_by p q s k is = subst KeptIn is (offer_kept (Some p) s k)
+
+-- what an event makes of a part that follows
+abbrev Goes : ℕ → World → Part → Event → Type 0
+Goes c v p e = (q : Part) × Follows c (run v (steps_for c e)) q × (q.config ≡ p.config) × (q.events ≡ p.events ++ e ∷ [])
+
+-- who is live after an event that nobody joins by was live before
+was_live : (p : Part) (e : Event) (n : ℕ) → joins e ≡ 0 → is_live (next (state_of p) e) n ≡ true → is_live (state_of p) n ≡ true
+was_live p e n none h = by (live-before (state_of p) e n h)
+  where
+    by : (is_live (state_of p) n ≡ true) ⊎ ((joins e ≡ 1) × (n ≡ length (state_of p).members + 1)) → is_live (state_of p) n ≡ true
+    by (inl x) = x
+    by (inr x) = absurd (omega (arith, none, x.0))
+
+-- an act of the administrator
+goes_act : (c : ℕ) (v : World) (p : Part) (act : Act) → Follows c v p → IsLawful (state_of p) (event_of_act act) → length p.events < 1000000 →
+    Follows c (turn v (Admin c act)).world (with_events p (event_of_act act ∷ []))
+goes_act c v p act f lawful few =
+    let e : Event = event_of_act act in
+    let is : (offer (Some p) (Admin c act)).part ≡ Some (with_events p (event_of_act act ∷ [])) =
+      ap (λ (r : Option RoomRefusal). (world.admin p (event_of_act act) r).part) (accepted p (event_of_act act) (framed act) lawful few) in record {
+      at = moved c v p (with_events p (event_of_act act ∷ [])) (Admin c act) f.at refl is;
+      kept = kept_by p (with_events p (event_of_act act ∷ [])) (Admin c act) f.kept is;
+      here = λ n h. f.here n (was_live p (event_of_act act) n (none act) (sym (ap (λ (s : Conference). is_live s n) (state_more p.config p.events (event_of_act act))) ∙ h));
+      idle = f.idle;
+    }
+  where
+    framed : (act : Act) → IsWhole (event_of_act act)
+    framed (Act.Revoke request) = tt
+    framed Act.Close = tt
+
+    none : (act : Act) → joins (event_of_act act) ≡ 0
+    none (Act.Revoke request) = refl
+    none Act.Close = refl
+
+-- the arrivals of a list with one more
+get_more : (xs : List Arrival) (x : Arrival) (k : ℕ) (a : Arrival) → slice_get xs k ≡ Some a → slice_get (xs ++ x ∷ []) k ≡ Some a
+get_more [] x k a h = absurd (none-some a h)
+get_more (y ∷ xs) x zero a h = h
+get_more (y ∷ xs) x (suc k) a h = get_more xs x k a h
+
+get_last : (xs : List Arrival) (x : Arrival) → slice_get (xs ++ x ∷ []) (length xs) ≡ Some x
+get_last [] x = refl
+get_last (y ∷ xs) x = get_last xs x
+
+from_more : (xs : List Arrival) (x : Arrival) (k : ℕ) (b : Arrival) → slice_get (xs ++ x ∷ []) k ≡ Some b → (slice_get xs k ≡ Some b) ⊎ (b ≡ x)
+from_more [] x zero b h = inr (same x b h)
+  where
+    same : (x b : Arrival) → ◌≡◌ {A = Option Arrival} (Some x) (Some b) → b ≡ x
+    same x b e = cc
+from_more [] x (suc k) b h = absurd (none-some b h)
+from_more (y ∷ xs) x zero b h = inl h
+from_more (y ∷ xs) x (suc k) b h = from_more xs x k b h
+
+abbrev new : Arrival
+new = record { bytes = []; served = 0; live = true }
+
+new_idle : AllServed new
+new_idle = record { ms = []; messages = All-nil IsMessage; bytes = refl; served = refl }
+
+goes_join : (c : ℕ) (v : World) (p : Part) (user : ℕ) → Follows c v p → IsLawful (state_of p) (Join user) → length p.events < 1000000 →
+    Follows c (turn v (Attach c user)).world (joined p user)
+goes_join c v p user f lawful few =
+    let is : (offer (Some p) (Attach c user)).part ≡ Some (joined p user) =
+      ap (λ (r : Option RoomRefusal). (world.attach p user r).part) (accepted p (Join user) tt lawful few) in record {
+      at = moved c v p (joined p user) (Attach c user) f.at refl is;
+      kept = kept_by p (joined p user) (Attach c user) f.kept is;
+      here = λ n h. by n (live-before (state_of p) (Join user) n (sym (ap (λ (s : Conference). is_live s n) (state_more p.config p.events (Join user))) ∙ h));
+      idle = idle;
+    }
+  where
+    more : (n : ℕ) (a : Arrival) → arrival p n ≡ Some a → arrival (joined p user) n ≡ Some a
+    more zero a h = absurd (none-some a h)
+    more (suc k) a h = get_more p.arrivals new k a h
+
+    last : (n k : ℕ) → n ≡ k + 1 → length p.arrivals ≡ k → arrival (joined p user) n ≡ Some new
+    last zero k e h = absurd (omega (arith, e))
+    last (suc j) k e h = let same : j ≡ length p.arrivals = omega (arith, e, h) in ap (slice_get (p.arrivals ++ new ∷ [])) same ∙ get_last p.arrivals new
+
+    by : (n : ℕ) → (is_live (state_of p) n ≡ true) ⊎ ((joins (Join user) ≡ 1) × (n ≡ length (state_of p).members + 1)) →
+        (a : Arrival) × (arrival (joined p user) n ≡ Some a) × (a.live ≡ true)
+    by n (inl h) = let found = f.here n h in (found.0, more n found.0 found.1, found.2)
+    by n (inr h) = (new, last n (length (state_of p).members) h.1 (Rattle.floor_hub.proofs.Keeping.members_of p f.kept), refl)
+
+    idle : (n : ℕ) (a : Arrival) → arrival (joined p user) n ≡ Some a → AllServed a
+    idle zero a h = absurd (none-some a h)
+    idle (suc k) a h = elim (from_more p.arrivals new k a h) [ inl there ↦ f.idle (suc k) a there | inr is ↦ subst AllServed (sym is) new_idle ]
+
+-- whoever leaves isn't live
+gone_from : (n : ℕ) (ms : List Member) → is_some (member_with (map (leaving n) ms) n) ≡ false
+gone_from n [] = refl
+gone_from n (m ∷ ms) = by (m.n == n) refl (gone_from n ms)
+  where
+    by : (t : Bool) → (m.n == n) ≡ t → is_some (member_with (map (leaving n) ms) n) ≡ false →
+        is_some (member_with (cond t (record m { is_live = false }) m ∷ map (leaving n) ms) n) ≡ false
+    by true e h = rw e h
+    by false e h = rw e h
+
+gone_next : (s : Conference) (n : ℕ) → is_live (next s (Leaves n)) n ≡ false
+unfolding next change
+gone_next s n = gone_from n s.members
+
+-- the arrivals of a part are the same, whatever its events
+arrival_events : (p : Part) (es : List Event) (n : ℕ) → arrival (with_events p es) n ≡ arrival p n
+arrival_events p es zero = refl
+arrival_events p es (suc k) = refl
+
+abbrev dead : Arrival → Arrival
+dead a = record { bytes = a.bytes; served = a.served; live = false }
+
+abbrev gone : Part → ℕ → Arrival → List Event → Part
+gone p n a es = with_arrival (with_events p es) n (dead a)
+
+goes_leave : (c : ℕ) (v : World) (p : Part) (n : ℕ) (a : Arrival) → Follows c v p → IsLawful (state_of p) (Leaves n) → length p.events < 1000000 →
+    arrival p n ≡ Some a → a.live ≡ true → Follows c (turn v (Leave n)).world (gone p n a (Leaves n ∷ []))
+goes_leave c v p n a f lawful few there live =
+    let left : world.left p n ≡ Leaves n ∷ [] = left_is p n ∙ leaves (state_of p).is_open (is_full p) lawful.0 (unfull (length p.events) few) in
+    let is : (offer (Some p) (Leave n)).part ≡ Some (gone p n a (Leaves n ∷ [])) =
+      ap (λ (x : Option Arrival). (world.leave p n x).part) (there_live (arrival p n) a there live)
+      ∙ ap (λ (es : List Event). Some (gone p n a es)) left in record {
+      at = moved c v p (gone p n a (Leaves n ∷ [])) (Leave n) f.at (ap (aim Leave) (placed c v p n a f.at there)) is;
+      kept = kept_by p (gone p n a (Leaves n ∷ [])) (Leave n) f.kept is;
+      here = λ m h. here m (m == n) refl (sym (ap (λ (s : Conference). is_live s m) (state_more p.config p.events (Leaves n))) ∙ h);
+      idle = λ m b h. idle m b (set_from (with_events p (Leaves n ∷ [])) n m a b (dead a) (arrival_events p (Leaves n ∷ []) n ∙ there) h);
+    }
+  where
+    leaves : (x y : Bool) → x ≡ true → y ≡ false → (if x && not y then Leaves n ∷ [] else []) ≡ Leaves n ∷ []
+    leaves true false e g = refl
+    leaves true true e g = cc
+    leaves false y e g = cc
+
+    here : (m : ℕ) (t : Bool) → (m == n) ≡ t → is_live (next (state_of p) (Leaves n)) m ≡ true →
+        (b : Arrival) × (arrival (gone p n a (Leaves n ∷ [])) m ≡ Some b) × (b.live ≡ true)
+    here m true e h = absurd (never (sym (gone_next (state_of p) n) ∙ ap (is_live (next (state_of p) (Leaves n))) (sym (eqb-true m n e)) ∙ h))
+      where
+        never : false ≡ true → ⊥
+        never x = cc
+    here m false e h =
+        let found = f.here m (was_live p (Leaves n) m refl h) in
+        (found.0, arrival_set_other (with_events p (Leaves n ∷ [])) n m (dead a) (eqb-false m n e) ∙ arrival_events p (Leaves n ∷ []) m ∙ found.1, found.2)
+
+    idle : (m : ℕ) (b : Arrival) → IsSetFrom (with_events p (Leaves n ∷ [])) n (dead a) m b → AllServed b
+    idle m b (inl h) =
+        let was = f.idle n a there in
+        subst AllServed (sym h.1) (record { ms = was.ms; messages = was.messages; bytes = was.bytes; served = was.served })
+    idle m b (inr h) = f.idle m b (sym (arrival_events p (Leaves n ∷ []) m) ∙ h.1)
+
+concat_more : (ms : List (List ℕ)) (m : List ℕ) → concat ms ++ m ≡ concat (ms ++ m ∷ [])
+concat_more [] m = sym (append-nil m)
+concat_more (x ∷ ms) m = append_assoc x (concat ms) m ∙ ap (λ (s : List ℕ). x ++ s) (concat_more ms m)
+
+get_next : (ms more : List (List ℕ)) (m : List ℕ) → slice_get ((ms ++ m ∷ []) ++ more) (length ms) ≡ Some m
+get_next [] more m = refl
+get_next (x ∷ ms) more m = get_next ms more m
+
+all_more : (ms : List (List ℕ)) (m : List ℕ) → All IsMessage ms → IsMessage m → All IsMessage (ms ++ m ∷ [])
+all_more ms m h g = All-append IsMessage ms (m ∷ []) h (All-cons IsMessage m [] g (All-nil IsMessage))
+
+-- a message that comes when all are served is next
+next_unserved : (a : Arrival) (m : List ℕ) (live : Bool) → AllServed a → IsMessage m → unserved (record { bytes = a.bytes ++ m; served = a.served; live = live }) ≡ Some m
+next_unserved a m live idle framed =
+    ap (λ (s : List ℕ). slice_get (messages s) a.served) (ap (λ (s : List ℕ). s ++ m) idle.bytes ∙ concat_more idle.ms m ∙ sym (append-nil (concat (idle.ms ++ m ∷ []))))
+    ∙ ap (λ (ns : List (List ℕ)). slice_get ns a.served) (messages-concat (idle.ms ++ m ∷ []) [] (all_more idle.ms m idle.messages framed))
+    ∙ ap (slice_get ((idle.ms ++ m ∷ []) ++ messages [])) idle.served
+    ∙ get_next idle.ms (messages []) m
+
+module _ (c : ℕ) (v : World) (p : Part) (n : ℕ) (m : List ℕ) (a : Arrival) (f : Follows c v p) (lawful : IsLawful (state_of p) (Message n m)) (few : length p.events < 1000000)
+    (there : arrival p n ≡ Some a) (live : a.live ≡ true) where
+  -- the arrival when the message has come, and when it is served
+  abbrev come : Arrival
+  come = record { bytes = a.bytes ++ m; served = a.served; live = a.live }
+
+  abbrev done : Arrival
+  done = record { bytes = a.bytes ++ m; served = a.served + 1; live = a.live }
+
+  abbrev first : Part
+  first = with_arrival p n come
+
+  abbrev behind : Part
+  behind = with_events first (Message n m ∷ [])
+
+  abbrev last : Part
+  last = with_arrival behind n done
+
+  piece_is : (offer (Some p) (Piece n m)).part ≡ Some first
+  piece_is = ap (λ (x : Option Arrival). (world.piece p n m x).part) (there_live (arrival p n) a there live)
+
+  come_there : arrival first n ≡ Some come
+  come_there = arrival_set p n come a there
+
+  serve_is : (offer (Some first) (Serve n)).part ≡ Some last
+  serve_is =
+      ap (λ (x : Option Arrival). (world.serve first n x).part) (there_live (arrival first n) come come_there live)
+      ∙ ap (λ (x : Bool). (if not x then world.refuses (Some first) (ByRoom (ByMachine Ended)) else world.serve_message first n come (unserved come)).part) lawful.0
+      ∙ ap (λ (x : Option (List ℕ)). (world.serve_message first n come x).part) (next_unserved a m a.live (f.idle n a there) lawful.2)
+      ∙ ap (λ (x : Bool). (if x then world.refuses (Some first) (ByRoom JournalFull) else record { part = Some last; answer = Served }).part) (unfull (length p.events) few)
+
+  at_first : At c (turn v (Piece n m)).world first
+  at_first = moved c v p first (Piece n m) f.at (ap (aim (λ i. Piece i m)) (placed c v p n a f.at there)) piece_is
+
+  at_last : At c (turn (turn v (Piece n m)).world (Serve n)).world last
+  at_last = moved c (turn v (Piece n m)).world first last (Serve n) at_first (ap (aim Serve) (placed c (turn v (Piece n m)).world first n come at_first come_there)) serve_is
+
+  others : (k : ℕ) → k ≢ n → arrival last k ≡ arrival p k
+  others k ne = arrival_set_other behind n k done ne ∙ arrival_events first (Message n m ∷ []) k ∙ arrival_set_other p n k come ne
+
+  own : arrival last n ≡ Some done
+  own = arrival_set behind n done come (arrival_events first (Message n m ∷ []) n ∙ come_there)
+
+  here_at : (k : ℕ) (t : Bool) → (k == n) ≡ t → is_live (state_of p) k ≡ true → (b : Arrival) × (arrival last k ≡ Some b) × (b.live ≡ true)
+  here_at k true e h = (done, ap (arrival last) (eqb-true k n e) ∙ own, live)
+  here_at k false e h = let found = f.here k h in (found.0, others k (eqb-false k n e) ∙ found.1, found.2)
+
+  done_idle : AllServed done
+  done_idle =
+      let was = f.idle n a there in
+      record {
+        ms = was.ms ++ m ∷ [];
+        messages = all_more was.ms m was.messages lawful.2;
+        bytes = ap (λ (s : List ℕ). s ++ m) was.bytes ∙ concat_more was.ms m;
+        served = omega (arith, was.served, length-append was.ms (m ∷ []));
+      }
+
+  idle_at : (k : ℕ) (b : Arrival) (t : Bool) → (k == n) ≡ t → arrival last k ≡ Some b → AllServed b
+  idle_at k b true e h = subst AllServed (same done b (sym own ∙ ap (arrival last) (sym (eqb-true k n e)) ∙ h)) done_idle
+    where
+      same : (x y : Arrival) → ◌≡◌ {A = Option Arrival} (Some x) (Some y) → x ≡ y
+      same x y i = cc
+  idle_at k b false e h = f.idle k b (sym (others k (eqb-false k n e)) ∙ h)
+
+  goes_message : Follows c (turn (turn v (Piece n m)).world (Serve n)).world last
+  goes_message = record {
+    at = at_last;
+    kept = kept_by first last (Serve n) (kept_by p first (Piece n m) f.kept piece_is) serve_is;
+    here = λ k h. here_at k (k == n) refl (was_live p (Message n m) k refl (sym (ap (λ (s : Conference). is_live s k) (state_more p.config p.events (Message n m))) ∙ h));
+    idle = λ k b h. idle_at k b (k == n) refl h;
+  }
+
+goes : (c : ℕ) (v : World) (p : Part) (e : Event) → Follows c v p → IsLawful (state_of p) e → length p.events < 1000000 → Goes c v p e
+goes c v p (Join user) f lawful few = (joined p user, goes_join c v p user f lawful few, refl, refl)
+goes c v p (Message n m) f lawful few =
+    let found = f.here n lawful.1 in
+    (last c v p n m found.0 f lawful few found.1 found.2, goes_message c v p n m found.0 f lawful few found.1 found.2, refl, refl)
+goes c v p (Leaves n) f lawful few =
+    let found = f.here n lawful.1 in
+    (gone p n found.0 (Leaves n ∷ []), goes_leave c v p n found.0 f lawful few found.1 found.2, refl, refl)
+goes c v p (Revoke request) f lawful few = (with_events p (Revoke request ∷ []), goes_act c v p (Act.Revoke request) f lawful few, refl, refl)
+goes c v p Close f lawful few = (with_events p (Close ∷ []), goes_act c v p Act.Close f lawful few, refl, refl)
+
+-- the world has under c the part with these events more
+abbrev Ends : ℕ → World → Part → List Event → Type 0
+Ends c v p es = (q : Part) × (v.parts c ≡ Some q) × (q.config ≡ p.config) × (q.events ≡ p.events ++ es)
+
+follow : (c : ℕ) (v : World) (p : Part) (es : List Event) → Follows c v p → IsLawfulFrom (state_of p) es → length p.events + length es ≤ 1000000 →
+    Ends c (run v (flat_map (steps_for c) es)) p es
+follow c v p [] f lawful few = (p, f.at.is, refl, sym (append-nil p.events))
+follow c v p (e ∷ es) f lawful few =
+    let one : Goes c v p e = goes c v p e f lawful.0 (omega (arith, few)) in
+    let q : Part = one.0 in
+    let state : state_of one.0 ≡ next (state_of p) e =
+      ap (λ (x : Configuration). after x one.0.events) one.2 ∙ ap (after p.config) one.3 ∙ state_more p.config p.events e in
+    let rest : Ends c (run (run v (steps_for c e)) (flat_map (steps_for c) es)) one.0 es =
+      follow c (run v (steps_for c e)) one.0 es one.1 (subst (λ (s : Conference). IsLawfulFrom s es) (sym state) lawful.1)
+      (omega (arith, few, ap length one.3, length-append p.events (e ∷ []))) in
+    (rest.0, ap (λ (w : World). w.parts c) (run_append v (steps_for c e) (flat_map (steps_for c) es)) ∙ rest.1, rest.2 ∙ one.2,
+      rest.3 ∙ ap (λ (xs : List Event). xs ++ es) one.3 ∙ append_assoc p.events (e ∷ []) es)
+
+starts : (config : Configuration) → Follows config.conference (turn nothing (Open config)).world (opened config)
+starts config = record {
+  at = record {
+    is = update_here (λ c. None) config.conference (Some (opened config));
+    same = record { part = refl; places = sym (ap (λ (z : Option Part). solo config.conference (arrivals_in z)) (update_here (λ c. None) config.conference (Some (opened config)))) };
+  };
+  kept = opened_kept config;
+  here = λ n h. cc;
+  idle = λ n a h. absurd (none n a h);
+}
+  where
+    none : (n : ℕ) (a : Arrival) → arrival (opened config) n ≡ Some a → ⊥
+    none zero a h = none-some a h
+    none (suc k) a h = none-some a h
+
+ran : (config : Configuration) (es : List Event) → IsJournal config es → Ends config.conference (run nothing (steps_of config es)) (opened config) es
+ran config es j = follow config.conference (turn nothing (Open config)).world (opened config) es (starts config) j.lawful (omega (arith, j.count))
+
+pub journals_are_events : JournalsAreEvents
+journals_are_events config es j = let end = ran config es j in ap events_in end.1 ∙ end.3
+
+pub journals_are_opened : JournalsAreOpened
+journals_are_opened config es j = let end = ran config es j in ap (option_map (λ p. p.config)) end.1 ∙ ap Some end.2

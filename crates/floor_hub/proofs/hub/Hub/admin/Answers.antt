@@ -1,0 +1,49 @@
+use Rattle.floor_hub.proofs.Acting.{acted}
+use Rattle.floor_hub.proofs.RoomSteps.{event-room}
+use Rattle.std.proofs.Common.{◌≡◌, ◌⊎◌, refl, sym, subst}
+use Rattle.std.specs.Prelude.{MatchResult}
+use Rattle.floor_machine.specs.declared.machine.Refusal.TheVariants.{Memory, Broken}
+use Rattle.floor_machine.specs.Machine.{event_of_act}
+use Rattle.floor_room.specs.declared.refusal.RoomRefusal.TheVariants.{Refused as ByMachine}
+use Rattle.floor_hub.specs.declared.refusal.HubRefusal.{HubRefusal}
+use Rattle.floor_hub.specs.declared.refusal.HubRefusal.TheVariants.{ByRoom}
+use Rattle.floor_hub.specs.declared.step.Step.TheVariants.{Admin}
+use Rattle.floor_hub.specs.declared.step.Answer.TheVariants.{Done}
+use Rattle.floor_hub.specs.Connections.{connection_at}
+use Rattle.floor_hub.specs.Hub.{Hub, room_at}
+use Rattle.floor_hub.specs.Rooms.{by_broken, OneRoom, refusal_in}
+use Rattle.floor_hub.specs.StandsFor.{StandsFor}
+use Rattle.floor_hub.specs.Steps.{Fails, Turns}
+use Rattle.floor_hub.specs.World.{World}
+use Rattle.floor_hub.proofs.Closing.{ended, good, stood}
+use Rattle.floor_hub.proofs.hub.Hub.admin.Goals as goal
+
+abbrev old : goal.After-admin_at → Hub
+old c = record { rooms = c.self.inside.rooms.entries; connections = c.self.inside.connections; arrivals = c.self.inside.arrivals }
+
+abbrev new : goal.After-admin_at → Hub
+new c = record { rooms = c.admin_at.new.rooms.entries; connections = c.self.inside.connections; arrivals = c.self.inside.arrivals }
+
+abbrev Want : HubRefusal → Type 0
+Want r = (r ≡ ByRoom (ByMachine Memory)) ⊎ (r ≡ ByRoom (ByMachine Broken))
+
+turns : (c : goal.After-admin_at) (w : World) → StandsFor (old c) w → MatchResult c.admin_at.result (λ v. Turns (new c) w (Admin c.args.conference c.args.act) (Done)) (λ r. Fails (new c) w (Admin c.args.conference c.args.act) r)
+turns c w st =
+    let g = good (old c) w st in
+    ended (new c) w w (Admin c.args.conference c.args.act) Want (λ v. Done) tt g g c.admin_at.result
+    (acted (room_at (old c)) (room_at (new c)) (connection_at c.self.inside.connections) c.self.inside.arrivals w c.args.conference c.args.act st.stands
+    c.admin_at.result (room_at (old c) c.args.conference) refl c.admin_at.ensures.absent
+    (λ r is. let t = c.admin_at.ensures.rooms r is in (t.0, t.1.1, t.1.2, t.2, t.3)))
+
+pub invariant_of-self : goal.invariant_of-self
+invariant_of-self c =
+    let w = c.self.invariant.0 in
+    stood (new c) w w (Admin c.args.conference c.args.act) Want (λ v. Done) c.admin_at.result (turns c w c.self.invariant.1)
+
+pub returns-clause-next : goal.returns-clause-next
+returns-clause-next c = λ w st. turns c w (subst (λ h. StandsFor h w) (sym c.self.view_is) st)
+
+pub returns-clause-room : goal.returns-clause-room
+returns-clause-room c = subst (λ h. OneRoom by_broken (refusal_in c.admin_at.result) c.args.conference h (new c)) c.self.view_is
+    (event-room c.args.conference (event_of_act c.args.act) (old c) (new c) c.admin_at.result (room_at (old c) c.args.conference) refl c.admin_at.ensures.absent
+    (λ r is. let t = c.admin_at.ensures.rooms r is in (t.0, t.1.1, t.1.2, t.2, t.3)))

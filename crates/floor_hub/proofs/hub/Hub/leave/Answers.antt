@@ -1,0 +1,48 @@
+use Rattle.floor_hub.proofs.Departing.{leave_result}
+use Rattle.floor_hub.proofs.RoomSteps.{leave-room}
+use Rattle.std.proofs.Common.{◌≡◌, refl, sym, subst}
+use Rattle.std.specs.Prelude.{MatchResult}
+use Rattle.floor_machine.specs.declared.machine.Refusal.TheVariants.{Memory}
+use Rattle.floor_room.specs.declared.refusal.RoomRefusal.TheVariants.{Refused as ByMachine}
+use Rattle.floor_hub.specs.declared.refusal.HubRefusal.{HubRefusal}
+use Rattle.floor_hub.specs.declared.refusal.HubRefusal.TheVariants.{ByRoom}
+use Rattle.floor_hub.specs.declared.step.Step.TheVariants.{Leave}
+use Rattle.floor_hub.specs.declared.step.Answer.TheVariants.{Done}
+use Rattle.floor_hub.specs.Connections.{connection_at}
+use Rattle.floor_hub.specs.Hub.{Hub, room_at}
+use Rattle.floor_hub.specs.Rooms.{RoomOf, refusal_in}
+use Rattle.floor_hub.specs.StandsFor.{StandsFor}
+use Rattle.floor_hub.specs.Steps.{FailsGone, Turns}
+use Rattle.floor_hub.specs.World.{World, turn}
+use Rattle.floor_hub.proofs.Closing.{ended, good, good_next, stood}
+use Rattle.floor_hub.proofs.hub.Hub.leave.Goals as goal
+
+abbrev old : goal.After-leave_at → Hub
+old c = record { rooms = c.self.inside.rooms.entries; connections = c.self.inside.connections; arrivals = c.self.inside.arrivals }
+
+abbrev new : goal.After-leave_at → Hub
+new c = record { rooms = c.leave_at.new.rooms.entries; connections = c.leave_at.new.connections; arrivals = c.self.inside.arrivals }
+
+abbrev Want : HubRefusal → Type 0
+Want r = r ≡ ByRoom (ByMachine Memory)
+
+turns : (c : goal.After-leave_at) (w : World) → StandsFor (old c) w → MatchResult c.leave_at.result (λ v. Turns (new c) w (Leave c.args.number) (Done)) (λ r. FailsGone (new c) w (Leave c.args.number) r)
+turns c w st =
+    let g = good (old c) w st in
+    ended (new c) w (turn w (Leave c.args.number)).world (Leave c.args.number) Want (λ v. Done) tt g (good_next w (Leave c.args.number) tt g) c.leave_at.result
+    (leave_result (room_at (old c)) (room_at (new c)) (connection_at c.self.inside.connections) (connection_at c.leave_at.new.connections) c.self.inside.arrivals w c.args.number st.stands st.kept
+    c.leave_at.result (connection_at c.self.inside.connections c.args.number) refl c.leave_at.ensures.absent
+    (λ x is. let t = c.leave_at.ensures.gone x is in (t.here, t.others)) c.leave_at.ensures.there)
+
+pub invariant_of-self : goal.invariant_of-self
+invariant_of-self c =
+    let w = c.self.invariant.0 in
+    stood (new c) w (turn w (Leave c.args.number)).world (Leave c.args.number) Want (λ v. Done) c.leave_at.result (turns c w c.self.invariant.1)
+
+pub returns-clause-next : goal.returns-clause-next
+returns-clause-next c = λ w st. turns c w (subst (λ h. StandsFor h w) (sym c.self.view_is) st)
+
+pub returns-clause-room : goal.returns-clause-room
+returns-clause-room c = subst (λ h. RoomOf Rattle.std.proofs.Common.None (refusal_in c.leave_at.result) (connection_at h.connections c.args.number) h (new c)) c.self.view_is
+    (leave-room c.args.number (old c) (new c) c.self.invariant.0 c.self.invariant.1 c.leave_at.result (connection_at c.self.inside.connections c.args.number) refl c.leave_at.ensures.absent refl
+    c.leave_at.ensures.there)

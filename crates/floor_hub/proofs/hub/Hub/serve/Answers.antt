@@ -1,0 +1,50 @@
+use Rattle.floor_hub.proofs.Attending.{serve_result}
+use Rattle.floor_hub.proofs.RoomSteps.{serve-room}
+use Rattle.std.proofs.Common.{◌≡◌, ◌⊎◌, ℕ, List, refl, sym, subst}
+use Rattle.std.specs.Prelude.{Result, Ok, Err, MatchResult, nat_eq}
+use Rattle.std.specs.Map.{lookup}
+use Rattle.floor_machine.specs.declared.machine.Refusal.TheVariants.{Memory, Broken}
+use Rattle.floor_machine.specs.Machine.{event_of_act}
+use Rattle.floor_room.specs.declared.refusal.RoomRefusal.TheVariants.{Refused as ByMachine}
+use Rattle.floor_hub.specs.declared.refusal.HubRefusal.{HubRefusal}
+use Rattle.floor_hub.specs.declared.refusal.HubRefusal.TheVariants.{ByRoom, Memory as NoMemory}
+use Rattle.floor_hub.specs.declared.step.Step.TheVariants.{Admin, Attach, Leave, Open, Piece, Serve}
+use Rattle.floor_hub.specs.declared.step.Answer.TheVariants.{Attached, Done}
+use Rattle.floor_hub.specs.Connections.{connection_at}
+use Rattle.floor_hub.specs.Hub.{Hub, room_at}
+use Rattle.floor_hub.specs.Rooms.{by_broken, OneRoom, RoomOf, refusal_in}
+use Rattle.floor_hub.specs.StandsFor.{StandsFor}
+use Rattle.floor_hub.specs.Steps.{Fails, FailsGone, FailsSame, Turns, answer_of}
+use Rattle.floor_hub.specs.World.{World, turn}
+use Rattle.floor_hub.proofs.Closing.{ended, good, good_next, stands_good, stood}
+use Rattle.floor_hub.proofs.hub.Hub.serve.Goals as goal
+
+abbrev old : goal.After-serve → Hub
+old c = record { rooms = c.self.inside.rooms.entries; connections = c.self.inside.connections; arrivals = c.self.inside.arrivals }
+
+abbrev new : goal.After-serve → Hub
+new c = record { rooms = c.serve.new.rooms.entries; connections = c.serve.new.self; arrivals = c.self.inside.arrivals }
+
+abbrev Want : HubRefusal → Type 0
+Want r = (r ≡ ByRoom (ByMachine Memory)) ⊎ (r ≡ ByRoom (ByMachine Broken))
+
+turns : (c : goal.After-serve) (w : World) → StandsFor (old c) w → MatchResult c.serve.result (λ v. Turns (new c) w (Serve c.args.number) (answer_of v)) (λ r. Fails (new c) w (Serve c.args.number) r)
+turns c w st =
+    let g = good (old c) w st in
+    ended (new c) w w (Serve c.args.number) Want (λ v. answer_of v) tt g g c.serve.result
+    (serve_result (room_at (old c)) (room_at (new c)) (connection_at c.self.inside.connections) (connection_at c.serve.new.self) c.self.inside.arrivals w c.args.number st.stands st.kept
+    c.serve.result (connection_at c.self.inside.connections c.args.number) refl c.serve.ensures.absent
+    (λ x is r room. let t = c.serve.ensures.there x is r room in (t.0, t.1, t.2.1, t.2.2, t.3.here, t.3.others, t.4)))
+
+pub invariant_of-self : goal.invariant_of-self
+invariant_of-self c =
+    let w = c.self.invariant.0 in
+    stood (new c) w w (Serve c.args.number) Want (λ v. answer_of v) c.serve.result (turns c w c.self.invariant.1)
+
+pub returns-clause-next : goal.returns-clause-next
+returns-clause-next c = λ w st. turns c w (subst (λ h. StandsFor h w) (sym c.self.view_is) st)
+
+pub returns-clause-room : goal.returns-clause-room
+returns-clause-room c = subst (λ h. RoomOf by_broken (refusal_in c.serve.result) (connection_at h.connections c.args.number) h (new c)) c.self.view_is
+    (serve-room c.args.number (old c) (new c) c.self.invariant.0 c.self.invariant.1 c.serve.result (connection_at c.self.inside.connections c.args.number) refl c.serve.ensures.absent refl
+    (λ x is r room. let t = c.serve.ensures.there x is r room in (t.0, t.1, t.2.1, t.2.2, t.4)))

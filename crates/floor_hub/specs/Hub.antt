@@ -1,0 +1,15 @@
+-- A hub, as contracts see it.
+use Rattle.std.specs.Prelude.{ℕ, List, nat_eq, Option}
+use Rattle.std.specs.Map.{lookup}
+use Rattle.floor_room.specs.Room.{Room}
+use Rattle.floor_hub.specs.Connections.{Connections}
+
+-- the rooms by conference; the live connections by number; and how many arrivals there were
+pub record Hub : Type 0 where
+  pub rooms : List (ℕ × Room)
+  pub connections : Connections
+  pub arrivals : ℕ
+
+-- the room of a conference
+abbrev pub room_at : Hub → ℕ → Option Room
+room_at h c = lookup (nat_eq c) h.rooms

@@ -1,0 +1,11 @@
+pub mod Connections
+pub mod Names
+pub mod Hub
+pub mod World
+pub mod Kept
+pub mod StandsFor
+pub mod Steps
+pub mod Rooms
+pub mod Runs
+pub mod Laws
+pub mod Examples

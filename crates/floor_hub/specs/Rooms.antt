@@ -1,0 +1,101 @@
+-- What a call of the hub has done to the rooms.
+use Rattle.std.specs.Prelude.{◌≡◌, ◌⊎◌, ℕ, ◌+◌, List, [], ◌∷◌, ◌++◌, ◌||◌, nat_eq, Bool, true, false, Option, Some, None, Result, Ok, Err}
+use Rattle.floor_config.specs.Configuration.{Configuration}
+use Rattle.floor_machine.specs.declared.event.Event.{Event}
+use Rattle.floor_machine.specs.Parcel.{Parcel}
+use Rattle.floor_machine.specs.declared.machine.Refusal.TheVariants.{Broken, Ended, NoMember, NoUser, Full, NoRequest, Memory}
+use Rattle.floor_room.specs.declared.refusal.RoomRefusal.TheVariants.{JournalFull, Refused as ByMachine}
+use Rattle.floor_room.specs.Outbox.{Outbox}
+use Rattle.floor_room.specs.Room.{Room, new_room}
+use Rattle.floor_room.specs.Taking.{Gave}
+use Rattle.floor_hub.specs.declared.refusal.HubRefusal.{HubRefusal}
+use Rattle.floor_hub.specs.declared.refusal.HubRefusal.TheVariants.{NoConference, NoConnection, Used, ByRoom, Memory as NoMemory}
+use Rattle.floor_hub.specs.declared.connection.Connection.{Connection}
+use Rattle.floor_hub.specs.Connections.{SameConnections, connection_at}
+use Rattle.floor_hub.specs.Hub.{Hub, room_at}
+
+-- nothing has changed
+pub record SameHub (old new : Hub) : Type 0 where
+  pub rooms : (c : ℕ) → room_at new c ≡ room_at old c
+  pub connections : SameConnections old.connections new.connections
+  pub arrivals : new.arrivals ≡ old.arrivals
+
+-- the refusal of a call, if it was refused
+abbrev pub refusal_in : {T : Type 0} → Result T HubRefusal → Option HubRefusal
+refusal_in (Ok v) = None
+refusal_in (Err r) = Some r
+
+-- a room met want of memory
+abbrev pub is_want : Option HubRefusal → Bool
+is_want (Some (ByRoom (ByMachine Memory))) = true
+is_want (Some (ByRoom (ByMachine Broken))) = false
+is_want (Some (ByRoom (ByMachine Ended))) = false
+is_want (Some (ByRoom (ByMachine NoMember))) = false
+is_want (Some (ByRoom (ByMachine NoUser))) = false
+is_want (Some (ByRoom (ByMachine Full))) = false
+is_want (Some (ByRoom (ByMachine NoRequest))) = false
+is_want (Some (ByRoom JournalFull)) = false
+is_want (Some NoConference) = false
+is_want (Some NoConnection) = false
+is_want (Some Used) = false
+is_want (Some NoMemory) = false
+is_want None = false
+
+-- the call was told that the room is broken
+abbrev pub is_told : Option HubRefusal → Bool
+is_told (Some (ByRoom (ByMachine Broken))) = true
+is_told (Some (ByRoom (ByMachine Memory))) = false
+is_told (Some (ByRoom (ByMachine Ended))) = false
+is_told (Some (ByRoom (ByMachine NoMember))) = false
+is_told (Some (ByRoom (ByMachine NoUser))) = false
+is_told (Some (ByRoom (ByMachine Full))) = false
+is_told (Some (ByRoom (ByMachine NoRequest))) = false
+is_told (Some (ByRoom JournalFull)) = false
+is_told (Some NoConference) = false
+is_told (Some NoConnection) = false
+is_told (Some Used) = false
+is_told (Some NoMemory) = false
+is_told None = false
+
+-- what a broken room answers
+abbrev pub by_broken : Option HubRefusal
+by_broken = Some (ByRoom (ByMachine Broken))
+
+-- what waited goes on to wait, and nothing was taken; who is new has had nothing taken
+abbrev pub QueuesMore : List Outbox → List Outbox → Type 0
+QueuesMore [] [] = Unit {0}
+QueuesMore [] (p ∷ ps) = (p.taken ≡ 0) × QueuesMore [] ps
+QueuesMore (o ∷ os) [] = ⊥
+QueuesMore (o ∷ os) (p ∷ ps) = (p.taken ≡ o.taken) × ((more : List Parcel) × (p.held ≡ o.held ++ more)) × QueuesMore os ps
+
+-- at most this one event has come to a journal
+abbrev pub HasOneMore : List Event → List Event → Type 0
+HasOneMore old new = (new ≡ old) ⊎ ((e : Event) × (new ≡ old ++ e ∷ []))
+
+-- A room after a call that was refused by why, if at all. Want of memory alone breaks it off, and for good. A broken room is left as it is and answers so, and no other room does.
+pub record RoomAfter (shut_by why : Option HubRefusal) (old new : Room) : Type 0 where
+  pub broken : new.ledger.is_broken ≡ (old.ledger.is_broken || is_want why)
+  pub shut : old.ledger.is_broken ≡ true → (why ≡ shut_by) × (new ≡ old)
+  pub told : is_told why ≡ true → old.ledger.is_broken ≡ true
+  pub journal : HasOneMore old.ledger.journal new.ledger.journal
+  pub outboxes : QueuesMore old.outboxes new.outboxes
+
+abbrev pub RoomAfterIn : Option HubRefusal → Option HubRefusal → Option Room → Option Room → Type 0
+RoomAfterIn shut_by why None new = (new ≡ None) × (is_want why ≡ false) × (is_told why ≡ false)
+RoomAfterIn shut_by why (Some r) None = ⊥
+RoomAfterIn shut_by why (Some r) (Some s) = RoomAfter shut_by why r s
+
+-- The call was for this conference's room: every other is as it was.
+pub record OneRoom (shut_by why : Option HubRefusal) (c : ℕ) (old new : Hub) : Type 0 where
+  pub others : (d : ℕ) → nat_eq c d ≡ false → room_at new d ≡ room_at old d
+  pub own : RoomAfterIn shut_by why (room_at old c) (room_at new c)
+
+-- The call was for this connection's room; without a connection nothing has changed.
+abbrev pub RoomOf : Option HubRefusal → Option HubRefusal → Option Connection → Hub → Hub → Type 0
+RoomOf shut_by why None old new = SameHub old new × (is_want why ≡ false) × (is_told why ≡ false)
+RoomOf shut_by why (Some x) old new = OneRoom shut_by why x.conference old new
+
+-- the conference has a room now, and the others are as they were
+pub record Opens (config : Configuration) (old new : Hub) : Type 0 where
+  pub room : room_at new config.conference ≡ Some (new_room config)
+  pub others : (d : ℕ) → nat_eq config.conference d ≡ false → room_at new d ≡ room_at old d

@@ -1,0 +1,307 @@
+//! All conferences at once: their rooms and their connections.
+
+ghost use Rattle.std.specs.Prelude.{false, [], ◌≡◌, ◌+◌, ℕ, Ok, Err, nat_eq, length, IfErr, IsErr, MatchResult, Option, Result, OnErr, OnOk, None, Some};
+ghost use Rattle.indexmap.specs.IndexMap.{Updates, get};
+ghost use Rattle.floor_machine.specs.declared.event.Event.TheVariants.{Join};
+ghost use Rattle.floor_machine.specs.Parcel.{Parcel};
+ghost use Rattle.floor_room.specs.Calls.{Took};
+ghost use Rattle.floor_room.specs.Status.{IsStatus};
+ghost use Rattle.floor_room.specs.Taking.{Gave};
+ghost use Rattle.floor_room.specs.declared.outbox.NoMember.{NoMember};
+ghost use Rattle.floor_room.specs.declared.refusal.RoomRefusal.{RoomRefusal};
+ghost use Rattle.floor_room.specs.Ledger.{conference_of};
+ghost use Rattle.floor_room.specs.Room.{Room as Kept};
+ghost use Rattle.floor_hub.specs.Connections.{Puts, SameConnections, connection_at};
+ghost use Rattle.floor_hub.specs.Hub.{room_at};
+ghost use Rattle.floor_hub.specs.Rooms.{OneRoom, Opens, RoomOf, SameHub, by_broken, refusal_in};
+ghost use Rattle.floor_hub.specs.StandsFor.{StandsFor};
+ghost use Rattle.floor_hub.specs.Steps.{AttachFailsIn, Fails, FailsGone, FailsSame, LeaveFailsIn, LeavesIn, Turns, answer_of};
+ghost use Rattle.floor_hub.specs.World.{World, nothing};
+ghost use Rattle.floor_hub.specs.declared.step.Step.TheVariants.{Admin, Attach, Leave, Open, Piece, Serve};
+ghost use Rattle.floor_hub.specs.declared.step.Answer.TheVariants.{Attached, Done};
+
+use crate::connection::{ConnNo, Connection};
+use crate::connections::Connections;
+use crate::refusal::HubRefusal;
+use crate::rooms::{admin_at, break_at, join_at, leave_room, open_at};
+use crate::step::Served;
+use floor_room::{Act, Config, NoMember, Parcel, Refusal, Room, RoomRefusal, Status};
+use floor_wire::Framer;
+use indexmap::IndexMap;
+use std::alloc::Global;
+use std::marker::Model;
+
+/// All conferences. A conference is found by its number, a connection by its own; nothing that a
+/// call does grows with the other conferences or connections.
+///
+/// - Conferences: `open`, `admin`, `status`.
+/// - Connections: `attach`, then `piece` and `serve` as bytes come, `take` as they are sent, and
+///   `leave` at the end.
+///
+/// A refused call changes nothing. Want of memory does so in `open` and `piece`, too; in `attach`,
+/// `serve`, `leave` and `admin` it breaks that one conference's room off, and no other.
+#[derive(Drop)]
+pub struct Hub {
+    rooms: IndexMap<u32, Room>,
+    connections: Connections,
+    arrivals: u64,
+}
+
+impl Model for Hub {
+    ghost use Rattle.floor_hub.specs.Hub.{Hub};
+
+    ghost Value = { Hub };
+
+    ghost use Rattle.floor_hub.specs.StandsFor.{Stood};
+
+    ghost view = { λ h. record {
+        rooms = h.rooms.entries;
+        connections = h.connections;
+        arrivals = h.arrivals;
+    } };
+
+    ghost invariant = { λ h. Stood record {
+        rooms = h.rooms.entries;
+        connections = h.connections;
+        arrivals = h.arrivals;
+    } };
+}
+
+impl Hub {
+    /// No conference, and no connection. Takes no memory.
+    pub fn new(alloc: Global) -> Self
+        ensures value { StandsFor result nothing }
+    {
+        Hub {
+            rooms: IndexMap::new(alloc),
+            connections: Connections::new(alloc),
+            arrivals: 0,
+        }
+    }
+
+    /// Opens a conference. Refused by `Used` where its number is or was in use. After `Memory`
+    /// nothing has changed.
+    pub fn open(&mut self, alloc: Global, config: Config) -> Result<(), HubRefusal>
+        ensures next { (w : World) → StandsFor self.old w → MatchResult result
+            (λ _. Turns self.new w (Open config) Done)
+            (λ r. FailsSame self.new w (Open config) r) }
+        ensures took { OnOk result (Opens config self.old self.new) }
+        ensures left { OnErr result (SameHub self.old self.new) }
+    {
+        open_at(alloc, &mut self.rooms, config)
+    }
+
+    /// Attaches a connection of a user to a conference, and gives its number. Refused by
+    /// `NoConference`, else as the conference's room refuses the join: `Broken`, `Ended`,
+    /// `JournalFull`, `NoUser`, `Full`. After a `Memory` no connection was made, and the room is
+    /// broken off.
+    pub fn attach(
+        &mut self,
+        alloc: Global,
+        conference: u32,
+        user: u16,
+    ) -> Result<ConnNo, HubRefusal>
+        ensures next { (w : World) → StandsFor self.old w → MatchResult result
+            (λ number. Turns self.new w (Attach conference user) (Attached number))
+            (λ r. Fails self.new w (Attach conference user) r) }
+        ensures room { OneRoom by_broken (refusal_in result) conference self.old self.new }
+    {
+        let number = self.arrivals + 1;
+        let joined = attach_at(
+            alloc,
+            &mut self.rooms,
+            &mut self.connections,
+            number,
+            conference,
+            user,
+        );
+        match joined {
+            Ok(()) => {
+                self.arrivals = number;
+                Ok(number)
+            }
+            Err(refusal) => Err(refusal),
+        }
+    }
+
+    /// Takes bytes that came from a connection. Refused by `NoConnection`. After `Memory` nothing
+    /// has changed.
+    pub fn piece(&mut self, number: ConnNo, bytes: &[u8]) -> Result<(), HubRefusal>
+        ensures next { (w : World) → StandsFor self.old w → MatchResult result
+            (λ _. Turns self.new w (Piece number bytes.now) Done)
+            (λ r. FailsSame self.new w (Piece number bytes.now) r) }
+        ensures rooms { (c : ℕ) → room_at self.new c ≡ room_at self.old c }
+        ensures left { OnErr result (SameHub self.old self.new) }
+    {
+        self.connections.push(number, bytes)
+    }
+
+    /// Serves the next message of a connection, if one is whole. Refused by `NoConnection`, then by
+    /// `Broken` and `Ended`, and where a message is whole by `JournalFull`. After a `Memory` the
+    /// conference's room is broken off.
+    pub fn serve(&mut self, number: ConnNo) -> Result<Served, HubRefusal>
+        ensures next { (w : World) → StandsFor self.old w → MatchResult result
+            (λ found. Turns self.new w (Serve number) (answer_of found))
+            (λ r. Fails self.new w (Serve number) r) }
+        ensures room { RoomOf by_broken (refusal_in result)
+            (connection_at self.old.connections number) self.old self.new }
+    {
+        self.connections.serve(&mut self.rooms, number)
+    }
+
+    /// Ends a connection, and tells its conference. Refused by `NoConnection` alone: where the room
+    /// is broken off or ended, or its journal full, the connection ends all the same. So it does
+    /// where memory is refused, by which the room is broken off.
+    pub fn leave(&mut self, number: ConnNo) -> Result<(), HubRefusal>
+        ensures next { (w : World) → StandsFor self.old w → MatchResult result
+            (λ _. Turns self.new w (Leave number) Done)
+            (λ r. FailsGone self.new w (Leave number) r) }
+        ensures room { RoomOf None (refusal_in result)
+            (connection_at self.old.connections number) self.old self.new }
+    {
+        leave_at(&mut self.rooms, &mut self.connections, number)
+    }
+
+    /// Does what the administrator of a conference does. Refused by `NoConference`, else as the
+    /// room refuses it: `Broken`, `Ended`, `JournalFull`, `NoRequest`. After a `Memory` the room is
+    /// broken off.
+    pub fn admin(&mut self, conference: u32, act: Act) -> Result<(), HubRefusal>
+        ensures next { (w : World) → StandsFor self.old w → MatchResult result
+            (λ _. Turns self.new w (Admin conference act) Done)
+            (λ r. Fails self.new w (Admin conference act) r) }
+        ensures room { OneRoom by_broken (refusal_in result) conference self.old self.new }
+    {
+        admin_at(&mut self.rooms, conference, act)
+    }
+
+    /// How the room of a conference stands. Refused by `NoConference`. Takes no memory.
+    pub fn status(&self, conference: u32) -> Result<Status, HubRefusal>
+        ensures no_conference { room_at self.now conference ≡ None
+            → result ≡ Err HubRefusal.NoConference }
+        ensures found { (r : Kept) → room_at self.now conference ≡ Some r
+            → MatchResult result (IsStatus r.ledger) (λ _. ⊥) }
+    {
+        match self.rooms.get(&conference) {
+            Some(room) => Ok(room.status()),
+            None => Err(HubRefusal::NoConference),
+        }
+    }
+
+    /// Takes the first parcel that waits for a connection. Refused by `NoConnection`. Takes no
+    /// memory.
+    pub fn take(&mut self, number: ConnNo) -> Result<Option<Parcel>, HubRefusal>
+        ensures no_connection { connection_at self.old.connections number ≡ None
+            → result ≡ Err HubRefusal.NoConnection }
+        ensures given { (x : Connection) → connection_at self.old.connections number ≡ Some x
+            → (r : Kept) → room_at self.old x.conference ≡ Some r
+            → (new : Kept) × (given : Result (Option Parcel) NoMember)
+                × (room_at self.new x.conference ≡ Some new)
+                × ((d : ℕ) → nat_eq x.conference d ≡ false → room_at self.new d ≡ room_at self.old d)
+                × Gave r new x.n given
+                × MatchResult given (λ p. result ≡ Ok p) (λ _. IsErr result) }
+        ensures stands { (w : World) → StandsFor self.old w → StandsFor self.new w }
+    {
+        take_at(&mut self.rooms, &self.connections, number)
+    }
+}
+
+/// Attaches a connection of a user under this number.
+fn attach_at(
+    alloc: Global,
+    rooms: &mut IndexMap<u32, Room>,
+    connections: &mut Connections,
+    number: ConnNo,
+    conference: u32,
+    user: u16,
+) -> Result<(), HubRefusal>
+    ensures absent { get nat_eq rooms.old conference ≡ None
+        → (result ≡ Err HubRefusal.NoConference)
+        × ((other : ℕ) → get nat_eq rooms.new other ≡ get nat_eq rooms.old other) }
+    ensures left { OnErr result (SameConnections connections.old connections.new) }
+    ensures rooms { (room : Kept) → get nat_eq rooms.old conference ≡ Some room
+        → (new : Kept) × (get nat_eq rooms.new conference ≡ Some new)
+            × ((d : ℕ) → nat_eq conference d ≡ false
+            → get nat_eq rooms.new d ≡ get nat_eq rooms.old d)
+            × OnOk result (Took room new (Join user)
+            × Puts connections.old connections.new number (Some record {
+            conference = conference;
+            n = length (conference_of room.ledger).members + 1;
+            held = []
+            }))
+            × IfErr result (λ r. (why : RoomRefusal) × (r ≡ HubRefusal.ByRoom why)
+            × AttachFailsIn room new user why) }
+{
+    match join_at(rooms, conference, user) {
+        Err(refusal) => Err(refusal),
+        Ok(n) => {
+            let connection = Connection {
+                conference,
+                n,
+                held: Framer::new(alloc),
+            };
+            match connections.insert(number, connection) {
+                Ok(_) => Ok(()),
+                Err(_) => {
+                    break_at(rooms, conference);
+                    Err(HubRefusal::ByRoom(RoomRefusal::Refused(Refusal::Memory)))
+                }
+            }
+        }
+    }
+}
+
+/// Takes the first parcel that waits for a connection.
+fn take_at(
+    rooms: &mut IndexMap<u32, Room>,
+    connections: &Connections,
+    number: ConnNo,
+) -> Result<Option<Parcel>, HubRefusal>
+    ensures absent { connection_at connections.now number ≡ None
+        → (result ≡ Err HubRefusal.NoConnection)
+        × ((other : ℕ) → get nat_eq rooms.new other ≡ get nat_eq rooms.old other) }
+    ensures there { (x : Connection) → connection_at connections.now number ≡ Some x
+        → (r : Kept) → get nat_eq rooms.old x.conference ≡ Some r
+        → (new : Kept) × (given : Result (Option Parcel) NoMember)
+            × Updates nat_eq rooms.old rooms.new x.conference (Some new)
+            × Gave r new x.n given
+            × MatchResult given (λ p. result ≡ Ok p) (λ _. IsErr result) }
+{
+    match connections.get(number) {
+        Some(connection) => match rooms.get_mut(&connection.conference) {
+            Some(room) => match room.take(connection.n) {
+                Ok(parcel) => Ok(parcel),
+                Err(_) => Err(HubRefusal::NoConnection),
+            },
+            None => Err(HubRefusal::NoConnection),
+        },
+        None => Err(HubRefusal::NoConnection),
+    }
+}
+
+/// Takes a connection out, and tells its room.
+fn leave_at(
+    rooms: &mut IndexMap<u32, Room>,
+    connections: &mut Connections,
+    number: ConnNo,
+) -> Result<(), HubRefusal>
+    ensures absent { connection_at connections.old number ≡ None
+        → (result ≡ Err HubRefusal.NoConnection)
+        × ((other : ℕ) → get nat_eq rooms.new other ≡ get nat_eq rooms.old other)
+        × SameConnections connections.old connections.new }
+    ensures gone { (x : Connection) → connection_at connections.old number ≡ Some x
+        → Puts connections.old connections.new number None }
+    ensures there { (x : Connection) → connection_at connections.old number ≡ Some x
+        → (r : Kept) → get nat_eq rooms.old x.conference ≡ Some r
+        → (new : Kept) × (get nat_eq rooms.new x.conference ≡ Some new)
+            × ((d : ℕ) → nat_eq x.conference d ≡ false
+            → get nat_eq rooms.new d ≡ get nat_eq rooms.old d)
+            × OnOk result (LeavesIn r new x.n)
+            × IfErr result (λ y. (why : RoomRefusal) × (y ≡ HubRefusal.ByRoom why)
+            × LeaveFailsIn r new x.n why) }
+{
+    match connections.remove(number) {
+        Some(connection) => leave_room(rooms, connection.conference, connection.n),
+        None => Err(HubRefusal::NoConnection),
+    }
+}
+

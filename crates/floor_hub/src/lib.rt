@@ -1,0 +1,26 @@
+//! All conferences at once: each step is for one of them, and the others don't notice it.
+//!
+//! It stands on the rooms of floor_room and on the framer of floor_wire, does no input or output,
+//! and waits for nothing. Whoever calls it binds each connection to a conference and a user.
+#![tactic(auto)]
+
+mod connection;
+mod connections;
+mod hub;
+mod laws;
+mod refusal;
+mod rooms;
+mod step;
+mod transcript;
+
+pub use connection::ConnNo;
+pub use floor_room::{Act, Config, Event, Frame, Parcel, Refusal, RoomRefusal, Status};
+pub use floor_wire::Octets;
+pub use hub::Hub;
+pub use laws::{
+    arrivals_fit, conference_alone, each_journal_is_run, headline, kept_worlds, step_adds,
+    two_worlds,
+};
+pub use refusal::HubRefusal;
+pub use step::{Answer, Served, Step};
+pub use transcript::{Answers, Queued, Queues, Transcript};

@@ -1,0 +1,37 @@
+//! Why a call of the hub is refused.
+
+ghost use Rattle.std.specs.Prelude.{◌≡◌};
+
+use floor_room::RoomRefusal;
+
+/// Why a call is refused. The first that applies is answered.
+#[derive(Clone, Copy, Debug, PartialEq, Eq)]
+pub enum HubRefusal {
+    /// A conference has the number, or had it.
+    Used,
+    /// No conference has the number.
+    NoConference,
+    /// No live connection has the number.
+    NoConnection,
+    /// Memory was refused, and nothing has changed.
+    Memory,
+    /// The conference's room refuses it. Where that is for want of memory, the room is broken off.
+    ByRoom(RoomRefusal),
+}
+
+impl HubRefusal {
+    ghost use Rattle.floor_hub.specs.Names.{name_of};
+
+    /// The name of the variant, or of the room's refusal that it wraps. Takes no memory.
+    pub fn name(&self) -> &'static str
+        ensures value { result.now ≡ name_of self.now }
+    {
+        match self {
+            HubRefusal::Used => "Used",
+            HubRefusal::NoConference => "NoConference",
+            HubRefusal::NoConnection => "NoConnection",
+            HubRefusal::Memory => "Memory",
+            HubRefusal::ByRoom(refusal) => refusal.name(),
+        }
+    }
+}

@@ -1,0 +1,200 @@
+//! The rooms of all conferences: each call is for one of them, and leaves the others.
+
+ghost use Rattle.std.specs.Prelude.{false, true, ◌≡◌, ◌≢◌, ◌⊎◌, ◌+◌, ◌≤◌, ℕ, Ok, Err, nat_eq, length, IfErr, IfOk, IfSome, MatchResult, OnErr, OnOk, None, Some};
+ghost use Rattle.indexmap.specs.IndexMap.{Updates, get};
+ghost use Rattle.floor_machine.specs.declared.event.Event.TheVariants.{Join};
+ghost use Rattle.floor_machine.specs.Machine.{event_of_act};
+ghost use Rattle.floor_room.specs.Calls.{Left, Took};
+ghost use Rattle.floor_room.specs.Ledger.{IsRefusedBy, conference_of, refusal};
+ghost use Rattle.floor_room.specs.Room.{Room as Kept, broken_room, new_room};
+ghost use Rattle.floor_room.specs.declared.refusal.RoomRefusal.{RoomRefusal};
+ghost use Rattle.floor_hub.specs.Steps.{LeaveFailsIn, IsServable, LeavesIn, ServedIn};
+
+use crate::refusal::HubRefusal;
+use crate::step::Served;
+use floor_room::{Act, Config, Refusal, Room, RoomRefusal};
+use floor_wire::Framer;
+use indexmap::IndexMap;
+use std::alloc::Global;
+
+/// Makes the room of a conference that opens.
+pub(crate) fn open_at(
+    alloc: Global,
+    rooms: &mut IndexMap<u32, Room>,
+    config: Config,
+) -> Result<(), HubRefusal>
+    ensures range { config.conference ≤ 4294967295 }
+    ensures done { MatchResult result
+        (λ _. (get nat_eq rooms.old config.conference ≡ None)
+            × (get nat_eq rooms.new config.conference ≡ Some (new_room config))
+            × ((d : ℕ) → nat_eq config.conference d ≡ false
+            → get nat_eq rooms.new d ≡ get nat_eq rooms.old d))
+        (λ r. (r ≡ HubRefusal.Memory) ⊎ ((r ≡ HubRefusal.Used)
+            × (get nat_eq rooms.old config.conference ≢ None))) }
+    ensures err { OnErr result ((other : ℕ) → get nat_eq rooms.new other
+        ≡ get nat_eq rooms.old other) }
+{
+    let conference = config.conference();
+    if rooms.contains_key(&conference) {
+        return Err(HubRefusal::Used);
+    }
+    match Room::new(alloc, config) {
+        Err(_) => Err(HubRefusal::Memory),
+        Ok(room) => match rooms.insert(conference, room) {
+            Ok(_) => Ok(()),
+            Err(_) => Err(HubRefusal::Memory),
+        },
+    }
+}
+
+/// Does an act in the room of a conference.
+pub(crate) fn admin_at(rooms: &mut IndexMap<u32, Room>, conference: u32, act: Act) -> Result<(), HubRefusal>
+    ensures absent { get nat_eq rooms.old conference ≡ None
+        → (result ≡ Err HubRefusal.NoConference)
+        × ((other : ℕ) → get nat_eq rooms.new other ≡ get nat_eq rooms.old other) }
+    ensures rooms { (room : Kept) → get nat_eq rooms.old conference ≡ Some room
+        → (new : Kept) × Updates nat_eq rooms.old rooms.new conference (Some new)
+        × OnOk result (Took room new (event_of_act act))
+        × IfErr result (λ r. (why : RoomRefusal) × (r ≡ HubRefusal.ByRoom why)
+        × IsRefusedBy {T = Unit {0}} (refusal room.ledger (event_of_act act)) (Err why)
+        × Left room new (event_of_act act) why) }
+{
+    match rooms.get_mut(&conference) {
+        Some(room) => match room.admin(act) {
+            Ok(()) => Ok(()),
+            Err(why) => Err(HubRefusal::ByRoom(why)),
+        },
+        None => Err(HubRefusal::NoConference),
+    }
+}
+
+/// Joins a user in the room of a conference.
+pub(crate) fn join_at(
+    rooms: &mut IndexMap<u32, Room>,
+    conference: u32,
+    user: u16,
+) -> Result<u32, HubRefusal>
+    ensures absent { get nat_eq rooms.old conference ≡ None
+        → (result ≡ Err HubRefusal.NoConference)
+        × ((other : ℕ) → get nat_eq rooms.new other ≡ get nat_eq rooms.old other) }
+    ensures rooms { (room : Kept) → get nat_eq rooms.old conference ≡ Some room
+        → (new : Kept) × Updates nat_eq rooms.old rooms.new conference (Some new)
+            × IfOk result (λ n. (n ≡ length (conference_of room.ledger).members + 1)
+            × Took room new (Join user))
+            × IfErr result (λ r. (why : RoomRefusal) × (r ≡ HubRefusal.ByRoom why)
+            × IsRefusedBy {T = Unit {0}} (refusal room.ledger (Join user)) (Err why)
+            × Left room new (Join user) why) }
+{
+    match rooms.get_mut(&conference) {
+        Some(room) => match room.join(user) {
+            Ok(n) => Ok(n),
+            Err(why) => Err(HubRefusal::ByRoom(why)),
+        },
+        None => Err(HubRefusal::NoConference),
+    }
+}
+
+/// Why a room is not served, also where no message is ready: it is broken or ended.
+fn shut(closed: Option<RoomRefusal>) -> Option<RoomRefusal>
+    ensures servable { result ≡ None → IsServable closed }
+    ensures why { IfSome result (λ why. closed ≡ Some why) }
+    ensures other { IfSome result (λ why. why ≢ RoomRefusal.JournalFull) }
+{
+    match closed {
+        None | Some(RoomRefusal::JournalFull) => None,
+        Some(why) => Some(why),
+    }
+}
+
+/// Serves the next message of a connection in its room.
+fn serve_in(room: &mut Room, n: u32, held: &mut Framer) -> Result<Served, HubRefusal>
+    ensures served { ServedIn room.old room.new n held.old held.new result }
+{
+    let closed = room.closed();
+    match shut(closed) {
+        None => {}
+        Some(why) => return Err(HubRefusal::ByRoom(why)),
+    }
+    if !held.ready() {
+        return Ok(Served::Nothing);
+    }
+    match closed {
+        None => {}
+        Some(why) => return Err(HubRefusal::ByRoom(why)),
+    }
+    match held.next() {
+        Err(_) => {
+            room.break_off();
+            Err(HubRefusal::ByRoom(RoomRefusal::Refused(Refusal::Memory)))
+        }
+        Ok(None) => Ok(Served::Nothing),
+        Ok(Some(frame)) => match room.serve(n, frame) {
+            Ok(_) => Ok(Served::Message),
+            Err(why) => Err(HubRefusal::ByRoom(why)),
+        },
+    }
+}
+
+/// Tells a room that n has left, unless it takes no event.
+fn leave_in(room: &mut Room, n: u32) -> Result<(), HubRefusal>
+    ensures done { OnOk result (LeavesIn room.old room.new n) }
+    ensures failed { IfErr result (λ r. (why : RoomRefusal) × (r ≡ HubRefusal.ByRoom why)
+        × LeaveFailsIn room.old room.new n why) }
+{
+    match room.closed() {
+        Some(_) => Ok(()),
+        None => match room.leave(n) {
+            Ok(()) => Ok(()),
+            Err(why) => Err(HubRefusal::ByRoom(why)),
+        },
+    }
+}
+
+/// Tells the room of a conference that n has left.
+pub(crate) fn leave_room(
+    rooms: &mut IndexMap<u32, Room>,
+    conference: u32,
+    n: u32,
+) -> Result<(), HubRefusal>
+    ensures rooms { (room : Kept) → get nat_eq rooms.old conference ≡ Some room
+        → (new : Kept) × (get nat_eq rooms.new conference ≡ Some new)
+            × ((d : ℕ) → nat_eq conference d ≡ false
+            → get nat_eq rooms.new d ≡ get nat_eq rooms.old d)
+            × OnOk result (LeavesIn room new n)
+            × IfErr result (λ r. (why : RoomRefusal) × (r ≡ HubRefusal.ByRoom why)
+            × LeaveFailsIn room new n why) }
+{
+    match rooms.get_mut(&conference) {
+        Some(room) => leave_in(room, n),
+        None => Ok(()),
+    }
+}
+
+/// Serves the next message of a connection in the room of its conference.
+pub(crate) fn serve_room(
+    rooms: &mut IndexMap<u32, Room>,
+    conference: u32,
+    n: u32,
+    held: &mut Framer,
+) -> Result<Served, HubRefusal>
+    ensures rooms { (room : Kept) → get nat_eq rooms.old conference ≡ Some room
+        → (new : Kept) × Updates nat_eq rooms.old rooms.new conference (Some new)
+            × ServedIn room new n held.old held.new result }
+{
+    match rooms.get_mut(&conference) {
+        Some(room) => serve_in(room, n, held),
+        None => Ok(Served::Nothing),
+    }
+}
+
+/// Breaks the room of a conference off.
+pub(crate) fn break_at(rooms: &mut IndexMap<u32, Room>, conference: u32)
+    ensures broken { (room : Kept) → get nat_eq rooms.old conference ≡ Some room
+        → Updates nat_eq rooms.old rooms.new conference
+            (Some (broken_room room)) }
+{
+    match rooms.get_mut(&conference) {
+        Some(room) => room.break_off(),
+        None => {}
+    }
+}

@@ -1,0 +1,46 @@
+//! Steps and their answers.
+
+use crate::refusal::HubRefusal;
+use floor_room::{Act, Config};
+use floor_wire::Octets;
+
+/// One call of the hub, as data.
+#[derive(Debug, Drop)]
+pub enum Step {
+    /// A conference opens.
+    Open(Config),
+    /// A connection of a user is attached to a conference.
+    Attach(u32, u16),
+    /// Bytes come from an arrival.
+    Piece(u64, Octets),
+    /// The next message of an arrival is served.
+    Serve(u64),
+    /// An arrival leaves.
+    Leave(u64),
+    /// The administrator of a conference acts.
+    Admin(u32, Act),
+}
+
+/// What a step was answered.
+#[derive(Clone, Copy, Debug, PartialEq, Eq)]
+pub enum Answer {
+    /// It was done.
+    Done,
+    /// A connection was attached, and has this number.
+    Attached(u64),
+    /// There was no whole message to serve.
+    Nothing,
+    /// A message was served.
+    Served,
+    /// It was refused.
+    Refused(HubRefusal),
+}
+
+/// What serving an arrival has found.
+#[derive(Clone, Copy, Debug, PartialEq, Eq)]
+pub enum Served {
+    /// No whole message.
+    Nothing,
+    /// A message, which was served.
+    Message,
+}
