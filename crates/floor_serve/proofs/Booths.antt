@@ -11,6 +11,7 @@ use Rattle.floor_machine.specs.Conference.{Conference, opening, is_live}
 use Rattle.floor_machine.specs.Change.{IsLawful, next}
 use Rattle.floor_machine.specs.Journal.{IsJournal, IsLawfulFrom, after, parcels_of, parcels_from, sent_to}
 use Rattle.floor_machine.proofs.Runs.{after_from-more, members-after}
+use Rattle.floor_machine.specs.Membership.{joins}
 use Rattle.floor_machine.proofs.Members as members
 use Rattle.floor_machine.specs.declared.machine.Refusal.TheVariants.{Broken, Ended, NoMember, NoUser, Full, NoRequest, Memory}
 use Rattle.floor_room.specs.declared.refusal.RoomRefusal.{RoomRefusal}
@@ -114,7 +115,7 @@ some-end (o ∷ os) more new h = some-end os more new h
 sender-end : (n : ℕ) (os more : List (Option Sender)) → AreNew more → 0 < length more → n ≡ length os + 1 → is_some (sender_of (os ++ more) n) ≡ true
 sender-end n os more new h e = subst (λ (k : ℕ). is_some (sender_of (os ++ more) k) ≡ true) (sym (e ∙ add-one (length os))) (some-end os more new h)
 
-length-joins : (e : Event) → members.joins e ≡ length (joined e)
+length-joins : (e : Event) → joins e ≡ length (joined e)
 length-joins (Join user) = refl
 length-joins (Message n bytes) = refl
 length-joins (Leave n) = refl
@@ -127,7 +128,7 @@ seated-more : (b : Booth) (e : Event) (put : List Parcel) (more : List (Option S
 seated-more b e put more n k o new same live =
     sender-fed put n (b.senders ++ more)
     (⊎_elim (λ (h : is_live (conference_of b.ledger) n ≡ true). sender-append n b.senders more (k.seated o.unbroken o.open_now n h))
-    (λ (h : (members.joins e ≡ 1) × (n ≡ length (conference_of b.ledger).members + 1)).
+    (λ (h : (joins e ≡ 1) × (n ≡ length (conference_of b.ledger).members + 1)).
     sender-end n b.senders more new (omega (arith, same, h.0, length-joins e)) (h.1 ∙ ap (λ (x : ℕ). x + 1) (sym k.members)))
     (members.live-before (conference_of b.ledger) e n live))
 
