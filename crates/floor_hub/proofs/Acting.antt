@@ -1,10 +1,9 @@
 -- An event that is no message of an arrival, in the room of one conference.
-use Rattle.std.proofs.Common.{◌≡◌, ◌≢◌, ◌⊎◌, inl, inr, ℕ, Bool, true, false, cond, List, [], ◌∷◌, ◌++◌, length, refl, sym, ◌∙◌, ap, subst, Some, None}
+use Rattle.std.proofs.Common.{◌≡◌, ◌≢◌, ◌⊎◌, inl, inr, ℕ, Bool, true, false, List, [], ◌∷◌, ◌++◌, length, refl, sym, ◌∙◌, ap, subst, Some, None}
 use Rattle.std.specs.Prelude.{Option, ◌==◌, nat_eq, if◌then◌else◌, Result, Ok, Err, OnOk, IfErr, MatchResult}
 use Rattle.std.specs.List.{concat}
 use Rattle.std.specs.Map.{update}
-use Rattle.std.proofs.lemmas.Bool.{eqb-true, eqb-false, eq-eqb, ne_eqb}
-use Rattle.std.proofs.lemmas.Option.{none-some}
+use Rattle.std.proofs.lemmas.Bool.{eqb-true, eqb-false, ne_eqb}
 use Rattle.std.proofs.lemmas.Map.{update_here, update_apart}
 use Rattle.floor_machine.specs.declared.event.Act.{Act}
 use Rattle.floor_machine.specs.declared.event.Event.{Event}
@@ -14,7 +13,7 @@ use Rattle.floor_machine.specs.Machine.{event_of_act}
 use Rattle.floor_room.specs.declared.refusal.RoomRefusal.{RoomRefusal}
 use Rattle.floor_room.specs.declared.refusal.RoomRefusal.TheVariants.{JournalFull, Refused as ByMachine}
 use Rattle.floor_room.specs.Room.{Room, broken_room}
-use Rattle.floor_room.specs.Ledger.{IsRefusedBy, closed, refusal}
+use Rattle.floor_room.specs.Ledger.{IsRefusedBy, refusal}
 use Rattle.floor_room.specs.Calls.{Began, Left, Took}
 use Rattle.floor_hub.specs.declared.refusal.HubRefusal.{HubRefusal}
 use Rattle.floor_hub.specs.declared.refusal.HubRefusal.TheVariants.{NoConference, ByRoom}
@@ -24,8 +23,8 @@ use Rattle.floor_hub.specs.declared.step.Answer.{Answer}
 use Rattle.floor_hub.specs.declared.step.Answer.TheVariants.{Done, Refused}
 use Rattle.floor_hub.specs.World as world
 use Rattle.floor_hub.specs.World.{World, Part, Arrival, messages_of, offer, put, ledger_of, refused, turn, with_events}
-use Rattle.floor_hub.specs.StandsFor.{arrival_in, RoomStands, Came, CameTo, Stands}
-use Rattle.floor_hub.proofs.Changed.{ChangesAt, stands_changed}
+use Rattle.floor_hub.specs.StandsFor.{arrival_in, RoomStands, CameTo, Stands}
+use Rattle.floor_hub.proofs.Changed.{stands_changed}
 
 -- the event is no message
 abbrev pub IsQuiet : Event → Type 0

@@ -1,6 +1,6 @@
 -- A connection that is attached.
-use Rattle.std.proofs.Common.{◌≡◌, ◌≢◌, ◌⊎◌, inl, inr, ℕ, zero, suc, ◌+◌, ◌<◌, ◌≤◌, Bool, true, false, cond, List, [], ◌∷◌, ◌++◌, length, refl, sym, ◌∙◌, ap, subst, arith, length-append, append-nil, Some, None}
-use Rattle.std.specs.Prelude.{Option, ◌==◌, ◌&&◌, is_some, slice_get, nat_eq, if◌then◌else◌, Result, Ok, Err, IfErr, OnOk, MatchResult}
+use Rattle.std.proofs.Common.{◌≡◌, ◌≢◌, ◌⊎◌, inl, inr, ℕ, zero, suc, ◌+◌, ◌<◌, ◌≤◌, Bool, true, false, List, [], ◌∷◌, ◌++◌, length, refl, sym, ◌∙◌, ap, subst, arith, length-append, append-nil, Some, None}
+use Rattle.std.specs.Prelude.{Option, ◌==◌, is_some, slice_get, nat_eq, if◌then◌else◌, Result, Ok, Err, IfErr, OnOk, MatchResult}
 use Rattle.std.specs.List.{concat}
 use Rattle.std.specs.Map.{update}
 use Rattle.std.proofs.lemmas.Bool.{eqb-true, eqb-false, ne_eqb}
@@ -177,7 +177,7 @@ module _ (rooms now : ℕ → Option Room) (xs now_xs : ℕ → Option Connectio
     silent =
         ap (messages_of x.n) journal ∙ messages-append x.n r.ledger.journal (Join user ∷ []) ∙ append-nil (messages_of x.n r.ledger.journal)
         ∙ messages_before (opening p.config) r.ledger.journal x.n refl lawful
-          (omega (arith, ap (λ c. length (after c r.ledger.journal).members) stands.0))
+        (omega (arith, ap (λ c. length (after c r.ledger.journal).members) stands.0))
 
     own : ArrivalStands now q (Some x) (if_live (arrival_in (parts c) q.n))
     own =
@@ -202,8 +202,8 @@ module _ (rooms now : ℕ → Option Room) (xs now_xs : ℕ → Option Connectio
         let same : o.conference ≡ c = eqb-true o.conference c e in
         let less : arrival (world.joined p user) o.n ≡ arrival p o.n = before o.n (within same) in
         let live : live_at parts o ≡ live_at w.parts o =
-          ap (λ (d : ℕ). if_live (arrival_in (parts d) o.n)) same ∙ ap (λ (z : Option Part). if_live (arrival_in z o.n)) part_here ∙ ap if_live less
-          ∙ sym (ap (λ (z : Option Part). if_live (arrival_in z o.n)) was) ∙ ap (λ (d : ℕ). if_live (arrival_in (w.parts d) o.n)) (sym same) in
+        ap (λ (d : ℕ). if_live (arrival_in (parts d) o.n)) same ∙ ap (λ (z : Option Part). if_live (arrival_in z o.n)) part_here ∙ ap if_live less
+        ∙ sym (ap (λ (z : Option Part). if_live (arrival_in z o.n)) was) ∙ ap (λ (d : ℕ). if_live (arrival_in (w.parts d) o.n)) (sym same) in
         subst (ArrivalStands now o y) (sym live) (keeps o same y (live_at w.parts o) h)
       where
         before : (i : ℕ) → i ≤ length p.arrivals → arrival (world.joined p user) i ≡ arrival p i
@@ -217,8 +217,11 @@ module _ (rooms now : ℕ → Option Room) (xs now_xs : ℕ → Option Connectio
         keeps o same None None h = tt
         keeps o same None (Some z) h = h
         keeps o same (Some y) None h = h
-        keeps o same (Some y) (Some z) h = (h.0, h.1,
-          subst (λ (u : Option Room). CameTo u y z) (sym (ap now same ∙ here)) (came_apart r new (Join user) y z sound journal refl (subst (λ (u : Option Room). CameTo u y z) (ap rooms same ∙ is) h.2)))
+        keeps o same (Some y) (Some z) h = (
+          h.0,
+          h.1,
+          subst (λ (u : Option Room). CameTo u y z) (sym (ap now same ∙ here)) (came_apart r new (Join user) y z sound journal refl (subst (λ (u : Option Room). CameTo u y z) (ap rooms same ∙ is) h.2)),
+        )
     other_arrival o ne within y false e h =
         let apart : o.conference ≢ c = eqb-false o.conference c e in
         let live : live_at parts o ≡ live_at w.parts o = ap (λ (z : Option Part). if_live (arrival_in z o.n)) (part_apart o.conference apart) in
@@ -362,15 +365,20 @@ module _ (rooms now : ℕ → Option Room) (xs now_xs : ℕ → Option Connectio
         where
           cases : (b : Bool) → r.ledger.is_broken ≡ b → ((d : ℕ) → now d ≡ rooms d) → refusal r.ledger (Join user) ≡ Some why → AttachFails (ByRoom why)
           cases true e same some =
-              inl (inr (by_room why (ByMachine Broken) (some_is why (ByMachine Broken) (sym some ∙ broken-refuses r (Join user) e))),
-                connections_again now xs now_xs k w same_xs (rooms_again rooms now xs k w w.parts same (λ d. refl) st))
+              inl (
+                inr (by_room why (ByMachine Broken) (some_is why (ByMachine Broken) (sym some ∙ broken-refuses r (Join user) e))),
+                connections_again now xs now_xs k w same_xs (rooms_again rooms now xs k w w.parts same (λ d. refl) st),
+              )
           cases false e same some = inr (refused_part r why (w.parts c) refl same same_xs e some (subst (λ (y : Option Room). RoomStands y (w.parts c)) is (st.of_rooms c)))
 
   attach_failed : (r new : Room) (why : RoomRefusal) → rooms c ≡ Some r → now c ≡ Some new → ((d : ℕ) → d ≢ c → now d ≡ rooms d) → ((j : ℕ) → now_xs j ≡ xs j) →
       AttachFailsIn r new user why → AttachFails (ByRoom why)
   attach_failed r new why is here others same_xs (inl f) = attach_refused r new why is here others same_xs f.0 f.1
-  attach_failed r new why is here others same_xs (inr f) = inl (inl (by_room why (ByMachine Memory) f.0), broken_off r new is here others same_xs (ap (λ (y : Room). y.ledger.is_broken) f.1.2)
-        (ap (λ (y : Room). y.ledger.config) f.1.2 ∙ ap (λ (y : Room). y.ledger.config) f.1.1.next))
+  attach_failed r new why is here others same_xs (inr f) = inl (
+    inl (by_room why (ByMachine Memory) f.0),
+    broken_off r new is here others same_xs (ap (λ (y : Room). y.ledger.is_broken) f.1.2)
+        (ap (λ (y : Room). y.ledger.config) f.1.2 ∙ ap (λ (y : Room). y.ledger.config) f.1.1.next),
+  )
 
   no_room : rooms c ≡ None → ((d : ℕ) → now d ≡ rooms d) → ((j : ℕ) → now_xs j ≡ xs j) → AttachIs k (Refused NoConference)
   no_room is same same_xs =
@@ -403,7 +411,7 @@ module _ (rooms now : ℕ → Option Room) (xs now_xs : ℕ → Option Connectio
       (rooms c ≡ None → (res ≡ Err NoConference) × ((d : ℕ) → now d ≡ rooms d)) →
       IfErr res (λ _. (j : ℕ) → now_xs j ≡ xs j) →
       ((r : Room) → rooms c ≡ Some r → (new : Room) × (now c ≡ Some new) × ((d : ℕ) → nat_eq c d ≡ false → now d ≡ rooms d) ×
-        OnOk res (Took r new (Join user) × OwnIs r) × IfErr res (AttachFailsAt r new)) →
+      OnOk res (Took r new (Join user) × OwnIs r) × IfErr res (AttachFailsAt r new)) →
       MatchResult res (λ _. AttachIs (k + 1) (Attached (k + 1))) AttachFails
   attach_result res None is absent same_xs there =
       let a = absent is in

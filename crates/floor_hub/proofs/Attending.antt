@@ -1,6 +1,6 @@
 -- A served message, and an arrival that leaves.
-use Rattle.std.proofs.Common.{◌≡◌, ◌≢◌, ◌⊎◌, inl, inr, ℕ, zero, suc, ◌+◌, ◌<◌, ◌≤◌, Bool, true, false, cond, List, [], ◌∷◌, ◌++◌, length, refl, sym, ◌∙◌, ap, subst, arith, length-append, append_assoc, append-nil, Some, None}
-use Rattle.std.specs.Prelude.{Option, not, nat_le, is_some, if◌then◌else◌, ◌==◌, nat_eq, All, Result, Ok, Err, IfOk, IfErr, OnOk, MatchResult}
+use Rattle.std.proofs.Common.{◌≡◌, ◌≢◌, ◌⊎◌, inl, inr, ℕ, ◌+◌, ◌<◌, Bool, true, false, cond, List, [], ◌∷◌, ◌++◌, length, refl, sym, ◌∙◌, ap, subst, arith, length-append, append_assoc, append-nil, Some, None}
+use Rattle.std.specs.Prelude.{Option, not, nat_le, if◌then◌else◌, ◌==◌, nat_eq, Result, Ok, Err, MatchResult}
 use Rattle.std.specs.List.{concat}
 use Rattle.std.specs.Option.{option_map}
 use Rattle.std.specs.Map.{update}
@@ -8,9 +8,9 @@ use Rattle.std.proofs.lemmas.Bool.{eqb-true, eqb-false, ne_eqb}
 use Rattle.std.proofs.lemmas.Bool.Decides.{nat_tests}
 use Rattle.std.proofs.lemmas.Option.{none-some}
 use Rattle.floor_config.specs.Configuration.{Configuration}
-use Rattle.floor_wire.specs.Message.{IsMessage, messages}
+use Rattle.floor_wire.specs.Message.{messages}
 use Rattle.floor_machine.specs.declared.event.Event.{Event}
-use Rattle.floor_machine.specs.declared.event.Event.TheVariants.{Join, Message, Leave as Leaves, Revoke, Close}
+use Rattle.floor_machine.specs.declared.event.Event.TheVariants.{Message}
 use Rattle.floor_machine.specs.declared.machine.Refusal.TheVariants.{Broken, Ended, NoMember, Memory}
 use Rattle.floor_machine.specs.Conference.{Conference, is_live, opening}
 use Rattle.floor_machine.specs.Journal.{IsLawfulFrom, after}
@@ -28,14 +28,14 @@ use Rattle.floor_hub.specs.declared.connection.Connection.{Connection}
 use Rattle.floor_hub.specs.declared.step.Served.{Served}
 use Rattle.floor_hub.specs.declared.step.Step.TheVariants.{Serve, Leave}
 use Rattle.floor_hub.specs.declared.step.Answer.{Answer}
-use Rattle.floor_hub.specs.declared.step.Answer.TheVariants.{Done, Nothing, Refused, Served as HasServed}
+use Rattle.floor_hub.specs.declared.step.Answer.TheVariants.{Nothing, Refused, Served as HasServed}
 use Rattle.floor_hub.specs.World as world
 use Rattle.floor_hub.specs.World.{World, Part, Arrival, Place, Offered, aim, arrival, if_live, messages_of, offer, place, put, ledger_of, state_of, turn, turn_at, unserved, with_arrival, with_events}
-use Rattle.floor_hub.specs.StandsFor.{arrival_in, RoomStands, Came, CameTo, ArrivalStands, Stands}
-use Rattle.floor_hub.specs.Steps.{IsServable, LeaveFailsIn, LeavesIn, ServeFailsIn, ServedIn, ServesIn, answer_of}
+use Rattle.floor_hub.specs.StandsFor.{RoomStands, CameTo, ArrivalStands, Stands}
+use Rattle.floor_hub.specs.Steps.{IsServable, ServeFailsIn, ServedIn, ServesIn, answer_of}
 use Rattle.floor_hub.specs.Kept.{IsKept, IsKeptPart, KeptIn}
-use Rattle.floor_hub.proofs.Changes.{Changes, changed}
-use Rattle.floor_hub.proofs.Here.{Here, RefusesHere, WantsLive, concat-append, gone, here, messages-append}
+use Rattle.floor_hub.proofs.Changes.{changed}
+use Rattle.floor_hub.proofs.Here.{Here, WantsLive, concat-append, gone, here, messages-append}
 use Rattle.floor_hub.proofs.Pieces.{arrival_set, arrival_set_other, stands_again}
 use Rattle.floor_hub.proofs.Changed.{connections_again, put_back, rooms_again}
 use Rattle.floor_hub.proofs.Unserved.{first, messages_are, unserved-held}
@@ -101,7 +101,7 @@ pub came_apart : (r new : Room) (e : Event) (y : Connection) (a : Arrival) → r
     CameTo (Some r) y a → CameTo (Some new) y a
 came_apart r new e y a sound journal none h = λ b.
     let same : messages_of y.n new.ledger.journal ≡ messages_of y.n r.ledger.journal =
-      ap (messages_of y.n) journal ∙ messages-append y.n r.ledger.journal (e ∷ []) ∙ ap (λ (ms : List (List ℕ)). messages_of y.n r.ledger.journal ++ ms) none ∙ append-nil (messages_of y.n r.ledger.journal) in
+    ap (messages_of y.n) journal ∙ messages-append y.n r.ledger.journal (e ∷ []) ∙ ap (λ (ms : List (List ℕ)). messages_of y.n r.ledger.journal ++ ms) none ∙ append-nil (messages_of y.n r.ledger.journal) in
     record {
       bytes = (h sound).bytes ∙ ap (λ (ms : List (List ℕ)). concat ms ++ y.held) (sym same);
       served = (h sound).served ∙ ap (λ (ms : List (List ℕ)). length ms) (sym same);
@@ -133,7 +133,7 @@ module _ (rooms now : ℕ → Option Room) (xs now_xs : ℕ → Option Connectio
   pub stands_broken : (rest : List ℕ) → now_xs number ≡ Some (record { conference = x.conference; n = x.n; held = rest }) → new.ledger.is_broken ≡ true → new.ledger.config ≡ h.r.ledger.config → Stands now now_xs k w
   stands_broken rest mine_now broken config =
       let own : ArrivalStands now h.p (Some (record { conference = x.conference; n = x.n; held = rest })) (Some h.a) =
-        (h.conference, h.n, subst (λ (y : Option Room). CameTo y (record { conference = x.conference; n = x.n; held = rest }) h.a) (sym now_here) (λ sound. absurd (true_false (sym broken ∙ sound)))) in
+      (h.conference, h.n, subst (λ (y : Option Room). CameTo y (record { conference = x.conference; n = x.n; held = rest }) h.a) (sym now_here) (λ sound. absurd (true_false (sym broken ∙ sound)))) in
       let made : Stands now now_xs k (record { parts = update nat_eq w.parts c (Some part); places = w.places }) = changed rooms now xs now_xs k w number h.p part part st (record {
         at_place = h.at_place;
         was = h.was;
@@ -203,7 +203,7 @@ module _ (rooms now : ℕ → Option Room) (xs now_xs : ℕ → Option Connectio
       let still : if_live (Some b) ≡ Some b = ap (λ (l : Bool). if l then Some b else None) h.live in
       let now_x : Connection = record { conference = x.conference; n = x.n; held = rest } in
       let mine_more : messages_of x.n new.ledger.journal ≡ messages_of x.n h.r.ledger.journal ++ frame ∷ [] =
-        ap (messages_of x.n) journal ∙ messages-append x.n h.r.ledger.journal (Message x.n frame ∷ []) ∙ ap (λ (ms : List (List ℕ)). messages_of x.n h.r.ledger.journal ++ ms) (mine x.n x.n frame refl) in
+      ap (messages_of x.n) journal ∙ messages-append x.n h.r.ledger.journal (Message x.n frame ∷ []) ∙ ap (λ (ms : List (List ℕ)). messages_of x.n h.r.ledger.journal ++ ms) (mine x.n x.n frame refl) in
       let came : CameTo (Some new) now_x b = λ e. record {
         bytes =
             (h.came sound).bytes ∙ ap (λ (y : List ℕ). concat (messages_of x.n h.r.ledger.journal) ++ y) cut
@@ -218,19 +218,21 @@ module _ (rooms now : ℕ → Option Room) (xs now_xs : ℕ → Option Connectio
       let own : ArrivalStands now h.p (Some now_x) (Some b) = (h.conference, h.n, subst (λ (y : Option Room). CameTo y now_x b) (sym now_here) came) in
       turned (record { part = Some after_part; answer = HasServed }) HasServed
       (serve_open (open_part sound room.open_now) (Some frame) un
-      ∙ ap (λ (f : Bool). if f then world.refuses (Some part) (ByRoom JournalFull) else record { part = Some after_part; answer = HasServed }) full)
-      (changed rooms now xs now_xs k w number h.p part after_part st (record {
-        at_place = h.at_place;
-        was = h.was;
-        other_rooms = other_rooms;
-        other_numbers = others;
-        other_arrivals = λ m ne. arrival_set_other (with_events part (Message n frame ∷ [])) n m b ne;
-        other_came = λ y a ne came. subst (λ (z : Option Room). CameTo z y a) (sym now_here)
-            (came_apart h.r new (Message x.n frame) y a sound journal (not_mine x.n y.n frame (λ e. ne (e ∙ h.n))) (subst (λ (z : Option Room). CameTo z y a) h.room came));
-        room = subst (λ (y : Option Room). RoomStands y (Some after_part)) (sym now_here)
-            (ap (λ (y : Room). y.ledger.config) t.next ∙ h.stands.0, λ e. journal ∙ ap (λ (i : ℕ). h.r.ledger.journal ++ Message i frame ∷ []) h.n ∙ ap (λ (es : List Event). es ++ Message n frame ∷ []) events);
-        own = subst (λ (y : Option Connection). ArrivalStands now h.p y (if_live (arrival after_part n))) (sym mine_now) (subst (ArrivalStands now h.p (Some now_x)) (sym (ap if_live set ∙ still)) own);
-      }), refl)
+      ∙ ap (λ (f : Bool). if f then world.refuses (Some part) (ByRoom JournalFull) else record { part = Some after_part; answer = HasServed }) full) (
+        changed rooms now xs now_xs k w number h.p part after_part st (record {
+          at_place = h.at_place;
+          was = h.was;
+          other_rooms = other_rooms;
+          other_numbers = others;
+          other_arrivals = λ m ne. arrival_set_other (with_events part (Message n frame ∷ [])) n m b ne;
+          other_came = λ y a ne came. subst (λ (z : Option Room). CameTo z y a) (sym now_here)
+              (came_apart h.r new (Message x.n frame) y a sound journal (not_mine x.n y.n frame (λ e. ne (e ∙ h.n))) (subst (λ (z : Option Room). CameTo z y a) h.room came));
+          room = subst (λ (y : Option Room). RoomStands y (Some after_part)) (sym now_here)
+              (ap (λ (y : Room). y.ledger.config) t.next ∙ h.stands.0, λ e. journal ∙ ap (λ (i : ℕ). h.r.ledger.journal ++ Message i frame ∷ []) h.n ∙ ap (λ (es : List Event). es ++ Message n frame ∷ []) events);
+          own = subst (λ (y : Option Connection). ArrivalStands now h.p y (if_live (arrival after_part n))) (sym mine_now) (subst (ArrivalStands now h.p (Some now_x)) (sym (ap if_live set ∙ still)) own);
+        }),
+        refl,
+      )
     where
       first_none : (y z : Option RoomRefusal) → first_of y z ≡ None → y ≡ None
       first_none None z e = refl
@@ -268,7 +270,7 @@ module _ (rooms now : ℕ → Option Room) (xs now_xs : ℕ → Option Connectio
           inr (turned (world.refuses (Some part) (ByRoom JournalFull)) (Refused (ByRoom why))
           (serve_open (open_part eb eo) (Some one.0) (next_held eb ∙ one.1)
           ∙ ap (λ (f : Bool). if f then world.refuses (Some part) (ByRoom JournalFull)
-            else record { part = Some (with_arrival (with_events part (Message n one.0 ∷ [])) n (record { bytes = h.a.bytes; served = h.a.served + 1; live = h.a.live })); answer = HasServed }) full)
+          else record { part = Some (with_arrival (with_events part (Message n one.0 ∷ [])) n (record { bytes = h.a.bytes; served = h.a.served + 1; live = h.a.live })); answer = HasServed }) full)
           (back, ap (λ (y : RoomRefusal). Refused (ByRoom y)) (sym (some_is JournalFull why e))))
       by false true false eb eo ef e = absurd (none-some why e)
 
@@ -319,14 +321,14 @@ module _ (rooms now : ℕ → Option Room) (xs now_xs : ℕ → Option Connectio
   pub serve_result : (res : Result Served HubRefusal) (y : Option Connection) → xs number ≡ y →
       (xs number ≡ None → (res ≡ Err NoConnection) × ((d : ℕ) → now d ≡ rooms d) × ((j : ℕ) → now_xs j ≡ xs j)) →
       ((x : Connection) → xs number ≡ Some x → (r : Room) → rooms x.conference ≡ Some r → (new : Room) × (rest : List ℕ) × (now x.conference ≡ Some new)
-        × ((d : ℕ) → nat_eq x.conference d ≡ false → now d ≡ rooms d) × (now_xs number ≡ Some (record { conference = x.conference; n = x.n; held = rest }))
-        × ((j : ℕ) → nat_eq number j ≡ false → now_xs j ≡ xs j) × ServedIn r new x.n x.held rest res) →
+      × ((d : ℕ) → nat_eq x.conference d ≡ false → now d ≡ rooms d) × (now_xs number ≡ Some (record { conference = x.conference; n = x.n; held = rest }))
+      × ((j : ℕ) → nat_eq number j ≡ false → now_xs j ≡ xs j) × ServedIn r new x.n x.held rest res) →
       MatchResult res (λ found. ServedAll (answer_of found)) ServeFailsAll
   serve_result res None is absent there =
       let a = absent is in
       let g = gone rooms xs k w Serve wants_serve number st is in
       let stands : Stands now now_xs k (turn w (Serve number)).world =
-        connections_again now xs now_xs k (turn w (Serve number)).world a.2 (rooms_again rooms now xs k (turn w (Serve number)).world (turn w (Serve number)).world.parts a.1 (λ d. refl) g.0) in
+      connections_again now xs now_xs k (turn w (Serve number)).world a.2 (rooms_again rooms now xs k (turn w (Serve number)).world (turn w (Serve number)).world.parts a.1 (λ d. refl) g.0) in
       subst (λ (z : Result Served HubRefusal). MatchResult z (λ found. ServedAll (answer_of found)) ServeFailsAll) (sym a.0) (inr (stands, g.1))
   serve_result res (Some x) is absent there =
       let h = here rooms xs k w number x st is in

@@ -1,20 +1,13 @@
 -- A step that changes one arrival, and its conference's events.
-use Rattle.std.proofs.Common.{◌≡◌, ◌≢◌, ◌⊎◌, inl, inr, ℕ, zero, suc, ◌+◌, ◌<◌, ◌≤◌, Bool, true, false, List, [], ◌∷◌, ◌++◌, length, refl, sym, ◌∙◌, ap, subst, arith, append_assoc, Some, None, rules}
-use Rattle.std.specs.Prelude.{Option, if◌then◌else◌, ◌==◌, slice_get, slice_set, nat_eq, map}
+use Rattle.std.proofs.Common.{◌≡◌, ◌≢◌, ℕ, Bool, true, false, refl, sym, ◌∙◌, ap, subst, Some, None}
+use Rattle.std.specs.Prelude.{Option, ◌==◌, nat_eq}
 use Rattle.std.specs.Map.{update}
 use Rattle.std.proofs.lemmas.Bool.{eqb-true, eqb-false}
-use Rattle.std.proofs.lemmas.Option.{none-some}
 use Rattle.std.proofs.lemmas.Map.{update_here, update_apart}
 use Rattle.floor_room.specs.Room.{Room}
-use Rattle.floor_hub.specs.declared.refusal.HubRefusal.TheVariants.{NoConnection}
-use Rattle.std.specs.List.{concat}
-use Rattle.floor_hub.specs.World.{messages_of}
 use Rattle.floor_hub.specs.declared.connection.Connection.{Connection}
-use Rattle.floor_hub.specs.declared.step.Step.TheVariants.{Piece}
-use Rattle.floor_hub.specs.declared.step.Answer.TheVariants.{Done, Refused}
-use Rattle.floor_hub.specs.World as world
-use Rattle.floor_hub.specs.World.{Part, Arrival, World, Place, place, arrival, if_live, turn, turn_at, put, offer, aim}
-use Rattle.floor_hub.specs.StandsFor.{arrival_in, live_at, RoomStands, Came, CameTo, ArrivalStands, NumberStands, Stands}
+use Rattle.floor_hub.specs.World.{Part, Arrival, World, Place, place, arrival, if_live}
+use Rattle.floor_hub.specs.StandsFor.{arrival_in, live_at, RoomStands, CameTo, ArrivalStands, NumberStands, Stands}
 
 same_place : (p q : Place) → q.conference ≡ p.conference → q.n ≡ p.n → q ≡ p
 same_place p q e f = ap (λ c. record { conference = c; n = q.n }) e ∙ ap (λ m. record { conference = p.conference; n = m }) f

@@ -1,20 +1,18 @@
 -- An arrival that leaves.
-use Rattle.std.proofs.Common.{◌≡◌, ◌≢◌, ◌⊎◌, inl, inr, ℕ, zero, suc, ◌+◌, Bool, true, false, cond, List, [], ◌∷◌, ◌++◌, length, refl, sym, ◌∙◌, ap, subst, append-nil, Some, None}
-use Rattle.std.specs.Prelude.{Option, is_some, if◌then◌else◌, ◌==◌, nat_eq, Result, Ok, Err, IfErr, OnOk, MatchResult}
+use Rattle.std.proofs.Common.{◌≡◌, ◌≢◌, ◌⊎◌, inl, inr, ℕ, true, false, List, [], ◌∷◌, ◌++◌, refl, sym, ◌∙◌, ap, subst, append-nil, Some, None}
+use Rattle.std.specs.Prelude.{Option, is_some, if◌then◌else◌, nat_eq, Result, Ok, Err, IfErr, OnOk, MatchResult}
 use Rattle.std.specs.Option.{option_map}
-use Rattle.std.specs.Map.{update}
 use Rattle.std.proofs.lemmas.Bool.{ne_eqb}
 use Rattle.std.proofs.lemmas.Option.{none-some}
 use Rattle.floor_machine.specs.declared.event.Event.{Event}
 use Rattle.floor_machine.specs.declared.event.Event.TheVariants.{Leave as Leaves}
-use Rattle.floor_machine.specs.declared.machine.Refusal.TheVariants.{Broken, Memory}
+use Rattle.floor_machine.specs.declared.machine.Refusal.TheVariants.{Memory}
 use Rattle.floor_machine.specs.Machine.{member_refusal, whole}
 use Rattle.floor_room.specs.declared.refusal.RoomRefusal.{RoomRefusal}
-use Rattle.floor_room.specs.declared.refusal.RoomRefusal.TheVariants.{JournalFull, Refused as ByMachine}
+use Rattle.floor_room.specs.declared.refusal.RoomRefusal.TheVariants.{Refused as ByMachine}
 use Rattle.floor_room.specs.Ledger.{conference_of}
 use Rattle.floor_room.specs.Room.{Room}
 use Rattle.floor_room.specs.Ledger.{closed, first_of, refusal}
-use Rattle.floor_room.specs.Calls.{Took}
 use Rattle.floor_room.proofs.Ledgers as adding
 use Rattle.floor_hub.specs.declared.refusal.HubRefusal.{HubRefusal}
 use Rattle.floor_hub.specs.declared.refusal.HubRefusal.TheVariants.{NoConnection, ByRoom}
@@ -27,7 +25,7 @@ use Rattle.floor_hub.specs.World.{World, Part, Arrival, Place, aim, arrival, if_
 use Rattle.floor_hub.specs.StandsFor.{RoomStands, CameTo, ArrivalStands, Stands}
 use Rattle.floor_hub.specs.Steps.{LeaveFailsIn, LeavesIn}
 use Rattle.floor_hub.specs.Kept.{IsKept}
-use Rattle.floor_hub.proofs.Changes.{Changes, changed}
+use Rattle.floor_hub.proofs.Changes.{changed}
 use Rattle.floor_hub.proofs.Here.{Here, gone, here}
 use Rattle.floor_hub.proofs.Pieces.{arrival_set, arrival_set_other}
 use Rattle.floor_hub.proofs.Changed.{connections_again, rooms_again}
@@ -60,16 +58,19 @@ module _ (rooms now : ℕ → Option Room) (xs now_xs : ℕ → Option Connectio
       let b : Arrival = record { bytes = h.a.bytes; served = h.a.served; live = false } in
       let after_part : Part = with_arrival (with_events part (world.left part n)) n b in
       let set : if_live (arrival after_part n) ≡ None = ap if_live (arrival_set (with_events part (world.left part n)) n b h.a h.there) in
-      subst (λ (u : world.Turn). Stands now now_xs k u.world × (u.answer ≡ Done)) (sym leave_turn) (changed rooms now xs now_xs k w number h.p part after_part st (record {
-        at_place = h.at_place;
-        was = h.was;
-        other_rooms = other_rooms;
-        other_numbers = others;
-        other_arrivals = λ m ne. arrival_set_other (with_events part (world.left part n)) n m b ne;
-        other_came = λ y a ne f. subst (λ (z : Option Room). CameTo z y a) (sym now_here) (came y a (subst (λ (z : Option Room). CameTo z y a) h.room f));
-        room = subst (λ (y : Option Room). RoomStands y (Some after_part)) (sym now_here) (config ∙ h.stands.0, journal);
-        own = subst (λ (y : Option Connection). ArrivalStands now h.p y (if_live (arrival after_part n))) (sym now_gone) (subst (ArrivalStands now h.p None) (sym set) tt);
-      }), refl)
+      subst (λ (u : world.Turn). Stands now now_xs k u.world × (u.answer ≡ Done)) (sym leave_turn) (
+        changed rooms now xs now_xs k w number h.p part after_part st (record {
+          at_place = h.at_place;
+          was = h.was;
+          other_rooms = other_rooms;
+          other_numbers = others;
+          other_arrivals = λ m ne. arrival_set_other (with_events part (world.left part n)) n m b ne;
+          other_came = λ y a ne f. subst (λ (z : Option Room). CameTo z y a) (sym now_here) (came y a (subst (λ (z : Option Room). CameTo z y a) h.room f));
+          room = subst (λ (y : Option Room). RoomStands y (Some after_part)) (sym now_here) (config ∙ h.stands.0, journal);
+          own = subst (λ (y : Option Connection). ArrivalStands now h.p y (if_live (arrival after_part n))) (sym now_gone) (subst (ArrivalStands now h.p None) (sym set) tt);
+        }),
+        refl,
+      )
 
   leaves_broken : new.ledger.is_broken ≡ true → new.ledger.config ≡ h.r.ledger.config → Turned Done
   leaves_broken broken config = leaves config (λ sound. absurd (true_false (sym broken ∙ sound))) (λ y a f sound. absurd (true_false (sym broken ∙ sound)))
@@ -85,10 +86,10 @@ module _ (rooms now : ℕ → Option Room) (xs now_xs : ℕ → Option Connectio
   done (inl f) =
       leaves (ap (λ (y : Room). y.ledger.config) f.1)
       (λ sound.
-        let was_sound : h.r.ledger.is_broken ≡ false = sym (ap (λ (y : Room). y.ledger.is_broken) f.1) ∙ sound in
-        let same : closed h.r.ledger ≡ closed (ledger_of part) = closed_part h.r part was_sound h.stands.0 (h.stands.1 was_sound) in
-        ap (λ (y : Room). y.ledger.journal) f.1 ∙ h.stands.1 was_sound ∙ sym (append-nil part.events)
-        ∙ ap (λ (es : List Event). part.events ++ es) (sym (left_when (closed h.r.ledger) (sym same) ∙ some_left (closed h.r.ledger) f.0)))
+      let was_sound : h.r.ledger.is_broken ≡ false = sym (ap (λ (y : Room). y.ledger.is_broken) f.1) ∙ sound in
+      let same : closed h.r.ledger ≡ closed (ledger_of part) = closed_part h.r part was_sound h.stands.0 (h.stands.1 was_sound) in
+      ap (λ (y : Room). y.ledger.journal) f.1 ∙ h.stands.1 was_sound ∙ sym (append-nil part.events)
+      ∙ ap (λ (es : List Event). part.events ++ es) (sym (left_when (closed h.r.ledger) (sym same) ∙ some_left (closed h.r.ledger) f.0)))
       (λ y a came. subst (λ (r : Room). CameTo (Some r) y a) (sym f.1) came)
   done (inr t) =
       let none : closed h.r.ledger ≡ None = first_none (closed h.r.ledger) (option_map ByMachine (member_refusal (whole (conference_of h.r.ledger)) x.n)) t.allowed in
@@ -97,8 +98,8 @@ module _ (rooms now : ℕ → Option Room) (xs now_xs : ℕ → Option Connectio
       let journal : new.ledger.journal ≡ h.r.ledger.journal ++ Leaves x.n ∷ [] = ap (λ (y : Room). y.ledger.journal) t.next in
       leaves (ap (λ (y : Room). y.ledger.config) t.next)
       (λ e.
-        journal ∙ ap (λ (i : ℕ). h.r.ledger.journal ++ Leaves i ∷ []) h.n ∙ ap (λ (es : List Event). es ++ Leaves n ∷ []) (h.stands.1 sound)
-        ∙ ap (λ (es : List Event). part.events ++ es) (sym (left_when None (sym same ∙ none))))
+      journal ∙ ap (λ (i : ℕ). h.r.ledger.journal ++ Leaves i ∷ []) h.n ∙ ap (λ (es : List Event). es ++ Leaves n ∷ []) (h.stands.1 sound)
+      ∙ ap (λ (es : List Event). part.events ++ es) (sym (left_when None (sym same ∙ none))))
       (λ y a came. came_apart h.r new (Leaves x.n) y a sound journal refl came)
     where
       first_none : (y z : Option RoomRefusal) → first_of y z ≡ None → y ≡ None
@@ -132,14 +133,14 @@ module _ (rooms now : ℕ → Option Room) (xs now_xs : ℕ → Option Connectio
       (xs number ≡ None → (res ≡ Err NoConnection) × ((d : ℕ) → now d ≡ rooms d) × ((j : ℕ) → now_xs j ≡ xs j)) →
       ((x : Connection) → xs number ≡ Some x → (now_xs number ≡ None) × ((j : ℕ) → nat_eq number j ≡ false → now_xs j ≡ xs j)) →
       ((x : Connection) → xs number ≡ Some x → (r : Room) → rooms x.conference ≡ Some r → (new : Room) × (now x.conference ≡ Some new)
-        × ((d : ℕ) → nat_eq x.conference d ≡ false → now d ≡ rooms d) × OnOk res (LeavesIn r new x.n)
-        × IfErr res (λ y. (why : RoomRefusal) × (y ≡ ByRoom why) × LeaveFailsIn r new x.n why)) →
+      × ((d : ℕ) → nat_eq x.conference d ≡ false → now d ≡ rooms d) × OnOk res (LeavesIn r new x.n)
+      × IfErr res (λ y. (why : RoomRefusal) × (y ≡ ByRoom why) × LeaveFailsIn r new x.n why)) →
       MatchResult res (λ _. LeftAll Done) LeaveFailsAll
   leave_result res None is absent went there =
       let a = absent is in
       let g = gone rooms xs k w Leave wants_leave number st is in
       let stands : Stands now now_xs k (turn w (Leave number)).world =
-        connections_again now xs now_xs k (turn w (Leave number)).world a.2 (rooms_again rooms now xs k (turn w (Leave number)).world (turn w (Leave number)).world.parts a.1 (λ d. refl) g.0) in
+      connections_again now xs now_xs k (turn w (Leave number)).world a.2 (rooms_again rooms now xs k (turn w (Leave number)).world (turn w (Leave number)).world.parts a.1 (λ d. refl) g.0) in
       subst (λ (z : Result (Unit {0}) HubRefusal). MatchResult z (λ _. LeftAll Done) LeaveFailsAll) (sym a.0) (inr (stands, g.1))
   leave_result res (Some x) is absent went there =
       let h = here rooms xs k w number x st is in

@@ -1,5 +1,5 @@
 -- A parcel that is taken out: the hub stands for the worlds that it stood for.
-use Rattle.std.proofs.Common.{◌≡◌, ◌≢◌, ℕ, Bool, false, List, refl, sym, ◌∙◌, ap, subst, Some, None}
+use Rattle.std.proofs.Common.{◌≡◌, ◌≢◌, ℕ, false, List, refl, sym, ◌∙◌, ap, subst, Some, None}
 use Rattle.std.specs.Prelude.{Option, nat_eq}
 use Rattle.std.proofs.lemmas.Bool.{ne_eqb}
 use Rattle.floor_room.specs.Outbox.{Outbox}
@@ -8,7 +8,7 @@ use Rattle.floor_hub.specs.declared.connection.Connection.{Connection}
 use Rattle.floor_hub.specs.World.{World, Arrival}
 use Rattle.floor_hub.specs.StandsFor.{RoomStands, CameTo, Stands}
 use Rattle.floor_hub.proofs.Here.{here}
-use Rattle.floor_hub.proofs.Changed.{ChangesAt, stands_changed, rooms_again}
+use Rattle.floor_hub.proofs.Changed.{stands_changed, rooms_again}
 
 module _ (rooms now : ℕ → Option Room) (xs : ℕ → Option Connection) (k : ℕ) (w : World) (number : ℕ) (st : Stands rooms xs k w) where
   taken : (c : ℕ) (r : Room) (os : List Outbox) → rooms c ≡ Some r → now c ≡ Some (record r { outboxes = os }) → ((d : ℕ) → d ≢ c → now d ≡ rooms d) → Stands now xs k w
@@ -29,7 +29,7 @@ module _ (rooms now : ℕ → Option Room) (xs : ℕ → Option Connection) (k :
 
   pub take_stands : (y : Option Connection) → xs number ≡ y → (xs number ≡ None → (d : ℕ) → now d ≡ rooms d) →
       ((x : Connection) → xs number ≡ Some x → (r : Room) → rooms x.conference ≡ Some r → (new : Room) × (now x.conference ≡ Some new) × ((d : ℕ) → nat_eq x.conference d ≡ false → now d ≡ rooms d)
-        × (new ≡ record r { outboxes = new.outboxes })) → Stands now xs k w
+      × (new ≡ record r { outboxes = new.outboxes })) → Stands now xs k w
   take_stands None is absent there = rooms_again rooms now xs k w w.parts (absent is) (λ d. refl) st
   take_stands (Some x) is absent there =
       let h = here rooms xs k w number x st is in

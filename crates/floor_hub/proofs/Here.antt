@@ -1,5 +1,5 @@
 -- A live connection of a hub, its arrival and its room.
-use Rattle.std.proofs.Common.{◌≡◌, ◌≢◌, ◌⊎◌, inl, inr, ℕ, zero, suc, Bool, true, false, List, [], ◌∷◌, ◌++◌, length, refl, sym, ◌∙◌, ap, subst, append_assoc, append-nil, Some, None}
+use Rattle.std.proofs.Common.{◌≡◌, ℕ, Bool, true, false, List, [], ◌∷◌, ◌++◌, refl, sym, ◌∙◌, ap, subst, append_assoc, Some, None}
 use Rattle.std.specs.Prelude.{Option, ◌==◌, if◌then◌else◌, nat_eq}
 use Rattle.std.specs.List.{concat}
 use Rattle.std.specs.Map.{update}
@@ -10,7 +10,6 @@ use Rattle.floor_room.specs.Room.{Room}
 use Rattle.floor_hub.specs.declared.refusal.HubRefusal.TheVariants.{NoConnection}
 use Rattle.floor_hub.specs.declared.connection.Connection.{Connection}
 use Rattle.floor_hub.specs.declared.step.Step.{Step}
-use Rattle.floor_hub.specs.declared.step.Answer.{Answer}
 use Rattle.floor_hub.specs.declared.step.Answer.TheVariants.{Refused}
 use Rattle.floor_hub.specs.World as world
 use Rattle.floor_hub.specs.World.{World, Part, Arrival, Place, aim, arrival, if_live, messages_of, offer, place, put, turn_at}

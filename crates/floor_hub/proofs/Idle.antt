@@ -1,6 +1,6 @@
 -- A step that is refused, or that finds no message, changes nothing.
-use Rattle.std.proofs.Common.{◌≡◌, ℕ, ◌+◌, Bool, true, false, List, ◌∷◌, ◌++◌, length, refl, sym, ◌∙◌, ap, subst, Some, None}
-use Rattle.std.specs.Prelude.{Option, not, if◌then◌else◌, ◌==◌, nat_eq}
+use Rattle.std.proofs.Common.{◌≡◌, ℕ, Bool, true, false, List, refl, sym, ◌∙◌, subst, Some, None}
+use Rattle.std.specs.Prelude.{Option, not, ◌==◌, nat_eq}
 use Rattle.std.specs.Map.{update}
 use Rattle.std.proofs.lemmas.Bool.{eqb-true, eqb-false}
 use Rattle.std.proofs.lemmas.Map.{update_here, update_apart}

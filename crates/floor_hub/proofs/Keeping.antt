@@ -1,6 +1,6 @@
 -- Each step of the world keeps a kept world.
-use Rattle.std.proofs.Common.{◌≡◌, ◌≢◌, ◌⊎◌, inl, inr, ℕ, zero, suc, ◌+◌, ◌<◌, ◌≤◌, Bool, true, false, cond, List, [], ◌∷◌, ◌++◌, length, get_or, refl, sym, ◌∙◌, ap, subst, arith, length-append, append_assoc, Some, None}
-use Rattle.std.specs.Prelude.{Option, not, nat_le, is_some, if◌then◌else◌, ◌==◌, All, map, slice_get, nat_eq}
+use Rattle.std.proofs.Common.{◌≡◌, ◌≢◌, ◌⊎◌, inl, inr, ℕ, zero, suc, ◌+◌, ◌<◌, Bool, true, false, cond, List, [], ◌∷◌, ◌++◌, length, refl, sym, ◌∙◌, ap, subst, arith, length-append, Some, None}
+use Rattle.std.specs.Prelude.{Option, not, nat_le, is_some, if◌then◌else◌, ◌==◌, map, slice_get, nat_eq}
 use Rattle.std.specs.Option.{option_map, option_map_or}
 use Rattle.std.specs.Map.{update}
 use Rattle.std.proofs.lemmas.Bool.{eqb-true, eqb-false}
@@ -28,7 +28,7 @@ use Rattle.floor_machine.proofs.Lawful.{taken_is_lawful}
 use Rattle.floor_machine.specs.Membership.{StaysIn, joins as joins_by}
 use Rattle.floor_machine.proofs.Members.{live-joined, live-next, members-next}
 use Rattle.floor_room.specs.declared.refusal.RoomRefusal.{RoomRefusal}
-use Rattle.floor_room.specs.declared.refusal.RoomRefusal.TheVariants.{JournalFull, Refused as ByMachine}
+use Rattle.floor_room.specs.declared.refusal.RoomRefusal.TheVariants.{Refused as ByMachine}
 use Rattle.floor_room.specs.Ledger.{closed, first_of}
 use Rattle.floor_room.proofs.Ledgers as adding
 use Rattle.floor_hub.specs.declared.refusal.HubRefusal.{HubRefusal}
@@ -38,10 +38,10 @@ use Rattle.floor_hub.specs.declared.step.Answer.{Answer}
 use Rattle.floor_hub.specs.declared.step.Answer.TheVariants.{Done, Attached, Nothing, Served, Refused}
 use Rattle.floor_hub.specs.World as world
 use Rattle.floor_hub.specs.World.{World, Part, Place, Arrival, Aim, Turn, Offered, arrival, aimed, nothing, offer, place, places_after, put, refused, ledger_of, state_of, turn, turn_at, unserved, with_arrival, with_events}
-use Rattle.floor_hub.specs.Runs.{run, events_in, events, configuration}
+use Rattle.floor_hub.specs.Runs.{run, events_in}
 use Rattle.floor_hub.specs.Kept.{IsKept, IsKeptPart, KeptIn, arrivals_in, first_numbers, is_join, joins, numbers_of}
 use Rattle.floor_hub.specs.Laws.{EventsAreAJournal, NumbersAlone, StepKeeps}
-use Rattle.floor_hub.proofs.Alone.{Counts, CountsOffer, all_alone, offer_counts, solo, starts_same}
+use Rattle.floor_hub.proofs.Alone.{Counts, all_alone, offer_counts, solo, starts_same}
 use Rattle.floor_hub.proofs.Arrivals.{arrival_set, arrival_set_other, live_there}
 
 lawful_open : (s : Conference) (e : Event) → IsLawful s e → s.is_open ≡ true

@@ -1,6 +1,6 @@
 -- The numbers of arrivals can't run out.
-use Rattle.std.proofs.Common.{◌≡◌, ◌⊎◌, inl, inr, ℕ, zero, suc, ◌+◌, ◌*◌, ◌<◌, ◌≤◌, Bool, true, false, cond, List, [], ◌∷◌, ◌++◌, length, refl, sym, ◌∙◌, ap, subst, arith, length-append, Some, None}
-use Rattle.std.specs.Prelude.{Option, if◌then◌else◌, ◌==◌, nat_lt, nat_eq}
+use Rattle.std.proofs.Common.{◌≡◌, ℕ, zero, suc, ◌+◌, ◌*◌, ◌≤◌, Bool, true, false, cond, List, [], ◌∷◌, length, refl, sym, ◌∙◌, ap, subst, arith, length-append, Some, None}
+use Rattle.std.specs.Prelude.{Option, ◌==◌, nat_lt, nat_eq}
 use Rattle.std.specs.Map.{update}
 use Rattle.std.proofs.lemmas.Bool.{eqb-true, eqb-false, eq-eqb}
 use Rattle.std.proofs.lemmas.Bool.Decides.{nat_tests}
@@ -9,8 +9,8 @@ use Rattle.std.proofs.lemmas.Map.{update_here, update_apart}
 use Rattle.std.proofs.lemmas.Option.{none-some}
 use Rattle.floor_hub.specs.declared.step.Step.{Step}
 use Rattle.floor_hub.specs.declared.step.Step.TheVariants.{Open, Attach, Piece, Serve, Leave, Admin}
-use Rattle.floor_hub.specs.World.{Aim, Part, Place, World, aim, aimed, offer, place, put, turn, turn_at}
-use Rattle.floor_hub.specs.Kept.{IsKept, IsNumbered, KeptIn, arrivals_in, first_numbers, is_join, numbers_of}
+use Rattle.floor_hub.specs.World.{Aim, Part, Place, World, aim, aimed, offer, place, turn_at}
+use Rattle.floor_hub.specs.Kept.{IsNumbered, KeptIn, arrivals_in, first_numbers, is_join, numbers_of}
 use Rattle.floor_hub.specs.Laws.{ArrivalsFit, OpensNumbered, StepNumbers}
 use Rattle.floor_hub.proofs.Alone.{IsAim, IsFor, aims}
 
@@ -85,9 +85,11 @@ none_opened (Some p) c h above = absurd (omega (arith, h p refl))
 
 pub places_fit : ArrivalsFit
 places_fit w k numbered =
-    omega (arith,
+    omega (
+      arith,
       all_below 4294967296 w.places (λ c h. k.places c ∙ ap first_numbers (none_opened (w.parts c) c (numbered c) h)),
-      below_few 4294967296 w.places (λ c. omega (arith, ap length (k.places c), length_first (arrivals_in (w.parts c)), few_arrivals (w.parts c) (k.parts c))))
+      below_few 4294967296 w.places (λ c. omega (arith, ap length (k.places c), length_first (arrivals_in (w.parts c)), few_arrivals (w.parts c) (k.parts c))),
+    )
 
 -- what a step for the conference c opens has its number
 opens : (c : ℕ) (z : Option Part) (s : Step) (p : Part) → IsFor c s → OpensNumbered s → ((q : Part) → z ≡ Some q → c ≤ 4294967295) → (offer z s).part ≡ Some p → c ≤ 4294967295

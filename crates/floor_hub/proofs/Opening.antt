@@ -1,5 +1,5 @@
 -- A conference that opens.
-use Rattle.std.proofs.Common.{◌≡◌, ◌≢◌, ◌⊎◌, inl, inr, ℕ, zero, suc, Bool, true, false, List, [], ◌∷◌, ◌++◌, refl, sym, ◌∙◌, ap, subst, Some, None}
+use Rattle.std.proofs.Common.{◌≡◌, ◌≢◌, ◌⊎◌, inl, inr, ℕ, zero, suc, false, refl, sym, ◌∙◌, ap, subst, Some, None}
 use Rattle.std.specs.Prelude.{Option, ◌==◌, nat_eq, Result, Ok, Err, OnErr, MatchResult}
 use Rattle.std.specs.Map.{update}
 use Rattle.std.proofs.lemmas.Bool.{ne_eqb}
@@ -15,8 +15,8 @@ use Rattle.floor_hub.specs.declared.step.Answer.{Answer}
 use Rattle.floor_hub.specs.declared.step.Answer.TheVariants.{Done, Refused}
 use Rattle.floor_hub.specs.World as world
 use Rattle.floor_hub.specs.World.{World, Part, Arrival, arrival, offer, opened, put, turn, if_live}
-use Rattle.floor_hub.specs.StandsFor.{arrival_in, RoomStands, CameTo, Stands}
-use Rattle.floor_hub.proofs.Changed.{ChangesAt, stands_changed, connections_again, put_back, rooms_again}
+use Rattle.floor_hub.specs.StandsFor.{arrival_in, RoomStands, Stands}
+use Rattle.floor_hub.proofs.Changed.{stands_changed, put_back, rooms_again}
 
 nobody : (config : Configuration) (n : ℕ) → arrival (opened config) n ≡ None
 nobody config zero = refl

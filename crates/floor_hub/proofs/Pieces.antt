@@ -1,10 +1,10 @@
 -- A piece that comes is a step of the world.
-use Rattle.std.proofs.Common.{◌≡◌, ◌≢◌, ◌⊎◌, inl, inr, ℕ, zero, suc, ◌+◌, ◌<◌, ◌≤◌, Bool, true, false, List, [], ◌∷◌, ◌++◌, length, get_or, refl, sym, ◌∙◌, ap, subst, arith, append_assoc, Some, None, rules, get_or-set_other, get_or-set_same}
-use Rattle.std.specs.Prelude.{Option, slice_get, slice_set, nat_eq, if◌then◌else◌}
+use Rattle.std.proofs.Common.{◌≡◌, ◌≢◌, ◌⊎◌, inl, inr, ℕ, zero, suc, ◌<◌, ◌≤◌, Bool, true, false, List, ◌++◌, length, refl, sym, ◌∙◌, ap, subst, arith, append_assoc, Some, None, get_or-set_other, get_or-set_same}
+use Rattle.std.specs.Prelude.{Option, slice_get, slice_set, nat_eq}
 use Rattle.std.specs.Map.{update}
 use Rattle.std.proofs.lemmas.Option.{none-some, slice_get-get_or, slice_get_past, slice_get_within}
 use Rattle.std.proofs.lemmas.List.{length-set}
-use Rattle.std.proofs.lemmas.Bool.{eqb-true, eqb-false, eq-eqb, ne_eqb}
+use Rattle.std.proofs.lemmas.Bool.{eqb-true, eqb-false, ne_eqb}
 use Rattle.std.specs.Prelude.{Result, Ok, Err, MatchResult, OnErr}
 use Rattle.std.proofs.lemmas.Map.{update_here, update_apart}
 use Rattle.floor_room.specs.Room.{Room}
@@ -18,8 +18,8 @@ use Rattle.floor_hub.specs.declared.step.Answer.TheVariants.{Done, Refused}
 use Rattle.floor_hub.specs.Connections.{Connections, Puts, connection_at}
 use Rattle.floor_hub.specs.World as world
 use Rattle.floor_hub.specs.World.{Part, Arrival, World, Place, Turn, place, arrival, if_live, turn, turn_at, put, offer, aim}
-use Rattle.floor_hub.specs.StandsFor.{arrival_in, live_at, RoomStands, Came, CameTo, ArrivalStands, NumberStands, Stands}
-use Rattle.floor_hub.proofs.Changes.{Changes, changed}
+use Rattle.floor_hub.specs.StandsFor.{arrival_in, live_at, RoomStands, CameTo, ArrivalStands, NumberStands, Stands}
+use Rattle.floor_hub.proofs.Changes.{changed}
 
 lt_or_le : (m n : ℕ) → (m < n) ⊎ (n ≤ m)
 lt_or_le m zero = inr (omega arith)

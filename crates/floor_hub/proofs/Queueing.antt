@@ -1,19 +1,16 @@
 -- What two runs that give a conference the same events have queued to its connections.
-use Rattle.std.proofs.Common.{◌≡◌, ℕ, ◌+◌, suc, Bool, true, false, cond, List, [], ◌∷◌, ◌++◌, length, map, refl, sym, ◌∙◌, ap, arith, Some, None}
-use Rattle.std.specs.Prelude.{Option, if◌then◌else◌, ◌==◌}
+use Rattle.std.proofs.Common.{◌≡◌, ℕ, ◌+◌, Bool, true, false, cond, List, [], ◌∷◌, map, refl, sym, ◌∙◌, ap, Some, None}
+use Rattle.std.specs.Prelude.{Option, ◌==◌}
 use Rattle.std.specs.Option.{option_map, option_map_or}
 use Rattle.std.proofs.lemmas.Bool.{eqb-true}
 use Rattle.std.proofs.lemmas.Option.{none-some}
 use Rattle.floor_config.specs.Configuration.{Configuration}
-use Rattle.floor_machine.specs.declared.event.Event.{Event}
 use Rattle.floor_machine.specs.Journal.{Q}
 use Rattle.floor_hub.specs.declared.step.Step.{Step}
-use Rattle.floor_hub.specs.declared.transcript.Queued.{Queued}
-use Rattle.floor_hub.specs.declared.transcript.Transcript.{Transcript}
 use Rattle.floor_hub.specs.World.{Part, Place, World, nothing}
-use Rattle.floor_hub.specs.Kept.{IsKept, KeptIn, arrivals_in, first_numbers, joins, numbers_of}
-use Rattle.floor_hub.specs.Runs.{IsRunOf, called_at, called_for, configuration, events, events_in, queued_in, queues, queues_from, run}
-use Rattle.floor_hub.specs.Laws.{GiveAlike, Headline}
+use Rattle.floor_hub.specs.Kept.{IsKept, KeptIn, arrivals_in, first_numbers, numbers_of}
+use Rattle.floor_hub.specs.Runs.{called_at, called_for, configuration, events, events_in, queued_in, queues, queues_from, run}
+use Rattle.floor_hub.specs.Laws.{Headline}
 use Rattle.floor_hub.proofs.Keeping.{nothing_kept, run_kept}
 
 -- the entries of a conference are those of its places

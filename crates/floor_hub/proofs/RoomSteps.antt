@@ -1,7 +1,6 @@
 -- What a call has done to its room, in the words of the hub.
-use Rattle.std.proofs.Common.{◌≡◌, ◌≢◌, ◌⊎◌, inl, inr, ℕ, ◌+◌, Bool, true, false, cond, length, List, [], ◌∷◌, ◌++◌, refl, sym, ◌∙◌, ap, subst, append-nil, append_assoc, Some, None}
-use Rattle.std.specs.Prelude.{Option, is_some, count_by, nat_eq, nat_le, not, ◌||◌, Result, Ok, Err, IfErr, IfOk, OnOk}
-use Rattle.std.proofs.lemmas.Bool.{ne_eqb}
+use Rattle.std.proofs.Common.{◌≡◌, inl, inr, ℕ, ◌+◌, Bool, true, false, cond, length, List, [], ◌∷◌, ◌++◌, refl, sym, ◌∙◌, ap, subst, append-nil, Some, None}
+use Rattle.std.specs.Prelude.{Option, count_by, nat_eq, nat_le, not, ◌||◌, Result, Ok, Err, IfErr, OnOk}
 use Rattle.std.proofs.lemmas.Option.{none-some}
 use Rattle.floor_machine.specs.declared.event.Event.{Event}
 use Rattle.floor_machine.specs.declared.event.Event.TheVariants.{Join, Message, Leave, Revoke, Close}
@@ -14,9 +13,9 @@ use Rattle.std.specs.Option.{option_map}
 use Rattle.floor_machine.specs.Journal.{parcels_of, sent_to}
 use Rattle.floor_room.specs.declared.refusal.RoomRefusal.{RoomRefusal}
 use Rattle.floor_room.specs.declared.refusal.RoomRefusal.TheVariants.{JournalFull, Refused as ByMachine}
-use Rattle.floor_room.specs.Calls.{Began, Left, Took, with_event}
-use Rattle.floor_room.specs.Ledger.{IsRefusedBy, Ledger, broken_off, closed, conference_of, first_of, refusal}
-use Rattle.floor_room.specs.Outbox.{Outbox, delivered, empty_outbox, with_held}
+use Rattle.floor_room.specs.Calls.{Left, Took, with_event}
+use Rattle.floor_room.specs.Ledger.{IsRefusedBy, Ledger, closed, conference_of, first_of, refusal}
+use Rattle.floor_room.specs.Outbox.{Outbox, delivered}
 use Rattle.floor_room.specs.Room.{Room, broken_room, joined}
 use Rattle.floor_room.proofs.Ledgers.{allowed-open, opened}
 use Rattle.floor_hub.specs.declared.refusal.HubRefusal.{HubRefusal}
@@ -27,7 +26,7 @@ use Rattle.floor_hub.specs.Connections.{SameConnections, connection_at}
 use Rattle.floor_hub.specs.Hub.{Hub, room_at}
 use Rattle.floor_hub.specs.World.{World}
 use Rattle.floor_hub.specs.StandsFor.{StandsFor}
-use Rattle.floor_hub.specs.Rooms.{HasOneMore, OneRoom, QueuesMore, RoomAfter, RoomAfterIn, RoomOf, by_broken, is_told, is_want, refusal_in}
+use Rattle.floor_hub.specs.Rooms.{OneRoom, QueuesMore, RoomAfter, RoomAfterIn, RoomOf, by_broken, is_told, is_want, refusal_in}
 use Rattle.floor_hub.proofs.Here.{here}
 use Rattle.floor_hub.specs.Steps.{AttachFailsIn, LeaveFailsIn, IsServable, LeavesIn, ServeFailsIn, ServedIn, ServesIn}
 
@@ -139,7 +138,7 @@ told-broken : (l : Ledger) (e : Event) (b : Bool) → l.is_broken ≡ b → IsRe
 told-broken l e true is h = refl
 told-broken l e false is h =
     absurd (by (conference_of l).is_open (nat_le 1000000 (length l.journal)) (event_refusal (whole (conference_of l)) e) (event_not (conference_of l) e)
-      (subst (λ (b : Bool). IsRefusedBy {T = Unit {0}} (refusal (record { config = l.config; journal = l.journal; is_broken = b }) e) (Err (ByMachine Broken))) is h))
+    (subst (λ (b : Bool). IsRefusedBy {T = Unit {0}} (refusal (record { config = l.config; journal = l.journal; is_broken = b }) e) (Err (ByMachine Broken))) is h))
   where
     by : (o f : Bool) (x : Option Refusal) → (x ≡ Some Broken → ⊥) →
         IsRefusedBy {T = Unit {0}} (first_of (cond (not o) (Some (ByMachine Ended)) (cond f (Some JournalFull) None)) (option_map ByMachine x)) (Err (ByMachine Broken)) → ⊥
@@ -272,7 +271,7 @@ module _ (c : ℕ) (e : Event) (old new : Hub) where
   pub event-room : (res : Result (Unit {0}) HubRefusal) (y : Option Room) → room_at old c ≡ y →
       (room_at old c ≡ None → (res ≡ Err NoConference) × ((d : ℕ) → room_at new d ≡ room_at old d)) →
       ((r : Room) → room_at old c ≡ Some r → (s : Room) × (room_at new c ≡ Some s) × ((d : ℕ) → nat_eq c d ≡ false → room_at new d ≡ room_at old d) × OnOk res (Took r s e)
-        × IfErr res (λ x. (why : RoomRefusal) × (x ≡ ByRoom why) × IsRefusedBy {T = Unit {0}} (refusal r.ledger e) (Err why) × Left r s e why)) →
+      × IfErr res (λ x. (why : RoomRefusal) × (x ≡ ByRoom why) × IsRefusedBy {T = Unit {0}} (refusal r.ledger e) (Err why) × Left r s e why)) →
       OneRoom by_broken (refusal_in res) c old new
   event-room res None is absent there =
       let a = absent is in
@@ -291,7 +290,7 @@ module _ (c user : ℕ) (old new : Hub) where
   pub attach-room : (res : Result (Unit {0}) HubRefusal) (y : Option Room) → room_at old c ≡ y →
       (room_at old c ≡ None → (res ≡ Err NoConference) × ((d : ℕ) → room_at new d ≡ room_at old d)) →
       ((r : Room) → room_at old c ≡ Some r → (s : Room) × (room_at new c ≡ Some s) × ((d : ℕ) → nat_eq c d ≡ false → room_at new d ≡ room_at old d)
-        × OnOk res (Took r s (Join user)) × IfErr res (λ x. (why : RoomRefusal) × (x ≡ ByRoom why) × AttachFailsIn r s user why)) →
+      × OnOk res (Took r s (Join user)) × IfErr res (λ x. (why : RoomRefusal) × (x ≡ ByRoom why) × AttachFailsIn r s user why)) →
       OneRoom by_broken (refusal_in res) c old new
   attach-room res None is absent there =
       let a = absent is in
@@ -311,7 +310,7 @@ module _ (number : ℕ) (old new : Hub) (w : World) (st : StandsFor old w) where
       (connection_at old.connections number ≡ None → (res ≡ Err NoConnection) × ((d : ℕ) → room_at new d ≡ room_at old d) × SameConnections old.connections new.connections) →
       new.arrivals ≡ old.arrivals →
       ((x : Connection) → connection_at old.connections number ≡ Some x → (r : Room) → room_at old x.conference ≡ Some r → (s : Room) × (rest : List ℕ) × (room_at new x.conference ≡ Some s)
-        × ((d : ℕ) → nat_eq x.conference d ≡ false → room_at new d ≡ room_at old d) × ServedIn r s x.n x.held rest res) →
+      × ((d : ℕ) → nat_eq x.conference d ≡ false → room_at new d ≡ room_at old d) × ServedIn r s x.n x.held rest res) →
       RoomOf by_broken (refusal_in res) y old new
   serve-room res None is absent arrivals there = let a = absent is in subst (λ (z : Result Served HubRefusal). RoomOf by_broken (refusal_in z) None old new) (sym a.0) (record { rooms = a.1; connections = a.2; arrivals = arrivals }, refl, refl)
   serve-room res (Some x) is absent arrivals there =
@@ -328,8 +327,8 @@ module _ (number : ℕ) (old new : Hub) (w : World) (st : StandsFor old w) where
       (connection_at old.connections number ≡ None → (res ≡ Err NoConnection) × ((d : ℕ) → room_at new d ≡ room_at old d) × SameConnections old.connections new.connections) →
       new.arrivals ≡ old.arrivals →
       ((x : Connection) → connection_at old.connections number ≡ Some x → (r : Room) → room_at old x.conference ≡ Some r → (s : Room) × (room_at new x.conference ≡ Some s)
-        × ((d : ℕ) → nat_eq x.conference d ≡ false → room_at new d ≡ room_at old d) × OnOk res (LeavesIn r s x.n)
-        × IfErr res (λ y. (why : RoomRefusal) × (y ≡ ByRoom why) × LeaveFailsIn r s x.n why)) →
+      × ((d : ℕ) → nat_eq x.conference d ≡ false → room_at new d ≡ room_at old d) × OnOk res (LeavesIn r s x.n)
+      × IfErr res (λ y. (why : RoomRefusal) × (y ≡ ByRoom why) × LeaveFailsIn r s x.n why)) →
       RoomOf None (refusal_in res) y old new
   leave-room res None is absent arrivals there = let a = absent is in subst (λ (z : Result (Unit {0}) HubRefusal). RoomOf None (refusal_in z) None old new) (sym a.0) (record { rooms = a.1; connections = a.2; arrivals = arrivals }, refl, refl)
   leave-room res (Some x) is absent arrivals there =

@@ -1,11 +1,10 @@
 -- What a step adds to a part, and what steps send: what their events call for.
-use Rattle.std.proofs.Common.{◌≡◌, ◌≢◌, ◌⊎◌, inl, inr, ℕ, zero, suc, ◌+◌, Bool, true, false, List, [], ◌∷◌, ◌++◌, length, refl, sym, ◌∙◌, ap, subst, arith, append_assoc, Some, None, rules}
-use Rattle.std.specs.Prelude.{Option, not, ◌&&◌, is_some, if◌then◌else◌, ◌==◌, slice_get, slice_set, nat_eq, map}
+use Rattle.std.proofs.Common.{◌≡◌, ℕ, ◌+◌, Bool, true, false, List, [], ◌∷◌, ◌++◌, length, refl, sym, ◌∙◌, ap, subst, append_assoc, Some, None}
+use Rattle.std.specs.Prelude.{Option, not, ◌&&◌, is_some, if◌then◌else◌, ◌==◌, map}
 use Rattle.std.specs.Option.{option_map, option_map_or}
 use Rattle.std.proofs.lemmas.List.{append-nil}
 use Rattle.std.proofs.lemmas.Option.{none-some}
-use Rattle.std.proofs.lemmas.Bool.{eqb-true, eqb-false, eq-eqb}
-use Rattle.std.proofs.lemmas.Map.{update_here, update_apart}
+use Rattle.std.proofs.lemmas.Bool.{eqb-true, eq-eqb}
 use Rattle.floor_config.specs.Configuration.{Configuration}
 use Rattle.floor_machine.specs.declared.event.Event.{Event}
 use Rattle.floor_machine.specs.declared.event.Event.TheVariants.{Join, Message, Leave as Leaves}
@@ -20,7 +19,7 @@ use Rattle.floor_machine.specs.Change.{next}
 use Rattle.floor_machine.specs.Told.{told}
 use Rattle.floor_machine.specs.Outgoing.{Outgoing, outgoing_bytes}
 use Rattle.floor_machine.specs.Machine.{event_of_act}
-use Rattle.floor_machine.specs.Journal.{after_from, after, told_from, parcels, Q}
+use Rattle.floor_machine.specs.Journal.{after_from, told_from, parcels, Q}
 use Rattle.floor_hub.specs.declared.refusal.HubRefusal.TheVariants.{ByRoom}
 use Rattle.floor_hub.specs.declared.step.Step.{Step}
 use Rattle.floor_hub.specs.declared.step.Step.TheVariants.{Open, Attach, Piece, Serve, Leave, Admin}
@@ -28,8 +27,8 @@ use Rattle.floor_hub.specs.declared.step.Answer.{Answer}
 use Rattle.floor_hub.specs.declared.step.Answer.TheVariants.{Done, Attached, Nothing, Served, Refused}
 use Rattle.floor_hub.specs.World as world
 use Rattle.floor_hub.specs.World.{Part, Arrival, World, Place, Aim, Turn, Offered, offer, turn, turn_at, aimed, put, nothing, numbered}
-use Rattle.floor_hub.specs.Runs.{run, events_in, events, configuration, added, adds, adds_in, adds_to, parcels_after, sends, sent, queued}
-use Rattle.floor_hub.specs.Laws.{ConfigurationStays, GiveAlike, QueuedIsCalledFor, StepAdds, TwoWorlds}
+use Rattle.floor_hub.specs.Runs.{run, events_in, added, adds, adds_in, adds_to, parcels_after, sends, sent}
+use Rattle.floor_hub.specs.Laws.{ConfigurationStays, QueuedIsCalledFor, StepAdds, TwoWorlds}
 
 after_append : (s : Conference) (es fs : List Event) → after_from s (es ++ fs) ≡ after_from (after_from s es) fs
 after_append s [] fs = refl
@@ -61,18 +60,22 @@ piece_adds p n bytes None = stays p (Piece n bytes) (Refused NoConnection) refl
 piece_adds p n bytes (Some a) = record { part = _; is = refl; config = refl; events = sym (append-nil p.events) }
 
 message_adds : (p : Part) (n : ℕ) (a : Arrival) (m : List ℕ) (full : Bool) → world.is_full p ≡ full
-  → world.arrival p n ≡ Some a → world.unserved a ≡ Some m → Adds p (Serve n) (world.serve_message p n a (Some m))
+    → world.arrival p n ≡ Some a → world.unserved a ≡ Some m → Adds p (Serve n) (world.serve_message p n a (Some m))
 message_adds p n a m true e h g = rw e (stays p (Serve n) (Refused _) refl)
-message_adds p n a m false e h g = rw e (record { part = _; is = refl; config = refl;
-  events = ap (λ ms. p.events ++ map (Message n) ms) (sym (ap world.messages_next h ∙ ap (λ x. option_map_or (λ y. y ∷ []) x []) g)) })
+message_adds p n a m false e h g = rw e (record {
+  part = _;
+  is = refl;
+  config = refl;
+  events = ap (λ ms. p.events ++ map (Message n) ms) (sym (ap world.messages_next h ∙ ap (λ x. option_map_or (λ y. y ∷ []) x []) g));
+})
 
 serve_adds : (p : Part) (n : ℕ) (a : Arrival) (m : Option (List ℕ)) → world.arrival p n ≡ Some a → world.unserved a ≡ m
-  → Adds p (Serve n) (world.serve_message p n a m)
+    → Adds p (Serve n) (world.serve_message p n a m)
 serve_adds p n a None h g = stays p (Serve n) Nothing refl
 serve_adds p n a (Some m) h g = message_adds p n a m (world.is_full p) refl h g
 
 ended_adds : (p : Part) (n : ℕ) (a : Arrival) (ended : Bool) → not (world.state_of p).is_open ≡ ended → world.arrival p n ≡ Some a
-  → Adds p (Serve n) (world.serve p n (Some a))
+    → Adds p (Serve n) (world.serve p n (Some a))
 ended_adds p n a true e h = rw e (stays p (Serve n) (Refused _) refl)
 ended_adds p n a false e h = rw e (serve_adds p n a (world.unserved a) h refl)
 

@@ -1,10 +1,10 @@
 -- Numbers, their slots, and what stands in them.
-use Rattle.std.proofs.Common.{◌≡◌, ◌≢◌, ◌++◌, ℕ, Bool, true, false, List, refl, sym, ◌∙◌, ap, subst, Some, None}
+use Rattle.std.proofs.Common.{◌≡◌, ◌≢◌, ◌++◌, ℕ, Bool, true, false, List, refl, sym, ◌∙◌, ap, Some, None}
 use Rattle.std.specs.Prelude.{Option, nat_eq, is_some, Result, Ok, Err, MatchResult, OnErr}
 use Rattle.slab.specs.Slab.{Slab, Updates, get}
 use Rattle.floor_hub.specs.declared.refusal.HubRefusal.{HubRefusal}
 use Rattle.floor_hub.specs.declared.refusal.HubRefusal.TheVariants.{Memory}
-use Rattle.std.proofs.lemmas.Bool.{eqb-true, eqb-false, eq-eqb, ne_eqb}
+use Rattle.std.proofs.lemmas.Bool.{eqb-true, eqb-false}
 use Rattle.std.proofs.lemmas.Option.{none-some}
 use Rattle.floor_hub.specs.declared.connection.Connection.{Connection}
 use Rattle.floor_hub.specs.Connections.{Connections, IsSlotted, Puts, at_key, connection_at, key_of, slot_of}

@@ -1,10 +1,9 @@
 -- Each journal is the events of its own steps.
 use Rattle.std.proofs.Common.{◌≡◌, ◌≢◌, ◌⊎◌, inl, inr, ℕ, zero, suc, ◌+◌, ◌<◌, ◌≤◌, Bool, true, false, cond, List, [], ◌∷◌, ◌++◌, length, map, refl, sym, ◌∙◌, ap, subst, arith, length-append, append_assoc, append-nil, Some, None}
-use Rattle.std.specs.Prelude.{Option, All, not, ◌==◌, ◌&&◌, is_some, if◌then◌else◌, nat_eq, nat_le, slice_get}
+use Rattle.std.specs.Prelude.{Option, All, not, ◌==◌, ◌&&◌, is_some, if◌then◌else◌, nat_le, slice_get}
 use Rattle.std.specs.List.{concat, flat_map}
 use Rattle.std.specs.Option.{option_map}
-use Rattle.std.specs.Map.{update}
-use Rattle.std.proofs.lemmas.Bool.{eqb-true, eqb-false, eq-eqb}
+use Rattle.std.proofs.lemmas.Bool.{eqb-true, eqb-false}
 use Rattle.std.proofs.lemmas.Bool.Decides.{nat_tests}
 use Rattle.std.proofs.lemmas.List.Elements.{All-nil, All-cons, All-append}
 use Rattle.std.proofs.lemmas.Map.{update_here}
@@ -15,10 +14,9 @@ use Rattle.floor_wire.proofs.Messages.{messages-concat}
 use Rattle.floor_machine.specs.declared.event.Act.{Act}
 use Rattle.floor_machine.specs.declared.event.Event.{Event}
 use Rattle.floor_machine.specs.declared.event.Event.TheVariants.{Join, Message, Leave as Leaves, Revoke, Close}
-use Rattle.floor_machine.specs.declared.machine.Refusal.{Refusal}
 use Rattle.floor_machine.specs.declared.machine.Refusal.TheVariants.{Ended}
 use Rattle.floor_machine.specs.declared.member.Member.{Member}
-use Rattle.floor_machine.specs.Conference.{Conference, is_live, member_with, opening}
+use Rattle.floor_machine.specs.Conference.{Conference, is_live, member_with}
 use Rattle.floor_machine.specs.Change.{IsLawful, change, leaving, next}
 use Rattle.floor_machine.specs.Journal.{IsJournal, IsLawfulFrom, after}
 use Rattle.floor_machine.specs.Laws.{IsWhole}
@@ -36,7 +34,7 @@ use Rattle.floor_hub.specs.declared.step.Answer.TheVariants.{Served}
 use Rattle.floor_hub.specs.World as world
 use Rattle.floor_hub.specs.World.{World, Part, Arrival, Place, Aim, aim, aimed, arrival, if_live, is_full, joined, nothing, offer, opened, place, put, refused, ledger_of, state_of, turn, turn_at, unserved, with_arrival, with_events}
 use Rattle.floor_hub.specs.Kept.{IsKeptPart, KeptIn, arrivals_in}
-use Rattle.floor_hub.specs.Runs.{configuration, events, events_in, run, steps_for, steps_of}
+use Rattle.floor_hub.specs.Runs.{events_in, run, steps_for, steps_of}
 use Rattle.floor_hub.specs.Laws.{JournalsAreEvents, JournalsAreOpened}
 use Rattle.floor_hub.proofs.Alone.{IsKnown, Same, known, offer_counts, solo, step_own}
 use Rattle.floor_hub.proofs.Arrivals.{arrival_set, arrival_set_other, there_live}
@@ -129,7 +127,7 @@ goes_act : (c : ℕ) (v : World) (p : Part) (act : Act) → Follows c v p → Is
 goes_act c v p act f lawful few =
     let e : Event = event_of_act act in
     let is : (offer (Some p) (Admin c act)).part ≡ Some (with_events p (event_of_act act ∷ [])) =
-      ap (λ (r : Option RoomRefusal). (world.admin p (event_of_act act) r).part) (accepted p (event_of_act act) (framed act) lawful few) in record {
+    ap (λ (r : Option RoomRefusal). (world.admin p (event_of_act act) r).part) (accepted p (event_of_act act) (framed act) lawful few) in record {
       at = moved c v p (with_events p (event_of_act act ∷ [])) (Admin c act) f.at refl is;
       kept = kept_by p (with_events p (event_of_act act ∷ [])) (Admin c act) f.kept is;
       here = λ n h. f.here n (was_live p (event_of_act act) n (none act) (sym (ap (λ (s : Conference). is_live s n) (state_more p.config p.events (event_of_act act))) ∙ h));
@@ -173,7 +171,7 @@ goes_join : (c : ℕ) (v : World) (p : Part) (user : ℕ) → Follows c v p → 
     Follows c (turn v (Attach c user)).world (joined p user)
 goes_join c v p user f lawful few =
     let is : (offer (Some p) (Attach c user)).part ≡ Some (joined p user) =
-      ap (λ (r : Option RoomRefusal). (world.attach p user r).part) (accepted p (Join user) tt lawful few) in record {
+    ap (λ (r : Option RoomRefusal). (world.attach p user r).part) (accepted p (Join user) tt lawful few) in record {
       at = moved c v p (joined p user) (Attach c user) f.at refl is;
       kept = kept_by p (joined p user) (Attach c user) f.kept is;
       here = λ n h. by n (live-before (state_of p) (Join user) n (sym (ap (λ (s : Conference). is_live s n) (state_more p.config p.events (Join user))) ∙ h));
@@ -227,8 +225,8 @@ goes_leave : (c : ℕ) (v : World) (p : Part) (n : ℕ) (a : Arrival) → Follow
 goes_leave c v p n a f lawful few there live =
     let left : world.left p n ≡ Leaves n ∷ [] = left_is p n ∙ leaves (state_of p).is_open (is_full p) lawful.0 (unfull (length p.events) few) in
     let is : (offer (Some p) (Leave n)).part ≡ Some (gone p n a (Leaves n ∷ [])) =
-      ap (λ (x : Option Arrival). (world.leave p n x).part) (there_live (arrival p n) a there live)
-      ∙ ap (λ (es : List Event). Some (gone p n a es)) left in record {
+    ap (λ (x : Option Arrival). (world.leave p n x).part) (there_live (arrival p n) a there live)
+    ∙ ap (λ (es : List Event). Some (gone p n a es)) left in record {
       at = moved c v p (gone p n a (Leaves n ∷ [])) (Leave n) f.at (ap (aim Leave) (placed c v p n a f.at there)) is;
       kept = kept_by p (gone p n a (Leaves n ∷ [])) (Leave n) f.kept is;
       here = λ m h. here m (m == n) refl (sym (ap (λ (s : Conference). is_live s m) (state_more p.config p.events (Leaves n))) ∙ h);
@@ -369,12 +367,15 @@ follow c v p (e ∷ es) f lawful few =
     let one : Goes c v p e = goes c v p e f lawful.0 (omega (arith, few)) in
     let q : Part = one.0 in
     let state : state_of one.0 ≡ next (state_of p) e =
-      ap (λ (x : Configuration). after x one.0.events) one.2 ∙ ap (after p.config) one.3 ∙ state_more p.config p.events e in
+    ap (λ (x : Configuration). after x one.0.events) one.2 ∙ ap (after p.config) one.3 ∙ state_more p.config p.events e in
     let rest : Ends c (run (run v (steps_for c e)) (flat_map (steps_for c) es)) one.0 es =
-      follow c (run v (steps_for c e)) one.0 es one.1 (subst (λ (s : Conference). IsLawfulFrom s es) (sym state) lawful.1)
-      (omega (arith, few, ap length one.3, length-append p.events (e ∷ []))) in
-    (rest.0, ap (λ (w : World). w.parts c) (run_append v (steps_for c e) (flat_map (steps_for c) es)) ∙ rest.1, rest.2 ∙ one.2,
-      rest.3 ∙ ap (λ (xs : List Event). xs ++ es) one.3 ∙ append_assoc p.events (e ∷ []) es)
+    follow c (run v (steps_for c e)) one.0 es one.1 (subst (λ (s : Conference). IsLawfulFrom s es) (sym state) lawful.1)
+    (omega (arith, few, ap length one.3, length-append p.events (e ∷ []))) in (
+      rest.0,
+      ap (λ (w : World). w.parts c) (run_append v (steps_for c e) (flat_map (steps_for c) es)) ∙ rest.1,
+      rest.2 ∙ one.2,
+      rest.3 ∙ ap (λ (xs : List Event). xs ++ es) one.3 ∙ append_assoc p.events (e ∷ []) es,
+    )
 
 starts : (config : Configuration) → Follows config.conference (turn nothing (Open config)).world (opened config)
 starts config = record {

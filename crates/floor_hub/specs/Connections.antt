@@ -1,5 +1,5 @@
 -- The live connections of a hub.
-use Rattle.std.specs.Prelude.{◌≡◌, ℕ, List, nat_eq, Bool, true, false, Option, Some, None, is_some, slice_index_or}
+use Rattle.std.specs.Prelude.{◌≡◌, ℕ, List, nat_eq, true, false, Option, Some, None, is_some, slice_index_or}
 use Rattle.std.specs.Map.{lookup}
 use Rattle.floor_hub.specs.declared.connection.Connection.{Connection}
 

@@ -1,14 +1,13 @@
 -- Worked runs, computed: two interleavings that give a conference the same events, and a step for each refusal.
-use Rattle.std.specs.Prelude.{◌≡◌, ℕ, zero, suc, true, false, List, [], ◌∷◌, ◌++◌, Some, None, refl}
+use Rattle.std.specs.Prelude.{◌≡◌, ℕ, zero, suc, false, List, [], ◌∷◌, ◌++◌, None, refl}
 use Rattle.floor_config.specs.Configuration.{Configuration}
 use Rattle.floor_config.specs.declared.config.User.{User}
-use Rattle.floor_config.specs.declared.config.Floor.{Floor}
 use Rattle.floor_wire.specs.Message.{messages, messages_of_at_most}
 use Rattle.floor_wire.specs.Spelled.{spelled, spelled_within}
 use Rattle.floor_message.specs.Ask.{ask}
 use Rattle.floor_machine.specs.declared.event.Act.{Act}
 use Rattle.floor_machine.specs.declared.event.Event.{Event}
-use Rattle.floor_machine.specs.declared.event.Event.TheVariants.{Join, Message, Leave as Leaves, Revoke, Close}
+use Rattle.floor_machine.specs.declared.event.Event.TheVariants.{Join, Message, Leave as Leaves, Close}
 use Rattle.floor_machine.specs.declared.machine.Refusal.TheVariants.{Ended, NoUser, Full, NoRequest}
 use Rattle.floor_machine.specs.Shown.{info_of}
 use Rattle.floor_machine.specs.Same.{same_info}
@@ -18,13 +17,11 @@ use Rattle.floor_machine.specs.Outgoing.{outgoing_bytes}
 use Rattle.floor_machine.specs.Reply.{reply}
 use Rattle.floor_machine.specs.Told.{changed_requests, changed_floors, told}
 use Rattle.floor_machine.specs.Journal.{parcels_of}
-use Rattle.floor_room.specs.declared.refusal.RoomRefusal.TheVariants.{JournalFull, Refused as ByMachine}
+use Rattle.floor_room.specs.declared.refusal.RoomRefusal.TheVariants.{Refused as ByMachine}
 use Rattle.floor_hub.specs.declared.refusal.HubRefusal.TheVariants.{Used, NoConference, NoConnection, ByRoom}
 use Rattle.floor_hub.specs.declared.step.Step.{Step}
 use Rattle.floor_hub.specs.declared.step.Step.TheVariants.{Open, Attach, Piece, Serve, Leave, Admin}
-use Rattle.floor_hub.specs.declared.step.Answer.{Answer}
 use Rattle.floor_hub.specs.declared.step.Answer.TheVariants.{Done, Attached, Nothing, Served, Refused}
-use Rattle.floor_hub.specs.declared.transcript.Queued.{Queued}
 use Rattle.floor_hub.specs.World.{nothing}
 use Rattle.floor_hub.specs.Runs.{alone, answers, answers_to, events, queues, steps_of}
 

@@ -1,5 +1,5 @@
 -- The laws of worlds: what holds of every list of steps, whatever a floor machine does.
-use Rattle.std.specs.Prelude.{◌≡◌, ℕ, ◌≤◌, List, [], ◌∷◌, ◌++◌, Option, Some, length, map}
+use Rattle.std.specs.Prelude.{◌≡◌, ℕ, ◌≤◌, List, [], ◌∷◌, ◌++◌, Some, length, map}
 use Rattle.floor_config.specs.Configuration.{Configuration}
 use Rattle.floor_machine.specs.declared.event.Event.{Event}
 use Rattle.floor_machine.specs.Journal.{IsJournal, Q}
@@ -8,7 +8,7 @@ use Rattle.floor_hub.specs.declared.step.Step.TheVariants.{Open, Attach, Piece, 
 use Rattle.floor_hub.specs.declared.step.Answer.{Answer}
 use Rattle.floor_hub.specs.declared.step.Answer.TheVariants.{Done, Attached, Nothing, Served, Refused}
 use Rattle.floor_hub.specs.declared.transcript.Transcript.{Transcript}
-use Rattle.floor_hub.specs.World.{World, Place, nothing, turn}
+use Rattle.floor_hub.specs.World.{World, nothing, turn}
 use Rattle.floor_hub.specs.Kept.{IsKept, IsNumbered, first_numbers, joins}
 use Rattle.floor_hub.specs.Runs.{IsRunOf, added, alone, answers, answers_to, called_for, configuration, events, queued, queued_in, run, steps_of}
 

@@ -1,5 +1,5 @@
 -- What a call of the hub has done to the rooms.
-use Rattle.std.specs.Prelude.{◌≡◌, ◌⊎◌, ℕ, ◌+◌, List, [], ◌∷◌, ◌++◌, ◌||◌, nat_eq, Bool, true, false, Option, Some, None, Result, Ok, Err}
+use Rattle.std.specs.Prelude.{◌≡◌, ◌⊎◌, ℕ, List, [], ◌∷◌, ◌++◌, ◌||◌, nat_eq, Bool, true, false, Option, Some, None, Result, Ok, Err}
 use Rattle.floor_config.specs.Configuration.{Configuration}
 use Rattle.floor_machine.specs.declared.event.Event.{Event}
 use Rattle.floor_machine.specs.Parcel.{Parcel}
@@ -7,11 +7,10 @@ use Rattle.floor_machine.specs.declared.machine.Refusal.TheVariants.{Broken, End
 use Rattle.floor_room.specs.declared.refusal.RoomRefusal.TheVariants.{JournalFull, Refused as ByMachine}
 use Rattle.floor_room.specs.Outbox.{Outbox}
 use Rattle.floor_room.specs.Room.{Room, new_room}
-use Rattle.floor_room.specs.Taking.{Gave}
 use Rattle.floor_hub.specs.declared.refusal.HubRefusal.{HubRefusal}
 use Rattle.floor_hub.specs.declared.refusal.HubRefusal.TheVariants.{NoConference, NoConnection, Used, ByRoom, Memory as NoMemory}
 use Rattle.floor_hub.specs.declared.connection.Connection.{Connection}
-use Rattle.floor_hub.specs.Connections.{SameConnections, connection_at}
+use Rattle.floor_hub.specs.Connections.{SameConnections}
 use Rattle.floor_hub.specs.Hub.{Hub, room_at}
 
 -- nothing has changed

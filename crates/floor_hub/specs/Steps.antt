@@ -1,5 +1,5 @@
 -- What a call of the hub has done to the worlds that it stands for.
-use Rattle.std.specs.Prelude.{◌≡◌, ◌≢◌, ◌⊎◌, ℕ, List, [], ◌∷◌, ◌++◌, Bool, true, false, Option, Some, None, is_some, Err, Result, IfOk, IfErr}
+use Rattle.std.specs.Prelude.{◌≡◌, ◌≢◌, ◌⊎◌, ℕ, List, [], ◌∷◌, ◌++◌, true, Option, Some, None, is_some, Err, Result, IfOk, IfErr}
 use Rattle.floor_wire.specs.Message.{messages}
 use Rattle.floor_machine.specs.declared.event.Event.TheVariants.{Join, Message, Leave as Leaves}
 use Rattle.floor_room.specs.declared.refusal.RoomRefusal.{RoomRefusal}
@@ -14,7 +14,7 @@ use Rattle.floor_hub.specs.declared.refusal.HubRefusal.TheVariants.{ByRoom, Memo
 use Rattle.floor_hub.specs.Hub.{Hub}
 use Rattle.floor_hub.specs.declared.step.Step.{Step}
 use Rattle.floor_hub.specs.declared.step.Answer.{Answer}
-use Rattle.floor_hub.specs.declared.step.Answer.TheVariants.{Done, Nothing, Refused, Served as HasServed}
+use Rattle.floor_hub.specs.declared.step.Answer.TheVariants.{Nothing, Refused, Served as HasServed}
 use Rattle.floor_hub.specs.World.{World, turn}
 use Rattle.floor_hub.specs.StandsFor.{StandsFor}
 

@@ -1,6 +1,6 @@
 -- All conferences, and what each step does to one of them.
-use Rattle.std.specs.Prelude.{◌≡◌, ℕ, zero, suc, ◌+◌, List, [], ◌∷◌, ◌++◌, ◌==◌, nat_le, nat_eq, not, if◌then◌else◌, Bool, true, false, Option, Some, None, is_some, length, slice_get, slice_set, map}
-use Rattle.std.specs.Option.{option_map, option_map_or}
+use Rattle.std.specs.Prelude.{ℕ, zero, suc, ◌+◌, List, [], ◌∷◌, ◌++◌, ◌==◌, nat_le, nat_eq, not, if◌then◌else◌, Bool, true, false, Option, Some, None, is_some, length, slice_get, slice_set}
+use Rattle.std.specs.Option.{option_map_or}
 use Rattle.std.specs.Map.{update}
 use Rattle.floor_config.specs.Configuration.{Configuration}
 use Rattle.floor_wire.specs.Message.{messages}

@@ -95,9 +95,9 @@ impl Connections {
             → result ≡ Err HubRefusal.NoConnection }
         ensures there { (x : Connection) → connection_at self.old number ≡ Some x
             → MatchResult result
-                (λ _. Puts self.old self.new number
-                    (Some record { conference = x.conference; n = x.n; held = x.held ++ bytes.now }))
-                (λ r. r ≡ HubRefusal.Memory) }
+            (λ _. Puts self.old self.new number
+            (Some record { conference = x.conference; n = x.n; held = x.held ++ bytes.now }))
+            (λ r. r ≡ HubRefusal.Memory) }
         ensures left { OnErr result (SameConnections self.old self.new) }
     {
         match self.keys.get(&number) {
@@ -119,10 +119,10 @@ impl Connections {
         ensures there { (x : Connection) → connection_at self.old number ≡ Some x
             → (r : Kept) → found nat_eq rooms.old x.conference ≡ Some r
             → (new : Kept) × (rest : List ℕ)
-                × Changes nat_eq rooms.old rooms.new x.conference (Some new)
-                × Puts self.old self.new number
-                    (Some record { conference = x.conference; n = x.n; held = rest })
-                × ServedIn r new x.n x.held rest result }
+            × Changes nat_eq rooms.old rooms.new x.conference (Some new)
+            × Puts self.old self.new number
+            (Some record { conference = x.conference; n = x.n; held = rest })
+            × ServedIn r new x.n x.held rest result }
     {
         match self.keys.get(&number) {
             Some(key) => serve_slot(&mut self.slots, *key, rooms),
@@ -136,9 +136,9 @@ fn push_slot(slots: &mut Slab<Connection>, key: usize, bytes: &[u8]) -> Result<(
     ensures absent { get slots.old key ≡ None → result ≡ Err HubRefusal.NoConnection }
     ensures there { (x : Connection) → get slots.old key ≡ Some x
         → MatchResult result
-            (λ _. Updates slots.old slots.new key
-                (Some record { conference = x.conference; n = x.n; held = x.held ++ bytes.now }))
-            (λ r. r ≡ HubRefusal.Memory) }
+        (λ _. Updates slots.old slots.new key
+        (Some record { conference = x.conference; n = x.n; held = x.held ++ bytes.now }))
+        (λ r. r ≡ HubRefusal.Memory) }
     ensures left { OnErr result ((other : ℕ) → get slots.new other ≡ get slots.old other) }
 {
     match slots.get_mut(key) {
@@ -161,10 +161,10 @@ fn serve_slot(
     ensures there { (x : Connection) → get slots.old key ≡ Some x
         → (r : Kept) → found nat_eq rooms.old x.conference ≡ Some r
         → (new : Kept) × (rest : List ℕ)
-            × Changes nat_eq rooms.old rooms.new x.conference (Some new)
-            × Updates slots.old slots.new key
-                (Some record { conference = x.conference; n = x.n; held = rest })
-            × ServedIn r new x.n x.held rest result }
+        × Changes nat_eq rooms.old rooms.new x.conference (Some new)
+        × Updates slots.old slots.new key
+        (Some record { conference = x.conference; n = x.n; held = rest })
+        × ServedIn r new x.n x.held rest result }
 {
     match slots.get_mut(key) {
         Some(connection) => serve_room(

@@ -55,15 +55,15 @@ impl Model for Hub {
     ghost use Rattle.floor_hub.specs.StandsFor.{Stood};
 
     ghost view = { λ h. record {
-        rooms = h.rooms.entries;
-        connections = h.connections;
-        arrivals = h.arrivals;
+      rooms = h.rooms.entries;
+      connections = h.connections;
+      arrivals = h.arrivals;
     } };
 
     ghost invariant = { λ h. Stood record {
-        rooms = h.rooms.entries;
-        connections = h.connections;
-        arrivals = h.arrivals;
+      rooms = h.rooms.entries;
+      connections = h.connections;
+      arrivals = h.arrivals;
     } };
 }
 
@@ -195,10 +195,10 @@ impl Hub {
         ensures given { (x : Connection) → connection_at self.old.connections number ≡ Some x
             → (r : Kept) → room_at self.old x.conference ≡ Some r
             → (new : Kept) × (given : Result (Option Parcel) NoMember)
-                × (room_at self.new x.conference ≡ Some new)
-                × ((d : ℕ) → nat_eq x.conference d ≡ false → room_at self.new d ≡ room_at self.old d)
-                × Gave r new x.n given
-                × MatchResult given (λ p. result ≡ Ok p) (λ _. IsErr result) }
+            × (room_at self.new x.conference ≡ Some new)
+            × ((d : ℕ) → nat_eq x.conference d ≡ false → room_at self.new d ≡ room_at self.old d)
+            × Gave r new x.n given
+            × MatchResult given (λ p. result ≡ Ok p) (λ _. IsErr result) }
         ensures stands { (w : World) → StandsFor self.old w → StandsFor self.new w }
     {
         take_at(&mut self.rooms, &self.connections, number)
@@ -220,16 +220,16 @@ fn attach_at(
     ensures left { OnErr result (SameConnections connections.old connections.new) }
     ensures rooms { (room : Kept) → get nat_eq rooms.old conference ≡ Some room
         → (new : Kept) × (get nat_eq rooms.new conference ≡ Some new)
-            × ((d : ℕ) → nat_eq conference d ≡ false
-            → get nat_eq rooms.new d ≡ get nat_eq rooms.old d)
-            × OnOk result (Took room new (Join user)
-            × Puts connections.old connections.new number (Some record {
-            conference = conference;
-            n = length (conference_of room.ledger).members + 1;
-            held = []
-            }))
-            × IfErr result (λ r. (why : RoomRefusal) × (r ≡ HubRefusal.ByRoom why)
-            × AttachFailsIn room new user why) }
+        × ((d : ℕ) → nat_eq conference d ≡ false
+        → get nat_eq rooms.new d ≡ get nat_eq rooms.old d)
+        × OnOk result (Took room new (Join user)
+        × Puts connections.old connections.new number (Some record {
+          conference = conference;
+          n = length (conference_of room.ledger).members + 1;
+          held = [];
+        }))
+        × IfErr result (λ r. (why : RoomRefusal) × (r ≡ HubRefusal.ByRoom why)
+        × AttachFailsIn room new user why) }
 {
     match join_at(rooms, conference, user) {
         Err(refusal) => Err(refusal),
@@ -262,9 +262,9 @@ fn take_at(
     ensures there { (x : Connection) → connection_at connections.now number ≡ Some x
         → (r : Kept) → get nat_eq rooms.old x.conference ≡ Some r
         → (new : Kept) × (given : Result (Option Parcel) NoMember)
-            × Updates nat_eq rooms.old rooms.new x.conference (Some new)
-            × Gave r new x.n given
-            × MatchResult given (λ p. result ≡ Ok p) (λ _. IsErr result) }
+        × Updates nat_eq rooms.old rooms.new x.conference (Some new)
+        × Gave r new x.n given
+        × MatchResult given (λ p. result ≡ Ok p) (λ _. IsErr result) }
 {
     match connections.get(number) {
         Some(connection) => match rooms.get_mut(&connection.conference) {
@@ -293,15 +293,14 @@ fn leave_at(
     ensures there { (x : Connection) → connection_at connections.old number ≡ Some x
         → (r : Kept) → get nat_eq rooms.old x.conference ≡ Some r
         → (new : Kept) × (get nat_eq rooms.new x.conference ≡ Some new)
-            × ((d : ℕ) → nat_eq x.conference d ≡ false
-            → get nat_eq rooms.new d ≡ get nat_eq rooms.old d)
-            × OnOk result (LeavesIn r new x.n)
-            × IfErr result (λ y. (why : RoomRefusal) × (y ≡ HubRefusal.ByRoom why)
-            × LeaveFailsIn r new x.n why) }
+        × ((d : ℕ) → nat_eq x.conference d ≡ false
+        → get nat_eq rooms.new d ≡ get nat_eq rooms.old d)
+        × OnOk result (LeavesIn r new x.n)
+        × IfErr result (λ y. (why : RoomRefusal) × (y ≡ HubRefusal.ByRoom why)
+        × LeaveFailsIn r new x.n why) }
 {
     match connections.remove(number) {
         Some(connection) => leave_room(rooms, connection.conference, connection.n),
         None => Err(HubRefusal::NoConnection),
     }
 }
-

@@ -26,11 +26,11 @@ pub(crate) fn open_at(
     ensures range { config.conference ≤ 4294967295 }
     ensures done { MatchResult result
         (λ _. (get nat_eq rooms.old config.conference ≡ None)
-            × (get nat_eq rooms.new config.conference ≡ Some (new_room config))
-            × ((d : ℕ) → nat_eq config.conference d ≡ false
-            → get nat_eq rooms.new d ≡ get nat_eq rooms.old d))
+        × (get nat_eq rooms.new config.conference ≡ Some (new_room config))
+        × ((d : ℕ) → nat_eq config.conference d ≡ false
+        → get nat_eq rooms.new d ≡ get nat_eq rooms.old d))
         (λ r. (r ≡ HubRefusal.Memory) ⊎ ((r ≡ HubRefusal.Used)
-            × (get nat_eq rooms.old config.conference ≢ None))) }
+        × (get nat_eq rooms.old config.conference ≢ None))) }
     ensures err { OnErr result ((other : ℕ) → get nat_eq rooms.new other
         ≡ get nat_eq rooms.old other) }
 {
@@ -48,7 +48,11 @@ pub(crate) fn open_at(
 }
 
 /// Does an act in the room of a conference.
-pub(crate) fn admin_at(rooms: &mut IndexMap<u32, Room>, conference: u32, act: Act) -> Result<(), HubRefusal>
+pub(crate) fn admin_at(
+    rooms: &mut IndexMap<u32, Room>,
+    conference: u32,
+    act: Act,
+) -> Result<(), HubRefusal>
     ensures absent { get nat_eq rooms.old conference ≡ None
         → (result ≡ Err HubRefusal.NoConference)
         × ((other : ℕ) → get nat_eq rooms.new other ≡ get nat_eq rooms.old other) }
@@ -79,11 +83,11 @@ pub(crate) fn join_at(
         × ((other : ℕ) → get nat_eq rooms.new other ≡ get nat_eq rooms.old other) }
     ensures rooms { (room : Kept) → get nat_eq rooms.old conference ≡ Some room
         → (new : Kept) × Updates nat_eq rooms.old rooms.new conference (Some new)
-            × IfOk result (λ n. (n ≡ length (conference_of room.ledger).members + 1)
-            × Took room new (Join user))
-            × IfErr result (λ r. (why : RoomRefusal) × (r ≡ HubRefusal.ByRoom why)
-            × IsRefusedBy {T = Unit {0}} (refusal room.ledger (Join user)) (Err why)
-            × Left room new (Join user) why) }
+        × IfOk result (λ n. (n ≡ length (conference_of room.ledger).members + 1)
+        × Took room new (Join user))
+        × IfErr result (λ r. (why : RoomRefusal) × (r ≡ HubRefusal.ByRoom why)
+        × IsRefusedBy {T = Unit {0}} (refusal room.ledger (Join user)) (Err why)
+        × Left room new (Join user) why) }
 {
     match rooms.get_mut(&conference) {
         Some(room) => match room.join(user) {
@@ -158,11 +162,11 @@ pub(crate) fn leave_room(
 ) -> Result<(), HubRefusal>
     ensures rooms { (room : Kept) → get nat_eq rooms.old conference ≡ Some room
         → (new : Kept) × (get nat_eq rooms.new conference ≡ Some new)
-            × ((d : ℕ) → nat_eq conference d ≡ false
-            → get nat_eq rooms.new d ≡ get nat_eq rooms.old d)
-            × OnOk result (LeavesIn room new n)
-            × IfErr result (λ r. (why : RoomRefusal) × (r ≡ HubRefusal.ByRoom why)
-            × LeaveFailsIn room new n why) }
+        × ((d : ℕ) → nat_eq conference d ≡ false
+        → get nat_eq rooms.new d ≡ get nat_eq rooms.old d)
+        × OnOk result (LeavesIn room new n)
+        × IfErr result (λ r. (why : RoomRefusal) × (r ≡ HubRefusal.ByRoom why)
+        × LeaveFailsIn room new n why) }
 {
     match rooms.get_mut(&conference) {
         Some(room) => leave_in(room, n),
@@ -179,7 +183,7 @@ pub(crate) fn serve_room(
 ) -> Result<Served, HubRefusal>
     ensures rooms { (room : Kept) → get nat_eq rooms.old conference ≡ Some room
         → (new : Kept) × Updates nat_eq rooms.old rooms.new conference (Some new)
-            × ServedIn room new n held.old held.new result }
+        × ServedIn room new n held.old held.new result }
 {
     match rooms.get_mut(&conference) {
         Some(room) => serve_in(room, n, held),
@@ -191,7 +195,7 @@ pub(crate) fn serve_room(
 pub(crate) fn break_at(rooms: &mut IndexMap<u32, Room>, conference: u32)
     ensures broken { (room : Kept) → get nat_eq rooms.old conference ≡ Some room
         → Updates nat_eq rooms.old rooms.new conference
-            (Some (broken_room room)) }
+        (Some (broken_room room)) }
 {
     match rooms.get_mut(&conference) {
         Some(room) => room.break_off(),

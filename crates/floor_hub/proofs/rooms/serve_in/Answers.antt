@@ -3,7 +3,9 @@ use Rattle.floor_hub.specs.Steps.{IsServable}
 use Rattle.floor_hub.proofs.rooms.serve_in.Goals as goal
 
 pub returns-then-not-ready : goal.returns-then-not-ready
-returns-then-not-ready c = record { served = record {
-  served = (subst IsServable c.closed-closed.ensures.value (c.shut.ensures.servable c.in-None.is), c.ready.ensures.0 c.if-not-ready.true, refl, refl);
-  failed = tt;
-} }
+returns-then-not-ready c = record {
+  served = record {
+    served = (subst IsServable c.closed-closed.ensures.value (c.shut.ensures.servable c.in-None.is), c.ready.ensures.0 c.if-not-ready.true, refl, refl);
+    failed = tt;
+  };
+}

@@ -1,6 +1,5 @@
-use Rattle.std.proofs.Common.{refl, sym, subst, ◌≡◌, ◌∙◌, ap, Some}
-use Rattle.slab.specs.Slab.{get}
-use Rattle.floor_hub.specs.Connections.{Puts, connection_at}
+use Rattle.std.proofs.Common.{sym, ◌∙◌, ap}
+use Rattle.floor_hub.specs.Connections.{connection_at}
 use Rattle.floor_hub.proofs.Slotted.{not_absent, refilled}
 use Rattle.floor_hub.proofs.connections.Connections.serve.Goals as goal
 

@@ -1,5 +1,5 @@
 use Rattle.std.proofs.Common.{◌≡◌, ◌⊎◌, ◌+◌, ◌≤◌, ◌<◌, arith, length, refl, sym, subst}
-use Rattle.std.specs.Prelude.{Result, Ok, Err, MatchResult}
+use Rattle.std.specs.Prelude.{Ok, Err}
 use Rattle.floor_machine.specs.declared.machine.Refusal.TheVariants.{Memory, Broken}
 use Rattle.floor_room.specs.declared.refusal.RoomRefusal.TheVariants.{Refused as ByMachine}
 use Rattle.floor_hub.specs.declared.refusal.HubRefusal.{HubRefusal}
@@ -8,7 +8,7 @@ use Rattle.floor_hub.specs.declared.step.Step.TheVariants.{Attach}
 use Rattle.floor_hub.specs.declared.step.Answer.TheVariants.{Attached}
 use Rattle.floor_hub.specs.Connections.{connection_at}
 use Rattle.floor_hub.specs.Hub.{Hub, room_at}
-use Rattle.floor_hub.specs.Rooms.{by_broken, OneRoom, refusal_in}
+use Rattle.floor_hub.specs.Rooms.{by_broken, OneRoom}
 use Rattle.floor_hub.specs.StandsFor.{StandsFor}
 use Rattle.floor_hub.specs.Steps.{Fails, Turns}
 use Rattle.floor_hub.specs.World.{World}

@@ -1,22 +1,19 @@
 use Rattle.floor_hub.proofs.Attending.{serve_result}
 use Rattle.floor_hub.proofs.RoomSteps.{serve-room}
-use Rattle.std.proofs.Common.{◌≡◌, ◌⊎◌, ℕ, List, refl, sym, subst}
-use Rattle.std.specs.Prelude.{Result, Ok, Err, MatchResult, nat_eq}
-use Rattle.std.specs.Map.{lookup}
+use Rattle.std.proofs.Common.{◌≡◌, ◌⊎◌, refl, sym, subst}
+use Rattle.std.specs.Prelude.{MatchResult}
 use Rattle.floor_machine.specs.declared.machine.Refusal.TheVariants.{Memory, Broken}
-use Rattle.floor_machine.specs.Machine.{event_of_act}
 use Rattle.floor_room.specs.declared.refusal.RoomRefusal.TheVariants.{Refused as ByMachine}
 use Rattle.floor_hub.specs.declared.refusal.HubRefusal.{HubRefusal}
-use Rattle.floor_hub.specs.declared.refusal.HubRefusal.TheVariants.{ByRoom, Memory as NoMemory}
-use Rattle.floor_hub.specs.declared.step.Step.TheVariants.{Admin, Attach, Leave, Open, Piece, Serve}
-use Rattle.floor_hub.specs.declared.step.Answer.TheVariants.{Attached, Done}
+use Rattle.floor_hub.specs.declared.refusal.HubRefusal.TheVariants.{ByRoom}
+use Rattle.floor_hub.specs.declared.step.Step.TheVariants.{Serve}
 use Rattle.floor_hub.specs.Connections.{connection_at}
 use Rattle.floor_hub.specs.Hub.{Hub, room_at}
-use Rattle.floor_hub.specs.Rooms.{by_broken, OneRoom, RoomOf, refusal_in}
+use Rattle.floor_hub.specs.Rooms.{by_broken, RoomOf, refusal_in}
 use Rattle.floor_hub.specs.StandsFor.{StandsFor}
-use Rattle.floor_hub.specs.Steps.{Fails, FailsGone, FailsSame, Turns, answer_of}
-use Rattle.floor_hub.specs.World.{World, turn}
-use Rattle.floor_hub.proofs.Closing.{ended, good, good_next, stands_good, stood}
+use Rattle.floor_hub.specs.Steps.{Fails, Turns, answer_of}
+use Rattle.floor_hub.specs.World.{World}
+use Rattle.floor_hub.proofs.Closing.{ended, good, stood}
 use Rattle.floor_hub.proofs.hub.Hub.serve.Goals as goal
 
 abbrev old : goal.After-serve → Hub
