@@ -173,9 +173,9 @@ keeps-queued r new now e out put rest b outboxes room_for given k added fits par
     let o : IsOpen r.ledger = allowed-open r.ledger e added.allowed in
     let few : length put < 18446744073709551616 = omega (arith, fits, ap length parts, length-append put rest) in
     let is : with_event r e put b ≡ record { ledger = now; outboxes = outboxes } =
-        ap (λ (l : Ledger). record { ledger = record { config = l.config; journal = l.journal; is_broken = b }; outboxes = delivered put 1 (r.outboxes ++ joined e) }) (sym added.next)
-        ∙ ap (λ (l : Ledger). record { ledger = l; outboxes = delivered put 1 (r.outboxes ++ joined e) }) (sym is_ledger)
-        ∙ ap (λ (os : List Outbox). record { ledger = now; outboxes = os }) (sym is_outboxes) in
+    ap (λ (l : Ledger). record { ledger = record { config = l.config; journal = l.journal; is_broken = b }; outboxes = delivered put 1 (r.outboxes ++ joined e) }) (sym added.next)
+    ∙ ap (λ (l : Ledger). record { ledger = l; outboxes = delivered put 1 (r.outboxes ++ joined e) }) (sym is_ledger)
+    ∙ ap (λ (os : List Outbox). record { ledger = now; outboxes = os }) (sym is_outboxes) in
     subst (λ (x : Room). (b ≡ false → length x.outboxes < given) → Keeps x given) is
     (λ s. record {
       room = room-event r e put rest b k.room o.unbroken o.few added.lawful (sym added.told ∙ parts) whole;

@@ -23,10 +23,10 @@ use std::marker::Model;
 /// One conference with its journal and its outboxes: whole messages of its members in, and what
 /// waits for each member out.
 ///
-/// Readers: `journal`, `closed` (why no event is taken), `status`, `held`. Events: `join`, `serve`, `leave`
-/// and `admin`, each of which changes nothing where it refuses, but that `Memory` breaks the room
-/// off. `take` gives what waits, also in a room that takes no event. `break_off` is for a caller
-/// that meets want of memory itself.
+/// Readers: `journal`, `closed` (why no event is taken), `status`, `held`. Events: `join`, `serve`,
+/// `leave` and `admin`, each of which changes nothing where it refuses, but that `Memory` breaks
+/// the room off. `take` gives what waits, also in a room that takes no event. `break_off` is for a
+/// caller that meets want of memory itself.
 #[derive(Debug, Drop)]
 pub struct Room {
     ledger: Ledger,
