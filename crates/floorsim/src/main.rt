@@ -1,20 +1,34 @@
-//! Runs a script of connections and messages over one conference, and prints what each connection
-//! is sent.
+//! Runs a script of connections and messages over any number of conferences, and prints what each
+//! connection is sent.
 //!
-//! Standard input holds a configuration, a line `---` and the script, or the script alone. Status
-//! 0; 1 for a read or write fault or where memory ran out; 2 for a refused configuration or a bad
-//! line, whose fault is the last line that is printed.
+//! Standard input holds configurations, a line `---` and the script, or the script alone. Status 0;
+//! 1 for a read or write fault or where memory ran out, which standard error names; 2 for refused
+//! words, a refused configuration or a bad line.
 #![tactic(auto)]
 
+mod attached;
+mod conferences;
 mod line;
 mod run;
 mod script;
-mod simulation;
 #[cfg(test)]
 mod tests;
+mod usage;
 
+use std::env;
 use std::process::ExitCode;
 
 fn main(rt: HostRuntime) -> ExitCode {
-    ExitCode::from(run::run(rt.alloc(), &mut rt.stdin(), &mut rt.stdout()))
+    let alloc = rt.alloc();
+    let word = match env::args(&rt) {
+        Ok(words) => words.skip(1).next(),
+        Err(_) => None,
+    };
+    ExitCode::from(usage::run_words(
+        alloc,
+        word.as_ref().map(|word| word.as_str()),
+        &mut rt.stdin(),
+        &mut rt.stdout(),
+        &mut rt.stderr(),
+    ))
 }

@@ -1,82 +1,83 @@
 //! A text as a configuration and the lines of a script.
 
-use std::alloc::{AllocError, Global};
+use crate::run::TURNS;
+use floor_words::cut_line;
 
 /// The line that divides a configuration from a script.
 const DIVIDER: &str = "---";
 
-/// A line of a script, with its number in the whole text, counted from 1.
+/// A line, with its number in the whole text, counted from 1.
 #[derive(Clone, Copy, Debug)]
 pub struct Line<'a> {
-    pub number: usize,
+    pub number: u64,
     pub text: &'a str,
 }
 
+/// The lines of a text that are still to be read.
+#[derive(Clone, Copy, Debug)]
+pub struct Lines<'a> {
+    /// How many lines were read.
+    read: u64,
+    /// What follows them.
+    rest: &'a str,
+}
+
+impl<'a> Lines<'a> {
+    fn of_text(text: &'a str) -> Lines<'a> {
+        Lines {
+            read: 0,
+            rest: text,
+        }
+    }
+
+    /// The next line. A carriage return before its line feed is dropped.
+    pub fn cut(&mut self) -> Option<Line<'a>> {
+        let cut = cut_line(self.rest)?;
+        self.read = self.read.saturating_add(1);
+        self.rest = cut.rest;
+        Some(Line {
+            number: self.read,
+            text: cut.line,
+        })
+    }
+}
+
 /// A configuration, where the text has one, and the lines of the script.
-#[derive(Debug, Drop)]
+#[derive(Clone, Copy, Debug)]
 pub struct Script<'a> {
-    pub configuration: Option<String>,
-    pub lines: Vec<Line<'a>>,
+    pub configuration: Option<&'a str>,
+    pub lines: Lines<'a>,
 }
 
 impl<'a> Script<'a> {
     /// The script of a text. The first line that is the divider ends the configuration.
-    pub fn of_text(alloc: Global, text: &'a str) -> Result<Script<'a>, AllocError> {
-        let pieces: Vec<&str> = text.split('\n').collect(alloc)?;
-        let lines = lines(alloc, pieces.as_slice())?;
-        match lines.iter().position(|line| line.text == DIVIDER) {
-            None => Ok(Script {
-                configuration: None,
-                lines,
-            }),
-            Some(place) => {
-                let configuration = joined(alloc, &pieces, place)?;
-                let lines = behind(alloc, &lines, place)?;
-                Ok(Script {
-                    configuration: Some(configuration),
-                    lines,
-                })
+    pub fn of_text(text: &'a str) -> Script<'a> {
+        let mut lines = Lines::of_text(text);
+        for _ in 0..TURNS {
+            let left = lines.rest.len();
+            match lines.cut() {
+                None => break,
+                Some(line) if line.text == DIVIDER => {
+                    return Script {
+                        configuration: Some(without_end(text, left)),
+                        lines,
+                    };
+                }
+                Some(_) => {}
             }
+        }
+        Script {
+            configuration: None,
+            lines: Lines::of_text(text),
         }
     }
 }
 
-/// The pieces between line feeds as lines: a carriage return before a line feed is dropped, and one
-/// that no line feed follows is part of its line.
-fn lines<'a>(alloc: Global, pieces: &[&'a str]) -> Result<Vec<Line<'a>>, AllocError> {
-    let mut lines = Vec::new(alloc);
-    let count = pieces.len();
-    for (place, piece) in pieces.iter().enumerate() {
-        let number = place + 1;
-        let text = if number == count {
-            piece
-        } else {
-            piece.strip_suffix('\r').unwrap_or(piece)
-        };
-        lines.push(Line { number, text })?;
+/// A text without so many bytes at its end, which are whole lines.
+fn without_end(text: &str, count: usize) -> &str {
+    let bytes = text.as_bytes();
+    match bytes.get(..bytes.len().saturating_sub(count)) {
+        None => text,
+        Some(front) => std::str::from_utf8(front).unwrap_or(text),
     }
-    Ok(lines)
-}
-
-/// The text of so many first pieces, each with its line feed.
-fn joined(alloc: Global, pieces: &[&str], count: usize) -> Result<String, AllocError> {
-    let mut text = String::new(alloc);
-    for piece in pieces.iter().take(count) {
-        text.push_str(piece)?;
-        text.push('\n')?;
-    }
-    Ok(text)
-}
-
-/// The lines behind this place.
-fn behind<'a>(
-    alloc: Global,
-    lines: &[Line<'a>],
-    place: usize,
-) -> Result<Vec<Line<'a>>, AllocError> {
-    lines
-        .iter()
-        .skip(place.saturating_add(1))
-        .copied()
-        .collect(alloc)
 }

@@ -4,6 +4,7 @@
 mod act_rules;
 mod chair_checks;
 mod chair_examples;
+mod conferences;
 mod faults;
 mod first_examples;
 mod limits;
