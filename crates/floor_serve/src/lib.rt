@@ -36,3 +36,6 @@ pub use registry::Registry;
 pub use seat::{Receipt, Seat, Sent};
 pub use table::Table;
 pub use writing::{Written, write_loop, write_parcel};
+
+#[cfg(test)]
+mod tests;
