@@ -21,3 +21,7 @@ pub mod Arriving
 pub mod Given
 pub mod Closing
 pub mod RoomSteps
+pub mod Waiting
+pub mod Entries
+pub mod Advancing
+pub mod GoesOn

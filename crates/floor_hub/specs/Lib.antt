@@ -7,5 +7,6 @@ pub mod StandsFor
 pub mod Steps
 pub mod Rooms
 pub mod Runs
+pub mod Running
 pub mod Laws
 pub mod Examples

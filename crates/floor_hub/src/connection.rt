@@ -13,3 +13,10 @@ pub(crate) struct Connection {
     pub n: u32,
     pub held: Framer,
 }
+
+/// Whose an arrival is: its conference, and n within it.
+#[derive(Clone, Copy, Debug)]
+pub(crate) struct Place {
+    pub conference: u32,
+    pub n: u32,
+}

@@ -1,6 +1,6 @@
 //! All conferences at once: their rooms and their connections.
 
-ghost use Rattle.std.specs.Prelude.{false, [], ◌≡◌, ◌+◌, ℕ, Ok, Err, nat_eq, length, IfErr, IsErr, MatchResult, Option, Result, OnErr, OnOk, None, Some};
+ghost use Rattle.std.specs.Prelude.{false, [], ◌≡◌, ◌+◌, ℕ, Ok, Err, nat_eq, length, IfErr, IfSome, IsErr, MatchResult, Option, Result, OnErr, OnOk, None, Some};
 ghost use Rattle.indexmap.specs.IndexMap.{Updates, get};
 ghost use Rattle.floor_machine.specs.declared.event.Event.TheVariants.{Join};
 ghost use Rattle.floor_machine.specs.Parcel.{Parcel};
@@ -14,21 +14,23 @@ ghost use Rattle.floor_room.specs.Room.{Room as Kept};
 ghost use Rattle.floor_hub.specs.Connections.{Puts, SameConnections, connection_at};
 ghost use Rattle.floor_hub.specs.Hub.{room_at};
 ghost use Rattle.floor_hub.specs.Rooms.{OneRoom, Opens, RoomOf, SameHub, by_broken, refusal_in};
+ghost use Rattle.floor_hub.specs.Running.{QueuedIn};
 ghost use Rattle.floor_hub.specs.StandsFor.{StandsFor};
 ghost use Rattle.floor_hub.specs.Steps.{AttachFailsIn, Fails, FailsGone, FailsSame, LeaveFailsIn, LeavesIn, Turns, answer_of};
 ghost use Rattle.floor_hub.specs.World.{World, nothing};
 ghost use Rattle.floor_hub.specs.declared.step.Step.TheVariants.{Admin, Attach, Leave, Open, Piece, Serve};
 ghost use Rattle.floor_hub.specs.declared.step.Answer.TheVariants.{Attached, Done};
 
-use crate::connection::{ConnNo, Connection};
+use crate::connection::{ConnNo, Connection, Place};
 use crate::connections::Connections;
+use crate::gathering::queued_to;
 use crate::refusal::HubRefusal;
 use crate::rooms::{admin_at, break_at, join_at, leave_room, open_at};
 use crate::step::Served;
 use floor_room::{Act, Config, NoMember, Parcel, Refusal, Room, RoomRefusal, Status};
-use floor_wire::Framer;
+use floor_wire::{Framer, Octets};
 use indexmap::IndexMap;
-use std::alloc::Global;
+use std::alloc::{AllocError, Global};
 use std::marker::Model;
 
 /// All conferences. A conference is found by its number, a connection by its own; nothing that a
@@ -202,6 +204,41 @@ impl Hub {
         ensures stands { (w : World) → StandsFor self.old w → StandsFor self.new w }
     {
         take_at(&mut self.rooms, &self.connections, number)
+    }
+}
+
+// What a whole run reads.
+impl Hub {
+    /// Whose a live connection is. Takes no memory.
+    pub(crate) fn place(&self, number: ConnNo) -> Option<Place>
+        ensures found { IfSome result (λ place. (x : Connection)
+            × (connection_at self.now.connections number ≡ Some x)
+            × (place.conference ≡ x.conference) × (place.n ≡ x.n)) }
+    {
+        match self.connections.get(number) {
+            Some(connection) => Some(Place {
+                conference: connection.conference,
+                n: connection.n,
+            }),
+            None => None,
+        }
+    }
+
+    /// All bytes that were queued to a member of a conference, where none of them was taken and its
+    /// room isn't broken off.
+    pub(crate) fn queued_to(
+        &self,
+        alloc: Global,
+        conference: u32,
+        n: u32,
+    ) -> Result<Octets, AllocError>
+        ensures value { (r : Kept) → room_at self.now conference ≡ Some r
+            → QueuedIn r n result }
+    {
+        match self.rooms.get(&conference) {
+            Some(room) => queued_to(alloc, room, n),
+            None => Ok(Octets::from_vec(Vec::new(alloc))),
+        }
     }
 }
 

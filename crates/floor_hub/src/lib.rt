@@ -6,10 +6,12 @@
 
 mod connection;
 mod connections;
+mod gathering;
 mod hub;
 mod laws;
 mod refusal;
 mod rooms;
+mod running;
 mod step;
 mod transcript;
 
@@ -22,5 +24,6 @@ pub use laws::{
     two_worlds,
 };
 pub use refusal::HubRefusal;
+pub use running::{Memory, run};
 pub use step::{Answer, Served, Step};
 pub use transcript::{Answers, Queued, Queues, Transcript};

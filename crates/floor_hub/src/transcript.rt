@@ -1,5 +1,7 @@
 //! What a run gives.
 
+ghost use Rattle.std.specs.Prelude.{◌≡◌};
+
 use crate::step::Answer;
 use floor_wire::Octets;
 use std::marker::Model;
@@ -54,4 +56,36 @@ pub struct Transcript {
     pub answers: Answers,
     /// What was queued, an entry per arrival.
     pub queued: Queues,
+}
+
+impl Queues {
+    /// The entries of a vector. Takes no memory.
+    pub fn from_vec(items: Vec<Queued>) -> Queues
+        ensures { result ≡ items.items }
+    {
+        Queues { items }
+    }
+
+    /// The entries, in order.
+    pub fn as_slice(&self) -> &[Queued]
+        ensures { result.now ≡ self.now }
+    {
+        self.items.as_slice()
+    }
+}
+
+impl Answers {
+    /// The answers of a vector. Takes no memory.
+    pub fn from_vec(items: Vec<Answer>) -> Answers
+        ensures { result ≡ items.items }
+    {
+        Answers { items }
+    }
+
+    /// The answers, in order.
+    pub fn as_slice(&self) -> &[Answer]
+        ensures { result.now ≡ self.now }
+    {
+        self.items.as_slice()
+    }
 }

@@ -1,0 +1,142 @@
+-- What a run reads for each arrival is what the events of its conference call for.
+use Rattle.std.proofs.Common.{◌≡◌, ◌≢◌, ℕ, zero, suc, ◌+◌, ◌<◌, ◌≤◌, Bool, true, false, List, [], ◌∷◌, ◌++◌, length, get_or, take, map, refl, sym, ◌∙◌, ap, subst, arith, length-append, Some, None}
+use Rattle.std.specs.Prelude.{Option, Result, Ok, Err, IfOk, ◌==◌, if◌then◌else◌, slice_get}
+use Rattle.std.specs.declared.alloc.AllocError.{AllocError}
+use Rattle.std.proofs.lemmas.Bool.{eqb-true, eqb-false}
+use Rattle.std.proofs.lemmas.List.{length-map, length-take-le, map-append, take_more}
+use Rattle.std.proofs.lemmas.Option.{none-some}
+use Rattle.floor_config.specs.Configuration.{Configuration}
+use Rattle.floor_machine.specs.declared.event.Event.{Event}
+use Rattle.floor_machine.specs.Conference.{Conference}
+use Rattle.floor_machine.specs.Journal.{Q, after}
+use Rattle.floor_room.specs.Room.{Room}
+use Rattle.floor_hub.specs.declared.connection.Place.{Place}
+use Rattle.floor_hub.specs.declared.transcript.Queued.{Queued}
+use Rattle.floor_hub.specs.Hub.{Hub, room_at}
+use Rattle.floor_hub.specs.Kept.{IsKeptPart, KeptIn, arrivals_in, first_numbers, numbers_of}
+use Rattle.floor_hub.specs.Runs.{called_at, queues_from}
+use Rattle.floor_hub.specs.Running.{AreWhole, IsRunning, QueuedIn, place_of}
+use Rattle.floor_hub.specs.StandsFor.{RoomStands}
+use Rattle.floor_hub.specs.World as world
+use Rattle.floor_hub.specs.World.{Part, World, place, state_of}
+use Rattle.floor_hub.proofs.Keeping.{members_of}
+
+abbrev Each : (ℕ → Type 0) → List ℕ → Type 0
+Each P [] = Unit {0}
+Each P (x ∷ xs) = P x × Each P xs
+
+each_append : (P : ℕ → Type 0) (xs ys : List ℕ) → Each P xs → Each P ys → Each P (xs ++ ys)
+each_append P [] ys a b = b
+each_append P (x ∷ xs) ys a b = (a.0, each_append P xs ys a.1 b)
+
+-- a number of a part
+abbrev IsNumber : ℕ → ℕ → Type 0
+IsNumber k n = (1 ≤ n) × (n ≤ k)
+
+each_first : (m k : ℕ) → m ≤ k → Each (IsNumber k) (first_numbers m)
+each_first zero k h = tt
+each_first (suc m) k h = each_append (IsNumber k) (first_numbers m) (suc m ∷ []) (each_first m k (omega arith)) ((omega arith, h), tt)
+
+-- what holds of each number of a conference holds of that of a place
+each_place : (P : ℕ → Type 0) (c : ℕ) (ps : List world.Place) (j : ℕ) (q : world.Place) → Each P (numbers_of c ps) → slice_get ps j ≡ Some q → q.conference ≡ c → P q.n
+each_place P c [] j q a is same = absurd (none-some q is)
+each_place P c (p ∷ ps) zero q a is same = by (p.conference == c) refl a
+  where
+    some : (x y : world.Place) → ◌≡◌ {A = Option world.Place} (Some x) (Some y) → x ≡ y
+    some x y e = cc
+
+    by : (b : Bool) → (p.conference == c) ≡ b → Each P (if b then p.n ∷ numbers_of c ps else numbers_of c ps) → P q.n
+    by true e a = subst (λ (x : world.Place). P x.n) (some p q is) a.0
+    by false e a = absurd (eqb-false p.conference c e (ap (λ (x : world.Place). x.conference) (some p q is) ∙ same))
+each_place P c (p ∷ ps) (suc j) q a is same = by (p.conference == c) a (λ b. each_place P c ps j q b is same)
+  where
+    by : (b : Bool) → Each P (if b then p.n ∷ numbers_of c ps else numbers_of c ps) → (Each P (numbers_of c ps) → P q.n) → P q.n
+    by true a rest = rest a.1
+    by false a rest = rest a
+
+get_map : (ps : List Place) (i : ℕ) (p d : Place) → i < length ps → p ≡ get_or ps i d → slice_get (map place_of ps) i ≡ Some (place_of p)
+get_map [] i p d h e = absurd (omega (arith, h))
+get_map (x ∷ ps) zero p d h e = ap (λ (y : Place). Some (place_of y)) (sym e)
+get_map (x ∷ ps) (suc i) p d h e = get_map ps i p d (omega (arith, h)) e
+
+ok_along : (res : Result (List ℕ) AllocError) (x y : List ℕ) → x ≡ y → IfOk res (λ b. b ≡ x) → IfOk res (λ b. b ≡ y)
+ok_along (Ok b) x y e h = h ∙ e
+ok_along (Err r) x y e h = tt
+
+module _ (h : Hub) (places : List Place) (w : World) (i : ℕ) (p d : Place) (res : Result (List ℕ) AllocError) (running : IsRunning h places w) (within : i < length places)
+    (is : p ≡ get_or places i d) (value : (r : Room) → room_at h p.conference ≡ Some r → QueuedIn r p.n res) where
+  here : slice_get w.places i ≡ Some (place_of p)
+  here = ap (λ (ps : List world.Place). slice_get ps i) (sym running.places) ∙ get_map places i p d within is
+
+  called_by : (z : Option Part) (y : Option Room) → w.parts p.conference ≡ z → room_at h p.conference ≡ y → RoomStands y z → KeptIn z → IfOk res (λ b. b ≡ called_at z p.n)
+  called_by None y e f s k =
+      let none : numbers_of p.conference w.places ≡ [] = running.stands.kept.places p.conference ∙ ap (λ (z : Option Part). first_numbers (arrivals_in z)) e in
+      absurd (each_place (λ n. ⊥) p.conference w.places i (place_of p) (subst (Each (λ n. ⊥)) (sym none) tt) here refl)
+  called_by (Some part) None e f s k = absurd s
+  called_by (Some part) (Some r) e f s k =
+      let whole = running.whole p.conference r f in
+      let journal : r.ledger.journal ≡ part.events = s.1 whole.0 in
+      let numbers : numbers_of p.conference w.places ≡ first_numbers (length part.arrivals) = running.stands.kept.places p.conference ∙ ap (λ (z : Option Part). first_numbers (arrivals_in z)) e in
+      let number : IsNumber (length part.arrivals) p.n =
+        each_place (IsNumber (length part.arrivals)) p.conference w.places i (place_of p)
+        (subst (Each (IsNumber (length part.arrivals))) (sym numbers) (each_first (length part.arrivals) (length part.arrivals) (omega arith))) here refl in
+      let same : after r.ledger.config r.ledger.journal ≡ state_of part = ap (λ (x : Configuration). after x r.ledger.journal) s.0 ∙ ap (after part.config) journal in
+      let high : p.n ≤ length (after r.ledger.config r.ledger.journal).members = omega (arith, number.1, members_of part k, ap (λ (x : Conference). length x.members) same) in
+      ok_along res (Q r.ledger.config r.ledger.journal p.n) (Q part.config part.events p.n)
+      (ap (λ (x : Configuration). Q x r.ledger.journal p.n) s.0 ∙ ap (λ (es : List Event). Q part.config es p.n) journal)
+      (value r f number.0 high whole.1 whole.0)
+
+  pub called_there : IfOk res (λ b. b ≡ called_at (w.parts p.conference) p.n)
+  called_there = called_by (w.parts p.conference) (room_at h p.conference) refl refl (running.stands.stands.of_rooms p.conference) (running.stands.kept.parts p.conference)
+
+-- one more place adds its entry
+queues_more : (parts : ℕ → Option Part) (k : ℕ) (ps : List world.Place) (q : world.Place) →
+    queues_from parts k (ps ++ q ∷ []) ≡ queues_from parts k ps ++ record { number = k + length ps; conference = q.conference; n = q.n; bytes = called_at (parts q.conference) q.n } ∷ []
+queues_more parts k [] q =
+    let same : k ≡ k + 0 = omega arith in
+    ap (λ (m : ℕ). record { number = m; conference = q.conference; n = q.n; bytes = called_at (parts q.conference) q.n } ∷ []) same
+queues_more parts k (p ∷ ps) q =
+    let same : (k + 1) + length ps ≡ k + suc (length ps) = omega arith in
+    ap (λ (xs : List Queued). record { number = k; conference = p.conference; n = p.n; bytes = called_at (parts p.conference) p.n } ∷ xs)
+    (queues_more parts (k + 1) ps q
+    ∙ ap (λ (m : ℕ). queues_from parts (k + 1) ps ++ record { number = m; conference = q.conference; n = q.n; bytes = called_at (parts q.conference) q.n } ∷ []) same)
+
+pub entry_more : (parts : ℕ → Option Part) (places : List Place) (i m : ℕ) (p d : Place) (es : List Queued) (b : List ℕ) → i < length places → p ≡ get_or places i d → length es ≡ i → m ≡ i + 1 →
+    es ≡ queues_from parts 1 (map place_of (take i places)) → b ≡ called_at (parts p.conference) p.n →
+    es ++ record { number = m; conference = p.conference; n = p.n; bytes = b } ∷ [] ≡ queues_from parts 1 (map place_of (take (i + 1) places))
+entry_more parts places i m p d es b within is count number before bytes =
+    let taken : take (i + 1) places ≡ take i places ++ p ∷ [] = take_more places i d within ∙ ap (λ (y : Place). take i places ++ y ∷ []) (sym is) in
+    let long : length (map place_of (take i places)) ≡ i = length-map (take i places) place_of ∙ length-take-le i places (omega arith) in
+    let at_end : m ≡ 1 + length (map place_of (take i places)) = omega (arith, number, long) in
+    ap (λ (xs : List Queued). xs ++ record { number = m; conference = p.conference; n = p.n; bytes = b } ∷ []) before
+    ∙ ap (λ (x : List ℕ). queues_from parts 1 (map place_of (take i places)) ++ record { number = m; conference = p.conference; n = p.n; bytes = x } ∷ []) bytes
+    ∙ ap (λ (x : ℕ). queues_from parts 1 (map place_of (take i places)) ++ record { number = x; conference = p.conference; n = p.n; bytes = called_at (parts p.conference) p.n } ∷ []) at_end
+    ∙ sym (ap (λ (ps : List Place). queues_from parts 1 (map place_of ps)) taken
+      ∙ ap (queues_from parts 1) (map-append place_of (take i places) (p ∷ []))
+      ∙ queues_more parts 1 (map place_of (take i places)) (place_of p))
+
+-- a turn of the loop over the places
+pub entries_more : (h : Hub) (places : List Place) (i m : ℕ) (p d : Place) (es new : List Queued) (b : List ℕ) → i < length places → p ≡ get_or places i d → length es ≡ i → m ≡ length es + 1 →
+    ((w : World) → IsRunning h places w → es ≡ queues_from w.parts 1 (map place_of (take i places))) →
+    ((r : Room) → room_at h p.conference ≡ Some r → QueuedIn {E = AllocError} r p.n (Ok b)) →
+    new ≡ es ++ record { number = m; conference = p.conference; n = p.n; bytes = b } ∷ [] →
+    ((w : World) → IsRunning h places w → new ≡ queues_from w.parts 1 (map place_of (take (i + 1) places))) × (length new ≡ i + 1)
+entries_more h places i m p d es new b within is count number before value pushed = (
+  λ w running. pushed ∙ entry_more w.parts places i m p d es b within is count (omega (arith, number, count)) (before w running) (called_there h places w i p d (Ok b) running within is value),
+  omega (arith, ap length pushed, length-append es (record { number = m; conference = p.conference; n = p.n; bytes = b } ∷ []), count),
+)
+
+take_all : (ps : List Place) (i : ℕ) → length ps ≤ i → take i ps ≡ ps
+take_all [] zero h = refl
+take_all [] (suc i) h = refl
+take_all (x ∷ ps) zero h = absurd (omega (arith, h))
+take_all (x ∷ ps) (suc i) h = ap (λ (xs : List Place). x ∷ xs) (take_all ps i (omega (arith, h)))
+
+-- at the end of the places
+pub entries_all : (h : Hub) (places : List Place) (i : ℕ) (es : List Queued) → length places ≤ i →
+    ((w : World) → IsRunning h places w → es ≡ queues_from w.parts 1 (map place_of (take i places))) →
+    (w : World) → IsRunning h places w → es ≡ queues_from w.parts 1 w.places
+entries_all h places i es past so_far w running =
+    so_far w running
+    ∙ ap (λ (ps : List Place). queues_from w.parts 1 (map place_of ps)) (take_all places i past)
+    ∙ ap (queues_from w.parts 1) running.places

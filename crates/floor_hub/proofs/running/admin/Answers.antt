@@ -1,0 +1,11 @@
+use Rattle.floor_hub.specs.Rooms.{refusal_in}
+use Rattle.floor_hub.specs.Steps.{Fails}
+use Rattle.floor_hub.specs.declared.step.Step.TheVariants.{Admin}
+use Rattle.floor_hub.specs.declared.step.Answer.TheVariants.{Done}
+use Rattle.floor_hub.proofs.Advancing.{fails, further, whole_one}
+use Rattle.floor_hub.proofs.running.admin.Goals as goal
+
+pub returns : goal.returns
+returns c = λ places. further c.args.hub.now c.admin.new.self (Admin c.args.conference c.args.act) (λ v. Done)
+    (λ w. Fails c.admin.new.self w (Admin c.args.conference c.args.act)) c.admin.result c.done.result places (λ v. tt) c.done.ensures c.admin.ensures.next
+    (λ w. fails c.admin.new.self w (Admin c.args.conference c.args.act)) (whole_one _ (refusal_in c.admin.result) c.args.conference c.args.hub.now c.admin.new.self c.admin.ensures.room)
