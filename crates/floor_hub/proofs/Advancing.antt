@@ -181,22 +181,24 @@ attached old new c user number p before x next whole there conference n = λ w h
     let made : NewPlace w.places c number (offer (w.parts c) (Attach c user)).answer = new_place w.places c number (offer (w.parts c) (Attach c user)).answer t.1 in
     let q : world.Place = record { conference = c; n = made.0 } in
     let here : place (turn w (Attach c user)).world.places number ≡ Some (record { conference = c; n = made.0 }) =
-      ap (λ (ps : List world.Place). place ps number) made.1 ∙ last_place w.places (record { conference = c; n = made.0 }) number made.2 in
+    ap (λ (ps : List world.Place). place ps number) made.1 ∙ last_place w.places (record { conference = c; n = made.0 }) number made.2 in
     let stands : ArrivalStands (room_at new) (record { conference = c; n = made.0 }) (Some x) (live_at (turn w (Attach c user)).world.parts (record { conference = c; n = made.0 })) =
-      subst (λ (y : Option world.Place). NumberStands (room_at new) (turn w (Attach c user)).world.parts (Some x) y) here
-      (subst (λ (z : Option Connection). NumberStands (room_at new) (turn w (Attach c user)).world.parts z (place (turn w (Attach c user)).world.places number)) there (t.0.stands.numbers number)) in
+    subst (λ (y : Option world.Place). NumberStands (room_at new) (turn w (Attach c user)).world.parts (Some x) y) here
+    (subst (λ (z : Option Connection). NumberStands (room_at new) (turn w (Attach c user)).world.parts z (place (turn w (Attach c user)).world.places number)) there (t.0.stands.numbers number)) in
     let same : (x.conference ≡ c) × (x.n ≡ made.0) = at_place (room_at new) (record { conference = c; n = made.0 }) x (live_at (turn w (Attach c user)).world.parts (record { conference = c; n = made.0 })) stands in
     let is : place_of p ≡ record { conference = c; n = made.0 } =
-      ap (λ (m : ℕ). record { conference = m; n = p.n }) (conference ∙ same.0) ∙ ap (λ (m : ℕ). record { conference = c; n = m }) (n ∙ same.1) in
-    (record {
-      stands = t.0;
-      places =
-          map-append place_of before (p ∷ [])
-          ∙ ap (λ (ps : List world.Place). ps ++ place_of p ∷ []) h.places
-          ∙ ap (λ (y : world.Place). w.places ++ y ∷ []) is
-          ∙ sym made.1;
-      whole = whole h.whole;
-    }, t.1)
+    ap (λ (m : ℕ). record { conference = m; n = p.n }) (conference ∙ same.0) ∙ ap (λ (m : ℕ). record { conference = c; n = m }) (n ∙ same.1) in (
+      record {
+        stands = t.0;
+        places =
+            map-append place_of before (p ∷ [])
+            ∙ ap (λ (ps : List world.Place). ps ++ place_of p ∷ []) h.places
+            ∙ ap (λ (y : world.Place). w.places ++ y ∷ []) is
+            ∙ sym made.1;
+        whole = whole h.whole;
+      },
+      t.1,
+    )
 
 -- an attach that is refused
 pub unattached : (old new : Hub) (s : Step) (r : HubRefusal) (out : Result Answer OutOfMemory) (before : List Place) →

@@ -78,8 +78,8 @@ module _ (h : Hub) (places : List Place) (w : World) (i : ℕ) (p d : Place) (re
       let journal : r.ledger.journal ≡ part.events = s.1 whole.0 in
       let numbers : numbers_of p.conference w.places ≡ first_numbers (length part.arrivals) = running.stands.kept.places p.conference ∙ ap (λ (z : Option Part). first_numbers (arrivals_in z)) e in
       let number : IsNumber (length part.arrivals) p.n =
-        each_place (IsNumber (length part.arrivals)) p.conference w.places i (place_of p)
-        (subst (Each (IsNumber (length part.arrivals))) (sym numbers) (each_first (length part.arrivals) (length part.arrivals) (omega arith))) here refl in
+      each_place (IsNumber (length part.arrivals)) p.conference w.places i (place_of p)
+      (subst (Each (IsNumber (length part.arrivals))) (sym numbers) (each_first (length part.arrivals) (length part.arrivals) (omega arith))) here refl in
       let same : after r.ledger.config r.ledger.journal ≡ state_of part = ap (λ (x : Configuration). after x r.ledger.journal) s.0 ∙ ap (after part.config) journal in
       let high : p.n ≤ length (after r.ledger.config r.ledger.journal).members = omega (arith, number.1, members_of part k, ap (λ (x : Conference). length x.members) same) in
       ok_along res (Q r.ledger.config r.ledger.journal p.n) (Q part.config part.events p.n)
@@ -112,8 +112,8 @@ entry_more parts places i m p d es b within is count number before bytes =
     ∙ ap (λ (x : List ℕ). queues_from parts 1 (map place_of (take i places)) ++ record { number = m; conference = p.conference; n = p.n; bytes = x } ∷ []) bytes
     ∙ ap (λ (x : ℕ). queues_from parts 1 (map place_of (take i places)) ++ record { number = x; conference = p.conference; n = p.n; bytes = called_at (parts p.conference) p.n } ∷ []) at_end
     ∙ sym (ap (λ (ps : List Place). queues_from parts 1 (map place_of ps)) taken
-      ∙ ap (queues_from parts 1) (map-append place_of (take i places) (p ∷ []))
-      ∙ queues_more parts 1 (map place_of (take i places)) (place_of p))
+    ∙ ap (queues_from parts 1) (map-append place_of (take i places) (p ∷ []))
+    ∙ queues_more parts 1 (map place_of (take i places)) (place_of p))
 
 -- a turn of the loop over the places
 pub entries_more : (h : Hub) (places : List Place) (i m : ℕ) (p d : Place) (es new : List Queued) (b : List ℕ) → i < length places → p ≡ get_or places i d → length es ≡ i → m ≡ length es + 1 →

@@ -18,7 +18,10 @@ fn a_booth_gives_back_what_its_member_was_sent(rt: HostRuntime) -> Result<(), Fa
     let alloc = rt.alloc();
     let registry = Registry::new(alloc);
     assert_eq!(rt; registry.open(&rt, Config::demonstration(alloc)?), Ok(()));
-    assert_eq!(rt; registry.open(&rt, Config::demonstration(alloc)?), Err(OpenRefusal::Used));
+    assert_eq!(rt;
+        registry.open(&rt, Config::demonstration(alloc)?),
+        Err(OpenRefusal::Used)
+    );
     let Ok(desk) = registry.desk(&rt, 1) else {
         return Err(Fail::from("no desk"));
     };
@@ -35,11 +38,23 @@ fn a_booth_gives_back_what_its_member_was_sent(rt: HostRuntime) -> Result<(), Fa
     let mut sink = Marked::new(Vec::new(alloc));
     assert_eq!(rt;
         write_loop(&rt, alloc, &mut sink, &mut taker),
-        Ok(Written { parcels: 1, bytes: 48 })
+        Ok(Written {
+            parcels: 1,
+            bytes: 48
+        })
     );
     let text = desk.journal_text(&rt)?;
-    assert_eq!(rt; text.as_str(), "1 join 10\n2 message 1 200b0000000000010001000a\n3 leave 1\nend 3\n");
+    assert_eq!(rt;
+        text.as_str(),
+        "1 join 10\n2 message 1 200b0000000000010001000a\n3 leave 1\nend 3\n"
+    );
     let seats = [seat];
-    assert_eq!(rt; finish(&rt, &registry, &seats), Ok(Report { seats: 1, events: 3 }));
+    assert_eq!(rt;
+        finish(&rt, &registry, &seats),
+        Ok(Report {
+            seats: 1,
+            events: 3
+        })
+    );
     Ok(())
 }
