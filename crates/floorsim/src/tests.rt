@@ -7,6 +7,7 @@ mod chair_examples;
 mod conferences;
 mod faults;
 mod first_examples;
+mod interleavings;
 mod limits;
 mod message_checks;
 mod query_examples;

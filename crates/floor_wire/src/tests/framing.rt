@@ -179,12 +179,12 @@ fn a_message_of_the_greatest_length_is_written_framed_and_read(
     let frame = Frame::of_attributes(alloc, 7, 1, 2, 10, &attrs)?;
     assert_eq!(rt; frame.header().payload_length(), 65_535);
     assert!(rt; Frame::of(alloc, frame.bytes())?.is_some());
-    assert_eq!(rt; frame.addressed(alloc, 11)?.len(), 262_152);
     let mut framer = Framer::new(alloc);
     framer.push(frame.copy(alloc)?.bytes())?;
     assert!(rt; framer.ready());
     let taken = framer.next()?.ok_or("no message")?;
     assert_eq!(rt; taken.bytes(), frame.bytes());
+    assert_eq!(rt; SharedFrame::of(taken).addressed(11)?.len(), 262_152);
 
     written.extend_from_slice(&[0x1c, 5, 0, 1])?;
     match read_attrs(alloc, &written) {

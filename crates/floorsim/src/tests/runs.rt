@@ -76,10 +76,14 @@ impl Transcript {
         if !self.printed.is_empty() {
             self.printed.push('\n')?;
         }
-        let (first, others) = line.split_once(' ').unwrap_or((line, ""));
-        self.printed.push_str(first)?;
-        self.printed.push(' ')?;
-        push_unspaced(&mut self.printed, others)
+        match line.split_once(' ') {
+            None => self.printed.push_str(line),
+            Some((first, others)) => {
+                self.printed.push_str(first)?;
+                self.printed.push(' ')?;
+                push_unspaced(&mut self.printed, others)
+            }
+        }
     }
 }
 
