@@ -53,7 +53,10 @@ fn submits<R: Wait>(rt: &R, desk: &Desk, seat: &mut Seat, frame: Frame) -> bool 
 fn a_member_is_served_from_joining_to_the_end(rt: HostRuntime) -> Result<(), Fail> {
     let alloc = rt.alloc();
     let (registry, desk) = opened(&rt, alloc)?;
-    assert_eq!(rt; registry.open(&rt, Config::demonstration(alloc)?), Err(OpenRefusal::Used));
+    assert_eq!(rt;
+        registry.open(&rt, Config::demonstration(alloc)?),
+        Err(OpenRefusal::Used)
+    );
     let (mut seat, mut taker) = joined(&rt, &desk, 10)?;
     let mut source = Marked::new(Cursor::new([HELLO.as_slice(), &HELLO[..7]].concat(alloc)?));
     assert_eq!(rt;
@@ -65,11 +68,23 @@ fn a_member_is_served_from_joining_to_the_end(rt: HostRuntime) -> Result<(), Fai
     let mut sink = Marked::new(Vec::new(alloc));
     assert_eq!(rt;
         write_loop(&rt, alloc, &mut sink, &mut taker),
-        Ok(Written { parcels: 1, bytes: 48 })
+        Ok(Written {
+            parcels: 1,
+            bytes: 48
+        })
     );
     let text = desk.journal_text(&rt)?;
-    assert_eq!(rt; text.as_str(), "1 join 10\n2 message 1 200b0000000000010001000a\n3 leave 1\nend 3\n");
+    assert_eq!(rt;
+        text.as_str(),
+        "1 join 10\n2 message 1 200b0000000000010001000a\n3 leave 1\nend 3\n"
+    );
     let seats = [seat];
-    assert_eq!(rt; finish(&rt, &registry, &seats), Ok(Report { seats: 1, events: 3 }));
+    assert_eq!(rt;
+        finish(&rt, &registry, &seats),
+        Ok(Report {
+            seats: 1,
+            events: 3
+        })
+    );
     Ok(())
 }

@@ -91,7 +91,10 @@ fn read_by<R: Wait>(
 #[test]
 fn reading_ends_at_a_failed_read_or_at_the_limit(rt: HostRuntime) -> Result<(), Fail> {
     let alloc = rt.alloc();
-    assert_eq!(rt; read_by(&rt, alloc, MAX_TURNS, 12)?, (Err(ReadFault::Read), 1));
+    assert_eq!(rt;
+        read_by(&rt, alloc, MAX_TURNS, 12)?,
+        (Err(ReadFault::Read), 1)
+    );
     assert_eq!(rt; read_by(&rt, alloc, 11, 1)?, (Err(ReadFault::TurnLimit), 0));
     assert_eq!(rt; read_by(&rt, alloc, 12, 1)?, (Err(ReadFault::TurnLimit), 1));
     assert_eq!(rt; read_by(&rt, alloc, 13, 1)?, (Err(ReadFault::Read), 1));
@@ -126,6 +129,12 @@ fn writing_counts_what_the_sink_took(rt: HostRuntime) -> Result<(), Fail> {
     let alloc = rt.alloc();
     assert_eq!(rt; write_by(&rt, alloc, 5, 5)?, Err(WriteFault { bytes: 5 }));
     assert_eq!(rt; write_by(&rt, alloc, 5, 1)?, Err(WriteFault { bytes: 5 }));
-    assert_eq!(rt; write_by(&rt, alloc, 48, 1)?, Ok(Written { parcels: 1, bytes: 48 }));
+    assert_eq!(rt;
+        write_by(&rt, alloc, 48, 1)?,
+        Ok(Written {
+            parcels: 1,
+            bytes: 48
+        })
+    );
     Ok(())
 }

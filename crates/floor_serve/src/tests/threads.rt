@@ -68,16 +68,30 @@ fn seats_in_threads_fit_their_registry_alone(rt: HostRuntime) -> Result<(), Fail
     assert_eq!(rt; parcel.payload().get(10).copied(), Some(3));
     let holder = parcel.payload().get(23).copied();
     assert!(rt; holder == Some(10) || holder == Some(11));
-    assert_eq!(rt; finish(&rt, &registry, &seats), Ok(Report { seats: 3, events: 6 }));
+    assert_eq!(rt;
+        finish(&rt, &registry, &seats),
+        Ok(Report {
+            seats: 3,
+            events: 6
+        })
+    );
     assert!(rt; desk.journal_text(&rt)?.as_str().ends_with("\nend 6\n"));
     assert_eq!(rt;
         desk.status(&rt),
-        Status { members: 3, ongoing: 2, events: 6, phase: Phase::Running }
+        Status {
+            members: 3,
+            ongoing: 2,
+            events: 6,
+            phase: Phase::Running
+        }
     );
     let (other, _desk, _seats, _parcel) = asked(&rt, alloc, 2)?;
     assert_eq!(rt;
         finish(&rt, &other, &seats),
-        Err(FinishFault::Mismatch { conference: 1, n: 3 })
+        Err(FinishFault::Mismatch {
+            conference: 1,
+            n: 3
+        })
     );
     Ok(())
 }
