@@ -1,0 +1,261 @@
+//! The server: its conferences, its ports, and what its administrator's lines do.
+
+use crate::port::Port;
+use floor_config::{Config, ConfigFault, read_configs};
+use floor_console::{Board, BoardRefusal, Command, StopRefusal, Stopped, Text, parse_line};
+use floor_room::Status;
+use floor_serve::{
+    Act, DeskRefusal, FinishFault, Gate, OpenRefusal, Registry, Report, Seat, finish,
+};
+use std::alloc::{AllocError, Global};
+use std::fs;
+use std::io::ErrorKind;
+use std::net::{Net, TcpListener, TcpStream};
+use std::rt::Files;
+use std::sync::{Arc, Wait};
+use std::thread::Threads;
+use std::time::Clock;
+
+/// The conferences that are served, and the ports that lead to them.
+#[derive(Drop)]
+pub struct Server<G, R> {
+    rt: R,
+    alloc: Global,
+    registry: Arc<Registry, Global>,
+    gate: Arc<G, Global>,
+    ports: Vec<Port>,
+    /// The seats of the connections of ports that are closed.
+    seats: Vec<Seat>,
+    /// What came of an `open` line that the board has yet to answer.
+    opening: Option<Result<usize, BoardRefusal>>,
+    outcome: Option<Result<Stopped, StopRefusal>>,
+}
+
+impl<G, R> Server<G, R>
+where
+    G: Gate + Send + Sync + Drop + 'static,
+    R: Net<Listener = TcpListener, Stream = TcpStream>
+        + Files
+        + AllocGlobal
+        + Clock
+        + Threads
+        + Wait
+        + Copy
+        + Drop
+        + Send
+        + 'static,
+{
+    /// A server without conferences.
+    pub fn new(rt: R, alloc: Global, gate: G) -> Result<Server<G, R>, AllocError> {
+        Ok(Server {
+            rt,
+            alloc,
+            registry: Arc::new(alloc, Registry::new(alloc))?,
+            gate: Arc::new(alloc, gate)?,
+            ports: Vec::new(alloc),
+            seats: Vec::new(alloc),
+            opening: None,
+            outcome: None,
+        })
+    }
+
+    /// Does what an `open` line asks for, ahead of the board's answer: a conference's ports need
+    /// threads, which the methods of a trait can't start. Any other line is left alone.
+    pub fn prepare(&mut self, line: &str) {
+        self.opening = match parse_line(self.alloc, line) {
+            Ok(Command::Open { path }) => Some(self.open_file(path.as_str())),
+            _ => None,
+        };
+    }
+
+    /// Opens the conferences of a file, and tells how many.
+    pub fn open_file(&mut self, path: &str) -> Result<usize, BoardRefusal> {
+        let configs = self.read(path)?;
+        let mut count = 0usize;
+        for config in configs {
+            self.open_one(config)?;
+            count = count.saturating_add(1);
+        }
+        Ok(count)
+    }
+
+    /// Reads and checks a file whole.
+    fn read(&self, path: &str) -> Result<Vec<Config>, BoardRefusal> {
+        let text = match fs::read_to_string(&self.rt, path) {
+            Ok(text) => text,
+            Err(error) if error.kind() == ErrorKind::OutOfMemory => {
+                return Err(BoardRefusal::Memory);
+            }
+            Err(_) => return Err(BoardRefusal::CannotRead),
+        };
+        match read_configs(self.alloc, text.as_str()) {
+            Ok(configs) => Ok(configs),
+            Err(ConfigFault::Memory) => Err(BoardRefusal::Memory),
+            Err(fault) => Err(BoardRefusal::ByConfiguration(fault)),
+        }
+    }
+
+    /// Opens one conference: its number, then its ports, then itself.
+    fn open_one(&mut self, config: Config) -> Result<(), BoardRefusal> {
+        let conference = config.conference();
+        match self.registry.desk(&self.rt, conference) {
+            Err(DeskRefusal::NoConference) => {}
+            Err(DeskRefusal::Memory) => return Err(BoardRefusal::Memory),
+            Ok(_) => return Err(BoardRefusal::Used),
+        }
+        let listened = self.listen(&config);
+        let opened = match listened {
+            Ok(()) => match self.registry.open(&self.rt, config) {
+                Ok(()) => Ok(()),
+                Err(OpenRefusal::Used) => Err(BoardRefusal::Used),
+                Err(OpenRefusal::Memory) => Err(BoardRefusal::Memory),
+            },
+            Err(refusal) => Err(refusal),
+        };
+        match opened {
+            Ok(()) => Ok(()),
+            Err(refusal) => {
+                // What it had of ports is given back.
+                self.close_ports(conference);
+                Err(refusal)
+            }
+        }
+    }
+
+    /// Listens on the ports of a configuration's users. Whoever connects before the conference is
+    /// opened is shut down.
+    fn listen(&mut self, config: &Config) -> Result<(), BoardRefusal> {
+        for user in config.users() {
+            let Some(number) = user.port else {
+                continue;
+            };
+            let opened = Port::open(
+                self.rt,
+                self.alloc,
+                &self.registry,
+                &self.gate,
+                config.conference(),
+                user.id,
+                number,
+            );
+            let Some(port) = opened else {
+                return Err(BoardRefusal::CannotListen);
+            };
+            match self.ports.push(port) {
+                Ok(()) => {}
+                Err(failed) => {
+                    self.give_back(failed.value);
+                    return Err(BoardRefusal::Memory);
+                }
+            }
+        }
+        Ok(())
+    }
+}
+
+impl<G: Drop, R: Threads + Wait + Drop> Server<G, R> {
+    /// What the stop found, once it was asked for.
+    pub fn outcome(&self) -> Option<Result<Stopped, StopRefusal>> {
+        self.outcome
+    }
+
+    /// Closes a port, and keeps the seats that it had.
+    fn give_back(&mut self, port: Port) {
+        for seat in port.close(&self.rt) {
+            let _outcome = self.seats.push(seat);
+        }
+    }
+
+    /// Closes the ports that lead to a conference.
+    fn close_ports(&mut self, conference: u32) {
+        let mut place = 0usize;
+        for _ in 0..self.ports.len() {
+            if place < self.ports.len() {
+                if self.ports[place].conference() == conference {
+                    let port = self.ports.swap_remove(place);
+                    self.give_back(port);
+                } else {
+                    place += 1;
+                }
+            }
+        }
+    }
+
+    fn act(&mut self, conference: u32, act: Act) -> Result<(), BoardRefusal> {
+        match self.registry.desk(&self.rt, conference) {
+            Err(DeskRefusal::NoConference) => Err(BoardRefusal::NoConference),
+            Err(DeskRefusal::Memory) => Err(BoardRefusal::Memory),
+            Ok(desk) => match desk.admin(&self.rt, act) {
+                Ok(()) => Ok(()),
+                Err(refusal) => Err(BoardRefusal::ByRoom(refusal)),
+            },
+        }
+    }
+}
+
+impl<G: Drop, R: Threads + Wait + Drop> Board for Server<G, R> {
+    ghost opens = { λ _ _ _ _. Unit {0} };
+
+    ghost closes = { λ _ _ _ _. Unit {0} };
+
+    ghost revokes = { λ _ _ _ _ _. Unit {0} };
+
+    ghost stands = { λ _ _ _ _. Unit {0} };
+
+    ghost lists = { λ _ _ _ _. Unit {0} };
+
+    ghost stops = { λ _ _ _. Unit {0} };
+
+    fn open(&mut self, _path: &str) -> Result<usize, BoardRefusal> {
+        match self.opening.take() {
+            Some(outcome) => outcome,
+            // The line was read twice, and memory was refused at the first reading alone.
+            None => Err(BoardRefusal::Memory),
+        }
+    }
+
+    fn close(&mut self, conference: u32) -> Result<(), BoardRefusal> {
+        self.act(conference, Act::Close)?;
+        self.close_ports(conference);
+        Ok(())
+    }
+
+    fn revoke(&mut self, conference: u32, request: u16) -> Result<(), BoardRefusal> {
+        self.act(conference, Act::Revoke(request))
+    }
+
+    fn status(&mut self, conference: u32) -> Result<Status, BoardRefusal> {
+        match self.registry.desk(&self.rt, conference) {
+            Err(DeskRefusal::NoConference) => Err(BoardRefusal::NoConference),
+            Err(DeskRefusal::Memory) => Err(BoardRefusal::Memory),
+            Ok(desk) => Ok(desk.status(&self.rt)),
+        }
+    }
+
+    fn journal(&mut self, conference: u32) -> Result<Text, BoardRefusal> {
+        match self.registry.desk(&self.rt, conference) {
+            Err(DeskRefusal::NoConference) => Err(BoardRefusal::NoConference),
+            Err(DeskRefusal::Memory) => Err(BoardRefusal::Memory),
+            Ok(desk) => match desk.journal_text(&self.rt) {
+                Ok(text) => Ok(Text::from_string(text)),
+                Err(_) => Err(BoardRefusal::Memory),
+            },
+        }
+    }
+
+    fn stop(&mut self) -> Result<Stopped, StopRefusal> {
+        let ports = std::mem::replace(&mut self.ports, Vec::new(self.alloc));
+        for port in ports {
+            self.give_back(port);
+        }
+        let outcome = match finish(&self.rt, &*self.registry, self.seats.as_slice()) {
+            Ok(Report { seats, events }) => Ok(Stopped { seats, events }),
+            Err(FinishFault::Broken { conference }) => Err(StopRefusal::Broken { conference }),
+            Err(FinishFault::Mismatch { conference, n }) => {
+                Err(StopRefusal::Mismatch { conference, n })
+            }
+        };
+        self.outcome = Some(outcome);
+        outcome
+    }
+}

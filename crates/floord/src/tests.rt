@@ -1,0 +1,5 @@
+//! Runs over real sockets: a client is a socket, the administrator's lines come through one too.
+
+mod clients;
+mod sockets;
+mod words;

@@ -1,0 +1,173 @@
+//! What the tests over sockets use: a server in a thread, and its clients.
+
+use crate::run::run_with;
+use floor_serve::Gate;
+use std::alloc::Global;
+use std::fs;
+use std::io::{Read, Write};
+use std::net::{Net, TcpListener, TcpStream};
+use std::rt::Files;
+use std::sync::Wait;
+use std::test::Fail;
+use std::thread::{JoinHandle, Threads};
+use std::time::Clock;
+
+/// A server in a thread of its own, with the other end of its standard input and output.
+#[derive(Drop)]
+pub struct Server {
+    pub console: TcpStream,
+    pub thread: JoinHandle<u8>,
+}
+
+impl Server {
+    /// Waits for the end, and gives the exit status.
+    pub fn end<R: Threads>(self, rt: &R) -> u8 {
+        let Server { console: _, thread } = self;
+        thread.join(rt)
+    }
+}
+
+/// A port that nothing listens on.
+pub fn free_port<R: Net<Listener = TcpListener, Stream = TcpStream>>(rt: &R) -> Result<u16, Fail> {
+    let listener = TcpListener::bind(rt, "127.0.0.1:0")?;
+    Ok(listener.local_addr()?.port())
+}
+
+/// What a server is started with.
+#[derive(Drop)]
+pub struct Start {
+    words: Vec<String>,
+    input: TcpStream,
+    output: TcpStream,
+}
+
+/// Writes a configuration of conferences, each with user 10 at a port and floor 1, and gives the
+/// test's end of the standard input and output, and what the server is started with.
+pub fn prepare<R>(
+    rt: &R,
+    path: &str,
+    conferences: &[(u32, u16)],
+) -> Result<(TcpStream, Start), Fail>
+where
+    R: Net<Listener = TcpListener, Stream = TcpStream> + Files + AllocGlobal,
+{
+    let alloc = rt.alloc();
+    let mut text = String::new(alloc);
+    for (conference, port) in conferences {
+        let part = format!(in alloc;
+            "[[conference]]\nid = {conference}\n[[conference.user]]\nid = 10\nport = {port}\n"
+        )?;
+        text.push_str(part.as_str())?;
+        text.push_str("[[conference.floor]]\nid = 1\n")?;
+    }
+    fs::write(rt, path, text.as_str())?;
+    let listener = TcpListener::bind(rt, "127.0.0.1:0")?;
+    let console = TcpStream::connect(rt, listener.local_addr()?)?;
+    let (input, _) = listener.accept()?;
+    let output = input.try_clone()?;
+    let words = vec![in alloc;
+        String::from_str(alloc, "floord")?,
+        String::from_str(alloc, path)?,
+    ]?;
+    Ok((
+        console,
+        Start {
+            words,
+            input,
+            output,
+        },
+    ))
+}
+
+/// Runs a server to its end, and gives the exit status.
+pub fn run_to_end<R, G>(rt: R, alloc: Global, start: Start, gate: G) -> u8
+where
+    R: Net<Listener = TcpListener, Stream = TcpStream>
+        + Files
+        + AllocGlobal
+        + Clock
+        + Threads
+        + Wait
+        + Copy
+        + Drop
+        + Send
+        + 'static,
+    G: Gate + Send + Sync + Drop + 'static,
+{
+    let Start {
+        words,
+        mut input,
+        mut output,
+    } = start;
+    let mut errors = Vec::new(alloc);
+    run_with(
+        rt,
+        alloc,
+        words.as_slice(),
+        &mut input,
+        &mut output,
+        &mut errors,
+        gate,
+    )
+}
+
+/// Hands the server a line, and gives the line that answers it.
+pub fn ask<R: AllocGlobal>(rt: &R, server: &Server, text: &str) -> Result<String, Fail> {
+    let mut console = &server.console;
+    console.write_all(text.as_bytes())?;
+    console.write_all(b"\n")?;
+    line(rt, server)
+}
+
+/// The next line that the server prints.
+pub fn line<R: AllocGlobal>(rt: &R, server: &Server) -> Result<String, Fail> {
+    let mut console = &server.console;
+    let mut text = Vec::new(rt.alloc());
+    for _ in 0..10_000 {
+        let mut byte = [0u8; 1];
+        if console.read(&mut byte)? == 0 || byte[0] == b'\n' {
+            break;
+        }
+        text.push(byte[0])?;
+    }
+    Ok(String::from_utf8(text)?)
+}
+
+/// Connects to a port of the server.
+pub fn connect<R: Net<Listener = TcpListener, Stream = TcpStream> + AllocGlobal>(
+    rt: &R,
+    port: u16,
+) -> Result<TcpStream, Fail> {
+    let address = format!(in rt.alloc(); "127.0.0.1:{port}")?;
+    Ok(TcpStream::connect(rt, address.as_str())?)
+}
+
+/// Sends a message that is given as spaced hexadecimal; `None` where the stream has ended.
+pub fn send<R: AllocGlobal>(rt: &R, client: &mut TcpStream, message: &str) -> Option<()> {
+    let digits = joined(rt, message)?;
+    let bytes = hex::decode(rt.alloc(), digits.as_str()).ok()?;
+    client.write_all(bytes.as_slice()).ok()
+}
+
+/// The next so many bytes that the client is sent, as hexadecimal; `None` where the stream ends
+/// before.
+pub fn hear<R: AllocGlobal>(rt: &R, client: &mut TcpStream, count: usize) -> Option<String> {
+    let mut bytes = Vec::new(rt.alloc());
+    for _ in 0..count {
+        let mut byte = [0u8; 1];
+        if client.read(&mut byte).ok()? == 0 {
+            return None;
+        }
+        bytes.push(byte[0]).ok()?;
+    }
+    hex::encode(rt.alloc(), bytes.as_slice()).ok()
+}
+
+/// Spaced hexadecimal without its spaces.
+pub fn joined<R: AllocGlobal>(rt: &R, text: &str) -> Option<String> {
+    let mut digits = String::new(rt.alloc());
+    for word in text.split(' ') {
+        digits.push_str(word).ok()?;
+    }
+    Some(digits)
+}
