@@ -4,6 +4,7 @@ mod order;
 use super::*;
 use std::alloc::{AllocError, Global};
 use std::fmt::Write;
+use std::test::Fail;
 
 /// A configuration with every key.
 const EVERY_KEY: &str =
@@ -67,140 +68,146 @@ fn push_number(fields: &mut String, number: Option<u16>) -> Result<(), AllocErro
     Ok(())
 }
 
-#[test]
-fn a_text_gives_its_fields(rt: HostRuntime) {
-    let cases = [
-        (
-            "every key",
-            EVERY_KEY,
-            "1 4 (10 Ann sip:ann@example.com true 7010) [1 1 10]; ",
-        ),
-        ("no conferences", "conference = []", ""),
-        (
-            "keys that may be absent",
-            "conference = [{id = 7}]",
-            "7 4; ",
-        ),
-        (
-            "the least conference and limit",
-            "conference = [{id = 0, limit = 1}]",
-            "0 1; ",
-        ),
-        (
-            "the greatest conference and limit",
-            "conference = [{id = 4294967295, limit = 16}]",
-            "4294967295 16; ",
-        ),
-        (
-            "a user with its id alone",
-            "conference = [{id = 1, user = [{id = 10}]}]",
-            "1 4 (10 - - false -); ",
-        ),
-        (
-            "the least id and port",
-            "conference = [{id = 1, user = [{id = 0, port = 1}]}]",
-            "1 4 (0 - - false 1); ",
-        ),
-        (
-            "the greatest id and port",
-            "conference = [{id = 1, user = [{id = 65535, port = 65535}]}]",
-            "1 4 (65535 - - false 65535); ",
-        ),
-        (
-            "no proxy mark",
-            "conference = [{id = 1, user = [{id = 10, proxy = false}]}]",
-            "1 4 (10 - - false -); ",
-        ),
-        (
-            "empty texts",
-            "conference = [{id = 1, user = [{id = 10, name = \"\", uri = \"\"}]}]",
-            "1 4 (10 - - false -); ",
-        ),
-        (
-            "a text of a blank",
-            "conference = [{id = 1, user = [{id = 10, name = \" \"}]}]",
-            "1 4 (10   - false -); ",
-        ),
-        (
-            "a name of 30 bytes",
-            "conference = [{id = 1, user = [{id = 10, name = \"nnnnnnnnnnnnnnnnnnnnnnnnnnnnnn\"}]}]",
-            "1 4 (10 nnnnnnnnnnnnnnnnnnnnnnnnnnnnnn - false -); ",
-        ),
-        (
-            "a name of 30 bytes in 15 characters",
-            "conference = [{id = 1, user = [{id = 10, name = \"ééééééééééééééé\"}]}]",
-            "1 4 (10 ééééééééééééééé - false -); ",
-        ),
-        (
-            "a name of 30 bytes after escapes",
-            "conference = [{id = 1, user = [{id = 10, name = \"\\u20ac\\u20ac\\u20ac\\u20ac\\u20ac\\u20ac\\u20ac\\u20ac\\u20ac\\u20ac\"}]}]",
-            "1 4 (10 €€€€€€€€€€ - false -); ",
-        ),
-        (
-            "a URI of 62 bytes",
-            "conference = [{id = 1, user = [{id = 10, uri = \"uuuuuuuuuuuuuuuuuuuuuuuuuuuuuuuuuuuuuuuuuuuuuuuuuuuuuuuuuuuuuu\"}]}]",
-            "1 4 (10 - uuuuuuuuuuuuuuuuuuuuuuuuuuuuuuuuuuuuuuuuuuuuuuuuuuuuuuuuuuuuuu false -); ",
-        ),
-        (
-            "a URI of 62 bytes in 17 characters",
-            "conference = [{id = 1, user = [{id = 10, uri = \"𝄞𝄞𝄞𝄞𝄞𝄞𝄞𝄞𝄞𝄞𝄞𝄞𝄞𝄞𝄞uu\"}]}]",
-            "1 4 (10 - 𝄞𝄞𝄞𝄞𝄞𝄞𝄞𝄞𝄞𝄞𝄞𝄞𝄞𝄞𝄞uu false -); ",
-        ),
-        (
-            "a floor with its id alone",
-            "conference = [{id = 1, user = [{id = 10}], floor = [{id = 1}]}]",
-            "1 4 (10 - - false -) [1 1 -]; ",
-        ),
-        (
-            "the least floor and room",
-            "conference = [{id = 1, user = [{id = 10}], floor = [{id = 0, room = 1}]}]",
-            "1 4 (10 - - false -) [0 1 -]; ",
-        ),
-        (
-            "the greatest floor and room",
-            "conference = [{id = 1, user = [{id = 10}], floor = [{id = 65535, room = 255}]}]",
-            "1 4 (10 - - false -) [65535 255 -]; ",
-        ),
-        (
-            "a floor with the id of a user",
-            "conference = [{id = 1, user = [{id = 10}], floor = [{id = 10, chair = 10}]}]",
-            "1 4 (10 - - false -) [10 1 10]; ",
-        ),
-        (
-            "chairs with the least and the greatest id",
-            "conference = [{id = 1, floor = [{id = 1, chair = 65535}, {id = 2, chair = 0}], user = [{id = 0}, {id = 65535}]}]",
-            "1 4 (0 - - false -) (65535 - - false -) [1 1 65535] [2 1 0]; ",
-        ),
-        (
-            "one chair of two floors",
-            "conference = [{id = 1, user = [{id = 10}], floor = [{id = 2, chair = 10}, {id = 1, chair = 10}]}]",
-            "1 4 (10 - - false -) [2 1 10] [1 1 10]; ",
-        ),
-        (
-            "empty arrays",
-            "conference = [{id = 1, user = [], floor = []}]",
-            "1 4; ",
-        ),
-        (
-            "unknown keys",
-            "title = 1.5\nconference = [{id = 1, x = 2024-01-01, user = [{id = 10, id2 = {}}], floor = [{id = 1, rooms = [0]}]}]",
-            "1 4 (10 - - false -) [1 1 -]; ",
-        ),
-        (
-            "one user in two conferences",
-            "conference = [{id = 2, user = [{id = 10, port = 7010}]}, {id = 1, user = [{id = 10, port = 7011}], floor = [{id = 1}]}]",
-            "2 4 (10 - - false 7010); 1 4 (10 - - false 7011) [1 1 -]; ",
-        ),
-    ];
-    for (name, text, wanted) in cases {
-        match read_configs(rt.alloc(), text) {
-            Ok(configs) => match fields_of(rt.alloc(), &configs) {
-                Ok(fields) => assert_eq!(rt; fields.as_str(), wanted, "{name}"),
-                Err(_) => assert!(rt; false, "{name}: no memory"),
-            },
-            Err(fault) => assert!(rt; false, "{name}: {fault}"),
+/// A case of a table.
+#[derive(Clone, Copy)]
+struct Case<'a> {
+    name: &'a str,
+    text: &'a str,
+    wanted: &'a str,
+}
+
+/// The case of a part of a table: its name behind `== `, the lines of its text, and behind `=>` what
+/// is read of it.
+fn case_of(part: &str) -> Option<Case<'_>> {
+    let (name, rest) = part.split_once('\n')?;
+    let (text, wanted) = rest.split_once("\n=>")?;
+    Some(Case {
+        name: name.strip_prefix("== ").unwrap_or(name),
+        text,
+        wanted: wanted.trim(),
+    })
+}
+
+/// What is read of a text: the fields of its configurations, or the name of its fault.
+fn told_of(alloc: Global, text: &str) -> Result<String, AllocError> {
+    match read_configs(alloc, text) {
+        Ok(configs) => fields_of(alloc, &configs),
+        Err(fault) => fault.to_string(alloc),
+    }
+}
+
+/// The cases of a table of whose text something else is read, a line for each.
+fn differing(alloc: Global, table: &str) -> Result<String, AllocError> {
+    let mut lines = String::new(alloc);
+    for part in table.split("\n== ") {
+        match case_of(part) {
+            Some(case) => {
+                let told = told_of(alloc, case.text)?;
+                if told.as_str().trim() != case.wanted {
+                    write!(lines, "{}: {told}\n", case.name)?;
+                }
+            }
+            None => write!(lines, "no case: {part}\n")?,
         }
     }
+    Ok(lines)
+}
+
+/// Texts and the fields that they give.
+const READ: &str = r#"== every key
+[[conference]]
+id = 1
+limit = 4
+[[conference.user]]
+id = 10
+name = "Ann"
+uri = "sip:ann@example.com"
+proxy = true
+port = 7010
+[[conference.floor]]
+id = 1
+room = 1
+chair = 10
+=> 1 4 (10 Ann sip:ann@example.com true 7010) [1 1 10];
+== no conferences
+conference = []
+=>
+== keys that may be absent
+conference = [{id = 7}]
+=> 7 4;
+== the least conference and limit
+conference = [{id = 0, limit = 1}]
+=> 0 1;
+== the greatest conference and limit
+conference = [{id = 4294967295, limit = 16}]
+=> 4294967295 16;
+== a user with its id alone
+conference = [{id = 1, user = [{id = 10}]}]
+=> 1 4 (10 - - false -);
+== the least id and port
+conference = [{id = 1, user = [{id = 0, port = 1}]}]
+=> 1 4 (0 - - false 1);
+== the greatest id and port
+conference = [{id = 1, user = [{id = 65535, port = 65535}]}]
+=> 1 4 (65535 - - false 65535);
+== no proxy mark
+conference = [{id = 1, user = [{id = 10, proxy = false}]}]
+=> 1 4 (10 - - false -);
+== empty texts
+conference = [{id = 1, user = [{id = 10, name = "", uri = ""}]}]
+=> 1 4 (10 - - false -);
+== a text of a blank
+conference = [{id = 1, user = [{id = 10, name = " "}]}]
+=> 1 4 (10   - false -);
+== a name of 30 bytes
+conference = [{id = 1, user = [{id = 10, name = "nnnnnnnnnnnnnnnnnnnnnnnnnnnnnn"}]}]
+=> 1 4 (10 nnnnnnnnnnnnnnnnnnnnnnnnnnnnnn - false -);
+== a name of 30 bytes in 15 characters
+conference = [{id = 1, user = [{id = 10, name = "ééééééééééééééé"}]}]
+=> 1 4 (10 ééééééééééééééé - false -);
+== a name of 30 bytes after escapes
+conference = [{id = 1, user = [{id = 10, name = "\u20ac\u20ac\u20ac\u20ac\u20ac\u20ac\u20ac\u20ac\u20ac\u20ac"}]}]
+=> 1 4 (10 €€€€€€€€€€ - false -);
+== a URI of 62 bytes
+conference = [{id = 1, user = [{id = 10, uri = "uuuuuuuuuuuuuuuuuuuuuuuuuuuuuuuuuuuuuuuuuuuuuuuuuuuuuuuuuuuuuu"}]}]
+=> 1 4 (10 - uuuuuuuuuuuuuuuuuuuuuuuuuuuuuuuuuuuuuuuuuuuuuuuuuuuuuuuuuuuuuu false -);
+== a URI of 62 bytes in 17 characters
+conference = [{id = 1, user = [{id = 10, uri = "𝄞𝄞𝄞𝄞𝄞𝄞𝄞𝄞𝄞𝄞𝄞𝄞𝄞𝄞𝄞uu"}]}]
+=> 1 4 (10 - 𝄞𝄞𝄞𝄞𝄞𝄞𝄞𝄞𝄞𝄞𝄞𝄞𝄞𝄞𝄞uu false -);
+== a floor with its id alone
+conference = [{id = 1, user = [{id = 10}], floor = [{id = 1}]}]
+=> 1 4 (10 - - false -) [1 1 -];
+== the least floor and room
+conference = [{id = 1, user = [{id = 10}], floor = [{id = 0, room = 1}]}]
+=> 1 4 (10 - - false -) [0 1 -];
+== the greatest floor and room
+conference = [{id = 1, user = [{id = 10}], floor = [{id = 65535, room = 255}]}]
+=> 1 4 (10 - - false -) [65535 255 -];
+== a floor with the id of a user
+conference = [{id = 1, user = [{id = 10}], floor = [{id = 10, chair = 10}]}]
+=> 1 4 (10 - - false -) [10 1 10];
+== chairs with the least and the greatest id
+conference = [{id = 1, floor = [{id = 1, chair = 65535}, {id = 2, chair = 0}], user = [{id = 0}, {id = 65535}]}]
+=> 1 4 (0 - - false -) (65535 - - false -) [1 1 65535] [2 1 0];
+== one chair of two floors
+conference = [{id = 1, user = [{id = 10}], floor = [{id = 2, chair = 10}, {id = 1, chair = 10}]}]
+=> 1 4 (10 - - false -) [2 1 10] [1 1 10];
+== empty arrays
+conference = [{id = 1, user = [], floor = []}]
+=> 1 4;
+== unknown keys
+title = 1.5
+conference = [{id = 1, x = 2024-01-01, user = [{id = 10, id2 = {}}], floor = [{id = 1, rooms = [0]}]}]
+=> 1 4 (10 - - false -) [1 1 -];
+== one user in two conferences
+conference = [{id = 2, user = [{id = 10, port = 7010}]}, {id = 1, user = [{id = 10, port = 7011}], floor = [{id = 1}]}]
+=> 2 4 (10 - - false 7010); 1 4 (10 - - false 7011) [1 1 -];"#;
+
+#[test]
+fn a_text_gives_its_fields(rt: HostRuntime) -> Result<(), Fail> {
+    assert_eq!(rt; differing(rt.alloc(), READ)?.as_str(), "");
+    assert_eq!(rt; READ.split("\n== ").count(), 25);
+    Ok(())
 }
 
 /// The users with these ids, the first of whom has this name, URI and port.

@@ -1,153 +1,99 @@
 //! The order of faults, and counts.
 
-use super::fault_of;
+use super::{differing, fault_of};
 use crate::{ConfigFault, read_configs};
 use std::alloc::{AllocError, Global};
 use std::fmt::Write;
 use std::test::Fail;
 
+/// Texts with two faults, and the one that comes first.
+const ORDER: &str = r#"== kinds of conferences before their keys
+conference = [{}, 1]
+=> WrongType
+== a conference's id before its limit
+conference = [{limit = 0}]
+=> MissingKey
+== an id's kind before a limit's range
+conference = [{id = "1", limit = 0}]
+=> WrongType
+== an id's range before a limit's kind
+conference = [{id = -1, limit = "4"}]
+=> OutOfRange
+== a limit's range before the kind of the users
+conference = [{id = 1, limit = 0, user = 1}]
+=> OutOfRange
+== a limit's kind before the keys of a user
+conference = [{id = 1, limit = true, user = [{}]}]
+=> WrongType
+== kinds of users before their keys
+conference = [{id = 1, user = [{}, 1]}]
+=> WrongType
+== a user's id before its name
+conference = [{id = 1, user = [{name = 1}]}]
+=> MissingKey
+== a name's range before a URI's kind
+conference = [{id = 1, user = [{id = 10, name = "nnnnnnnnnnnnnnnnnnnnnnnnnnnnnnn", uri = 1}]}]
+=> OutOfRange
+== a name's kind before a URI's range
+conference = [{id = 1, user = [{id = 10, name = 1, uri = "uuuuuuuuuuuuuuuuuuuuuuuuuuuuuuuuuuuuuuuuuuuuuuuuuuuuuuuuuuuuuuu"}]}]
+=> WrongType
+== a URI's range before a proxy mark's kind
+conference = [{id = 1, user = [{id = 10, uri = "uuuuuuuuuuuuuuuuuuuuuuuuuuuuuuuuuuuuuuuuuuuuuuuuuuuuuuuuuuuuuuu", proxy = 1}]}]
+=> OutOfRange
+== a proxy mark's kind before a port's range
+conference = [{id = 1, user = [{id = 10, proxy = 1, port = 0}]}]
+=> WrongType
+== a port's range before the next user's id
+conference = [{id = 1, user = [{id = 10, port = 0}, {}]}]
+=> OutOfRange
+== a later user's keys before two users with one id
+conference = [{id = 1, user = [{id = 10}, {id = 10}, {}]}]
+=> MissingKey
+== two users with one id before the kind of the floors
+conference = [{id = 1, user = [{id = 10}, {id = 10}], floor = 1}]
+=> DoubleUser
+== two users with one id before the keys of a floor
+conference = [{id = 1, user = [{id = 10}, {id = 10}], floor = [{}]}]
+=> DoubleUser
+== kinds of floors before their keys
+conference = [{id = 1, user = [{id = 10}], floor = [{}, 1]}]
+=> WrongType
+== a floor's id before its room
+conference = [{id = 1, user = [{id = 10}], floor = [{room = 0}]}]
+=> MissingKey
+== a room's range before a chair's kind
+conference = [{id = 1, user = [{id = 10}], floor = [{id = 1, room = 0, chair = "10"}]}]
+=> OutOfRange
+== a room's kind before a chair's range
+conference = [{id = 1, user = [{id = 10}], floor = [{id = 1, room = "1", chair = -1}]}]
+=> WrongType
+== a chair's range before the next floor's id
+conference = [{id = 1, user = [{id = 10}], floor = [{id = 1, chair = 65536}, {}]}]
+=> OutOfRange
+== a later floor's keys before two floors with one id
+conference = [{id = 1, user = [{id = 10}], floor = [{id = 1}, {id = 1}, {}]}]
+=> MissingKey
+== a chair's range before two floors with one id
+conference = [{id = 1, user = [{id = 10}], floor = [{id = 1}, {id = 1, chair = 65536}]}]
+=> OutOfRange
+== two floors with one id before a chair that is no user
+conference = [{id = 1, user = [{id = 10}], floor = [{id = 1, chair = 11}, {id = 1}]}]
+=> DoubleFloor
+== a chair that is no user before the next conference
+conference = [{id = 1, floor = [{id = 1, chair = 10}]}, {}]
+=> UnknownChair
+== a later conference's keys before two conferences with one id
+conference = [{id = 1}, {id = 1}, {}]
+=> MissingKey
+== two conferences with one id before two users with one port
+conference = [{id = 1, user = [{id = 10, port = 7010}]}, {id = 1, user = [{id = 10, port = 7010}]}]
+=> DoubleConference"#;
+
 #[test]
-fn of_two_faults_the_first_in_order_is_told(rt: HostRuntime) {
-    let cases = [
-        (
-            "kinds of conferences before their keys",
-            "conference = [{}, 1]",
-            ConfigFault::WrongType,
-        ),
-        (
-            "a conference's id before its limit",
-            "conference = [{limit = 0}]",
-            ConfigFault::MissingKey,
-        ),
-        (
-            "an id's kind before a limit's range",
-            "conference = [{id = \"1\", limit = 0}]",
-            ConfigFault::WrongType,
-        ),
-        (
-            "an id's range before a limit's kind",
-            "conference = [{id = -1, limit = \"4\"}]",
-            ConfigFault::OutOfRange,
-        ),
-        (
-            "a limit's range before the kind of the users",
-            "conference = [{id = 1, limit = 0, user = 1}]",
-            ConfigFault::OutOfRange,
-        ),
-        (
-            "a limit's kind before the keys of a user",
-            "conference = [{id = 1, limit = true, user = [{}]}]",
-            ConfigFault::WrongType,
-        ),
-        (
-            "kinds of users before their keys",
-            "conference = [{id = 1, user = [{}, 1]}]",
-            ConfigFault::WrongType,
-        ),
-        (
-            "a user's id before its name",
-            "conference = [{id = 1, user = [{name = 1}]}]",
-            ConfigFault::MissingKey,
-        ),
-        (
-            "a name's range before a URI's kind",
-            "conference = [{id = 1, user = [{id = 10, name = \"nnnnnnnnnnnnnnnnnnnnnnnnnnnnnnn\", uri = 1}]}]",
-            ConfigFault::OutOfRange,
-        ),
-        (
-            "a name's kind before a URI's range",
-            "conference = [{id = 1, user = [{id = 10, name = 1, uri = \"uuuuuuuuuuuuuuuuuuuuuuuuuuuuuuuuuuuuuuuuuuuuuuuuuuuuuuuuuuuuuuu\"}]}]",
-            ConfigFault::WrongType,
-        ),
-        (
-            "a URI's range before a proxy mark's kind",
-            "conference = [{id = 1, user = [{id = 10, uri = \"uuuuuuuuuuuuuuuuuuuuuuuuuuuuuuuuuuuuuuuuuuuuuuuuuuuuuuuuuuuuuuu\", proxy = 1}]}]",
-            ConfigFault::OutOfRange,
-        ),
-        (
-            "a proxy mark's kind before a port's range",
-            "conference = [{id = 1, user = [{id = 10, proxy = 1, port = 0}]}]",
-            ConfigFault::WrongType,
-        ),
-        (
-            "a port's range before the next user's id",
-            "conference = [{id = 1, user = [{id = 10, port = 0}, {}]}]",
-            ConfigFault::OutOfRange,
-        ),
-        (
-            "a later user's keys before two users with one id",
-            "conference = [{id = 1, user = [{id = 10}, {id = 10}, {}]}]",
-            ConfigFault::MissingKey,
-        ),
-        (
-            "two users with one id before the kind of the floors",
-            "conference = [{id = 1, user = [{id = 10}, {id = 10}], floor = 1}]",
-            ConfigFault::DoubleUser,
-        ),
-        (
-            "two users with one id before the keys of a floor",
-            "conference = [{id = 1, user = [{id = 10}, {id = 10}], floor = [{}]}]",
-            ConfigFault::DoubleUser,
-        ),
-        (
-            "kinds of floors before their keys",
-            "conference = [{id = 1, user = [{id = 10}], floor = [{}, 1]}]",
-            ConfigFault::WrongType,
-        ),
-        (
-            "a floor's id before its room",
-            "conference = [{id = 1, user = [{id = 10}], floor = [{room = 0}]}]",
-            ConfigFault::MissingKey,
-        ),
-        (
-            "a room's range before a chair's kind",
-            "conference = [{id = 1, user = [{id = 10}], floor = [{id = 1, room = 0, chair = \"10\"}]}]",
-            ConfigFault::OutOfRange,
-        ),
-        (
-            "a room's kind before a chair's range",
-            "conference = [{id = 1, user = [{id = 10}], floor = [{id = 1, room = \"1\", chair = -1}]}]",
-            ConfigFault::WrongType,
-        ),
-        (
-            "a chair's range before the next floor's id",
-            "conference = [{id = 1, user = [{id = 10}], floor = [{id = 1, chair = 65536}, {}]}]",
-            ConfigFault::OutOfRange,
-        ),
-        (
-            "a later floor's keys before two floors with one id",
-            "conference = [{id = 1, user = [{id = 10}], floor = [{id = 1}, {id = 1}, {}]}]",
-            ConfigFault::MissingKey,
-        ),
-        (
-            "a chair's range before two floors with one id",
-            "conference = [{id = 1, user = [{id = 10}], floor = [{id = 1}, {id = 1, chair = 65536}]}]",
-            ConfigFault::OutOfRange,
-        ),
-        (
-            "two floors with one id before a chair that is no user",
-            "conference = [{id = 1, user = [{id = 10}], floor = [{id = 1, chair = 11}, {id = 1}]}]",
-            ConfigFault::DoubleFloor,
-        ),
-        (
-            "a chair that is no user before the next conference",
-            "conference = [{id = 1, floor = [{id = 1, chair = 10}]}, {}]",
-            ConfigFault::UnknownChair,
-        ),
-        (
-            "a later conference's keys before two conferences with one id",
-            "conference = [{id = 1}, {id = 1}, {}]",
-            ConfigFault::MissingKey,
-        ),
-        (
-            "two conferences with one id before two users with one port",
-            "conference = [{id = 1, user = [{id = 10, port = 7010}]}, {id = 1, user = [{id = 10, port = 7010}]}]",
-            ConfigFault::DoubleConference,
-        ),
-    ];
-    for (name, text, wanted) in cases {
-        assert_eq!(rt; fault_of(rt.alloc(), text), Some(wanted), "{name}");
-    }
+fn of_two_faults_the_first_in_order_is_told(rt: HostRuntime) -> Result<(), Fail> {
+    assert_eq!(rt; differing(rt.alloc(), ORDER)?.as_str(), "");
+    assert_eq!(rt; ORDER.split("\n== ").count(), 27);
+    Ok(())
 }
 
 /// A conference with so many items of ascending ids from 0 at a key, and one item more.

@@ -1,7 +1,25 @@
-//! Bytes from hexadecimal, and attributes as a text to compare.
+//! Cases from lines, bytes from hexadecimal, and attributes as a text to compare.
 
 use crate::{Attr, Body};
 use std::alloc::{AllocError, Global};
+
+/// A case of a table.
+#[derive(Clone, Copy)]
+pub struct Case<'a> {
+    pub name: &'a str,
+    pub read: &'a str,
+    pub wanted: &'a str,
+}
+
+/// The case of a line: its name, what is read, and what is wanted, with `|` between.
+pub fn case_of(line: &str) -> Case<'_> {
+    let mut parts = line.split('|');
+    Case {
+        name: parts.next().unwrap_or("").trim(),
+        read: parts.next().unwrap_or("").trim(),
+        wanted: parts.next().unwrap_or("").trim(),
+    }
+}
 
 /// The bytes that pairs of hexadecimal digits say. All other characters are passed over.
 pub fn bytes(alloc: Global, text: &str) -> Result<Vec<u8>, AllocError> {
