@@ -81,11 +81,11 @@ fn step(
 {
     match step {
         Step::Open(config) => open(hub, alloc, config),
-        Step::Attach(conference, user) => attach(hub, alloc, *conference, *user, places),
-        Step::Piece(number, bytes) => piece(hub, *number, bytes.as_slice()),
+        Step::Attach { conference, user } => attach(hub, alloc, *conference, *user, places),
+        Step::Piece { number, bytes } => piece(hub, *number, bytes.as_slice()),
         Step::Serve(number) => serve(hub, *number),
         Step::Leave(number) => leave(hub, *number),
-        Step::Admin(conference, act) => admin(hub, *conference, *act),
+        Step::Admin { conference, act } => admin(hub, *conference, *act),
     }
 }
 

@@ -10,15 +10,30 @@ pub enum Step {
     /// A conference opens.
     Open(Config),
     /// A connection of a user is attached to a conference.
-    Attach(u32, u16),
+    Attach {
+        /// The conference.
+        conference: u32,
+        /// The user.
+        user: u16,
+    },
     /// Bytes come from an arrival.
-    Piece(u64, Octets),
+    Piece {
+        /// The arrival's number.
+        number: u64,
+        /// The bytes.
+        bytes: Octets,
+    },
     /// The next message of an arrival is served.
     Serve(u64),
     /// An arrival leaves.
     Leave(u64),
     /// The administrator of a conference acts.
-    Admin(u32, Act),
+    Admin {
+        /// The conference.
+        conference: u32,
+        /// What is done.
+        act: Act,
+    },
 }
 
 /// What a step was answered.

@@ -51,17 +51,26 @@ const QUEUED: &str = "\
 /// Puts the steps of a line of a script.
 fn push_steps(alloc: Global, steps: &mut Vec<Step>, line: &str) -> Result<(), Fail> {
     match parse_line(alloc, line) {
-        Ok(Command::Attach { conference, user }) => steps.push(Step::Attach(conference, user))?,
+        Ok(Command::Attach { conference, user }) => steps.push(Step::Attach { conference, user })?,
         Ok(Command::Piece { connection, bytes }) => {
-            steps.push(Step::Piece(connection, Octets::from_vec(bytes)))?;
+            steps.push(Step::Piece {
+                number: connection,
+                bytes: Octets::from_vec(bytes),
+            })?;
         }
         Ok(Command::Serve { connection }) => steps.push(Step::Serve(connection))?,
         Ok(Command::Send { connection, bytes }) => {
-            steps.push(Step::Piece(connection, Octets::from_vec(bytes)))?;
+            steps.push(Step::Piece {
+                number: connection,
+                bytes: Octets::from_vec(bytes),
+            })?;
             steps.push(Step::Serve(connection))?;
         }
         Ok(Command::Leave { connection }) => steps.push(Step::Leave(connection))?,
-        Ok(Command::Close { conference }) => steps.push(Step::Admin(conference, Act::Close))?,
+        Ok(Command::Close { conference }) => steps.push(Step::Admin {
+            conference,
+            act: Act::Close,
+        })?,
         Ok(Command::Revoke { .. }) | Err(_) => return Err(Fail::from("another line")),
     }
     Ok(())
