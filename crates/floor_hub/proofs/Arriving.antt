@@ -34,12 +34,13 @@ use Rattle.floor_hub.specs.World as world
 use Rattle.floor_hub.specs.World.{World, Part, Arrival, Place, Offered, arrival, if_live, messages_of, offer, place, put, refused, state_of, turn}
 use Rattle.floor_hub.specs.StandsFor.{arrival_in, live_at, RoomStands, CameTo, ArrivalStands, NumberStands, Stands}
 use Rattle.floor_hub.specs.Steps.{AttachFailsIn}
-use Rattle.floor_hub.specs.Kept.{IsKept, IsKeptPart, KeptIn, first_numbers, arrivals_in, numbers_of}
+use Rattle.floor_hub.specs.Kept.{IsKept, IsKeptPart, KeptIn, first_numbers, arrivals_in}
 use Rattle.floor_hub.proofs.Acting.{IsQuiet, broken-refuses, refusal-part, refused-some, sound-by, stands_broken, stands_refused}
 use Rattle.floor_hub.proofs.Alone.{last_place}
 use Rattle.floor_hub.proofs.Attending.{came_apart, left_broken, part_state, same_at, true_false}
 use Rattle.floor_hub.proofs.Here.{messages-append}
 use Rattle.floor_hub.proofs.Keeping.{members_of}
+use Rattle.floor_hub.proofs.Places.{number_within}
 use Rattle.floor_hub.proofs.Changed.{connections_again, rooms_again}
 
 -- no member has a number above theirs
@@ -83,40 +84,10 @@ push_last : {A : Type 0} (xs : List A) (x : A) → slice_get (xs ++ x ∷ []) (l
 push_last [] x = refl
 push_last (y ∷ xs) x = push_last xs x
 
-abbrev Each : (ℕ → Type 0) → List ℕ → Type 0
-Each P [] = Unit {0}
-Each P (n ∷ ns) = P n × Each P ns
-
-each_append : (P : ℕ → Type 0) (xs ys : List ℕ) → Each P xs → Each P ys → Each P (xs ++ ys)
-each_append P [] ys a b = b
-each_append P (x ∷ xs) ys a b = (a.0, each_append P xs ys a.1 b)
-
-each_first : (m b : ℕ) → m ≤ b → Each (λ n. n ≤ b) (first_numbers m)
-each_first zero b h = tt
-each_first (suc m) b h = each_append (λ n. n ≤ b) (first_numbers m) (suc m ∷ []) (each_first m b (omega arith)) (h, tt)
-
-each_place : (P : ℕ → Type 0) (c : ℕ) (ps : List Place) (j : ℕ) (q : Place) → Each P (numbers_of c ps) → slice_get ps j ≡ Some q → q.conference ≡ c → P q.n
-each_place P c [] j q a is same = absurd (none-some q is)
-each_place P c (p ∷ ps) zero q a is same = by (p.conference == c) refl a
-  where
-    some : (x y : Place) → ◌≡◌ {A = Option Place} (Some x) (Some y) → x ≡ y
-    some x y e = cc
-
-    by : (b : Bool) → (p.conference == c) ≡ b → Each P (if b then p.n ∷ numbers_of c ps else numbers_of c ps) → P q.n
-    by true e a = subst (λ (x : Place). P x.n) (some p q is) a.0
-    by false e a = absurd (eqb-false p.conference c e (ap (λ (x : Place). x.conference) (some p q is) ∙ same))
-each_place P c (p ∷ ps) (suc j) q a is same = by (p.conference == c) a (λ b. each_place P c ps j q b is same)
-  where
-    by : (b : Bool) → Each P (if b then p.n ∷ numbers_of c ps else numbers_of c ps) → (Each P (numbers_of c ps) → P q.n) → P q.n
-    by true a more = more a.1
-    by false a more = more a
-
 -- the number of an arrival is no more than the arrivals of its conference
 place_within : (w : World) → IsKept w → (c : ℕ) (p : Part) → w.parts c ≡ Some p → (j : ℕ) (q : Place) → place w.places j ≡ Some q → q.conference ≡ c → q.n ≤ length p.arrivals
 place_within w kept c p was zero q is same = absurd (none-some q is)
-place_within w kept c p was (suc j) q is same =
-    let numbers : numbers_of c w.places ≡ first_numbers (length p.arrivals) = kept.places c ∙ ap (λ (z : Option Part). first_numbers (arrivals_in z)) was in
-    each_place (λ n. n ≤ length p.arrivals) c w.places j q (subst (Each (λ n. n ≤ length p.arrivals)) (sym numbers) (each_first (length p.arrivals) (length p.arrivals) (omega arith))) is same
+place_within w kept c p was (suc j) q is same = (number_within w kept c (Some p) was j q is same).1
 
 place_apart : (ps : List Place) (q : Place) (j : ℕ) → j ≢ length ps + 1 → place (ps ++ q ∷ []) j ≡ place ps j
 place_apart ps q zero ne = refl
@@ -312,9 +283,9 @@ module _ (rooms now : ℕ → Option Room) (xs now_xs : ℕ → Option Connectio
 
   refused_part : (r : Room) (why : RoomRefusal) (z : Option Part) → w.parts c ≡ z → ((d : ℕ) → now d ≡ rooms d) → ((j : ℕ) → now_xs j ≡ xs j) → r.ledger.is_broken ≡ false →
       refusal r.ledger (Join user) ≡ Some why → RoomStands (Some r) z → TurnIs k (offer z (Attach c user)) (Refused (ByRoom why))
-  refused_part r why None was same same_xs sound is s = absurd s
-  refused_part r why (Some p) was same same_xs sound is s =
-      let too : refused p (Join user) ≡ Some why = sym (refusal-part r p (Join user) sound s.0 (s.1 sound)) ∙ is in
+  refused_part r why None was same same_xs whole is s = absurd s
+  refused_part r why (Some p) was same same_xs whole is s =
+      let too : refused p (Join user) ≡ Some why = sym (refusal-part r p (Join user) whole s.0 (s.1 whole)) ∙ is in
       subst (λ (y : Option RoomRefusal). TurnIs k (world.attach p user y) (Refused (ByRoom why))) (sym too)
       (connections_again now xs now_xs k (put w c (world.refuses (Some p) (ByRoom why))).world same_xs (stands_refused rooms now xs k w c (Join user) (quiet_join user) st same (Some p) was), refl)
 

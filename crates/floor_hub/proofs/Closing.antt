@@ -10,7 +10,7 @@ use Rattle.floor_hub.specs.Hub.{Hub, room_at}
 use Rattle.floor_hub.specs.Kept.{IsKept, IsNumbered}
 use Rattle.floor_hub.specs.Laws.{OpensNumbered}
 use Rattle.floor_hub.specs.World.{World, turn}
-use Rattle.floor_hub.specs.StandsFor.{Stands, StandsFor, Stood}
+use Rattle.floor_hub.specs.StandsFor.{HaveOutboxes, Stands, StandsFor, Stood}
 use Rattle.floor_hub.specs.Steps.{Turns}
 use Rattle.floor_hub.proofs.Keeping.{kept_turn}
 use Rattle.floor_hub.proofs.Numbers.{numbered_turn}
@@ -39,12 +39,12 @@ module _ {T : Type 0} (new : Hub) (w other : World) (s : Step) (P : HubRefusal �
   ended (Err r) (inl m) = inl (m.0, stands_good new other h m.1)
   ended (Err r) (inr m) = inr (stands_good new (turn w s).world (good_next w s bears g) m.0, m.1)
 
--- so some world is stood for
+-- so some world is stood for, where each live connection has its outbox
 pub stood : {T : Type 0} (new : Hub) (w other : World) (s : Step) (P : HubRefusal → Type 0) (f : T → Answer) (res : Result T HubRefusal) →
-    MatchResult res (λ v. Turns new w s (f v)) (λ r. (P r × StandsFor new other) ⊎ Turns new w s (Refused r)) → Stood new
-stood new w other s P f (Ok v) m = ((turn w s).world, m.0)
-stood new w other s P f (Err r) (inl m) = (other, m.1)
-stood new w other s P f (Err r) (inr m) = ((turn w s).world, m.0)
+    MatchResult res (λ v. Turns new w s (f v)) (λ r. (P r × StandsFor new other) ⊎ Turns new w s (Refused r)) → HaveOutboxes new → Stood new
+stood new w other s P f (Ok v) m h = ((turn w s).world, m.0, h)
+stood new w other s P f (Err r) (inl m) h = (other, m.1, h)
+stood new w other s P f (Err r) (inr m) h = ((turn w s).world, m.0, h)
 
 pub good : (h : Hub) (w : World) → StandsFor h w → IsGood w
 good h w st = record { kept = st.kept; numbered = st.numbered }

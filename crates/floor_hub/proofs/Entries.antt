@@ -20,39 +20,7 @@ use Rattle.floor_hub.specs.StandsFor.{RoomStands}
 use Rattle.floor_hub.specs.World as world
 use Rattle.floor_hub.specs.World.{Part, World, place, state_of}
 use Rattle.floor_hub.proofs.Keeping.{members_of}
-
-abbrev Each : (ℕ → Type 0) → List ℕ → Type 0
-Each P [] = Unit {0}
-Each P (x ∷ xs) = P x × Each P xs
-
-each_append : (P : ℕ → Type 0) (xs ys : List ℕ) → Each P xs → Each P ys → Each P (xs ++ ys)
-each_append P [] ys a b = b
-each_append P (x ∷ xs) ys a b = (a.0, each_append P xs ys a.1 b)
-
--- a number of a part
-abbrev IsNumber : ℕ → ℕ → Type 0
-IsNumber k n = (1 ≤ n) × (n ≤ k)
-
-each_first : (m k : ℕ) → m ≤ k → Each (IsNumber k) (first_numbers m)
-each_first zero k h = tt
-each_first (suc m) k h = each_append (IsNumber k) (first_numbers m) (suc m ∷ []) (each_first m k (omega arith)) ((omega arith, h), tt)
-
--- what holds of each number of a conference holds of that of a place
-each_place : (P : ℕ → Type 0) (c : ℕ) (ps : List world.Place) (j : ℕ) (q : world.Place) → Each P (numbers_of c ps) → slice_get ps j ≡ Some q → q.conference ≡ c → P q.n
-each_place P c [] j q a is same = absurd (none-some q is)
-each_place P c (p ∷ ps) zero q a is same = by (p.conference == c) refl a
-  where
-    some : (x y : world.Place) → ◌≡◌ {A = Option world.Place} (Some x) (Some y) → x ≡ y
-    some x y e = cc
-
-    by : (b : Bool) → (p.conference == c) ≡ b → Each P (if b then p.n ∷ numbers_of c ps else numbers_of c ps) → P q.n
-    by true e a = subst (λ (x : world.Place). P x.n) (some p q is) a.0
-    by false e a = absurd (eqb-false p.conference c e (ap (λ (x : world.Place). x.conference) (some p q is) ∙ same))
-each_place P c (p ∷ ps) (suc j) q a is same = by (p.conference == c) a (λ b. each_place P c ps j q b is same)
-  where
-    by : (b : Bool) → Each P (if b then p.n ∷ numbers_of c ps else numbers_of c ps) → (Each P (numbers_of c ps) → P q.n) → P q.n
-    by true a rest = rest a.1
-    by false a rest = rest a
+use Rattle.floor_hub.proofs.Places.{IsNumber, number_within}
 
 get_map : (ps : List Place) (i : ℕ) (p d : Place) → i < length ps → p ≡ get_or ps i d → slice_get (map place_of ps) i ≡ Some (place_of p)
 get_map [] i p d h e = absurd (omega (arith, h))
@@ -70,16 +38,13 @@ module _ (h : Hub) (places : List Place) (w : World) (i : ℕ) (p d : Place) (re
 
   called_by : (z : Option Part) (y : Option Room) → w.parts p.conference ≡ z → room_at h p.conference ≡ y → RoomStands y z → KeptIn z → IfOk res (λ b. b ≡ called_at z p.n)
   called_by None y e f s k =
-      let none : numbers_of p.conference w.places ≡ [] = running.stands.kept.places p.conference ∙ ap (λ (z : Option Part). first_numbers (arrivals_in z)) e in
-      absurd (each_place (λ n. ⊥) p.conference w.places i (place_of p) (subst (Each (λ n. ⊥)) (sym none) tt) here refl)
+      let number : IsNumber 0 p.n = number_within w running.stands.kept p.conference None e i (place_of p) here refl in
+      absurd (omega (arith, number.0, number.1))
   called_by (Some part) None e f s k = absurd s
   called_by (Some part) (Some r) e f s k =
       let whole = running.whole p.conference r f in
       let journal : r.ledger.journal ≡ part.events = s.1 whole.0 in
-      let numbers : numbers_of p.conference w.places ≡ first_numbers (length part.arrivals) = running.stands.kept.places p.conference ∙ ap (λ (z : Option Part). first_numbers (arrivals_in z)) e in
-      let number : IsNumber (length part.arrivals) p.n =
-      each_place (IsNumber (length part.arrivals)) p.conference w.places i (place_of p)
-      (subst (Each (IsNumber (length part.arrivals))) (sym numbers) (each_first (length part.arrivals) (length part.arrivals) (omega arith))) here refl in
+      let number : IsNumber (length part.arrivals) p.n = number_within w running.stands.kept p.conference (Some part) e i (place_of p) here refl in
       let same : after r.ledger.config r.ledger.journal ≡ state_of part = ap (λ (x : Configuration). after x r.ledger.journal) s.0 ∙ ap (after part.config) journal in
       let high : p.n ≤ length (after r.ledger.config r.ledger.journal).members = omega (arith, number.1, members_of part k, ap (λ (x : Conference). length x.members) same) in
       ok_along res (Q r.ledger.config r.ledger.journal p.n) (Q part.config part.events p.n)

@@ -9,6 +9,7 @@ pub mod Arrivals
 pub mod Alone
 pub mod Sent
 pub mod Keeping
+pub mod Places
 pub mod Numbers
 pub mod Queueing
 pub mod Stepping
@@ -21,6 +22,7 @@ pub mod Arriving
 pub mod Given
 pub mod Closing
 pub mod RoomSteps
+pub mod Outboxes
 pub mod Waiting
 pub mod Entries
 pub mod Advancing

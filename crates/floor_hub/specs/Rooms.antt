@@ -7,6 +7,7 @@ use Rattle.floor_machine.specs.declared.machine.Refusal.TheVariants.{Broken, End
 use Rattle.floor_room.specs.declared.refusal.RoomRefusal.TheVariants.{JournalFull, Refused as ByMachine}
 use Rattle.floor_room.specs.Outbox.{Outbox}
 use Rattle.floor_room.specs.Room.{Room, new_room}
+use Rattle.floor_room.specs.Taking.{Gave}
 use Rattle.floor_hub.specs.declared.refusal.HubRefusal.{HubRefusal}
 use Rattle.floor_hub.specs.declared.refusal.HubRefusal.TheVariants.{NoConference, NoConnection, Used, ByRoom, Memory as NoMemory}
 use Rattle.floor_hub.specs.declared.connection.Connection.{Connection}
@@ -98,3 +99,19 @@ RoomOf shut_by why (Some x) old new = OneRoom shut_by why x.conference old new
 pub record Opens (config : Configuration) (old new : Hub) : Type 0 where
   pub room : room_at new config.conference ≡ Some (new_room config)
   pub others : (d : ℕ) → nat_eq config.conference d ≡ false → room_at new d ≡ room_at old d
+
+-- A parcel was taken from what waits for n in this conference's room, if one waits. All else is as it was.
+pub record TakenFrom (c n : ℕ) (parcel : Option Parcel) (old new : Hub) : Type 0 where
+  pub before : Room
+  pub after : Room
+  pub was : room_at old c ≡ Some before
+  pub now : room_at new c ≡ Some after
+  pub gave : Gave before after n (Ok parcel)
+  pub others : (d : ℕ) → nat_eq c d ≡ false → room_at new d ≡ room_at old d
+  pub connections : SameConnections old.connections new.connections
+  pub arrivals : new.arrivals ≡ old.arrivals
+
+-- NoConnection where no live connection has the number; else what waits for it
+abbrev pub TakenOf : Option Connection → Result (Option Parcel) HubRefusal → Hub → Hub → Type 0
+TakenOf None result old new = (result ≡ Err NoConnection) × SameHub old new
+TakenOf (Some x) result old new = (parcel : Option Parcel) × (result ≡ Ok parcel) × TakenFrom x.conference x.n parcel old new

@@ -1,5 +1,5 @@
 -- Which worlds a hub stands for.
-use Rattle.std.specs.Prelude.{◌≡◌, ℕ, ◌++◌, false, Option, Some, None, length}
+use Rattle.std.specs.Prelude.{◌≡◌, ◌≤◌, ℕ, ◌++◌, false, Option, Some, None, length}
 use Rattle.floor_hub.specs.Connections.{connection_at}
 use Rattle.floor_hub.specs.Hub.{Hub, room_at}
 use Rattle.floor_hub.specs.Kept.{IsKept, IsNumbered}
@@ -57,6 +57,15 @@ pub record StandsFor (h : Hub) (w : World) : Type 0 where
   pub numbered : IsNumbered w
   pub stands : Stands (room_at h) (connection_at h.connections) h.arrivals w
 
--- some world is stood for
+-- the conference is open, and its room keeps an outbox for n
+abbrev pub HasOutbox : Option Room → ℕ → Type 0
+HasOutbox None n = ⊥
+HasOutbox (Some r) n = (1 ≤ n) × (n ≤ length r.outboxes)
+
+-- each live connection has an outbox in its conference's room, also in a broken one
+abbrev pub HaveOutboxes : Hub → Type 0
+HaveOutboxes h = (number : ℕ) (x : Connection) → connection_at h.connections number ≡ Some x → HasOutbox (room_at h x.conference) x.n
+
+-- some world is stood for, and each live connection has an outbox
 abbrev pub Stood : Hub → Type 0
-Stood h = (w : World) × StandsFor h w
+Stood h = (w : World) × StandsFor h w × HaveOutboxes h

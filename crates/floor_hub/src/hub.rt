@@ -10,10 +10,10 @@ ghost use Rattle.floor_room.specs.Taking.{Gave};
 ghost use Rattle.floor_room.specs.declared.outbox.NoMember.{NoMember};
 ghost use Rattle.floor_room.specs.declared.refusal.RoomRefusal.{RoomRefusal};
 ghost use Rattle.floor_room.specs.Ledger.{conference_of};
-ghost use Rattle.floor_room.specs.Room.{Room as Kept};
+ghost use Rattle.floor_room.specs.Room.{IsRoom, Room as Kept};
 ghost use Rattle.floor_hub.specs.Connections.{Puts, SameConnections, connection_at};
 ghost use Rattle.floor_hub.specs.Hub.{room_at};
-ghost use Rattle.floor_hub.specs.Rooms.{OneRoom, Opens, RoomOf, SameHub, by_broken, refusal_in};
+ghost use Rattle.floor_hub.specs.Rooms.{OneRoom, Opens, RoomOf, SameHub, TakenOf, by_broken, refusal_in};
 ghost use Rattle.floor_hub.specs.Running.{QueuedIn};
 ghost use Rattle.floor_hub.specs.StandsFor.{StandsFor};
 ghost use Rattle.floor_hub.specs.Steps.{AttachFailsIn, Fails, FailsGone, FailsSame, LeaveFailsIn, LeavesIn, Turns, answer_of};
@@ -177,30 +177,31 @@ impl Hub {
     }
 
     /// How the room of a conference stands. Refused by `NoConference`. Takes no memory.
+    ///
+    /// Each room keeps what was queued: a prefix of what its journal calls for where it is broken
+    /// off, else all of it.
     pub fn status(&self, conference: u32) -> Result<Status, HubRefusal>
         ensures no_conference { room_at self.now conference ≡ None
             → result ≡ Err HubRefusal.NoConference }
         ensures found { (r : Kept) → room_at self.now conference ≡ Some r
             → MatchResult result (IsStatus r.ledger) (λ _. ⊥) }
+        ensures kept { (r : Kept) → room_at self.now conference ≡ Some r → IsRoom r }
     {
         match self.rooms.get(&conference) {
-            Some(room) => Ok(room.status()),
+            Some(room) => {
+                let _journal = room.journal();
+                Ok(room.status())
+            }
             None => Err(HubRefusal::NoConference),
         }
     }
 
-    /// Takes the first parcel that waits for a connection. Refused by `NoConnection`. Takes no
-    /// memory.
+    /// Takes the first parcel that waits for a connection, also where its conference's room is
+    /// broken off. Refused by `NoConnection`, where no live connection has the number, and by
+    /// nothing else. Takes no memory.
     pub fn take(&mut self, number: ConnNo) -> Result<Option<Parcel>, HubRefusal>
-        ensures no_connection { connection_at self.old.connections number ≡ None
-            → result ≡ Err HubRefusal.NoConnection }
-        ensures given { (x : Connection) → connection_at self.old.connections number ≡ Some x
-            → (r : Kept) → room_at self.old x.conference ≡ Some r
-            → (new : Kept) × (given : Result (Option Parcel) NoMember)
-            × (room_at self.new x.conference ≡ Some new)
-            × ((d : ℕ) → nat_eq x.conference d ≡ false → room_at self.new d ≡ room_at self.old d)
-            × Gave r new x.n given
-            × MatchResult given (λ p. result ≡ Ok p) (λ _. IsErr result) }
+        ensures given { TakenOf (connection_at self.old.connections number) result
+            self.old self.new }
         ensures stands { (w : World) → StandsFor self.old w → StandsFor self.new w }
     {
         take_at(&mut self.rooms, &self.connections, number)
@@ -264,7 +265,8 @@ fn attach_at(
           conference = conference;
           n = length (conference_of room.ledger).members + 1;
           held = [];
-        }))
+        })
+        × (length (conference_of room.ledger).members + 1 ≡ length new.outboxes))
         × IfErr result (λ r. (why : RoomRefusal) × (r ≡ HubRefusal.ByRoom why)
         × AttachFailsIn room new user why) }
 {

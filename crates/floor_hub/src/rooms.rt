@@ -84,7 +84,7 @@ pub(crate) fn join_at(
     ensures rooms { (room : Kept) → get nat_eq rooms.old conference ≡ Some room
         → (new : Kept) × Updates nat_eq rooms.old rooms.new conference (Some new)
         × IfOk result (λ n. (n ≡ length (conference_of room.ledger).members + 1)
-        × Took room new (Join user))
+        × Took room new (Join user) × (n ≡ length new.outboxes))
         × IfErr result (λ r. (why : RoomRefusal) × (r ≡ HubRefusal.ByRoom why)
         × IsRefusedBy {T = Unit {0}} (refusal room.ledger (Join user)) (Err why)
         × Left room new (Join user) why) }

@@ -113,6 +113,7 @@ impl Room {
     pub fn join(&mut self, user: u16) -> Result<u32, RoomRefusal>
         ensures number { IfOk result (λ n. n
             ≡ length (conference_of self.old.ledger).members + 1) }
+        ensures outbox { IfOk result (λ n. n ≡ length self.new.outboxes) }
         ensures took { OnOk result (Took self.old self.new (Join user)) }
         ensures refused { IsRefusedBy (refusal self.old.ledger (Join user)) result }
         ensures left { IfErr result (Left self.old self.new (Join user)) }

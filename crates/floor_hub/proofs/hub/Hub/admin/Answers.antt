@@ -16,6 +16,7 @@ use Rattle.floor_hub.specs.StandsFor.{StandsFor}
 use Rattle.floor_hub.specs.Steps.{Fails, Turns}
 use Rattle.floor_hub.specs.World.{World}
 use Rattle.floor_hub.proofs.Closing.{ended, good, stood}
+use Rattle.floor_hub.proofs.Outboxes.{grows-one, keeps-outboxes, were-same}
 use Rattle.floor_hub.proofs.hub.Hub.admin.Goals as goal
 
 abbrev old : goal.After-admin_at → Hub
@@ -35,15 +36,20 @@ turns c w st =
     c.admin_at.result (room_at (old c) c.args.conference) refl c.admin_at.ensures.absent
     (λ r is. let t = c.admin_at.ensures.rooms r is in (t.0, t.1.1, t.1.2, t.2, t.3)))
 
+room : (c : goal.After-admin_at) → OneRoom by_broken (refusal_in c.admin_at.result) c.args.conference (old c) (new c)
+room c =
+    event-room c.args.conference (event_of_act c.args.act) (old c) (new c) c.admin_at.result (room_at (old c) c.args.conference) refl c.admin_at.ensures.absent
+    (λ r is. let t = c.admin_at.ensures.rooms r is in (t.0, t.1.1, t.1.2, t.2, t.3))
+
 pub invariant_of-self : goal.invariant_of-self
 invariant_of-self c =
     let w = c.self.invariant.0 in
     stood (new c) w w (Admin c.args.conference c.args.act) Want (λ v. Done) c.admin_at.result (turns c w c.self.invariant.1)
+    (keeps-outboxes (old c) (new c) (grows-one by_broken (refusal_in c.admin_at.result) c.args.conference (old c) (new c) (room c))
+    (were-same (old c).connections (new c).connections (λ k. refl)) c.self.invariant.2)
 
 pub returns-clause-next : goal.returns-clause-next
 returns-clause-next c = λ w st. turns c w (subst (λ h. StandsFor h w) (sym c.self.view_is) st)
 
 pub returns-clause-room : goal.returns-clause-room
-returns-clause-room c = subst (λ h. OneRoom by_broken (refusal_in c.admin_at.result) c.args.conference h (new c)) c.self.view_is
-    (event-room c.args.conference (event_of_act c.args.act) (old c) (new c) c.admin_at.result (room_at (old c) c.args.conference) refl c.admin_at.ensures.absent
-    (λ r is. let t = c.admin_at.ensures.rooms r is in (t.0, t.1.1, t.1.2, t.2, t.3)))
+returns-clause-room c = subst (λ h. OneRoom by_broken (refusal_in c.admin_at.result) c.args.conference h (new c)) c.self.view_is (room c)

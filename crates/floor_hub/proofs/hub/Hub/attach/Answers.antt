@@ -1,21 +1,24 @@
-use Rattle.std.proofs.Common.{◌≡◌, ◌⊎◌, ◌+◌, ◌≤◌, ◌<◌, arith, length, refl, sym, subst}
-use Rattle.std.specs.Prelude.{Ok, Err}
+use Rattle.std.proofs.Common.{◌≡◌, ◌⊎◌, ℕ, ◌+◌, ◌≤◌, ◌<◌, [], Some, None, arith, length, refl, sym, subst}
+use Rattle.std.specs.Prelude.{Ok, Err, Option, Result}
 use Rattle.floor_machine.specs.declared.machine.Refusal.TheVariants.{Memory, Broken}
 use Rattle.floor_room.specs.declared.refusal.RoomRefusal.TheVariants.{Refused as ByMachine}
 use Rattle.floor_hub.specs.declared.refusal.HubRefusal.{HubRefusal}
-use Rattle.floor_hub.specs.declared.refusal.HubRefusal.TheVariants.{ByRoom}
+use Rattle.floor_hub.specs.declared.refusal.HubRefusal.TheVariants.{ByRoom, NoConference}
 use Rattle.floor_hub.specs.declared.step.Step.TheVariants.{Attach}
 use Rattle.floor_hub.specs.declared.step.Answer.TheVariants.{Attached}
 use Rattle.floor_hub.specs.Connections.{connection_at}
 use Rattle.floor_hub.specs.Hub.{Hub, room_at}
 use Rattle.floor_hub.specs.Rooms.{by_broken, OneRoom}
-use Rattle.floor_hub.specs.StandsFor.{StandsFor}
+use Rattle.floor_hub.specs.StandsFor.{HasOutbox, HaveOutboxes, StandsFor}
 use Rattle.floor_hub.specs.Steps.{Fails, Turns}
 use Rattle.floor_hub.specs.World.{World}
 use Rattle.floor_hub.proofs.Arriving.{attach_result}
 use Rattle.floor_hub.proofs.Closing.{ended, good, stood}
 use Rattle.floor_hub.proofs.Numbers.{places_fit}
 use Rattle.floor_hub.proofs.RoomSteps.{attach-room}
+use Rattle.floor_room.specs.Ledger.{conference_of}
+use Rattle.floor_room.specs.Room.{Room}
+use Rattle.floor_hub.proofs.Outboxes.{grows-one, has-joined, keeps-outboxes, were-same}
 use Rattle.floor_hub.proofs.hub.Hub.attach.Goals as goal
 
 abbrev Want : HubRefusal → Type 0
@@ -41,19 +44,37 @@ turns_ok c w st =
     c.args.conference c.args.user st.stands st.kept (Ok tt) (room_at (old_ok c) c.args.conference) refl c.in-Ok.ensures.absent c.in-Ok.ensures.left
     (λ r is. let t = c.in-Ok.ensures.rooms r is in (t.0, t.1, t.2, (t.3.0, (t.3.1.here, t.3.1.others)), tt)))
 
+room_ok : (c : goal.After-self-1) → OneRoom by_broken None c.args.conference (old_ok c) (new_ok c)
+room_ok c =
+    attach-room c.args.conference c.args.user (old_ok c) (new_ok c) (Ok tt) (room_at (old_ok c) c.args.conference) refl c.in-Ok.ensures.absent
+    (λ r is. let t = c.in-Ok.ensures.rooms r is in (t.0, t.1, t.2, t.3.0, tt))
+
+ok_err : ◌≡◌ {A = Result (Unit {0}) HubRefusal} (Ok tt) (Err NoConference) → ⊥
+ok_err e = cc
+
+-- who has joined has an outbox, the last of its room
+has_outboxes : (c : goal.After-self-1) (y : Option Room) → room_at (old_ok c) c.args.conference ≡ y → HaveOutboxes (new_ok c)
+has_outboxes c None is = absurd (ok_err (c.in-Ok.ensures.absent is).0)
+has_outboxes c (Some r) is =
+    let t = c.in-Ok.ensures.rooms r is in
+    let n : ℕ = length (conference_of r.ledger).members + 1 in
+    let first : 1 ≤ n = omega arith in
+    let last : n ≤ length t.0.outboxes = omega (arith, t.3.2) in
+    has-joined (old_ok c) (new_ok c) (c.self.inside.arrivals + 1) (record { conference = c.args.conference; n = n; held = [] })
+    (grows-one by_broken None c.args.conference (old_ok c) (new_ok c) (room_ok c)) t.3.1 (subst (λ (z : Option Room). HasOutbox z n) (sym t.1) (first, last)) c.self.invariant.2
+
 pub invariant_of-self : goal.invariant_of-self
 invariant_of-self c =
     let w = c.self.invariant.0 in
     stood {T = Unit {0}} (new_ok c) w w (Attach c.args.conference c.args.user) Want (λ v. Attached (c.self.inside.arrivals + 1)) (Ok tt) (turns_ok c w c.self.invariant.1)
+    (has_outboxes c (room_at (old_ok c) c.args.conference) refl)
 
 pub returns-in-Ok-clause-next : goal.returns-in-Ok-clause-next
 returns-in-Ok-clause-next c = λ w st. turns_ok c w (subst (λ h. StandsFor h w) (sym c.self.view_is) st)
 
 pub returns-in-Ok-clause-room : goal.returns-in-Ok-clause-room
 returns-in-Ok-clause-room c =
-    subst (λ h. OneRoom by_broken Rattle.std.proofs.Common.None c.args.conference h (new_ok c)) c.self.view_is
-    (attach-room c.args.conference c.args.user (old_ok c) (new_ok c) (Ok tt) (room_at (old_ok c) c.args.conference) refl c.in-Ok.ensures.absent
-    (λ r is. let t = c.in-Ok.ensures.rooms r is in (t.0, t.1, t.2, t.3.0, tt)))
+    subst (λ h. OneRoom by_broken None c.args.conference h (new_ok c)) c.self.view_is (room_ok c)
 
 abbrev old_err : goal.In-Err → Hub
 old_err c = record { rooms = c.self.inside.rooms.entries; connections = c.self.inside.connections; arrivals = c.self.inside.arrivals }
@@ -69,16 +90,21 @@ turns_err c w st =
     c.args.conference c.args.user st.stands st.kept (Err c.in-Err.refusal) (room_at (old_err c) c.args.conference) refl c.in-Err.ensures.absent c.in-Err.ensures.left
     c.in-Err.ensures.rooms)
 
+room_err : (c : goal.In-Err) → OneRoom by_broken (Some c.in-Err.refusal) c.args.conference (old_err c) (new_err c)
+room_err c =
+    attach-room c.args.conference c.args.user (old_err c) (new_err c) (Err c.in-Err.refusal) (room_at (old_err c) c.args.conference) refl c.in-Err.ensures.absent
+    c.in-Err.ensures.rooms
+
 pub invariant_of-self-in-Err : goal.invariant_of-self-in-Err
 invariant_of-self-in-Err c =
     let w = c.self.invariant.0 in
     stood {T = Unit {0}} (new_err c) w w (Attach c.args.conference c.args.user) Want (λ v. Attached (c.self.inside.arrivals + 1)) (Err c.in-Err.refusal) (turns_err c w c.self.invariant.1)
+    (keeps-outboxes (old_err c) (new_err c) (grows-one by_broken (Some c.in-Err.refusal) c.args.conference (old_err c) (new_err c) (room_err c))
+    (were-same (old_err c).connections (new_err c).connections c.in-Err.ensures.left) c.self.invariant.2)
 
 pub returns-in-Err-clause-next : goal.returns-in-Err-clause-next
 returns-in-Err-clause-next c = λ w st. turns_err c w (subst (λ h. StandsFor h w) (sym c.self.view_is) st)
 
 pub returns-in-Err-clause-room : goal.returns-in-Err-clause-room
 returns-in-Err-clause-room c =
-    subst (λ h. OneRoom by_broken (Rattle.std.proofs.Common.Some c.in-Err.refusal) c.args.conference h (new_err c)) c.self.view_is
-    (attach-room c.args.conference c.args.user (old_err c) (new_err c) (Err c.in-Err.refusal) (room_at (old_err c) c.args.conference) refl c.in-Err.ensures.absent
-    c.in-Err.ensures.rooms)
+    subst (λ h. OneRoom by_broken (Some c.in-Err.refusal) c.args.conference h (new_err c)) c.self.view_is (room_err c)

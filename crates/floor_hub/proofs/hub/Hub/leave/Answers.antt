@@ -1,7 +1,7 @@
 use Rattle.floor_hub.proofs.Departing.{leave_result}
 use Rattle.floor_hub.proofs.RoomSteps.{leave-room}
 use Rattle.std.proofs.Common.{◌≡◌, refl, sym, subst}
-use Rattle.std.specs.Prelude.{MatchResult}
+use Rattle.std.specs.Prelude.{MatchResult, Option}
 use Rattle.floor_machine.specs.declared.machine.Refusal.TheVariants.{Memory}
 use Rattle.floor_room.specs.declared.refusal.RoomRefusal.TheVariants.{Refused as ByMachine}
 use Rattle.floor_hub.specs.declared.refusal.HubRefusal.{HubRefusal}
@@ -15,6 +15,7 @@ use Rattle.floor_hub.specs.StandsFor.{StandsFor}
 use Rattle.floor_hub.specs.Steps.{FailsGone, Turns}
 use Rattle.floor_hub.specs.World.{World, turn}
 use Rattle.floor_hub.proofs.Closing.{ended, good, good_next, stood}
+use Rattle.floor_hub.proofs.Outboxes.{grows-of, keeps-outboxes, were-of}
 use Rattle.floor_hub.proofs.hub.Hub.leave.Goals as goal
 
 abbrev old : goal.After-leave_at → Hub
@@ -34,15 +35,25 @@ turns c w st =
     c.leave_at.result (connection_at c.self.inside.connections c.args.number) refl c.leave_at.ensures.absent
     (λ x is. let t = c.leave_at.ensures.gone x is in (t.here, t.others)) c.leave_at.ensures.there)
 
+abbrev none : Option HubRefusal
+none = Rattle.std.proofs.Common.None
+
+room : (c : goal.After-leave_at) → RoomOf none (refusal_in c.leave_at.result) (connection_at (old c).connections c.args.number) (old c) (new c)
+room c =
+    leave-room c.args.number (old c) (new c) c.self.invariant.0 c.self.invariant.1 c.leave_at.result (connection_at c.self.inside.connections c.args.number) refl c.leave_at.ensures.absent refl
+    c.leave_at.ensures.there
+
 pub invariant_of-self : goal.invariant_of-self
 invariant_of-self c =
     let w = c.self.invariant.0 in
     stood (new c) w (turn w (Leave c.args.number)).world (Leave c.args.number) Want (λ v. Done) c.leave_at.result (turns c w c.self.invariant.1)
+    (keeps-outboxes (old c) (new c) (grows-of none (refusal_in c.leave_at.result) (connection_at (old c).connections c.args.number) (old c) (new c) (room c))
+    (were-of (old c).connections (new c).connections c.args.number (connection_at (old c).connections c.args.number) refl (λ none. (c.leave_at.ensures.absent none).2)
+    (λ x there. (Rattle.std.proofs.Common.None, tt, c.leave_at.ensures.gone x there)))
+    c.self.invariant.2)
 
 pub returns-clause-next : goal.returns-clause-next
 returns-clause-next c = λ w st. turns c w (subst (λ h. StandsFor h w) (sym c.self.view_is) st)
 
 pub returns-clause-room : goal.returns-clause-room
-returns-clause-room c = subst (λ h. RoomOf Rattle.std.proofs.Common.None (refusal_in c.leave_at.result) (connection_at h.connections c.args.number) h (new c)) c.self.view_is
-    (leave-room c.args.number (old c) (new c) c.self.invariant.0 c.self.invariant.1 c.leave_at.result (connection_at c.self.inside.connections c.args.number) refl c.leave_at.ensures.absent refl
-    c.leave_at.ensures.there)
+returns-clause-room c = subst (λ h. RoomOf none (refusal_in c.leave_at.result) (connection_at h.connections c.args.number) h (new c)) c.self.view_is (room c)

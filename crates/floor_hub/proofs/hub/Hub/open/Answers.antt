@@ -1,5 +1,5 @@
 use Rattle.floor_hub.proofs.Opening.{open_result}
-use Rattle.std.proofs.Common.{◌≡◌, sym, subst}
+use Rattle.std.proofs.Common.{◌≡◌, refl, sym, subst}
 use Rattle.std.specs.Prelude.{MatchResult}
 use Rattle.floor_hub.specs.declared.refusal.HubRefusal.{HubRefusal}
 use Rattle.floor_hub.specs.declared.refusal.HubRefusal.TheVariants.{Memory as NoMemory}
@@ -11,6 +11,7 @@ use Rattle.floor_hub.specs.StandsFor.{StandsFor}
 use Rattle.floor_hub.specs.Steps.{FailsSame, Turns}
 use Rattle.floor_hub.specs.World.{World}
 use Rattle.floor_hub.proofs.Closing.{ended, good, stood}
+use Rattle.floor_hub.proofs.Outboxes.{grows-opened, keeps-outboxes, were-same}
 use Rattle.floor_hub.proofs.hub.Hub.open.Goals as goal
 
 abbrev old : goal.After-open_at → Hub
@@ -33,6 +34,8 @@ pub invariant_of-self : goal.invariant_of-self
 invariant_of-self c =
     let w = c.self.invariant.0 in
     stood (new c) w w (Open c.args.config) Want (λ v. Done) c.open_at.result (turns c w c.self.invariant.1)
+    (keeps-outboxes (old c) (new c) (grows-opened _ c.open_at.result c.args.config (old c) (new c) c.open_at.ensures.done c.open_at.ensures.err)
+    (were-same (old c).connections (new c).connections (λ k. refl)) c.self.invariant.2)
 
 pub returns-clause-next : goal.returns-clause-next
 returns-clause-next c = λ w st. turns c w (subst (λ h. StandsFor h w) (sym c.self.view_is) st)

@@ -1,16 +1,17 @@
 use Rattle.floor_hub.proofs.Pieces.{piece_result}
-use Rattle.std.proofs.Common.{◌≡◌, refl, sym, subst}
-use Rattle.std.specs.Prelude.{MatchResult}
+use Rattle.std.proofs.Common.{◌≡◌, ◌++◌, ℕ, Some, refl, sym, ◌∙◌, subst}
+use Rattle.std.specs.Prelude.{Err, MatchResult, Ok, OnErr, Result}
 use Rattle.floor_hub.specs.declared.refusal.HubRefusal.{HubRefusal}
-use Rattle.floor_hub.specs.declared.refusal.HubRefusal.TheVariants.{Memory as NoMemory}
+use Rattle.floor_hub.specs.declared.refusal.HubRefusal.TheVariants.{Memory as NoMemory, NoConnection}
 use Rattle.floor_hub.specs.declared.step.Step.TheVariants.{Piece}
 use Rattle.floor_hub.specs.declared.step.Answer.TheVariants.{Done}
-use Rattle.floor_hub.specs.Connections.{connection_at}
+use Rattle.floor_hub.specs.Connections.{Puts, SameConnections, connection_at}
 use Rattle.floor_hub.specs.Hub.{Hub, room_at}
 use Rattle.floor_hub.specs.StandsFor.{StandsFor}
 use Rattle.floor_hub.specs.Steps.{FailsSame, Turns}
 use Rattle.floor_hub.specs.World.{World}
 use Rattle.floor_hub.proofs.Closing.{ended, good, stood}
+use Rattle.floor_hub.proofs.Outboxes.{WasThere, grows-same, keeps-outboxes, were-of, were-same}
 use Rattle.floor_hub.proofs.hub.Hub.piece.Goals as goal
 
 abbrev old : goal.After-push → Hub
@@ -29,10 +30,25 @@ turns c w st =
     (piece_result (room_at (old c)) c.self.inside.connections c.push.new.self c.self.inside.arrivals w c.args.number c.args.bytes.now c.push.result
     (connection_at c.self.inside.connections c.args.number) refl st.stands c.push.ensures.absent c.push.ensures.there c.push.ensures.left)
 
+were : (c : goal.After-push) (res : Result (Unit {0}) HubRefusal) → c.push.result ≡ res → (k : ℕ) → WasThere (connection_at (old c).connections k) (connection_at (new c).connections k)
+were c (Err r) is = were-same (old c).connections (new c).connections (subst (λ (z : Result (Unit {0}) HubRefusal). OnErr z (SameConnections (old c).connections (new c).connections)) is c.push.ensures.left)
+were c (Ok v) is = were-of (old c).connections (new c).connections c.args.number (connection_at (old c).connections c.args.number) refl
+    (λ none. absurd (ok_err v (sym is ∙ c.push.ensures.absent none)))
+    (λ x there. (
+      Some (record { conference = x.conference; n = x.n; held = x.held ++ c.args.bytes.now }),
+      (refl, refl),
+      subst (λ (z : Result (Unit {0}) HubRefusal). MatchResult z (λ _. Puts (old c).connections (new c).connections c.args.number (Some (record { conference = x.conference; n = x.n; held = x.held ++ c.args.bytes.now }))) (λ r. r ≡ NoMemory)) is
+          (c.push.ensures.there x there),
+    ))
+  where
+    ok_err : (v : Unit {0}) → ◌≡◌ {A = Result (Unit {0}) HubRefusal} (Ok v) (Err NoConnection) → ⊥
+    ok_err v e = cc
+
 pub invariant_of-self : goal.invariant_of-self
 invariant_of-self c =
     let w = c.self.invariant.0 in
     stood (new c) w w (Piece c.args.number c.args.bytes.now) Want (λ v. Done) c.push.result (turns c w c.self.invariant.1)
+    (keeps-outboxes (old c) (new c) (λ d. grows-same (room_at (old c) d) (room_at (new c) d) refl) (were c c.push.result refl) c.self.invariant.2)
 
 pub returns-clause-next : goal.returns-clause-next
 returns-clause-next c = λ w st. turns c w (subst (λ h. StandsFor h w) (sym c.self.view_is) st)

@@ -1,6 +1,6 @@
 use Rattle.floor_hub.proofs.Attending.{serve_result}
 use Rattle.floor_hub.proofs.RoomSteps.{serve-room}
-use Rattle.std.proofs.Common.{◌≡◌, ◌⊎◌, refl, sym, subst}
+use Rattle.std.proofs.Common.{◌≡◌, ◌⊎◌, Some, refl, sym, subst}
 use Rattle.std.specs.Prelude.{MatchResult}
 use Rattle.floor_machine.specs.declared.machine.Refusal.TheVariants.{Memory, Broken}
 use Rattle.floor_room.specs.declared.refusal.RoomRefusal.TheVariants.{Refused as ByMachine}
@@ -14,6 +14,7 @@ use Rattle.floor_hub.specs.StandsFor.{StandsFor}
 use Rattle.floor_hub.specs.Steps.{Fails, Turns, answer_of}
 use Rattle.floor_hub.specs.World.{World}
 use Rattle.floor_hub.proofs.Closing.{ended, good, stood}
+use Rattle.floor_hub.proofs.Outboxes.{grows-of, keeps-outboxes, outbox-room, were-of}
 use Rattle.floor_hub.proofs.hub.Hub.serve.Goals as goal
 
 abbrev old : goal.After-serve → Hub
@@ -33,15 +34,25 @@ turns c w st =
     c.serve.result (connection_at c.self.inside.connections c.args.number) refl c.serve.ensures.absent
     (λ x is r room. let t = c.serve.ensures.there x is r room in (t.0, t.1, t.2.1, t.2.2, t.3.here, t.3.others, t.4)))
 
+room : (c : goal.After-serve) → RoomOf by_broken (refusal_in c.serve.result) (connection_at (old c).connections c.args.number) (old c) (new c)
+room c =
+    serve-room c.args.number (old c) (new c) c.self.invariant.0 c.self.invariant.1 c.serve.result (connection_at c.self.inside.connections c.args.number) refl c.serve.ensures.absent refl
+    (λ x is r room. let t = c.serve.ensures.there x is r room in (t.0, t.1, t.2.1, t.2.2, t.4))
+
 pub invariant_of-self : goal.invariant_of-self
 invariant_of-self c =
     let w = c.self.invariant.0 in
     stood (new c) w w (Serve c.args.number) Want (λ v. answer_of v) c.serve.result (turns c w c.self.invariant.1)
+    (keeps-outboxes (old c) (new c) (grows-of by_broken (refusal_in c.serve.result) (connection_at (old c).connections c.args.number) (old c) (new c) (room c))
+    (were-of (old c).connections (new c).connections c.args.number (connection_at (old c).connections c.args.number) refl (λ none. (c.serve.ensures.absent none).2)
+    (λ x there.
+    let r = outbox-room (room_at (old c) x.conference) x.n (c.self.invariant.2 c.args.number x there) in
+    let t = c.serve.ensures.there x there r.0 r.1 in
+    (Some (record { conference = x.conference; n = x.n; held = t.1 }), (refl, refl), t.3)))
+    c.self.invariant.2)
 
 pub returns-clause-next : goal.returns-clause-next
 returns-clause-next c = λ w st. turns c w (subst (λ h. StandsFor h w) (sym c.self.view_is) st)
 
 pub returns-clause-room : goal.returns-clause-room
-returns-clause-room c = subst (λ h. RoomOf by_broken (refusal_in c.serve.result) (connection_at h.connections c.args.number) h (new c)) c.self.view_is
-    (serve-room c.args.number (old c) (new c) c.self.invariant.0 c.self.invariant.1 c.serve.result (connection_at c.self.inside.connections c.args.number) refl c.serve.ensures.absent refl
-    (λ x is r room. let t = c.serve.ensures.there x is r room in (t.0, t.1, t.2.1, t.2.2, t.4)))
+returns-clause-room c = subst (λ h. RoomOf by_broken (refusal_in c.serve.result) (connection_at h.connections c.args.number) h (new c)) c.self.view_is (room c)

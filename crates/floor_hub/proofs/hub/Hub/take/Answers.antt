@@ -1,10 +1,17 @@
-use Rattle.std.proofs.Common.{refl, sym, subst}
+use Rattle.std.proofs.Common.{◌≡◌, Some, None, refl, sym, subst}
+use Rattle.std.specs.Prelude.{IsErr, MatchResult, Ok, Option, Result}
+use Rattle.floor_machine.specs.Parcel.{Parcel}
+use Rattle.floor_room.specs.declared.outbox.NoMember.{NoMember}
+use Rattle.floor_room.specs.Taking.{Gave}
+use Rattle.floor_hub.specs.declared.connection.Connection.{Connection}
+use Rattle.floor_hub.specs.Rooms.{TakenOf}
 use Rattle.floor_hub.specs.Connections.{connection_at}
 use Rattle.floor_hub.specs.Hub.{Hub, room_at}
-use Rattle.floor_hub.specs.StandsFor.{StandsFor}
+use Rattle.floor_hub.specs.StandsFor.{HaveOutboxes, StandsFor}
 use Rattle.floor_hub.specs.World.{World}
 use Rattle.floor_hub.proofs.Closing.{good, stands_good}
 use Rattle.floor_hub.proofs.Given.{take_stands}
+use Rattle.floor_hub.proofs.Outboxes.{given-ok, grows-taken, keeps-outboxes, outbox-room, were-same}
 use Rattle.floor_hub.proofs.hub.Hub.take.Goals as goal
 
 abbrev old : goal.After-take_at → Hub
@@ -19,8 +26,37 @@ still c w st = stands_good (new c) w (good (old c) w st)
     (connection_at c.self.inside.connections c.args.number) refl (λ e. (c.take_at.ensures.absent e).1)
     (λ x is r room. let t = c.take_at.ensures.there x is r room in (t.0, t.2.1, t.2.2, t.3.same)))
 
+taken : (c : goal.After-take_at) (y : Option Connection) → connection_at (old c).connections c.args.number ≡ y → TakenOf y c.take_at.result (old c) (new c)
+taken c None is = let a = c.take_at.ensures.absent is in (a.0, record { rooms = a.1; connections = λ k. refl; arrivals = refl })
+taken c (Some x) is =
+    let r = outbox-room (room_at (old c) x.conference) x.n (c.self.invariant.2 c.args.number x is) in
+    let t = c.take_at.ensures.there x is r.0 r.1 in
+    let g = given-ok r.0 t.0 x.n t.1 r.2 r.3 t.3 in (
+      g.0,
+      subst (λ (z : Result (Option Parcel) NoMember). MatchResult z (λ p. c.take_at.result ≡ Ok p) (λ _. IsErr c.take_at.result)) g.1 t.4,
+      record {
+        before = r.0;
+        after = t.0;
+        was = r.1;
+        now = t.2.1;
+        gave = subst (Gave r.0 t.0 x.n) g.1 t.3;
+        others = t.2.2;
+        connections = λ k. refl;
+        arrivals = refl;
+      },
+    )
+
+queued : (c : goal.After-take_at) → HaveOutboxes (new c)
+queued c =
+    keeps-outboxes (old c) (new c) (grows-taken (connection_at (old c).connections c.args.number) c.take_at.result (old c) (new c) (taken c (connection_at (old c).connections c.args.number) refl))
+    (were-same (old c).connections (new c).connections (λ k. refl)) c.self.invariant.2
+
 pub invariant_of-self : goal.invariant_of-self
-invariant_of-self c = (c.self.invariant.0, still c c.self.invariant.0 c.self.invariant.1)
+invariant_of-self c = (c.self.invariant.0, still c c.self.invariant.0 c.self.invariant.1, queued c)
 
 pub returns-clause-stands : goal.returns-clause-stands
 returns-clause-stands c = λ w st. still c w (subst (λ h. StandsFor h w) (sym c.self.view_is) st)
+
+pub returns-clause-given : goal.returns-clause-given
+returns-clause-given c =
+    subst (λ h. TakenOf (connection_at h.connections c.args.number) c.take_at.result h (new c)) c.self.view_is (taken c (connection_at (old c).connections c.args.number) refl)
