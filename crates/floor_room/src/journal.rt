@@ -3,34 +3,22 @@
 ghost use Rattle.std.specs.Prelude.{◌≡◌, IfOk, string_bytes};
 ghost use Rattle.floor_room.specs.Text.{journal_text, line};
 
-use floor_machine::{Event, Frame};
+use floor_machine::Event;
+use floor_wire::Copies;
 use std::alloc::{AllocError, Global};
-
-/// How many events a journal has at most.
-pub(crate) const MAX_EVENTS: usize = 1_000_000;
 
 /// The place of an event in the journal, from 1.
 pub type Place = u32;
 
-/// A copy of exactly the message's length.
-fn copy_of(alloc: Global, frame: &Frame) -> Result<Frame, AllocError>
-    ensures { IfOk result (λ copy. copy ≡ frame.now) }
-{
-    match Frame::of(alloc, frame.bytes())? {
-        Some(copy) => Ok(copy),
-        None => Err(AllocError),
-    }
-}
-
 /// The event, with an exact copy of its message, so that no buffer that it was cut from stays
 /// alive by it.
-pub(crate) fn exact(alloc: Global, event: Event) -> Result<Event, AllocError>
+pub(crate) fn exact(copies: &mut Copies, event: Event) -> Result<Event, AllocError>
     ensures { IfOk result (λ kept. kept ≡ event) }
 {
     match event {
         Event::Join { user } => Ok(Event::Join { user }),
         Event::Message { n, frame } => {
-            let frame = copy_of(alloc, &frame)?;
+            let frame = copies.copy(&frame)?;
             Ok(Event::Message { n, frame })
         }
         Event::Leave { n } => Ok(Event::Leave { n }),

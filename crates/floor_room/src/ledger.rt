@@ -5,10 +5,11 @@ ghost use Rattle.floor_machine.specs.Journal.{IsJournal};
 ghost use Rattle.floor_room.specs.Ledger.{Added, IsRefusedBy, Unadded, broken_off, closed, new_ledger, refusal};
 ghost use Rattle.floor_room.specs.Status.{IsStatus};
 
-use crate::journal::{MAX_EVENTS, exact};
+use crate::journal::exact;
 use crate::refusal::RoomRefusal;
 use crate::status::{Status, narrowed, phase_of};
-use floor_machine::{Config, Event, Machine, Parcel, Refusal};
+use floor_machine::{Config, Event, MAX_EVENTS, Machine, Parcel, Refusal};
+use floor_wire::Copies;
 use std::alloc::{AllocError, Global};
 use std::marker::Model;
 
@@ -21,6 +22,7 @@ pub struct Ledger {
     config: Config,
     machine: Machine,
     journal: Vec<Event>,
+    copies: Copies,
     is_broken: bool,
 }
 
@@ -57,6 +59,7 @@ impl Ledger {
             config,
             machine,
             journal: Vec::new(alloc),
+            copies: Copies::new(alloc),
             is_broken: false,
         })
     }
@@ -120,7 +123,7 @@ impl Ledger {
         }
         // Whatever breaks the event off leaves it so.
         self.is_broken = true;
-        let kept = exact(alloc, event)?;
+        let kept = exact(&mut self.copies, event)?;
         self.journal.reserve(1)?;
         self.journal.push_reserved(kept);
         self.is_broken = false;

@@ -7,8 +7,8 @@ ghost use Rattle.floor_machine.specs.Laws.{IsWhole};
 ghost use Rattle.floor_machine.specs.Machine.{whole};
 ghost use Rattle.floor_room.specs.Replay.{IsFault, bytes_of};
 
-use crate::journal::{MAX_EVENTS, Place};
-use floor_machine::{Config, Event, Machine, Parcel, Refusal};
+use crate::journal::Place;
+use floor_machine::{Config, Event, MAX_EVENTS, Machine, Parcel, Refusal};
 use std::alloc::{AllocError, Global};
 
 /// Why events aren't run.

@@ -302,3 +302,42 @@ fn a_ledger_gives_the_parcels_of_its_event(rt: HostRuntime) -> Result<(), Fail> 
     assert_eq!(rt; told_behind_a_join(rt.alloc())?.as_str(), "told 1");
     Ok(())
 }
+
+/// A Hello with so many bytes behind its header.
+fn longer_hello(alloc: Global, units: u8) -> Result<Vec<u8>, Fail> {
+    let mut bytes = Vec::from_slice(alloc, &HELLO)?;
+    bytes[3] = units;
+    for _ in 0..units {
+        bytes.extend_from_slice(&[0x5c, 4, 1, 2])?;
+    }
+    Ok(bytes)
+}
+
+/// Whether the event at this place, from 0, is a message of exactly these bytes.
+fn is_kept(events: &[Event], place: usize, bytes: &[u8]) -> bool {
+    match events.get(place) {
+        Some(Event::Message { frame, .. }) => frame.bytes() == bytes,
+        _ => false,
+    }
+}
+
+#[test]
+fn messages_of_every_length_are_kept_as_they_came(rt: HostRuntime) -> Result<(), Fail> {
+    let alloc = rt.alloc();
+    let mut room = Room::new(alloc, Config::demonstration(alloc)?)?;
+    let _joined = room.join(10);
+    for units in 0..200u8 {
+        let bytes = longer_hello(alloc, units)?;
+        let frame = Frame::of(alloc, bytes.as_slice())?.ok_or("no message")?;
+        let _served = room.serve(1, frame);
+    }
+    for units in 0..200u8 {
+        let bytes = longer_hello(alloc, units)?;
+        let place = usize::from(units) + 1;
+        assert!(rt;
+            is_kept(room.journal(), place, bytes.as_slice()),
+            "{units} units"
+        );
+    }
+    Ok(())
+}

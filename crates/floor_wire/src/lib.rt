@@ -3,6 +3,7 @@
 #![tactic(auto)]
 
 mod attribute;
+mod copies;
 mod fault;
 mod fits;
 mod format;
@@ -17,6 +18,7 @@ mod shared;
 mod write;
 
 pub use attribute::{Attr, Attrs, Body};
+pub use copies::Copies;
 pub use fault::{Cause, WireFault};
 pub use fits::{MAX_PAYLOAD_LEN, fits_message, writable};
 pub use format::{Format, format_of_kind};
