@@ -4,3 +4,4 @@ pub mod Matching
 pub mod Growing
 pub mod Submitting
 pub mod Firsts
+pub mod Leaving

@@ -1,5 +1,5 @@
 -- The messages of bytes that come in pieces, and the record of the seat that submits them.
-use Rattle.std.proofs.Common.{◌≡◌, ℕ, zero, suc, ◌+◌, ◌<◌, List, [], ◌∷◌, ◌++◌, length, map, take, drop, Option, refl, sym, ap, subst, ◌∙◌, append_assoc, append-nil, length-append, arith, Bool, true}
+use Rattle.std.proofs.Common.{◌≡◌, ℕ, zero, suc, ◌+◌, ◌<◌, List, [], ◌∷◌, ◌++◌, length, map, take, drop, Option, refl, sym, ap, subst, ◌∙◌, append_assoc, append-nil, length-append, arith, Bool, true, false}
 use Rattle.std.specs.List.{concat}
 use Rattle.std.specs.Prelude.{Result, Ok, Err}
 use Rattle.std.specs.Io.KnownBytes.{Consumes, Keeps}
@@ -124,8 +124,8 @@ read-more old mid new a b c held piece pushed left h more e g l =
 
 -- a message of a piece was refused
 pub read-refused : (old mid new : Seat) (a b c : Option (List ℕ)) (held piece pushed : List ℕ) (refusal : RoomRefusal) (marked : Bool) → IsRead old mid a b held → Consumes b c piece → pushed ≡ held ++ piece →
-    Began mid new (messages pushed) → Ended (Err (fault_of refusal)) old new a c marked
-read-refused old mid new a b c held piece pushed refusal marked h more e g =
+    Began mid new (messages pushed) → marked ≡ false → Ended (Err (fault_of refusal)) old new a c marked
+read-refused old mid new a b c held piece pushed refusal marked h more e g unmarked =
     let same : pushed ≡ rest h.read ++ piece = e ∙ ap (λ (s : List ℕ). s ++ piece) h.held_is in
     let all : messages (h.read ++ piece) ≡ messages h.read ++ messages pushed = messages-append h.read piece ∙ sym (ap (λ (s : List ℕ). messages h.read ++ messages s) same) in
     record {
@@ -135,29 +135,32 @@ read-refused old mid new a b c held piece pushed refusal marked h more e g =
     }
   where
     by : (r : RoomRefusal) → Began old new (messages (h.read ++ piece)) → IsEnd (Err (fault_of r)) old new marked (h.read ++ piece)
-    by JournalFull k = k
-    by (Refused Refusal.Broken) k = k
-    by (Refused Refusal.Ended) k = k
-    by (Refused Refusal.NoMember) k = k
-    by (Refused Refusal.NoUser) k = k
-    by (Refused Refusal.Full) k = k
-    by (Refused Refusal.NoRequest) k = k
-    by (Refused Refusal.Memory) k = k
+    by JournalFull k = (k, refl, unmarked)
+    by (Refused Refusal.Broken) k = (k, refl, unmarked)
+    by (Refused Refusal.Ended) k = (k, refl, unmarked)
+    by (Refused Refusal.NoMember) k = (k, refl, unmarked)
+    by (Refused Refusal.NoUser) k = (k, refl, unmarked)
+    by (Refused Refusal.Full) k = (k, refl, unmarked)
+    by (Refused Refusal.NoRequest) k = (k, refl, unmarked)
+    by (Refused Refusal.Memory) k = (k, unmarked)
 
 -- a piece finds no memory
-pub read-unpushed : (old mid : Seat) (a b c : Option (List ℕ)) (held piece : List ℕ) (marked : Bool) → IsRead old mid a b held → Consumes b c piece → Ended (Err ReadFault.Memory) old mid a c marked
-read-unpushed old mid a b c held piece marked h more =
+pub read-unpushed : (old mid : Seat) (a b c : Option (List ℕ)) (held piece : List ℕ) (marked : Bool) → IsRead old mid a b held → Consumes b c piece → marked ≡ false → Ended (Err ReadFault.Memory) old mid a c marked
+read-unpushed old mid a b c held piece marked h more unmarked =
     record {
       read = h.read ++ piece;
       consumed = Consumes-trans a b c h.read piece h.consumed more;
-      after = record { gained = messages h.read; left = messages (rest h.read ++ piece); parts = messages-append h.read piece; record_is = h.gained };
+      after = (
+        record { gained = messages h.read; left = messages (rest h.read ++ piece); parts = messages-append h.read piece; record_is = h.gained },
+        unmarked,
+      );
     }
 
 pub read-failed : (old mid : Seat) (a b c : Option (List ℕ)) (held : List ℕ) (marked : Bool) → IsRead old mid a b held → Keeps b c → marked ≡ true → Ended (Err ReadFault.Read) old mid a c marked
 read-failed old mid a b c held marked h kept e = record { read = h.read; consumed = Consumes-kept a b c h.read h.consumed kept; after = (h.gained, e) }
 
-pub read-limit : (old mid : Seat) (a b : Option (List ℕ)) (held : List ℕ) (marked : Bool) → IsRead old mid a b held → Ended (Err ReadFault.TurnLimit) old mid a b marked
-read-limit old mid a b held marked h = record { read = h.read; consumed = h.consumed; after = h.gained }
+pub read-limit : (old mid : Seat) (a b : Option (List ℕ)) (held : List ℕ) (marked : Bool) → IsRead old mid a b held → marked ≡ false → Ended (Err ReadFault.TurnLimit) old mid a b marked
+read-limit old mid a b held marked h unmarked = record { read = h.read; consumed = h.consumed; after = (h.gained, unmarked) }
 
 at-end : (a b c : Option (List ℕ)) (read piece : List ℕ) (k : ℕ) → Consumes a b read → Consumes b c (take k piece) → k ≡ 0 → Consumes a c read
 at-end a b c read piece k h more none =
@@ -165,15 +168,15 @@ at-end a b c read piece k h more none =
     (Consumes-trans a b c read [] h (subst (λ (n : ℕ). Consumes b c (take n piece)) none more))
 
 pub read-closed : (old mid : Seat) (a b c : Option (List ℕ)) (held piece : List ℕ) (k left : ℕ) (marked : Bool) → IsRead old mid a b held → Consumes b c (take k piece) → k ≡ 0 → left ≡ length held → left ≡ 0 →
-    Ended (Ok ReadEnd.Closed) old mid a c marked
-read-closed old mid a b c held piece k left marked h more none e z =
-    record { read = h.read; consumed = at-end a b c h.read piece k h.consumed more none; after = (h.gained, sym h.held_is ∙ empty held (sym e ∙ z)) }
+    marked ≡ false → Ended (Ok ReadEnd.Closed) old mid a c marked
+read-closed old mid a b c held piece k left marked h more none e z unmarked =
+    record { read = h.read; consumed = at-end a b c h.read piece k h.consumed more none; after = (h.gained, sym h.held_is ∙ empty held (sym e ∙ z), unmarked) }
   where
     empty : (s : List ℕ) → length s ≡ 0 → s ≡ []
     empty [] n = refl
     empty (x ∷ s) n = absurd (omega arith)
 
 pub read-cut : (old mid : Seat) (a b c : Option (List ℕ)) (held piece : List ℕ) (k left : ℕ) (marked : Bool) → IsRead old mid a b held → Consumes b c (take k piece) → k ≡ 0 → left ≡ length held → 0 < left →
-    Ended (Ok (ReadEnd.Cut left)) old mid a c marked
-read-cut old mid a b c held piece k left marked h more none e z =
-    record { read = h.read; consumed = at-end a b c h.read piece k h.consumed more none; after = (h.gained, e ∙ ap length h.held_is, z) }
+    marked ≡ false → Ended (Ok (ReadEnd.Cut left)) old mid a c marked
+read-cut old mid a b c held piece k left marked h more none e z unmarked =
+    record { read = h.read; consumed = at-end a b c h.read piece k h.consumed more none; after = (h.gained, e ∙ ap length h.held_is, z, unmarked) }

@@ -1,5 +1,5 @@
 -- What a reader submitted of the bytes that it read.
-use Rattle.std.specs.Prelude.{◌≡◌, ℕ, ◌<◌, Bool, true, List, [], ◌++◌, length, map, Option, Result, Ok, Err}
+use Rattle.std.specs.Prelude.{◌≡◌, ℕ, ◌<◌, Bool, true, false, List, [], ◌++◌, length, map, Option, Result, Ok, Err}
 use Rattle.std.specs.Io.KnownBytes.{Consumes}
 use Rattle.floor_wire.specs.Message.{messages, rest}
 use Rattle.floor_machine.specs.declared.machine.Refusal.{Refusal}
@@ -34,14 +34,15 @@ pub record Began (old new : Seat) (all : List (List ℕ)) : Type 0 where
   pub parts : all ≡ gained ++ left
   pub record_is : Gained old new gained
 
--- how reading ended after these bytes: all their messages were submitted, but where the conference or memory refused one
+-- how reading ended after these bytes: all their messages were submitted, but where the conference or memory refused one. The source is marked after a
+-- failed read alone, and a refusal that is Memory is no other one.
 abbrev pub IsEnd : Result ReadEnd ReadFault → Seat → Seat → Bool → List ℕ → Type 0
-IsEnd (Ok ReadEnd.Closed) old new marked read = Gained old new (messages read) × (rest read ≡ [])
-IsEnd (Ok (ReadEnd.Cut k)) old new marked read = Gained old new (messages read) × (k ≡ length (rest read)) × (0 < k)
+IsEnd (Ok ReadEnd.Closed) old new marked read = Gained old new (messages read) × (rest read ≡ []) × (marked ≡ false)
+IsEnd (Ok (ReadEnd.Cut k)) old new marked read = Gained old new (messages read) × (k ≡ length (rest read)) × (0 < k) × (marked ≡ false)
 IsEnd (Err ReadFault.Read) old new marked read = Gained old new (messages read) × (marked ≡ true)
-IsEnd (Err ReadFault.TurnLimit) old new marked read = Gained old new (messages read)
-IsEnd (Err (ReadFault.Refused refusal)) old new marked read = Began old new (messages read)
-IsEnd (Err ReadFault.Memory) old new marked read = Began old new (messages read)
+IsEnd (Err ReadFault.TurnLimit) old new marked read = Gained old new (messages read) × (marked ≡ false)
+IsEnd (Err (ReadFault.Refused refusal)) old new marked read = Began old new (messages read) × (fault_of refusal ≡ ReadFault.Refused refusal) × (marked ≡ false)
+IsEnd (Err ReadFault.Memory) old new marked read = Began old new (messages read) × (marked ≡ false)
 
 -- Some bytes were read from the source, and reading ended so after them.
 pub record Ended (result : Result ReadEnd ReadFault) (old new : Seat) (was is : Option (List ℕ)) (marked : Bool) : Type 0 where

@@ -3,13 +3,18 @@
 ghost use Rattle.std.specs.Prelude.{◌≡◌, IfOk};
 
 use super::*;
+use floor_config::read_configs;
 use std::alloc::Global;
 use std::io::Cursor;
 use std::sync::Wait;
 use std::test::*;
 
+mod booths;
 mod ends;
+mod gates;
+mod registries;
 mod threads;
+mod writers;
 
 /// A Hello of user 10 in conference 1, transaction 1.
 const HELLO: [u8; 12] = [0x20, 0x0b, 0, 0, 0, 0, 0, 1, 0, 1, 0, 10];
@@ -31,6 +36,31 @@ fn opened<R: Wait>(rt: &R, alloc: Global) -> Result<(Registry, Desk), Fail> {
     Ok((registry, desk))
 }
 
+/// A conference under this number, in which user 10 may ask for floor 1.
+fn numbered(alloc: Global, conference: u32) -> Result<Config, Fail> {
+    let head = format!(in alloc; "[[conference]]\nid = {conference}\n")?;
+    let text = format!(in alloc;
+        "{head}[[conference.user]]\nid = 10\n[[conference.floor]]\nid = 1\n"
+    )?;
+    match read_configs(alloc, &text) {
+        Ok(mut configs) => Ok(configs.pop().ok_or("no conference")?),
+        Err(_) => Err(Fail::from("the configuration isn't read")),
+    }
+}
+
+/// A desk of a conference that the registry opens under this number.
+fn opens<R: Wait>(rt: &R, alloc: Global, registry: &Registry, conference: u32) -> Result<Desk, Fail>
+    ensures { IfOk result (λ desk. desk.conference ≡ conference) }
+{
+    let Ok(()) = registry.open(rt, numbered(alloc, conference)?) else {
+        return Err(Fail::from("the conference doesn't open"));
+    };
+    match registry.desk(rt, conference) {
+        Ok(desk) => Ok(desk),
+        Err(_) => Err(Fail::from("no desk")),
+    }
+}
+
 /// The seat of a user that joins, and what takes its parcels.
 fn joined<R: Wait>(rt: &R, desk: &Desk, user: u16) -> Result<(Seat, Taker), Fail>
     ensures { IfOk result (λ joined. joined.0.conference ≡ desk.now.conference) }
@@ -41,12 +71,37 @@ fn joined<R: Wait>(rt: &R, desk: &Desk, user: u16) -> Result<(Seat, Taker), Fail
     }
 }
 
+/// What the desk answers to the message of the seat, if the seat is of its conference.
+fn answer_of<R: Wait, G: Gate>(
+    rt: &R,
+    desk: &Desk,
+    seat: &mut Seat,
+    frame: Frame,
+    gate: &G,
+) -> Option<Result<Receipt, RoomRefusal>> {
+    if seat.conference() != desk.conference() {
+        return None;
+    }
+    Some(desk.submit(rt, seat, frame, gate))
+}
+
+/// Where the desk puts the message of the seat, if it takes it.
+fn place_of<R: Wait, G: Gate>(
+    rt: &R,
+    desk: &Desk,
+    seat: &mut Seat,
+    frame: Frame,
+    gate: &G,
+) -> Option<Place> {
+    match answer_of(rt, desk, seat, frame, gate) {
+        Some(Ok(receipt)) => Some(receipt.place),
+        Some(Err(_)) | None => None,
+    }
+}
+
 /// Whether the desk takes the message of the seat.
 fn submits<R: Wait>(rt: &R, desk: &Desk, seat: &mut Seat, frame: Frame) -> bool {
-    if seat.conference() != desk.conference() {
-        return false;
-    }
-    desk.submit(rt, seat, frame, &FreePass).is_ok()
+    place_of(rt, desk, seat, frame, &FreePass).is_some()
 }
 
 #[test]

@@ -17,7 +17,7 @@ loop-init g c =
 pub returns-in_default-push : goal.returns-in_default-push
 returns-in_default-push g c =
     read-unpushed c.args.seat.now c.loop.seat (g.S.Source.remaining c.args.source.now) (g.S.Source.remaining c.loop.source) (g.S.Source.remaining c.read.new.self) c.loop.framer (take c.in-Some.count c.read.new.buffer)
-    (g.S.Source.marked c.read.new.self) c.loop.invariant.read c.in-Some.ensures.some.1
+    (g.S.Source.marked c.read.new.self) c.loop.invariant.read c.in-Some.ensures.some.1 c.in-Some.ensures.some.3
 
 pub returns-in-Err : goal.returns-in-Err
 returns-in-Err g c =
@@ -26,7 +26,7 @@ returns-in-Err g c =
     let marked = g.S.Source.marked c.read.new.self in
     subst (λ (f : ReadFault). Ended (Err f) c.args.seat.now c.submit_all.new.seat was now marked) (sym c.fault_of.ensures)
     (read-refused c.args.seat.now c.loop.seat c.submit_all.new.seat was (g.S.Source.remaining c.loop.source) now c.loop.framer (take c.in-Some.count c.read.new.buffer) c.push.new.self c.in-Err.refusal marked
-    c.loop.invariant.read c.in-Some.ensures.some.1 c.in-Ok.ensures.ok c.in-Err.ensures.left)
+    c.loop.invariant.read c.in-Some.ensures.some.1 c.in-Ok.ensures.ok c.in-Err.ensures.left c.in-Some.ensures.some.3)
 
 pub loop-preserved : goal.loop-preserved
 loop-preserved g c =

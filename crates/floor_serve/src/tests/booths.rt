@@ -1,0 +1,39 @@
+//! A member of a booth that leaves, and what is left in its outbox.
+
+use super::{HELLO, frame};
+use crate::*;
+use std::alloc::Global;
+use std::sync::Wait;
+use std::test::*;
+
+/// The answer to a Hello.
+const HELLO_ACK: [u8; 48] = [
+    0x20, 0x0c, 0, 9, 0, 0, 0, 1, 0, 1, 0, 10, 0x16, 0x0f, 1, 2, 3, 4, 5, 6, 7, 8, 9, 10, 11, 12,
+    13, 0, 0x14, 0x14, 2, 4, 6, 8, 10, 12, 14, 16, 18, 20, 22, 24, 26, 28, 30, 32, 34, 36,
+];
+
+/// The outbox of a user that joined, said Hello and left.
+#[tactic(auto, using(crate::proofs::Leaving::gone_took))]
+fn reclaimed<R: Wait>(rt: &R, alloc: Global) -> Result<Outbox, Fail> {
+    let mut booth = Booth::new(alloc, Config::demonstration(alloc)?)?;
+    let Ok((n, taker)) = booth.join(rt, 10) else {
+        return Err(Fail::from("the user doesn't join"));
+    };
+    let Ok(_place) = booth.submit(rt, n, frame(alloc, &HELLO)?) else {
+        return Err(Fail::from("the message is refused"));
+    };
+    let Ok(()) = booth.leave(rt, n) else {
+        return Err(Fail::from("the member doesn't leave"));
+    };
+    Ok(booth.reclaim(rt, n, taker))
+}
+
+#[test]
+fn what_nobody_took_is_reclaimed(rt: HostRuntime) -> Result<(), Fail> {
+    let mut outbox = reclaimed(&rt, rt.alloc())?;
+    let parcel = outbox.pop(&rt).ok_or("nothing is left")?;
+    assert_eq!(rt; parcel.header(), &HELLO_ACK[..12]);
+    assert_eq!(rt; parcel.payload(), &HELLO_ACK[12..]);
+    assert!(rt; outbox.pop(&rt).is_none());
+    Ok(())
+}
