@@ -59,7 +59,7 @@ not_among (x ∷ xs) n zero d h within = λ e. differs x n (or_first _ _ h) e
 not_among (x ∷ xs) n (suc i) d h within = not_among xs n i d (or_second (x == n) _ h) (omega arith)
 
 -- floors that are named once differ
-once_differ : (xs : List ℕ) → IsOnceBy (λ n. n) xs → AllDiffer xs
+pub once_differ : (xs : List ℕ) → IsOnceBy (λ n. n) xs → AllDiffer xs
 once_differ [] h = λ i j d below within. absurd (omega arith)
 once_differ (x ∷ xs) h = λ i j d below within. at (once_differ xs h.1) i j d below within
   where

@@ -26,3 +26,5 @@ pub mod Members
 pub mod Reachable
 pub mod Together
 pub mod Alone
+pub mod AskedOnce
+pub mod Few

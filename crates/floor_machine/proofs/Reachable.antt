@@ -182,7 +182,8 @@ pub record Keeps (s : Conference) : Type 0 where
 abbrev pub SettlesOnce : Type 0
 SettlesOnce = (floors : List Floor) (requests : List Request) → settle floors (settle floors requests) ≡ settle floors requests
 
-keeps-next : (s : Conference) (e : Event) → WhatIsAskedFits → SettlesOnce → IsLawful s e → Keeps s → Keeps (next s e)
+-- a lawful event keeps it
+pub keeps-next : (s : Conference) (e : Event) → WhatIsAskedFits → SettlesOnce → IsLawful s e → Keeps s → Keeps (next s e)
 keeps-next s e law once lawful k =
     let q : Queue = queue_changed s (change s e).given (ongoing_of (change s e).entries) in
     record {

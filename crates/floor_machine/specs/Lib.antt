@@ -15,6 +15,7 @@ pub mod Names
 pub mod Laws
 pub mod Reachable
 pub mod Membership
+pub mod Amount
 pub mod Examples
 -- the steps of the proofs
 pub mod steps

@@ -9,7 +9,7 @@ use Rattle.floor_machine.specs.Conference.{Conference, is_user, is_live}
 use Rattle.floor_machine.specs.Change.{IsLawful, next}
 use Rattle.floor_machine.specs.Fitting.{ToldFits}
 use Rattle.floor_machine.specs.Parcel.{Parcel}
-use Rattle.floor_machine.specs.Journal.{IsLawfulFrom, after_from, parcels_of}
+use Rattle.floor_machine.specs.Journal.{IsLawfulFrom, after_from, parcels_from, parcels_of}
 use Rattle.floor_machine.specs.declared.running.Stopped.{Stopped}
 
 -- the conference, and whether an event was broken off for want of memory
@@ -82,6 +82,13 @@ pub record Left (old : Machine) (e : Event) (new : Machine) (before after : List
 abbrev pub machine_after : Machine → List Event → Machine
 machine_after m es = record m { conference = after_from m.conference es }
 
+-- What a run that took all its events did: they were lawful, each after those before it, the machine has taken them, and the parcels
+-- stand behind those before them.
+pub record TookAll (old : Machine) (es : List Event) (new : Machine) (before after : List Parcel) : Type 0 where
+  pub lawful : IsLawfulFrom old.conference es
+  pub next : new ≡ machine_after old es
+  pub out : after ≡ before ++ parcels_from old.conference es
+
 -- the machine refuses the first of these events by this refusal
 abbrev pub IsFirstRefused : Machine → List Event → Refusal → Type 0
 IsFirstRefused m [] refusal = ⊥
@@ -92,3 +99,10 @@ pub record IsStopped (m : Machine) (es : List Event) (stopped : Stopped) : Type 
   pub done : stopped.done < length es
   pub lawful : IsLawfulFrom m.conference (take stopped.done es)
   pub refused : IsFirstRefused (machine_after m (take stopped.done es)) (drop stopped.done es) stopped.refusal
+
+-- What a run that stopped left: the parcels of the events before the refused one, and the machine that has taken those, or a broken
+-- one where memory was refused.
+pub record LeftAt (old : Machine) (es : List Event) (new : Machine) (before after : List Parcel) (stopped : Stopped) : Type 0 where
+  pub out : after ≡ before ++ parcels_from old.conference (take stopped.done es)
+  pub unchanged : stopped.refusal ≢ Memory → new ≡ machine_after old (take stopped.done es)
+  pub broken : stopped.refusal ≡ Memory → new.is_broken ≡ true

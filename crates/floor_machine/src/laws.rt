@@ -1,5 +1,6 @@
 //! Laws of the floor machine. Each is the contract of a function that does nothing.
 
+ghost use Rattle.floor_machine.specs.Amount.{CalledForIsFew, MessageIsShort, ToldIsFew};
 ghost use Rattle.floor_machine.specs.Laws.{InfosSameIsEqual, SameIsEqual, SentIsTold, TakenIsLawful};
 ghost use Rattle.floor_machine.specs.Membership.{AfterBoth, BothLawful, JoinsAdd, JoinsLive, ParcelsOfBoth, SentToMembers, SettlesAsQueue, StaysLive, ToldByBoth, ToldOnceJoined, WasLive};
 ghost use Rattle.floor_machine.specs.Reachable.{Kept, Quiet, Sent};
@@ -62,6 +63,18 @@ pub fn members_come_and_stay()
     ensures sent { SentToMembers }
     ensures told { ToldOnceJoined }
 {}
+
+/// Whatever happens after a journal, it tells a member at most 289 messages, so that a journal calls
+/// for at most 289 at a member for each of its events. A message that can be written has at most
+/// 262,152 bytes.
+pub fn events_tell_few()
+    ensures told { ToldIsFew }
+    ensures called { CalledForIsFew }
+    ensures bytes { MessageIsShort }
+{
+    what_is_asked_fits();
+    settles_once();
+}
 
 /// A run of events and then another are the run of both.
 pub fn runs_add_up()

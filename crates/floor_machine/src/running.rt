@@ -1,8 +1,7 @@
 //! A machine over a list of events, one after another.
 
-ghost use Rattle.std.specs.Prelude.{◌≡◌, ◌≢◌, ◌+◌, ◌<◌, ◌++◌, true, IfErr, OnOk, length, take};
-ghost use Rattle.floor_machine.specs.Journal.{IsLawfulFrom, parcels_from};
-ghost use Rattle.floor_machine.specs.Machine.{IsStopped, machine_after};
+ghost use Rattle.std.specs.Prelude.{◌+◌, ◌<◌, IfErr, OnOk, length};
+ghost use Rattle.floor_machine.specs.Machine.{IsStopped, LeftAt, TookAll};
 
 use crate::event::Event;
 use crate::machine::{Machine, Refusal};
@@ -22,18 +21,11 @@ impl Machine {
     /// stops at the first that is refused, after those before it.
     pub fn run(&mut self, events: &[Event], out: &mut Vec<Parcel>) -> Result<(), Stopped>
         requires { length self.old.conference.members + length events.now < 4294967296 }
-        ensures next { OnOk result (self.new ≡ machine_after self.old events.now) }
-        ensures out { OnOk result (out.new.items ≡ out.old.items
-            ++ parcels_from self.old.conference events.now) }
-        ensures lawful { OnOk result (IsLawfulFrom self.old.conference events.now) }
-
-        ensures stopped { IfErr result (IsStopped self.old events.now) }
-        ensures err { IfErr result (λ stopped. stopped.refusal ≢ Refusal.Memory
-            → self.new ≡ machine_after self.old (take stopped.done events.now)) }
-        ensures memory { IfErr result (λ stopped. stopped.refusal ≡ Refusal.Memory
-            → self.new.is_broken ≡ true) }
-        ensures err_out { IfErr result (λ stopped. out.new.items
-            ≡ out.old.items ++ parcels_from self.old.conference (take stopped.done events.now)) }
+        ensures took { OnOk result
+            (TookAll self.old events.now self.new out.old.items out.new.items) }
+        ensures refused { IfErr result (IsStopped self.old events.now) }
+        ensures left { IfErr result
+            (LeftAt self.old events.now self.new out.old.items out.new.items) }
     {
         for (done, event) in events.iter().enumerate() {
             match self.apply(event, out) {

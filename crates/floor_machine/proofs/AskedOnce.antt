@@ -1,0 +1,104 @@
+-- A FloorQuery names each floor once.
+use Rattle.std.proofs.Common.{◌≡◌, ℕ, List, [], ◌∷◌, drop, Option, Some, None, refl, sym, subst, ◌∙◌}
+use Rattle.std.specs.Prelude.{option_map, option_and_then}
+use Rattle.floor_wire.specs.Attributes.{Attributes}
+use Rattle.floor_wire.specs.Header.{header_of}
+use Rattle.floor_wire.specs.Spelled.{spelled}
+use Rattle.floor_wire.specs.Types.{FLOOR_ID, BENEFICIARY_ID, FLOOR_REQUEST_ID, PRIORITY, PARTICIPANT_PROVIDED_INFO, FLOOR_REQUEST_INFORMATION}
+use Rattle.floor_wire.specs.View.{items}
+use Rattle.floor_wire.specs.declared.attribute.Attr.{Attr}
+use Rattle.floor_message.specs.Ask.{ask, asks, by_attributes, by_header, by_mandatory, by_primitive, header_refusal}
+use Rattle.floor_message.specs.Binding.{Binding}
+use Rattle.floor_message.specs.Fields.{chair_action, chair_asked, fields, floor_request, floors_judged, given, priority_asked}
+use Rattle.floor_message.specs.Picked.{IsOnceBy, distinct, first, groups, mandatory, numbers, octet_strings, pairs}
+use Rattle.floor_message.specs.Primitive.{primitive_of}
+use Rattle.floor_message.specs.Text.{info_kept}
+use Rattle.floor_message.specs.declared.ask.Ask.{Ask}
+use Rattle.floor_message.specs.declared.ask.Ask.TheVariants.{FloorRequest, FloorRelease, FloorRequestQuery, UserQuery, FloorQuery, ChairAction, Hello}
+use Rattle.floor_message.specs.declared.ask.Verdict.{Verdict}
+use Rattle.floor_message.specs.declared.code.ErrorCode.{ErrorCode}
+use Rattle.floor_message.specs.declared.primitive.Primitive.{Primitive}
+use Rattle.floor_message.specs.declared.primitive.Primitive.TheVariants as primitive
+use Rattle.floor_message.proofs.Once.{once_by-once}
+
+-- the floors of a FloorQuery differ
+abbrev AreOnce : Ask → Type 0
+AreOnce (FloorRequest beneficiary floors priority info) = Unit {0}
+AreOnce (FloorRelease request) = Unit {0}
+AreOnce (FloorRequestQuery request) = Unit {0}
+AreOnce (UserQuery beneficiary) = Unit {0}
+AreOnce (FloorQuery floors) = IsOnceBy (λ n. n) floors
+AreOnce (ChairAction request verdicts) = Unit {0}
+AreOnce Hello = Unit {0}
+
+once : (x a : Ask) → Some x ≡ Some a → AreOnce x → AreOnce a
+once x a e h = let same : x ≡ a = cc in subst AreOnce same h
+
+once_request : (floors : List ℕ) (b : Option ℕ) (priority : ℕ) (kept : Option (Option (List ℕ))) (a : Ask) → floor_request floors b priority kept ≡ Some a → AreOnce a
+once_request [] b priority kept a e = cc
+once_request (f ∷ floors) b priority None a e = cc
+once_request (f ∷ floors) b priority (Some info) a e = once (FloorRequest b (f ∷ floors) priority info) a e tt
+
+once_of : (f : ℕ → Ask) (o : Option ℕ) (a : Ask) → ((n : ℕ) → AreOnce (f n)) → option_map f o ≡ Some a → AreOnce a
+once_of f None a h e = cc
+once_of f (Some n) a h e = once (f n) a e (h n)
+
+once_action : (request : ℕ) (o : Option (List (ℕ × Verdict))) (a : Ask) → option_and_then (chair_action request) o ≡ Some a → AreOnce a
+once_action request None a e = cc
+once_action request (Some []) a e = cc
+once_action request (Some (v ∷ verdicts)) a e = once (ChairAction request (v ∷ verdicts)) a e tt
+
+once_chair : (o : Option (ℕ × List Attr)) (a : Ask) → option_and_then chair_asked o ≡ Some a → AreOnce a
+once_chair None a e = cc
+once_chair (Some g) a e = once_action g.0 (given (floors_judged g.1)) a e
+
+once_fields : (p : Primitive) (attrs : List Attr) (a : Ask) → fields p attrs ≡ Some a → AreOnce a
+once_fields primitive.FloorRequest attrs a e =
+    once_request (distinct (numbers FLOOR_ID attrs)) (first (numbers BENEFICIARY_ID attrs)) (priority_asked (first (pairs PRIORITY attrs)))
+    (info_kept (first (octet_strings PARTICIPANT_PROVIDED_INFO attrs))) a e
+once_fields primitive.FloorRelease attrs a e = once_of FloorRelease (first (numbers FLOOR_REQUEST_ID attrs)) a (λ n. tt) e
+once_fields primitive.FloorRequestQuery attrs a e = once_of FloorRequestQuery (first (numbers FLOOR_REQUEST_ID attrs)) a (λ n. tt) e
+once_fields primitive.UserQuery attrs a e = once (UserQuery (first (numbers BENEFICIARY_ID attrs))) a e tt
+once_fields primitive.FloorQuery attrs a e = once (FloorQuery (distinct (numbers FLOOR_ID attrs))) a e (once_by-once (λ n. n) (numbers FLOOR_ID attrs))
+once_fields primitive.ChairAction attrs a e = once_chair (first (groups FLOOR_REQUEST_INFORMATION attrs)) a e
+once_fields primitive.Hello attrs a e = once Hello a e tt
+once_fields primitive.FloorRequestStatus attrs a e = cc
+once_fields primitive.UserStatus attrs a e = cc
+once_fields primitive.FloorStatus attrs a e = cc
+once_fields primitive.ChairActionAck attrs a e = cc
+once_fields primitive.HelloAck attrs a e = cc
+once_fields primitive.Error attrs a e = cc
+
+once_mandatory : (p : Primitive) (types : List ℕ) (attrs : List Attr) (o : Option Ask) (a : Ask) → fields p attrs ≡ o → by_mandatory types o ≡ asks a → AreOnce a
+once_mandatory p (t ∷ types) attrs o a f e = cc
+once_mandatory p [] attrs None a f e = cc
+once_mandatory p [] attrs (Some b) a f e = once_fields p attrs a (f ∙ (let same : Some b ≡ Some a = cc in same))
+
+once_attributes : (p : Primitive) (attrs : Option Attributes) (a : Ask) → by_attributes p attrs ≡ asks a → AreOnce a
+once_attributes p None a e = cc
+once_attributes p (Some attrs) a e = once_mandatory p (distinct (mandatory attrs)) (items attrs) (fields p (items attrs)) a refl e
+
+once_primitive : (o : Option Primitive) (attrs : Option Attributes) (a : Ask) → by_primitive o attrs ≡ asks a → AreOnce a
+once_primitive None attrs a e = cc
+once_primitive (Some primitive.FloorRequest) attrs a e = once_attributes primitive.FloorRequest attrs a e
+once_primitive (Some primitive.FloorRelease) attrs a e = once_attributes primitive.FloorRelease attrs a e
+once_primitive (Some primitive.FloorRequestQuery) attrs a e = once_attributes primitive.FloorRequestQuery attrs a e
+once_primitive (Some primitive.UserQuery) attrs a e = once_attributes primitive.UserQuery attrs a e
+once_primitive (Some primitive.FloorQuery) attrs a e = once_attributes primitive.FloorQuery attrs a e
+once_primitive (Some primitive.ChairAction) attrs a e = once_attributes primitive.ChairAction attrs a e
+once_primitive (Some primitive.Hello) attrs a e = once_attributes primitive.Hello attrs a e
+once_primitive (Some primitive.FloorRequestStatus) attrs a e = cc
+once_primitive (Some primitive.UserStatus) attrs a e = cc
+once_primitive (Some primitive.FloorStatus) attrs a e = cc
+once_primitive (Some primitive.ChairActionAck) attrs a e = cc
+once_primitive (Some primitive.HelloAck) attrs a e = cc
+once_primitive (Some primitive.Error) attrs a e = cc
+
+once_header : (r : Option ErrorCode) (o : Option Primitive) (attrs : Option Attributes) (a : Ask) → by_header r o attrs ≡ asks a → AreOnce a
+once_header (Some code) o attrs a e = cc
+once_header None o attrs a e = once_primitive o attrs a e
+
+-- the floors that a FloorQuery asks about differ
+pub asked_once : (bytes : List ℕ) (b : Binding) (floors : List ℕ) → ask bytes b ≡ asks (FloorQuery floors) → IsOnceBy (λ n. n) floors
+unfolding ask
+asked_once bytes b floors e = once_header (header_refusal (header_of bytes) b) (primitive_of (header_of bytes).primitive) (spelled (drop 12 bytes)) (FloorQuery floors) e

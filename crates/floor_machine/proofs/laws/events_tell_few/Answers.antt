@@ -1,0 +1,12 @@
+use Rattle.floor_machine.specs.Conference.{opening}
+use Rattle.floor_machine.proofs.Few.{called-few, message-short, told_after-few}
+use Rattle.floor_machine.proofs.Reachable.{keeps-opening}
+use Rattle.floor_machine.proofs.laws.events_tell_few.Goals as goal
+
+pub returns : goal.returns
+returns c = record {
+  told = λ config es e n is journal. told_after-few config es e n c.what_is_asked_fits.ensures c.settles_once.ensures is journal.lawful;
+  called = λ config es n is journal.
+      called-few (opening config) es n c.what_is_asked_fits.ensures c.settles_once.ensures journal.lawful (keeps-opening config is) is.floors_count;
+  bytes = message-short;
+}

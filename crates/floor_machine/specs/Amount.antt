@@ -1,0 +1,24 @@
+-- How much an event tells a member at most.
+use Rattle.std.specs.Prelude.{◌≤◌, ℕ, ◌+◌, ◌*◌, List, length}
+use Rattle.floor_config.specs.Configuration.{Configuration, IsConfiguration}
+use Rattle.floor_message.specs.Fits.{TellFits}
+use Rattle.floor_machine.specs.Conference.{opening}
+use Rattle.floor_machine.specs.declared.event.Event.{Event}
+use Rattle.floor_machine.specs.Outgoing.{Outgoing, outgoing_bytes}
+use Rattle.floor_machine.specs.Told.{told}
+use Rattle.floor_machine.specs.Journal.{IsJournal, after, told_from}
+
+-- Whatever happens after a journal, a member is told at most a response, the statuses of 256 floor requests, and those of 32
+-- floors. A FloorQuery alone is answered by more than one message, by 32 at most, and then nothing else is told.
+abbrev pub ToldIsFew : Type 0
+ToldIsFew = (config : Configuration) (es : List Event) (e : Event) (n : ℕ) → IsConfiguration config → IsJournal config es →
+    length (told (after config es) e n) ≤ 1 + 256 + 32
+
+-- so a journal calls for at most so many messages at a member for each of its events
+abbrev pub CalledForIsFew : Type 0
+CalledForIsFew = (config : Configuration) (es : List Event) (n : ℕ) → IsConfiguration config → IsJournal config es →
+    length (told_from (opening config) es n) ≤ 289 * length es
+
+-- a message that can be written has at most 12 bytes of header and 65,535 units of payload (section 5.1)
+abbrev pub MessageIsShort : Type 0
+MessageIsShort = (message : Outgoing) → TellFits message.tell → length (outgoing_bytes message) ≤ 12 + 4 * 65535
