@@ -1,127 +1,54 @@
-//! One connection: its socket, its reader's thread and its writer's thread.
+//! One connection: its reader's thread and its writer's thread.
 
 ghost use Rattle.std.specs.Prelude.{◌≡◌};
 
-use floor_serve::{Desk, Gate, Marked, Registry, Seat, Taker, read_loop, write_loop};
+use crate::binding::Binding;
+use crate::socket::Socket;
+use floor_serve::{Desk, Gate, Marked, Seat, Taker, read_loop, write_loop};
 use std::alloc::{AllocError, Global};
-use std::io::{Read, Write};
-use std::net::{Shutdown, TcpStream};
-use std::sync::atomic::{AtomicBool, Ordering};
-use std::sync::{Arc, Mutex, Wait};
-use std::thread::{JoinHandle, Threads};
-use std::{io, thread};
+use std::net::TcpStream;
+use std::sync::{Arc, Wait};
+use std::thread;
+use std::thread::Threads;
 
-/// The socket of a connection, as its threads share it.
-#[derive(Drop)]
-struct Socket {
-    stream: Arc<TcpStream, Global>,
-}
-
-impl Socket {
-    fn share(&self) -> Result<Socket, AllocError> {
-        Ok(Socket {
-            stream: Arc::try_clone(&self.stream)?,
-        })
-    }
-
-    fn shut_down(&self) {
-        // It may be shut down already.
-        let _outcome = self.stream.shutdown(Shutdown::Both);
-    }
-}
-
-impl Read for Socket {
-    fn read(&mut self, buf: &mut [u8]) -> io::Result<usize> {
-        let mut stream = &*self.stream;
-        stream.read(buf)
-    }
-}
-
-impl Write for Socket {
-    fn write(&mut self, buf: &[u8]) -> io::Result<usize> {
-        let mut stream = &*self.stream;
-        stream.write(buf)
-    }
-
-    fn flush(&mut self) -> io::Result<()> {
-        Ok(())
-    }
-}
-
-/// What a connection's thread and its port share: the socket while the connection lasts.
-#[derive(Drop)]
-struct Lasting {
-    socket: Mutex<Option<Socket>>,
-    has_ended: AtomicBool,
-}
-
-/// A connection, as its port holds it.
-#[derive(Drop)]
-pub struct Connection {
-    lasting: Arc<Lasting, Global>,
-    reader: JoinHandle<Option<Seat>>,
-}
-
-impl Connection {
-    /// Starts the connection's thread. Where that can't be, the socket is closed.
-    pub fn start<G, R>(
-        rt: R,
-        alloc: Global,
-        registry: Arc<Registry, Global>,
-        gate: Arc<G, Global>,
-        conference: u32,
-        user: u16,
-        stream: TcpStream,
-    ) -> Result<Connection, AllocError>
-    where
-        G: Gate + Send + Sync + Drop + 'static,
-        R: Threads + Wait + Copy + Drop + Send + 'static,
-    {
-        // Without it a small answer waits for the next.
-        let _outcome = stream.set_nodelay(true);
-        let socket = Socket {
-            stream: Arc::new(alloc, stream)?,
-        };
-        let own = socket.share()?;
-        let lasting = Arc::new(
-            alloc,
-            Lasting {
-                socket: Mutex::new(Some(socket)),
-                has_ended: AtomicBool::new(false),
-            },
-        )?;
-        let shared = Arc::try_clone(&lasting)?;
-        let reader = thread::spawn(&rt, move || {
-            let seat = match registry.desk(&rt, conference) {
-                Ok(desk) => serve(rt, alloc, &desk, user, &*gate, &own),
-                Err(_) => None,
-            };
-            own.shut_down();
-            *shared.socket.lock(&rt) = None;
-            shared.has_ended.store(true, Ordering::SeqCst);
-            seat
-        })?;
-        Ok(Connection { lasting, reader })
-    }
-
-    /// Whether its threads have done all.
-    pub fn has_ended(&self) -> bool {
-        self.lasting.has_ended.load(Ordering::SeqCst)
-    }
-
-    /// Shuts the socket down, so that its threads end.
-    pub fn shut_down<R: Wait>(&self, rt: &R) {
-        match &*self.lasting.socket.lock(rt) {
-            Some(socket) => socket.shut_down(),
-            None => {}
+/// Starts the thread of a connection, which is nobody's to join: its binding counts it. Where
+/// memory or a thread can't be had, the socket is closed.
+pub fn start<G, R>(
+    rt: R,
+    alloc: Global,
+    binding: &Arc<Binding<G>, Global>,
+    stream: TcpStream,
+) -> Result<(), AllocError>
+where
+    G: Gate + Send + Sync + Drop + 'static,
+    R: Threads + Wait + Copy + Drop + Send + 'static,
+{
+    let socket = Socket::new(alloc, stream)?;
+    let shared = socket.share()?;
+    let theirs = Arc::try_clone(binding)?;
+    let key = binding.begin(&rt, shared)?;
+    match thread::spawn(&rt, move || run(rt, alloc, &theirs, socket, key)) {
+        Ok(_handle) => Ok(()),
+        Err(_) => {
+            binding.end(&rt, key, None);
+            Err(AllocError)
         }
     }
+}
 
-    /// Waits for its threads, and gives the seat that it had.
-    pub fn join<R: Threads>(self, rt: &R) -> Option<Seat> {
-        let Connection { lasting: _, reader } = self;
-        reader.join(rt)
-    }
+/// What the reader's thread does.
+fn run<G, R>(rt: R, alloc: Global, binding: &Binding<G>, socket: Socket, key: usize)
+where
+    G: Gate + Send + Sync + Drop + 'static,
+    R: Threads + Wait + Copy + Drop + Send + 'static,
+{
+    let seat = match binding.desk(&rt) {
+        Some(desk) => serve(rt, alloc, &desk, binding, &socket),
+        None => None,
+    };
+    socket.shut_down();
+    drop(socket);
+    binding.end(&rt, key, seat);
 }
 
 /// Joins the conference, and serves the connection until its stream ends.
@@ -129,16 +56,15 @@ fn serve<G, R>(
     rt: R,
     alloc: Global,
     desk: &Desk,
-    user: u16,
-    gate: &G,
+    binding: &Binding<G>,
     socket: &Socket,
 ) -> Option<Seat>
 where
     G: Gate,
     R: Threads + Wait + Copy + Drop + Send + 'static,
 {
-    let (mut seat, taker) = desk.join(&rt, user).ok()?;
-    attend(rt, alloc, desk, &mut seat, taker, gate, socket);
+    let (mut seat, taker) = desk.join(&rt, binding.user()).ok()?;
+    attend(rt, alloc, desk, &mut seat, taker, binding.gate(), socket);
     Some(seat)
 }
 

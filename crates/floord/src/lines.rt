@@ -6,7 +6,7 @@ use floor_console::run_line;
 use floor_serve::Gate;
 use floor_words::cut_line;
 use std::alloc::Global;
-use std::io::{BufRead, BufReader, Read, Write};
+use std::io::{BufRead, BufReader, ErrorKind, Read, Write};
 use std::net::{Net, TcpListener, TcpStream};
 use std::rt::Files;
 use std::sync::Wait;
@@ -42,8 +42,12 @@ where
     for _ in 0..TURNS {
         piece.clear();
         match reader.read_line(&mut piece) {
-            Ok(0) | Err(_) => break,
+            Ok(0) => break,
             Ok(_) => {}
+            Err(error) if error.kind() == ErrorKind::OutOfMemory => {
+                return Err(ServerFault::Memory);
+            }
+            Err(_) => break,
         }
         let line = match cut_line(piece.as_str()) {
             Some(cut) => cut.line,

@@ -1,12 +1,12 @@
 //! The server: its conferences, its ports, and what its administrator's lines do.
 
+use crate::binding::{Binding, Shared};
+use crate::connections::Connections;
 use crate::port::Port;
 use floor_config::{Config, ConfigFault, read_configs};
 use floor_console::{Board, BoardRefusal, Command, StopRefusal, Stopped, Text, parse_line};
 use floor_room::Status;
-use floor_serve::{
-    Act, DeskRefusal, FinishFault, Gate, OpenRefusal, Registry, Report, Seat, finish,
-};
+use floor_serve::{Act, Desk, DeskRefusal, FinishFault, Gate, OpenRefusal, Registry, Report};
 use std::alloc::{AllocError, Global};
 use std::fs;
 use std::io::ErrorKind;
@@ -21,11 +21,8 @@ use std::time::Clock;
 pub struct Server<G, R> {
     rt: R,
     alloc: Global,
-    registry: Arc<Registry, Global>,
-    gate: Arc<G, Global>,
-    ports: Vec<Port>,
-    /// The seats of the connections of ports that are closed.
-    seats: Vec<Seat>,
+    shared: Arc<Shared<G>, Global>,
+    ports: Vec<Port<G>>,
     /// What came of an `open` line that the board has yet to answer.
     opening: Option<Result<usize, BoardRefusal>>,
     outcome: Option<Result<Stopped, StopRefusal>>,
@@ -47,13 +44,16 @@ where
 {
     /// A server without conferences.
     pub fn new(rt: R, alloc: Global, gate: G) -> Result<Server<G, R>, AllocError> {
+        let shared = Shared {
+            registry: Registry::new(alloc),
+            connections: Connections::new(alloc),
+            gate,
+        };
         Ok(Server {
             rt,
             alloc,
-            registry: Arc::new(alloc, Registry::new(alloc))?,
-            gate: Arc::new(alloc, gate)?,
+            shared: Arc::new(alloc, shared)?,
             ports: Vec::new(alloc),
-            seats: Vec::new(alloc),
             opening: None,
             outcome: None,
         })
@@ -98,21 +98,12 @@ where
     /// Opens one conference: its number, then its ports, then itself.
     fn open_one(&mut self, config: Config) -> Result<(), BoardRefusal> {
         let conference = config.conference();
-        match self.registry.desk(&self.rt, conference) {
+        match self.shared.registry.desk(&self.rt, conference) {
             Err(DeskRefusal::NoConference) => {}
             Err(DeskRefusal::Memory) => return Err(BoardRefusal::Memory),
             Ok(_) => return Err(BoardRefusal::Used),
         }
-        let listened = self.listen(&config);
-        let opened = match listened {
-            Ok(()) => match self.registry.open(&self.rt, config) {
-                Ok(()) => Ok(()),
-                Err(OpenRefusal::Used) => Err(BoardRefusal::Used),
-                Err(OpenRefusal::Memory) => Err(BoardRefusal::Memory),
-            },
-            Err(refusal) => Err(refusal),
-        };
-        match opened {
+        match self.listen_and_open(config) {
             Ok(()) => Ok(()),
             Err(refusal) => {
                 // What it had of ports is given back.
@@ -122,33 +113,30 @@ where
         }
     }
 
-    /// Listens on the ports of a configuration's users. Whoever connects before the conference is
-    /// opened is shut down.
-    fn listen(&mut self, config: &Config) -> Result<(), BoardRefusal> {
+    /// Listens on the ports of a configuration's users, and then opens its conference. Whoever
+    /// connects before that is shut down.
+    fn listen_and_open(&mut self, config: Config) -> Result<(), BoardRefusal> {
         for user in config.users() {
-            let Some(number) = user.port else {
-                continue;
-            };
-            let opened = Port::open(
-                self.rt,
-                self.alloc,
-                &self.registry,
-                &self.gate,
-                config.conference(),
-                user.id,
-                number,
-            );
-            let Some(port) = opened else {
-                return Err(BoardRefusal::CannotListen);
-            };
-            match self.ports.push(port) {
-                Ok(()) => {}
-                Err(failed) => {
-                    self.give_back(failed.value);
-                    return Err(BoardRefusal::Memory);
-                }
+            match user.port {
+                Some(port) => self.listen(config.conference(), user.id, port)?,
+                None => {}
             }
         }
+        match self.shared.registry.open(&self.rt, config) {
+            Ok(()) => Ok(()),
+            Err(OpenRefusal::Used) => Err(BoardRefusal::Used),
+            Err(OpenRefusal::Memory) => Err(BoardRefusal::Memory),
+        }
+    }
+
+    /// Listens on a user's port.
+    fn listen(&mut self, conference: u32, user: u16, port: u16) -> Result<(), BoardRefusal> {
+        let shared = Arc::try_clone(&self.shared)?;
+        let binding = Binding::new(shared, conference, user, port);
+        // Room first, so that a port that listens is kept.
+        self.ports.reserve(1)?;
+        let opened = Port::open(self.rt, self.alloc, binding, port)?;
+        self.ports.push_reserved(opened);
         Ok(())
     }
 }
@@ -159,21 +147,16 @@ impl<G: Drop, R: Threads + Wait + Drop> Server<G, R> {
         self.outcome
     }
 
-    /// Closes a port, and keeps the seats that it had.
-    fn give_back(&mut self, port: Port) {
-        for seat in port.close(&self.rt) {
-            let _outcome = self.seats.push(seat);
-        }
-    }
-
     /// Closes the ports that lead to a conference.
     fn close_ports(&mut self, conference: u32) {
         let mut place = 0usize;
         for _ in 0..self.ports.len() {
             if place < self.ports.len() {
                 if self.ports[place].conference() == conference {
-                    let port = self.ports.swap_remove(place);
-                    self.give_back(port);
+                    let mut port = self.ports.swap_remove(place);
+                    port.stop_listening(&self.rt);
+                    port.shut_down(&self.rt);
+                    port.wait(&self.rt);
                 } else {
                     place += 1;
                 }
@@ -181,14 +164,19 @@ impl<G: Drop, R: Threads + Wait + Drop> Server<G, R> {
         }
     }
 
-    fn act(&mut self, conference: u32, act: Act) -> Result<(), BoardRefusal> {
-        match self.registry.desk(&self.rt, conference) {
+    /// The desk of a conference that was opened.
+    fn desk(&self, conference: u32) -> Result<Desk, BoardRefusal> {
+        match self.shared.registry.desk(&self.rt, conference) {
+            Ok(desk) => Ok(desk),
             Err(DeskRefusal::NoConference) => Err(BoardRefusal::NoConference),
             Err(DeskRefusal::Memory) => Err(BoardRefusal::Memory),
-            Ok(desk) => match desk.admin(&self.rt, act) {
-                Ok(()) => Ok(()),
-                Err(refusal) => Err(BoardRefusal::ByRoom(refusal)),
-            },
+        }
+    }
+
+    fn act(&mut self, conference: u32, act: Act) -> Result<(), BoardRefusal> {
+        match self.desk(conference)?.admin(&self.rt, act) {
+            Ok(()) => Ok(()),
+            Err(refusal) => Err(BoardRefusal::ByRoom(refusal)),
         }
     }
 }
@@ -225,30 +213,29 @@ impl<G: Drop, R: Threads + Wait + Drop> Board for Server<G, R> {
     }
 
     fn status(&mut self, conference: u32) -> Result<Status, BoardRefusal> {
-        match self.registry.desk(&self.rt, conference) {
-            Err(DeskRefusal::NoConference) => Err(BoardRefusal::NoConference),
-            Err(DeskRefusal::Memory) => Err(BoardRefusal::Memory),
-            Ok(desk) => Ok(desk.status(&self.rt)),
-        }
+        Ok(self.desk(conference)?.status(&self.rt))
     }
 
     fn journal(&mut self, conference: u32) -> Result<Text, BoardRefusal> {
-        match self.registry.desk(&self.rt, conference) {
-            Err(DeskRefusal::NoConference) => Err(BoardRefusal::NoConference),
-            Err(DeskRefusal::Memory) => Err(BoardRefusal::Memory),
-            Ok(desk) => match desk.journal_text(&self.rt) {
-                Ok(text) => Ok(Text::from_string(text)),
-                Err(_) => Err(BoardRefusal::Memory),
-            },
-        }
+        let text = self.desk(conference)?.journal_text(&self.rt)?;
+        Ok(Text::from_string(text))
     }
 
     fn stop(&mut self) -> Result<Stopped, StopRefusal> {
-        let ports = std::mem::replace(&mut self.ports, Vec::new(self.alloc));
-        for port in ports {
-            self.give_back(port);
+        for port in self.ports.iter_mut() {
+            port.stop_listening(&self.rt);
         }
-        let outcome = match finish(&self.rt, &*self.registry, self.seats.as_slice()) {
+        for port in self.ports.as_slice() {
+            port.shut_down(&self.rt);
+        }
+        for port in self.ports.as_slice() {
+            port.wait(&self.rt);
+        }
+        let outcome = match self
+            .shared
+            .connections
+            .finish(&self.rt, &self.shared.registry)
+        {
             Ok(Report { seats, events }) => Ok(Stopped { seats, events }),
             Err(FinishFault::Broken { conference }) => Err(StopRefusal::Broken { conference }),
             Err(FinishFault::Mismatch { conference, n }) => {

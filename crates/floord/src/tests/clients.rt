@@ -41,16 +41,12 @@ pub struct Start {
     output: TcpStream,
 }
 
-/// Writes a configuration of conferences, each with user 10 at a port and floor 1, and gives the
-/// test's end of the standard input and output, and what the server is started with.
-pub fn prepare<R>(
+/// Writes a configuration of conferences, each with user 10 at a port and floor 1.
+pub fn write_file<R: Files + AllocGlobal>(
     rt: &R,
     path: &str,
     conferences: &[(u32, u16)],
-) -> Result<(TcpStream, Start), Fail>
-where
-    R: Net<Listener = TcpListener, Stream = TcpStream> + Files + AllocGlobal,
-{
+) -> Result<(), Fail> {
     let alloc = rt.alloc();
     let mut text = String::new(alloc);
     for (conference, port) in conferences {
@@ -61,6 +57,21 @@ where
         text.push_str("[[conference.floor]]\nid = 1\n")?;
     }
     fs::write(rt, path, text.as_str())?;
+    Ok(())
+}
+
+/// Writes a configuration, and gives the test's end of the standard input and output, and what the
+/// server is started with.
+pub fn prepare<R>(
+    rt: &R,
+    path: &str,
+    conferences: &[(u32, u16)],
+) -> Result<(TcpStream, Start), Fail>
+where
+    R: Net<Listener = TcpListener, Stream = TcpStream> + Files + AllocGlobal,
+{
+    let alloc = rt.alloc();
+    write_file(rt, path, conferences)?;
     let listener = TcpListener::bind(rt, "127.0.0.1:0")?;
     let console = TcpStream::connect(rt, listener.local_addr()?)?;
     let (input, _) = listener.accept()?;

@@ -1,0 +1,105 @@
+//! The administrator's lines to a server that runs.
+
+use super::clients::{
+    Server, ask, connect, free_port, hear, line, prepare, run_to_end, send, write_file,
+};
+use floor_serve::FreePass;
+use std::net::TcpListener;
+use std::test::Fail;
+use std::{fs, thread};
+
+/// A Hello of user 10, and then its request for floor 1.
+const HELLO_AND_REQUEST: &str = "200b0000 00000001 0001 000a 20010001 00000001 0002 000a 04040001";
+
+/// A line, and the lines that answer it, with a comma between each two. Conference 1 is open and
+/// has one member, which asked for a floor. console_more.toml has conference 2, console_again.toml
+/// conference 3 at the same port. console_taken.toml has conference 4, of whose two ports another
+/// program has the second; console_free.toml has conference 5 at the first of them, and then
+/// conference 1.
+const EXCHANGE: &str = "status 1=conference 1 members 1 ongoing 1 events 3 open
+open console_more.toml=ok opened 1
+open console_more.toml=error Used
+open console_again.toml=error CannotListen
+open console_taken.toml=error CannotListen
+status 4=error NoConference
+open console_free.toml=error Used
+status 5=conference 5 members 0 ongoing 0 events 0 open
+open console_bad.toml=error MissingKey
+open console_nowhere.toml=error CannotRead
+status 2=conference 2 members 0 ongoing 0 events 0 open
+status 3=error NoConference
+journal 1=1 join 10,2 message 1 200b0000000000010001000a,3 message 1 20010001000000010002000a04040001,end 3
+revoke 1 2=error NoRequest
+revoke 3 1=error NoConference
+revoke 1 1=ok revoked 1 1
+status 1=conference 1 members 1 ongoing 0 events 4 open
+close 3=error NoConference
+close 2=ok closed 2
+close 2=error Ended
+revoke 2 1=error Ended
+status 2=conference 2 members 0 ongoing 0 events 1 ended
+journal 2=1 close,end 1
+journal 3=error NoConference
+open console_more.toml=error Used
+open console_again.toml=ok opened 1
+journal 3=end 0
+  status   3 =conference 3 members 0 ongoing 0 events 0 open
+close 1=ok closed 1
+status 1=conference 1 members 1 ongoing 0 events 5 ended
+close x=error BadNumber
+close 4294967296=error BadNumber
+revoke 1 65536=error BadNumber
+close 1 2=error UnknownCommand
+ =error UnknownCommand
+halt=error UnknownCommand
+stop=ok stopped seats 1 events 6";
+
+#[test]
+fn each_line_has_its_answer(rt: HostRuntime) -> Result<(), Fail> {
+    let alloc = rt.alloc();
+    let taken = TcpListener::bind(&rt, "127.0.0.1:0")?;
+    let other = free_port(&rt)?;
+    write_file(&rt, "console_more.toml", &[(2, other)])?;
+    write_file(&rt, "console_again.toml", &[(3, other)])?;
+    let free = free_port(&rt)?;
+    write_file(&rt, "console_free.toml", &[(5, free), (1, other)])?;
+    let two = format!(in alloc;
+        "[[conference]]\nid = 4\n[[conference.user]]\nid = 10\nport = {free}\n\
+        [[conference.user]]\nid = 11\nport = {}\n",
+        taken.local_addr()?.port()
+    )?;
+    fs::write(&rt, "console_taken.toml", two.as_str())?;
+    fs::write(&rt, "console_bad.toml", "[[conference]]\n")?;
+    let port = free_port(&rt)?;
+    let (console, start) = prepare(&rt, "console.toml", &[(1, port)])?;
+    let thread = thread::spawn(&rt, move || run_to_end(rt, alloc, start, FreePass))?;
+    let server = Server { console, thread };
+    assert_eq!(rt; line(&rt, &server)?.as_str(), "ready");
+    let mut client = connect(&rt, port)?;
+    send(&rt, &mut client, HELLO_AND_REQUEST).ok_or("sent")?;
+    // The HelloAck, and the header of what answers the request.
+    hear(&rt, &mut client, 60).ok_or("heard")?;
+    for row in EXCHANGE.lines() {
+        let (asked, wanted) = row.split_once('=').ok_or("a row has a sign")?;
+        // The empty line before it has no answer.
+        let asked_after = format!(in alloc; "\n{asked}")?;
+        let mut found = ask(&rt, &server, asked_after.as_str())?;
+        for _ in wanted.split(',').skip(1) {
+            found.push(',')?;
+            found.push_str(line(&rt, &server)?.as_str())?;
+        }
+        assert_eq!(rt; found.as_str(), wanted, "{asked}");
+    }
+    assert_eq!(rt; server.end(&rt), 0);
+    for path in [
+        "console.toml",
+        "console_more.toml",
+        "console_again.toml",
+        "console_free.toml",
+        "console_taken.toml",
+        "console_bad.toml",
+    ] {
+        fs::remove_file(&rt, path)?;
+    }
+    Ok(())
+}
