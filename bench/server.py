@@ -1,0 +1,116 @@
+"""Starts and stops a floord, reads what the system says of it, and makes a client's bytes."""
+import os
+import select
+import socket
+import struct
+import subprocess
+import tempfile
+import time
+
+FIRST_PORT = 7600
+
+
+def hello(conference, transaction, user):
+    """A Hello (RFC 8855, section 5.3.11)."""
+    return struct.pack('>BBHIHH', 0x20, 11, 0, conference, transaction, user)
+
+
+def configuration(conferences, users, first_port=FIRST_PORT):
+    """The text of a configuration, and (port, conference, user) of each user, conferences in turn."""
+    text = []
+    bindings = []
+    for user in range(users):
+        for conference in range(1, conferences + 1):
+            bindings.append((first_port + len(bindings), conference, 10 + user))
+    for conference in range(1, conferences + 1):
+        text.append('[[conference]]\nid = %d\n' % conference)
+        for port, of, user in bindings:
+            if of == conference:
+                text.append('[[conference.user]]\nid = %d\nport = %d\n' % (user, port))
+        text.append('[[conference.floor]]\nid = 1\n')
+    return ''.join(text), bindings
+
+
+class Server:
+    """A floord that runs, pinned to processors where they are given."""
+
+    def __init__(self, floord, text, processors=None):
+        handle, self.path = tempfile.mkstemp(suffix='.toml')
+        with os.fdopen(handle, 'w') as file:
+            file.write(text)
+        pinned = ['taskset', '-c', processors] if processors else []
+        self.process = subprocess.Popen(
+            pinned + [os.path.abspath(floord), self.path],
+            stdin=subprocess.PIPE, stdout=subprocess.PIPE)
+        self.pid = self.process.pid
+        if self.line(20) != 'ready':
+            self.process.kill()
+            raise SystemExit('the server did not print ready')
+
+    def line(self, seconds):
+        """The next line that it prints."""
+        end = time.monotonic() + seconds
+        text = b''
+        while not text.endswith(b'\n'):
+            left = end - time.monotonic()
+            if left <= 0 or not select.select([self.process.stdout], [], [], left)[0]:
+                raise SystemExit('the server prints nothing')
+            byte = os.read(self.process.stdout.fileno(), 1)
+            if not byte:
+                break
+            text += byte
+        return text.decode().rstrip('\n')
+
+    def ask(self, line, seconds=30):
+        self.process.stdin.write(line.encode() + b'\n')
+        self.process.stdin.flush()
+        return self.line(seconds)
+
+    def stop(self):
+        answer = self.ask('stop', 60)
+        status = self.process.wait(60)
+        os.unlink(self.path)
+        return answer, status
+
+    def seen(self):
+        """Memory in kB, threads, descriptors, mappings, processor seconds."""
+        seen = {}
+        with open('/proc/%d/status' % self.pid) as file:
+            for row in file:
+                name, _, value = row.partition(':')
+                if name in ('VmRSS', 'VmSize', 'Threads'):
+                    seen[name] = int(value.split()[0])
+        with open('/proc/%d/maps' % self.pid) as file:
+            seen['maps'] = sum(1 for _ in file)
+        seen['descriptors'] = len(os.listdir('/proc/%d/fd' % self.pid))
+        seen['processor'] = 0
+        for task in os.listdir('/proc/%d/task' % self.pid):
+            try:
+                with open('/proc/%d/task/%s/schedstat' % (self.pid, task)) as file:
+                    seen['processor'] += int(file.read().split()[0]) / 1e9
+            except FileNotFoundError:
+                pass
+        return seen
+
+
+def connect(port):
+    client = socket.create_connection(('127.0.0.1', port))
+    client.setsockopt(socket.IPPROTO_TCP, socket.TCP_NODELAY, 1)
+    return client
+
+
+def greet(client, conference, user, transaction=1):
+    """Sends a Hello, and waits for its HelloAck."""
+    client.sendall(hello(conference, transaction, user))
+    return hear(client, 48)
+
+
+def hear(client, count):
+    """The next so many bytes; fewer where the stream ends before."""
+    heard = b''
+    while len(heard) < count:
+        piece = client.recv(count - len(heard))
+        if not piece:
+            break
+        heard += piece
+    return heard
