@@ -1,5 +1,5 @@
 -- A step of a run is the world's, and all that was queued still waits.
-use Rattle.std.proofs.Common.{◌≡◌, ◌≢◌, ◌⊎◌, inl, inr, ℕ, zero, suc, ◌+◌, Bool, true, false, List, [], ◌∷◌, ◌++◌, length, map, refl, sym, ◌∙◌, ap, subst, arith, Some, None}
+use Rattle.std.proofs.Common.{◌≡◌, inl, inr, ℕ, ◌+◌, Bool, true, false, List, [], ◌∷◌, ◌++◌, length, refl, sym, ◌∙◌, ap, subst, Some, None}
 use Rattle.std.specs.Prelude.{Option, ◌||◌, Result, Ok, Err, IfOk, MatchResult, OnOk, OnErr, nat_eq}
 use Rattle.std.proofs.lemmas.Option.{none-some}
 use Rattle.floor_machine.specs.declared.machine.Refusal.TheVariants.{Broken, Ended, NoMember, NoUser, Full, NoRequest, Memory}

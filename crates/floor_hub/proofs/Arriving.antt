@@ -34,7 +34,7 @@ use Rattle.floor_hub.specs.World as world
 use Rattle.floor_hub.specs.World.{World, Part, Arrival, Place, Offered, arrival, if_live, messages_of, offer, place, put, refused, state_of, turn}
 use Rattle.floor_hub.specs.StandsFor.{arrival_in, live_at, RoomStands, CameTo, ArrivalStands, NumberStands, Stands}
 use Rattle.floor_hub.specs.Steps.{AttachFailsIn}
-use Rattle.floor_hub.specs.Kept.{IsKept, IsKeptPart, KeptIn, first_numbers, arrivals_in}
+use Rattle.floor_hub.specs.Kept.{IsKept, IsKeptPart, KeptIn}
 use Rattle.floor_hub.proofs.Acting.{IsQuiet, broken-refuses, refusal-part, refused-some, sound-by, stands_broken, stands_refused}
 use Rattle.floor_hub.proofs.Alone.{last_place}
 use Rattle.floor_hub.proofs.Attending.{came_apart, left_broken, part_state, same_at, true_false}

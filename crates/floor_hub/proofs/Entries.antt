@@ -1,10 +1,8 @@
 -- What a run reads for each arrival is what the events of its conference call for.
-use Rattle.std.proofs.Common.{◌≡◌, ◌≢◌, ℕ, zero, suc, ◌+◌, ◌<◌, ◌≤◌, Bool, true, false, List, [], ◌∷◌, ◌++◌, length, get_or, take, map, refl, sym, ◌∙◌, ap, subst, arith, length-append, Some, None}
-use Rattle.std.specs.Prelude.{Option, Result, Ok, Err, IfOk, ◌==◌, if◌then◌else◌, slice_get}
+use Rattle.std.proofs.Common.{◌≡◌, ℕ, zero, suc, ◌+◌, ◌<◌, ◌≤◌, List, [], ◌∷◌, ◌++◌, length, get_or, take, map, refl, sym, ◌∙◌, ap, arith, length-append, Some, None}
+use Rattle.std.specs.Prelude.{Option, Result, Ok, Err, IfOk, slice_get}
 use Rattle.std.specs.declared.alloc.AllocError.{AllocError}
-use Rattle.std.proofs.lemmas.Bool.{eqb-true, eqb-false}
 use Rattle.std.proofs.lemmas.List.{length-map, length-take-le, map-append, take_more}
-use Rattle.std.proofs.lemmas.Option.{none-some}
 use Rattle.floor_config.specs.Configuration.{Configuration}
 use Rattle.floor_machine.specs.declared.event.Event.{Event}
 use Rattle.floor_machine.specs.Conference.{Conference}
@@ -13,9 +11,9 @@ use Rattle.floor_room.specs.Room.{Room}
 use Rattle.floor_hub.specs.declared.connection.Place.{Place}
 use Rattle.floor_hub.specs.declared.transcript.Queued.{Queued}
 use Rattle.floor_hub.specs.Hub.{Hub, room_at}
-use Rattle.floor_hub.specs.Kept.{IsKeptPart, KeptIn, arrivals_in, first_numbers, numbers_of}
+use Rattle.floor_hub.specs.Kept.{KeptIn}
 use Rattle.floor_hub.specs.Runs.{called_at, queues_from}
-use Rattle.floor_hub.specs.Running.{AreWhole, IsRunning, QueuedIn, place_of}
+use Rattle.floor_hub.specs.Running.{IsRunning, QueuedIn, place_of}
 use Rattle.floor_hub.specs.StandsFor.{RoomStands}
 use Rattle.floor_hub.specs.World as world
 use Rattle.floor_hub.specs.World.{Part, World, place, state_of}

@@ -1,4 +1,4 @@
-use Rattle.std.proofs.Common.{◌≡◌, ◌++◌, ℕ, List, ◌∙◌, ap}
+use Rattle.std.proofs.Common.{◌++◌, ℕ, List, ◌∙◌, ap}
 use Rattle.floor_room.specs.Replay.{bytes_of}
 use Rattle.floor_hub.proofs.Waiting.{both}
 use Rattle.floor_hub.proofs.gathering.held_bytes.Goals as goal

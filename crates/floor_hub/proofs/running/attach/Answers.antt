@@ -1,4 +1,4 @@
-use Rattle.std.proofs.Common.{◌≡◌, List, Some, None, Ok, refl, subst, sym}
+use Rattle.std.proofs.Common.{List, Some, None, Ok, refl, subst, sym}
 use Rattle.floor_hub.specs.declared.connection.Place.{Place}
 use Rattle.floor_hub.specs.declared.step.Answer.TheVariants.{Attached}
 use Rattle.floor_hub.specs.declared.step.Step.TheVariants.{Attach}

@@ -1,4 +1,4 @@
-use Rattle.std.proofs.Common.{◌<◌, ◌≡◌, ◌+◌, length, get_or, arith, refl}
+use Rattle.std.proofs.Common.{◌<◌, ◌+◌, length, get_or, arith, refl}
 use Rattle.floor_hub.specs.declared.connection.Place.{Place}
 use Rattle.floor_hub.proofs.Entries.{entries_all, entries_more}
 use Rattle.floor_hub.proofs.running.entries.Goals as goal

@@ -1,4 +1,4 @@
-use Rattle.std.proofs.Common.{◌≡◌, List, subst}
+use Rattle.std.proofs.Common.{List, subst}
 use Rattle.floor_config.specs.Configuration.{Configuration}
 use Rattle.floor_hub.specs.Running.{Goes}
 use Rattle.floor_hub.specs.Steps.{FailsSame}

@@ -1,4 +1,4 @@
-use Rattle.std.proofs.Common.{◌≡◌, ◌≤◌, ◌+◌, ◌∷◌, ◌++◌, List, [], drop, arith, length, ◌<◌, refl, ap, subst, sym, ◌∙◌}
+use Rattle.std.proofs.Common.{◌≤◌, ◌+◌, ◌++◌, List, drop, arith, length, refl, ap, subst, sym, ◌∙◌}
 use Rattle.std.proofs.Common.{drop_of_length-le}
 use Rattle.floor_hub.specs.declared.connection.Place.{Place}
 use Rattle.floor_hub.specs.declared.step.Answer.{Answer}

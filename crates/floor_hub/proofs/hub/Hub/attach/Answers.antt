@@ -1,4 +1,4 @@
-use Rattle.std.proofs.Common.{◌≡◌, ◌⊎◌, ℕ, ◌+◌, ◌≤◌, ◌<◌, [], Some, None, arith, length, refl, sym, subst}
+use Rattle.std.proofs.Common.{◌≡◌, ◌⊎◌, ℕ, ◌+◌, ◌≤◌, [], Some, None, arith, length, refl, sym, subst}
 use Rattle.std.specs.Prelude.{Ok, Err, Option, Result}
 use Rattle.floor_machine.specs.declared.machine.Refusal.TheVariants.{Memory, Broken}
 use Rattle.floor_room.specs.declared.refusal.RoomRefusal.TheVariants.{Refused as ByMachine}
