@@ -8,7 +8,6 @@ use Rattle.floor_config.specs.declared.config.Floor.{Floor}
 use Rattle.floor_queue.specs.Order.{settle}
 use Rattle.floor_queue.specs.Queue.{is_ascending}
 use Rattle.floor_message.specs.Ask.{Answer, asks, refused, unanswered, ask}
-use Rattle.floor_message.specs.declared.ask.Ask.{Ask}
 use Rattle.floor_message.specs.declared.code.ErrorCode.{ErrorCode}
 use Rattle.floor_message.specs.declared.tell.Tell.TheVariants.{FloorRequestStatus}
 use Rattle.floor_machine.specs.declared.event.Event.{Event}
@@ -19,13 +18,13 @@ use Rattle.floor_machine.specs.declared.member.Member.{Member}
 use Rattle.floor_machine.specs.Conference.{Conference, binding, member_with, opening, user_of}
 use Rattle.floor_machine.specs.Change.{change, next}
 use Rattle.floor_machine.specs.Checks.{refusal}
-use Rattle.floor_machine.specs.Journal.{parcel, parcels, parcels_from, sent_to, told_from}
+use Rattle.floor_machine.specs.Journal.{parcel, told_from}
 use Rattle.floor_machine.specs.Outgoing.{Outgoing, notice, outgoing_bytes}
 use Rattle.floor_machine.specs.Parcel.{Parcel}
 use Rattle.floor_machine.specs.Reachable.{LeavesAlone, Sent, is_unaccepted}
 use Rattle.floor_machine.specs.Reply.{floor_status_tell, reply}
 use Rattle.floor_machine.specs.steps.Serving.{changes_requests, judged, members_judged}
-use Rattle.floor_machine.specs.Told.{Changed, changed_floors, changed_requests, is_told, reply_to, told, told_to}
+use Rattle.floor_machine.specs.Told.{Changed, changed_floors, changed_requests, is_told, reply_to, told_to}
 use Rattle.floor_machine.proofs.Found.{and_left}
 use Rattle.floor_machine.proofs.Kept.{IsKept, event-kept, next-message}
 use Rattle.floor_machine.proofs.Quiet.{floors-kept, requests-kept}

@@ -1,5 +1,5 @@
 -- A FloorQuery names each floor once.
-use Rattle.std.proofs.Common.{◌≡◌, ℕ, List, [], ◌∷◌, drop, Option, Some, None, refl, sym, subst, ◌∙◌}
+use Rattle.std.proofs.Common.{◌≡◌, ℕ, List, [], ◌∷◌, drop, Option, Some, None, refl, subst, ◌∙◌}
 use Rattle.std.specs.Prelude.{option_map, option_and_then}
 use Rattle.floor_wire.specs.Attributes.{Attributes}
 use Rattle.floor_wire.specs.Header.{header_of}

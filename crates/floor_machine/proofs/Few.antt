@@ -1,9 +1,8 @@
 -- How much an event tells a member at most.
-use Rattle.std.proofs.Common.{◌≡◌, ◌≢◌, ℕ, suc, ◌+◌, ◌*◌, ◌/◌, ◌<◌, ◌≤◌, Bool, true, false, cond, eqb, List, [], ◌∷◌, ◌++◌, drop, length, map, Option, Some, None, refl, sym, ap, subst, ◌∙◌, arith, length-append}
+use Rattle.std.proofs.Common.{◌≡◌, ◌≢◌, ℕ, ◌+◌, ◌*◌, ◌/◌, ◌<◌, ◌≤◌, Bool, true, false, cond, eqb, List, [], ◌∷◌, ◌++◌, length, map, Option, Some, None, refl, sym, ap, subst, ◌∙◌, arith, length-append}
 use Rattle.std.specs.Cmp.{IsEquivalence}
-use Rattle.std.specs.Int.{w16, w32, to_be_bytes}
-use Rattle.std.specs.Prelude.{◌==◌, ◌&&◌, ◌||◌, All, not, filter, is_some, option_map, option_and_then}
-use Rattle.std.specs.List.{list_any, list_all, IsDistinct}
+use Rattle.std.specs.Prelude.{◌==◌, ◌||◌, not, filter, is_some}
+use Rattle.std.specs.List.{list_any, list_all}
 use Rattle.std.specs.Option.{option_map_or}
 use Rattle.std.proofs.lemmas.Bool.Decides.{nat_tests}
 use Rattle.std.proofs.lemmas.List.{length-map}
@@ -13,8 +12,7 @@ use Rattle.std.proofs.lemmas.Map.Made.{length-le_from_is_member}
 use Rattle.floor_config.specs.Configuration.{Configuration, IsConfiguration}
 use Rattle.floor_config.specs.declared.config.Floor.{Floor}
 use Rattle.floor_queue.specs.declared.request.Request.{Request}
-use Rattle.floor_queue.specs.Order.{settle}
-use Rattle.floor_queue.specs.Queue.{is_ascending, is_floor, numbers_of}
+use Rattle.floor_queue.specs.Queue.{is_floor, numbers_of}
 use Rattle.floor_message.specs.Ask.{Answer, asks, refused, unanswered, ask}
 use Rattle.floor_wire.specs.Header.{header_bytes}
 use Rattle.floor_wire.specs.Spelling.{canon}
@@ -24,7 +22,7 @@ use Rattle.floor_message.specs.Primitive.{primitive_number}
 use Rattle.floor_message.specs.declared.primitive.Primitive.{Primitive}
 use Rattle.floor_wire.specs.declared.attribute.Attr.{Attr}
 use Rattle.floor_message.specs.Code.{code_number}
-use Rattle.floor_message.specs.Fits.{AskFits, TellFits}
+use Rattle.floor_message.specs.Fits.{AskFits}
 use Rattle.floor_message.specs.Laws.{CountsFit, WhatIsAskedFits}
 use Rattle.floor_message.specs.Picked.{IsOnceBy}
 use Rattle.floor_message.specs.declared.ask.Ask.{Ask}
@@ -40,7 +38,7 @@ use Rattle.floor_machine.specs.declared.judged.Judged.{Judged}
 use Rattle.floor_machine.specs.declared.judged.Judged.TheVariants.{Accepted, Refused}
 use Rattle.floor_machine.specs.declared.member.Member.{Member}
 use Rattle.floor_machine.specs.declared.status.RequestStatus.{RequestStatus}
-use Rattle.floor_machine.specs.Amount.{CalledForIsFew, MessageIsShort, ToldIsFew}
+use Rattle.floor_machine.specs.Amount.{MessageIsShort}
 use Rattle.floor_machine.specs.Conference.{Conference, binding, member_with, opening, user_of}
 use Rattle.floor_machine.specs.Shown.{Entry, entry_of, info_of, ongoing_of}
 use Rattle.floor_machine.specs.Checks.{first_of, refusal, when}

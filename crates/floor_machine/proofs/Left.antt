@@ -14,7 +14,7 @@ use Rattle.floor_machine.specs.Conference.{Conference, user_of, is_present}
 use Rattle.floor_machine.specs.Change.{Change, no_change, change, ending, ends_at, ends_without, leaving, released, dismissed}
 use Rattle.floor_machine.specs.steps.Telling.{entry_of_ended}
 use Rattle.floor_machine.specs.steps.Serving.{IsChanged, conference_of, after_release_for, is_rising, released_for}
-use Rattle.floor_machine.proofs.Entries.{ended_of-entries, numbers_in-entries}
+use Rattle.floor_machine.proofs.Entries.{numbers_in-entries}
 use Rattle.floor_machine.proofs.Changing.{rising-numbers, ongoing_of-ending, ended_of-ending, numbers_in-ending}
 use Rattle.floor_machine.proofs.Asked.{none-ended}
 use Rattle.floor_machine.proofs.Ended.{ended_entry, ending_if, ongoing_of-ends, ended_of-ends, numbers_in-ends}

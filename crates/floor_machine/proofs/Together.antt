@@ -1,6 +1,6 @@
 -- Runs of events put together, the parcels of an event by its members, and how an event settles.
-use Rattle.std.proofs.Common.{◌≡◌, ℕ, ◌+◌, ◌<◌, ◌≤◌, Bool, true, List, [], ◌∷◌, ◌++◌, length, map, refl, sym, ap, subst, ◌∙◌, arith, append_assoc}
-use Rattle.std.specs.Prelude.{◌==◌, All, IsTrue}
+use Rattle.std.proofs.Common.{◌≡◌, ℕ, ◌+◌, ◌<◌, ◌≤◌, true, List, [], ◌∷◌, ◌++◌, length, map, refl, sym, ap, ◌∙◌, arith, append_assoc}
+use Rattle.std.specs.Prelude.{◌==◌, All}
 use Rattle.std.specs.List.{flat_map}
 use Rattle.std.proofs.lemmas.Bool.Decides.{nat_tests}
 use Rattle.std.proofs.lemmas.List.Elements.{All-append, All-cons, All-nil, All-weaker}
@@ -8,7 +8,7 @@ use Rattle.floor_machine.specs.declared.event.Event.{Event}
 use Rattle.floor_machine.specs.declared.member.Member.{Member}
 use Rattle.floor_machine.specs.Parcel.{Parcel}
 use Rattle.floor_machine.specs.Conference.{Conference, is_numbered_from, opening}
-use Rattle.floor_machine.specs.Change.{IsLawful, change, next, shown}
+use Rattle.floor_machine.specs.Change.{change, next, shown}
 use Rattle.floor_machine.specs.Journal.{IsLawfulFrom, after_from, parcel, parcels_from, parcels_of, told_from}
 use Rattle.floor_machine.specs.Membership.{AfterBoth, BothLawful, ParcelsOfBoth, SentToMembers, SettlesAsQueue, ToldByBoth, ToldOnceJoined}
 use Rattle.floor_machine.specs.Outgoing.{Outgoing}

@@ -1,5 +1,5 @@
 -- The event that a call of the machine bears, and what a join needs and tells.
-use Rattle.std.specs.Prelude.{◌≡◌, ◌<◌, ℕ, List, [], length}
+use Rattle.std.specs.Prelude.{◌≡◌, ◌<◌, [], length}
 use Rattle.floor_machine.specs.declared.event.BorrowedEvent.{BorrowedEvent}
 use Rattle.floor_machine.specs.declared.event.Event.{Event}
 use Rattle.floor_machine.specs.Conference.{Conference}
