@@ -9,7 +9,9 @@ use Rattle.floor_wire.specs.Spelled.{spelled}
 use Rattle.floor_wire.specs.Spelling.{IsWritable, canon, cleared}
 use Rattle.floor_wire.specs.View.{attributes_of, items}
 use Rattle.floor_wire.specs.declared.attribute.Attr.{Attr}
-use Rattle.floor_message.specs.Ask.{ask, asks, answer, by_header, by_primitive, by_attributes, by_mandatory, by_fields, header_refusal}
+use Rattle.floor_message.specs.Ask.{ask, asks, answer}
+use Rattle.floor_message.specs.steps.Answering.{by_header, by_primitive, by_attributes, by_mandatory, by_fields, header_refusal}
+use Rattle.floor_message.proofs.Checked.{answer_by_steps}
 use Rattle.floor_message.specs.Binding.{Binding}
 use Rattle.floor_message.specs.Fields.{fields, floor_request, priority_asked, judged, given, chair_asked, chair_action, floors_judged}
 use Rattle.floor_message.specs.Fits.{HeadFits, AskFits, FloorRequestFits, VerdictsFit}
@@ -181,7 +183,8 @@ passes h b v c m u =
 answer_back : (h : CommonHeader) (b : Binding) (a : Ask) (attrs : Attributes) → header_refusal h b ≡ None → h.primitive ≡ primitive_number (ask_primitive a) → mandatory attrs ≡ []
     → fields (ask_primitive a) (items attrs) ≡ Some a → answer h b (Some attrs) ≡ asks a
 answer_back h b a attrs none n m r =
-    ap (λ c. by_header c (primitive_of h.primitive) (Some attrs)) none
+    answer_by_steps h b (Some attrs)
+    ∙ ap (λ c. by_header c (primitive_of h.primitive) (Some attrs)) none
     ∙ ap (λ x. by_primitive (primitive_of x) (Some attrs)) n
     ∙ ap (λ p. by_primitive p (Some attrs)) (primitive_back (ask_primitive a))
     ∙ primitive_asks a (Some attrs)

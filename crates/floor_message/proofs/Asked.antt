@@ -7,7 +7,9 @@ use Rattle.floor_wire.specs.Header.{header_of}
 use Rattle.floor_wire.specs.Spelled.{spelled}
 use Rattle.floor_wire.specs.View.{items}
 use Rattle.floor_wire.specs.declared.attribute.Attr.{Attr}
-use Rattle.floor_message.specs.Ask.{ask, asks, by_header, by_primitive, by_attributes, by_mandatory, header_refusal}
+use Rattle.floor_message.specs.Ask.{ask, asks}
+use Rattle.floor_message.specs.steps.Answering.{by_header, by_primitive, by_attributes, by_mandatory, header_refusal}
+use Rattle.floor_message.proofs.Checked.{answer_by_steps}
 use Rattle.floor_message.specs.Binding.{Binding}
 use Rattle.floor_message.specs.Fields.{is_ask, fields, floor_request, priority_asked, given, chair_action, chair_asked, floors_judged}
 use Rattle.floor_message.specs.Fits.{AskFits, TextFits}
@@ -146,4 +148,5 @@ by_header_fitting None o attrs a e = by_primitive_fitting o attrs a e
 
 pub asked_fits : (bytes : List ℕ) (b : Binding) (a : Ask) → ask bytes b ≡ asks a → CountsFit a → AskFits a
 unfolding ask
-asked_fits bytes b a e = by_header_fitting (header_refusal (header_of bytes) b) (primitive_of (header_of bytes).primitive) (spelled (drop 12 bytes)) a e
+asked_fits bytes b a e = by_header_fitting (header_refusal (header_of bytes) b) (primitive_of (header_of bytes).primitive) (spelled (drop 12 bytes)) a
+    (sym (answer_by_steps (header_of bytes) b (spelled (drop 12 bytes))) ∙ e)

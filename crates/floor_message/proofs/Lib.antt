@@ -2,6 +2,7 @@ pub mod Answering
 pub mod AskBack
 pub mod AskRooms
 pub mod Asked
+pub mod AskedBytes
 pub mod Checked
 pub mod Cutting
 pub mod Heads

@@ -4,7 +4,7 @@ use Rattle.std.specs.Prelude.{◌==◌}
 use Rattle.std.specs.List.{list_any}
 use Rattle.std.proofs.lemmas.List.{append-nil}
 use Rattle.floor_message.specs.Picked.{once_by, IsOnceBy, KeepsFirst}
-use Rattle.floor_message.specs.Adding.{add_new, add_all}
+use Rattle.floor_message.specs.steps.Adding.{add_new, add_all}
 use Rattle.std.proofs.lemmas.Bool.{eqb-true, false≢true}
 use Rattle.std.proofs.Common.{true≢false}
 

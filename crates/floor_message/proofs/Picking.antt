@@ -7,7 +7,7 @@ use Rattle.floor_wire.specs.Spelling.{IsWritable, IsWritableContent, is_known}
 use Rattle.floor_wire.specs.View.{attributes_of, content_of}
 use Rattle.floor_wire.specs.declared.attribute.Attr.{Attr}
 use Rattle.floor_message.specs.Picked.{numbers, groups, once_by, distinct, mandatory, mandatory_inside, own_mandatory}
-use Rattle.floor_message.specs.Adding.{add_all}
+use Rattle.floor_message.specs.steps.Adding.{add_all}
 use Rattle.floor_message.specs.Fields.{judged, floors_judged, overall_status}
 use Rattle.floor_message.proofs.Once.{once_by_added, add_all_append}
 

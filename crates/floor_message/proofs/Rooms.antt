@@ -1,16 +1,17 @@
 -- What is left of room behind one attribute, and behind one list after another.
-use Rattle.std.proofs.Common.{◌≡◌, ℕ, ◌+◌, ◌-◌, ◌^◌, ◌<◌, ◌≤◌, ◌%◌, Bool, false, List, [], ◌∷◌, ◌++◌, length, take, drop, map, get_or, Option, Some, None, refl, sym, ◌∙◌, ap, subst, arith, length-append, append_assoc}
-use Rattle.std.specs.Prelude.{SomeIff}
+use Rattle.std.proofs.Common.{◌≡◌, ℕ, zero, suc, ◌+◌, ◌-◌, ◌*◌, ◌^◌, ◌<◌, ◌≤◌, ◌%◌, Bool, false, List, [], ◌∷◌, ◌++◌, length, take, drop, map, get_or, Option, Some, None, refl, sym, ◌∙◌, ap, subst, arith, length-append, append_assoc}
+use Rattle.std.specs.Prelude.{All, SomeIff}
 use Rattle.std.specs.Int.{w16, to_be_bytes, next_multiple_of}
 use Rattle.std.proofs.lemmas.List.{length-replicate, take_more, take-append-drop, map-append}
 use Rattle.floor_wire.specs.Attributes.{Content, num, pair, Attributes, no_attributes, attribute}
 use Rattle.floor_wire.specs.Attributes as wire
+use Rattle.floor_wire.specs.Bytes.{IsBytes, IsOfBytes}
 use Rattle.floor_wire.specs.Spelling.{canon, content_canon, written, zeros_after, format_of, IsWritable}
 use Rattle.floor_wire.specs.View.{attributes_of, content_of}
 use Rattle.floor_wire.specs.declared.attribute.Attr.{Attr}
 use Rattle.floor_wire.specs.declared.attribute.Body.TheVariants.{Num, Pair}
 use Rattle.floor_wire.specs.declared.format.Format.TheVariants.{Unsigned16, OctetString16, Grouped, OctetString}
-use Rattle.floor_message.specs.Room.{Leaves}
+use Rattle.floor_message.specs.steps.Leaves.{Leaves}
 use Rattle.floor_message.specs.Written.{plain, octets, group}
 
 -- an attribute takes its head and its contents, up to a multiple of 4
@@ -48,34 +49,44 @@ pub writable_back : (xs ys : List Attr) → IsWritable (attributes_of (xs ++ ys)
 writable_back [] ys w = w
 writable_back (x ∷ xs) ys w = writable_back xs ys w.4
 
+pub bytes_append : (xs ys : List Attr) → IsOfBytes (attributes_of xs) → IsOfBytes (attributes_of ys) → IsOfBytes (attributes_of (xs ++ ys))
+bytes_append [] ys w v = v
+bytes_append (x ∷ xs) ys w v = (w.0, bytes_append xs ys w.1 v)
+
 -- behind two lists is left what is left behind the second of what is left behind the first
 pub leaves_append : (xs ys : List Attr) (room middle : ℕ) (r : Option ℕ) → Leaves xs room (Some middle) → Leaves ys middle r → Leaves (xs ++ ys) room r
 leaves_append xs ys room middle None p q = λ f. q (record { writable = writable_back xs ys f.writable; bytes = omega (arith, p.1, f.bytes, length-canon-append xs ys) })
-leaves_append xs ys room middle (Some left) p q = (writable_append xs ys p.0 q.0, omega (arith, p.1, q.1, length-canon-append xs ys))
+leaves_append xs ys room middle (Some left) p q = (writable_append xs ys p.0 q.0, omega (arith, p.1, q.1, length-canon-append xs ys), bytes_append xs ys p.2 q.2)
 
 -- what doesn't fit doesn't fit with more behind it
 pub leaves_none : (xs ys : List Attr) (room : ℕ) → Leaves xs room None → Leaves (xs ++ ys) room None
 leaves_none xs ys room p = λ f. p (record { writable = writable_front xs ys f.writable; bytes = omega (arith, f.bytes, length-canon-append xs ys) })
 
+-- types below 128, doubled, are bytes
+pub doubled_bytes : (types : List ℕ) → All (λ kind. kind < 128) types → IsBytes (map (λ k. 2 * k) types)
+doubled_bytes [] h i = omega arith
+doubled_bytes (k ∷ ks) h zero = omega (arith, h 0 k (omega arith))
+doubled_bytes (k ∷ ks) h (suc i) = doubled_bytes ks (λ j d l. h (suc j) d (omega arith)) i
+
 -- no attributes leave all room
 pub leaves_all : (room : ℕ) → Leaves [] room (Some room)
-leaves_all room = (tt, omega arith)
+leaves_all room = (tt, omega arith, tt)
 
 -- behind an attribute of two bytes
-pub pair_leaves : (kind a b room : ℕ) (r : Option ℕ) → kind < 128 → format_of kind ≡ OctetString16 → SomeIff r (4 ≤ room) (room - 4) → Leaves (plain kind (Pair a b) ∷ []) room r
-pair_leaves kind a b room None k f s = λ p. s p.bytes
-pair_leaves kind a b room (Some left) k f s = ((k, f, omega arith, tt, tt), omega (arith, s.0, s.1))
+pub pair_leaves : (kind a b room : ℕ) (r : Option ℕ) → kind < 128 → format_of kind ≡ OctetString16 → a < 256 → b < 256 → SomeIff r (4 ≤ room) (room - 4) → Leaves (plain kind (Pair a b) ∷ []) room r
+pair_leaves kind a b room None k f m n s = λ p. s p.bytes
+pair_leaves kind a b room (Some left) k f m n s = ((k, f, omega arith, tt, tt), omega (arith, s.0, s.1), ((m, n), tt))
 
 -- behind an attribute that is a number
 pub number_leaves : (kind n room : ℕ) (r : Option ℕ) → kind < 128 → format_of kind ≡ Unsigned16 → n < 2 ^ 16 → SomeIff r (4 ≤ room) (room - 4) → Leaves (plain kind (Num n) ∷ []) room r
 number_leaves kind n room None k f h s = λ p. s p.bytes
-number_leaves kind n room (Some left) k f h s = ((k, f, omega arith, h, tt), omega (arith, s.0, s.1))
+number_leaves kind n room (Some left) k f h s = ((k, f, omega arith, h, tt), omega (arith, s.0, s.1), (tt, tt))
 
 -- behind octets
-pub octets_leave : (kind : ℕ) (bytes : List ℕ) (room : ℕ) (r : Option ℕ) → kind < 128 → format_of kind ≡ OctetString → length bytes ≤ 253
+pub octets_leave : (kind : ℕ) (bytes : List ℕ) (room : ℕ) (r : Option ℕ) → kind < 128 → format_of kind ≡ OctetString → length bytes ≤ 253 → IsBytes bytes
     → SomeIff r (next_multiple_of (2 + length bytes) 4 ≤ room) (room - next_multiple_of (2 + length bytes) 4) → Leaves (octets kind bytes ∷ []) room r
-octets_leave kind bytes room None k f h s = λ p. s (omega (arith, p.bytes, length-one kind false (wire.octets bytes)))
-octets_leave kind bytes room (Some left) k f h s = ((k, f, omega arith, tt, tt), omega (arith, s.0, s.1, length-one kind false (wire.octets bytes)))
+octets_leave kind bytes room None k f h m s = λ p. s (omega (arith, p.bytes, length-one kind false (wire.octets bytes)))
+octets_leave kind bytes room (Some left) k f h m s = ((k, f, omega arith, tt, tt), omega (arith, s.0, s.1, length-one kind false (wire.octets bytes)), (m, tt))
 
 pub octets_too_long : (kind : ℕ) (bytes : List ℕ) (room : ℕ) → 253 < length bytes → Leaves (octets kind bytes ∷ []) room None
 octets_too_long kind bytes room h = λ p. absurd (omega (arith, p.writable.2))
@@ -89,7 +100,7 @@ pub group_leaves : (kind n : ℕ) (inside : List Attr) (room left : ℕ) (r : Op
     → SomeIff r (252 - left ≤ room) (room - (252 - left)) → Leaves (group kind n inside ∷ []) room r
 group_leaves kind n inside room left None k f h i s = λ p. s (omega (arith, p.bytes, i.1, length-group kind n inside))
 group_leaves kind n inside room left (Some rest) k f h i s =
-    ((k, f, omega (arith, i.1, length-append (to_be_bytes w16 n) (canon (attributes_of inside))), (h, i.0), tt), omega (arith, s.0, s.1, i.1, length-group kind n inside))
+    ((k, f, omega (arith, i.1, length-append (to_be_bytes w16 n) (canon (attributes_of inside))), (h, i.0), tt), omega (arith, s.0, s.1, i.1, length-group kind n inside), (i.2, tt))
 
 pub group_too_long : (kind n : ℕ) (inside : List Attr) (room : ℕ) → Leaves inside 248 None → Leaves (group kind n inside ∷ []) room None
 group_too_long kind n inside room i = λ p. i (record {

@@ -1,5 +1,5 @@
--- What a message asks, under the binding of its connection: the first check that applies (RFC 8855, sections 5.1 to 5.3 and 13).
-use Rattle.std.specs.Prelude.{◌≡◌, ℕ, ◌*◌, ◌≤◌, ◌==◌, not, List, [], ◌∷◌, length, drop, map, Option, Some, None, Result, Ok, Err, if◌then◌else◌}
+-- What a message asks, under the binding of its connection: the first check that applies answers (RFC 8855, sections 5.1 to 5.3 and 13).
+use Rattle.std.specs.Prelude.{◌≡◌, ℕ, ◌*◌, ◌≤◌, ◌==◌, not, Bool, true, false, List, [], ◌∷◌, length, drop, map, Option, Some, None, is_some, option_and_then, Result, Ok, Err, if◌then◌else◌}
 use Rattle.std.specs.List.{list_any}
 use Rattle.floor_wire.specs.Header.{CommonHeader, header_of}
 use Rattle.floor_wire.specs.Attributes.{Attributes}
@@ -23,44 +23,66 @@ pub data Answer : Type 0 where
   refused : ErrorCode → List ℕ → Answer
   unanswered : Answer
 
--- the error code that the header alone is answered by
-abbrev pub header_refusal : CommonHeader → Binding → Option ErrorCode
-header_refusal h b =
-    if not (h.version == 1) then Some UnsupportedVersion
-    else if not (h.conference == b.conference) then Some ConferenceDoesNotExist
-    else if not (list_any (λ u. u == h.user) b.users) then Some UserDoesNotExist
-    else if not (h.user == b.user) then Some UnauthorizedOperation
-    else None
+-- a check: it applies, and then the message comes to this
+pub record Check : Type 0 where
+  pub applies : Bool
+  pub answer : Answer
 
--- what is asked, or Unable to Parse Message where that is nothing
-abbrev pub by_fields : Option Ask → Answer
-by_fields None = refused UnableToParseMessage []
-by_fields (Some a) = asks a
+abbrev pub when : Bool → Answer → Check
+when applies answer = record { applies = applies; answer = answer }
 
--- Unknown Mandatory Attribute where there are such types, each in the upper 7 bits of a detail (section 5.2.6.1)
-abbrev pub by_mandatory : List ℕ → Option Ask → Answer
-by_mandatory [] a = by_fields a
-by_mandatory (t ∷ types) a = refused UnknownMandatoryAttribute (map (λ k. 2 * k) (t ∷ types))
+-- what the first check that applies answers, or what it comes to otherwise
+abbrev pub first_of : List Check → Answer → Answer
+first_of [] otherwise = otherwise
+first_of (check ∷ checks) otherwise = if check.applies then check.answer else first_of checks otherwise
 
--- by the attributes, or Unable to Parse Message where the payload spells none
-abbrev pub by_attributes : Primitive → Option Attributes → Answer
-by_attributes p None = refused UnableToParseMessage []
-by_attributes p (Some attrs) = by_mandatory (distinct (mandatory attrs)) (fields p (items attrs))
+-- the message is itself an Error
+abbrev pub is_error : Option Primitive → Bool
+is_error (Some primitive.Error) = true
+is_error _ = false
 
--- by the primitive: an Error is left unanswered, and what is no ask is an Unknown Primitive
-abbrev pub by_primitive : Option Primitive → Option Attributes → Answer
-by_primitive None attrs = refused UnknownPrimitive []
-by_primitive (Some primitive.Error) attrs = unanswered
-by_primitive (Some p) attrs = if is_ask p then by_attributes p attrs else refused UnknownPrimitive []
+-- the primitive is one that a client asks by
+abbrev pub is_served : Option Primitive → Bool
+is_served None = false
+is_served (Some p) = is_ask p
 
--- by the header's own checks, and behind them by the primitive
-abbrev pub by_header : Option ErrorCode → Option Primitive → Option Attributes → Answer
-by_header (Some code) p attrs = refused code []
-by_header None p attrs = by_primitive p attrs
+-- the unknown types with M set, each once
+abbrev pub unknown_types : Option Attributes → List ℕ
+unknown_types None = []
+unknown_types (Some attrs) = distinct (mandatory attrs)
+
+-- there is one
+abbrev pub has_any : List ℕ → Bool
+has_any [] = false
+has_any (t ∷ types) = true
+
+-- what the attributes ask, where no required one is missing or without a usable value
+abbrev pub wanted : Option Primitive → Option Attributes → Option Ask
+wanted p attrs = option_and_then (λ p. option_and_then (λ a. fields p (items a)) attrs) p
+
+-- The checks in their order: of the header (section 5.1), of the primitive (section 5.3), and of the attributes that the payload
+-- spells (section 5.2). An Error is left unanswered; each unknown type stands in the upper 7 bits of a detail (section 5.2.6.1).
+abbrev pub checks : CommonHeader → Binding → Option Primitive → Option Attributes → List Check
+checks h b p attrs =
+    when (not (h.version == 1)) (refused UnsupportedVersion [])
+    ∷ when (not (h.conference == b.conference)) (refused ConferenceDoesNotExist [])
+    ∷ when (not (list_any (λ u. u == h.user) b.users)) (refused UserDoesNotExist [])
+    ∷ when (not (h.user == b.user)) (refused UnauthorizedOperation [])
+    ∷ when (is_error p) unanswered
+    ∷ when (not (is_served p)) (refused UnknownPrimitive [])
+    ∷ when (not (is_some attrs)) (refused UnableToParseMessage [])
+    ∷ when (has_any (unknown_types attrs)) (refused UnknownMandatoryAttribute (map (λ k. 2 * k) (unknown_types attrs)))
+    ∷ when (not (is_some (wanted p attrs))) (refused UnableToParseMessage [])
+    ∷ []
+
+-- what is asked; where that is nothing, the last check applies
+abbrev pub asks_if_any : Option Ask → Answer
+asks_if_any None = unanswered
+asks_if_any (Some a) = asks a
 
 -- what a message comes to, by its header and the attributes that its payload spells
 abbrev pub answer : CommonHeader → Binding → Option Attributes → Answer
-answer h b attrs = by_header (header_refusal h b) (primitive_of h.primitive) attrs
+answer h b attrs = first_of (checks h b (primitive_of h.primitive) attrs) (asks_if_any (wanted (primitive_of h.primitive) attrs))
 
 -- what a message comes to, by its bytes
 unfoldable pub ask : List ℕ → Binding → Answer

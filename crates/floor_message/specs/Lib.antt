@@ -1,7 +1,5 @@
-pub mod Adding
 pub mod Ask
 pub mod Binding
-pub mod Checks
 pub mod Code
 pub mod Fields
 pub mod Fits
@@ -14,8 +12,11 @@ pub mod Shown
 pub mod Tell
 pub mod Text
 pub mod Written
+-- the steps of the proofs
+pub mod steps
 -- what the contracts cite of floor_wire
 pub use Rattle.floor_wire.specs.Attributes
+pub use Rattle.floor_wire.specs.Bytes
 pub use Rattle.floor_wire.specs.Header
 pub use Rattle.floor_wire.specs.Spelled
 pub use Rattle.floor_wire.specs.Spelling

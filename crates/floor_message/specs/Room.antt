@@ -1,5 +1,5 @@
--- What is left of room for bytes behind attributes (RFC 8855, section 5.2).
-use Rattle.std.specs.Prelude.{◌≡◌, ℕ, ◌+◌, ◌≤◌, List, length, Option, Some, None}
+-- Room for the bytes of attributes (RFC 8855, section 5.2).
+use Rattle.std.specs.Prelude.{ℕ, ◌≤◌, List, length}
 use Rattle.floor_wire.specs.Spelling.{canon, IsWritable}
 use Rattle.floor_wire.specs.View.{attributes_of}
 use Rattle.floor_wire.specs.declared.attribute.Attr.{Attr}
@@ -8,8 +8,3 @@ use Rattle.floor_wire.specs.declared.attribute.Attr.{Attr}
 pub record FitsRoom (attrs : List Attr) (room : ℕ) : Type 0 where
   pub writable : IsWritable (attributes_of attrs)
   pub bytes : length (canon (attributes_of attrs)) ≤ room
-
--- so much room is left behind the attributes, or they don't fit it
-abbrev pub Leaves : List Attr → ℕ → Option ℕ → Type 0
-Leaves attrs room None = FitsRoom attrs room → ⊥
-Leaves attrs room (Some left) = IsWritable (attributes_of attrs) × (length (canon (attributes_of attrs)) + left ≡ room)

@@ -1,7 +1,7 @@
 //! What the attributes of a message from a client ask (RFC 8855, sections 5.3.1 to 5.3.11).
 
 ghost use Rattle.std.specs.Prelude.{◌≡◌, Some, option_and_then, option_map, IfOk, OnOk};
-ghost use Rattle.floor_message.specs.Adding.{add_new};
+ghost use Rattle.floor_message.specs.steps.Adding.{add_new};
 ghost use Rattle.floor_message.specs.Fields as spec;
 ghost use Rattle.floor_message.specs.declared.primitive.Primitive.TheVariants as primitive;
 

@@ -2,8 +2,8 @@
 //! (RFC 8855, sections 5.1 to 5.3 and 13).
 
 ghost use Rattle.std.specs.Prelude.{◌≡◌, ◌<◌, ◌*◌, All, [], map, IfErr, IfOk, MatchOption, Option, Some};
-ghost use Rattle.floor_message.specs.Ask as spec;
-ghost use Rattle.floor_message.specs.Ask.{HasShortDetails, IsAnswer};
+ghost use Rattle.floor_message.specs.Ask.{HasShortDetails, IsAnswer, ask};
+ghost use Rattle.floor_message.specs.steps.Answering as spec;
 ghost use Rattle.floor_message.specs.Binding.{binding_of};
 ghost use Rattle.floor_message.specs.Picked.{distinct, mandatory};
 ghost use Rattle.floor_wire.specs.Spelled.{spelled};
@@ -20,7 +20,7 @@ use std::alloc::{AllocError, Global};
 ///
 /// The text of a FloorRequest is cut to at most 62 bytes, and its priority is at most 4.
 pub fn read_ask(alloc: Global, frame: &Frame, binding: &Binding) -> Result<Option<Ask>, AskFault>
-    ensures answer { IsAnswer (spec.ask frame.now (binding_of binding.now)) result }
+    ensures value { IsAnswer (ask frame.now (binding_of binding.now)) result }
     ensures details { IfErr result HasShortDetails }
 {
     let header = frame.header();
@@ -59,7 +59,7 @@ fn by_primitive(
     primitive: Option<Primitive>,
     payload: &[u8],
 ) -> Result<Option<Ask>, AskFault>
-    ensures answer { IsAnswer (spec.by_primitive primitive (spelled payload.now)) result }
+    ensures value { IsAnswer (spec.by_primitive primitive (spelled payload.now)) result }
     ensures details { IfErr result HasShortDetails }
 {
     match primitive {
@@ -75,7 +75,7 @@ fn by_attributes(
     primitive: Primitive,
     payload: &[u8],
 ) -> Result<Option<Ask>, AskFault>
-    ensures answer { IsAnswer (spec.by_attributes primitive (spelled payload.now)) result }
+    ensures value { IsAnswer (spec.by_attributes primitive (spelled payload.now)) result }
     ensures details { IfErr result HasShortDetails }
 {
     let Some(attrs) = payload_attrs(alloc, payload)? else {

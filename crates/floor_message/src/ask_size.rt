@@ -6,10 +6,13 @@ ghost use Rattle.floor_message.specs.Fits.{AskFits, FloorRequestFits, FloorsFit,
 ghost use Rattle.std.specs.List.{list_any};
 ghost use Rattle.std.specs.Str.{is_utf8};
 ghost use Rattle.floor_message.specs.Picked.{IsOnceBy};
+ghost use Rattle.floor_message.specs.Written.{ask_attrs};
+ghost use Rattle.floor_wire.specs.Bytes.{IsBytes, IsOfBytes};
+ghost use Rattle.floor_wire.specs.View.{attributes_of};
 
 use crate::ask::{Ask, Verdict};
 use crate::text::{LONGEST_TEXT, text_of};
-use floor_wire::Octets;
+use floor_wire::{Octets, a_slice_is_of_bytes};
 
 /// The most floors of a message: with them it fits its Payload Length.
 const MOST_FLOORS: usize = 60_000;
@@ -22,7 +25,8 @@ const MOST_VERDICTS: usize = 31;
 /// verdicts and at most 60,000 floors. Takes no memory, so its time grows with the square of the
 /// floors.
 pub fn ask_fits(ask: &Ask) -> bool
-    ensures { IsTrue result ↔ AskFits ask.now }
+    ensures value { IsTrue result ↔ AskFits ask.now }
+    ensures bytes { IsTrue result → IsOfBytes (attributes_of (ask_attrs ask.now)) }
 {
     match ask {
         Ask::FloorRequest {
@@ -41,13 +45,15 @@ pub fn ask_fits(ask: &Ask) -> bool
 }
 
 fn floor_request_fits(floors: &[u16], priority: u8, info: &Option<Octets>) -> bool
-    ensures { IsTrue result ↔ FloorRequestFits floors.now priority info.now }
+    ensures value { IsTrue result ↔ FloorRequestFits floors.now priority info.now }
+    ensures bytes { IsTrue result → IfSome info.now IsBytes }
 {
     !floors.is_empty() && priority <= 4 && floors_fit(floors) && info_fits(info)
 }
 
 fn info_fits(info: &Option<Octets>) -> bool
-    ensures { IsTrue result ↔ IfSome info.now TextFits }
+    ensures value { IsTrue result ↔ IfSome info.now TextFits }
+    ensures bytes { IsTrue result → IfSome info.now IsBytes }
 {
     match info {
         Some(text) => text_fits(text.as_slice()),
@@ -56,8 +62,10 @@ fn info_fits(info: &Option<Octets>) -> bool
 }
 
 fn text_fits(text: &[u8]) -> bool
-    ensures { IsTrue result ↔ TextFits text.now }
+    ensures value { IsTrue result ↔ TextFits text.now }
+    ensures bytes { IsBytes text.now }
 {
+    a_slice_is_of_bytes(text);
     !text.is_empty() && text.len() <= LONGEST_TEXT && is_utf8(text)
 }
 

@@ -22,7 +22,7 @@ use std::alloc::{AllocError, Global};
 /// The message from a client, under this head.
 pub fn write_ask(alloc: Global, head: &Head, ask: &Ask) -> Result<Frame, AllocError>
     requires { AskFits ask.now }
-    ensures bytes { IfOk result (λ frame. frame ≡ spec.ask_bytes head.now ask.now) }
+    ensures value { IfOk result (λ frame. frame ≡ spec.ask_bytes head.now ask.now) }
     ensures writable { IfOk result (λ _. IsWritable (attributes_of (spec.ask_attrs ask.now))) }
 {
     let attrs = ask_attrs(alloc, ask)?;
@@ -123,7 +123,7 @@ fn floor_query_attrs(alloc: Global, floors: &[u16]) -> Result<Vec<Attr>, AllocEr
 }
 
 fn put_floors(out: &mut Vec<Attr>, floors: &[u16]) -> Result<(), AllocError>
-    ensures ok { OnOk result (out.new.items
+    ensures out { OnOk result (out.new.items
         ≡ out.old.items ++ map (spec.number FLOOR_ID) floors.now) }
     ensures range { All (λ floor. floor < 2 ^ 16) floors.now }
 {

@@ -70,7 +70,7 @@ pub(crate) fn put_number(
     kind: u8,
     number: Option<u16>,
 ) -> Result<(), AllocError>
-    ensures ok { OnOk result (out.new.items
+    ensures out { OnOk result (out.new.items
         ≡ out.old.items ++ spec.optional (spec.number kind) number) }
     ensures range { IfSome number (λ n. n < 2 ^ 16) }
 {

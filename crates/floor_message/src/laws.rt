@@ -1,18 +1,11 @@
 //! Laws of messages. Each is the contract of a function that does nothing.
 
 ghost use Rattle.std.specs.Prelude.{ℕ, Option};
-ghost use Rattle.floor_message.specs.Checks.{AnswerIsOfChecks};
 ghost use Rattle.floor_message.specs.Picked.{KeepsFirst};
 ghost use Rattle.floor_message.specs.declared.ask.Verdict.{Verdict};
 ghost use Rattle.floor_message.specs.Laws.{ShortenedIsLongest, WhatIsAskedFits, WhatIsShownFits, WrittenAskIsRead, WrittenAskIsShort, WrittenTellIsRead, WrittenTellIsShort};
 
 use floor_wire::what_is_written_is_read;
-
-/// What a message comes to is what the first check that applies answers, or else what it asks. The
-/// checks stand in the order of the codes that answer them.
-pub fn the_first_check_answers()
-    ensures { AnswerIsOfChecks }
-{}
 
 /// What is written of a message from the server is read as that message, under that head.
 pub fn a_written_tell_is_read()

@@ -1,7 +1,7 @@
 //! The attributes that a reader has to know and doesn't (RFC 8855, section 5.2.6.1).
 
 ghost use Rattle.std.specs.Prelude.{◌≡◌, IfOk, OnOk};
-ghost use Rattle.floor_message.specs.Adding.{add_all};
+ghost use Rattle.floor_message.specs.steps.Adding.{add_all};
 ghost use Rattle.floor_message.specs.Picked.{distinct, mandatory, mandatory_inside, own_mandatory};
 ghost use Rattle.floor_wire.specs.Spelling.{is_known};
 ghost use Rattle.floor_wire.specs.View.{attributes_of, content_of};

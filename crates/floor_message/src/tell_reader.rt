@@ -32,7 +32,7 @@ use std::alloc::{AllocError, Global};
 /// missing in a FloorRequestStatus, or SUPPORTED-PRIMITIVES or SUPPORTED-ATTRIBUTES in a HelloAck;
 /// ERROR-CODE is missing or has no code in an Error.
 pub fn read_tell(alloc: Global, frame: &Frame) -> Result<(Head, Tell), TellFault>
-    ensures ok { IfOk result (λ read. spec.tell frame.now ≡ Some read) }
+    ensures value { IfOk result (λ read. spec.tell frame.now ≡ Some read) }
     ensures bad_message { IsErrOf result TellFault.BadMessage → spec.tell frame.now ≡ None }
 {
     let header = frame.header();

@@ -1,16 +1,18 @@
 //! Which messages from the server can be written: the bytes that their attributes take
 //! (RFC 8855, sections 5.1 and 5.2).
 
-ghost use Rattle.std.specs.Prelude.{◌≡◌, ◌<◌, ◌+◌, ◌-◌, ◌∷◌, [], ◌↔◌, ℕ, Some, All, List, length, map, IsTrue};
+ghost use Rattle.std.specs.Prelude.{◌≡◌, ◌<◌, ◌≤◌, IfSome, ◌+◌, ◌-◌, ◌∷◌, [], ◌↔◌, ℕ, Some, All, List, length, map, IsTrue};
+ghost use Rattle.floor_wire.specs.Bytes.{IsBytes, IsOfBytes};
 ghost use Rattle.floor_wire.specs.Spelling.{format_of};
+ghost use Rattle.floor_wire.specs.View.{attributes_of};
 ghost use Rattle.floor_wire.specs.declared.format.Format.TheVariants.{Grouped, OctetString};
 ghost use Rattle.floor_message.specs.Fits.{NumbersFit, PriorityFits, TellFits};
-ghost use Rattle.floor_message.specs.Room.{Leaves};
+ghost use Rattle.floor_message.specs.steps.Leaves.{Leaves};
 ghost use Rattle.floor_message.specs.Written as spec;
 ghost use Rattle.floor_message.specs.Written.{optional, tell_attrs};
 
 use crate::tell::{Info, Tell, Who};
-use floor_wire::Octets;
+use floor_wire::{Octets, a_slice_is_of_bytes};
 
 /// The most bytes behind a header: 65,535 units of 4.
 const LONGEST_PAYLOAD: usize = 4 * 65535;
@@ -31,7 +33,8 @@ const SHORT_ATTRIBUTE: usize = 4;
 /// 128, each group at most 252 bytes, each octet string at most 253 octets, an ERROR-CODE at most
 /// 252 details, and the payload at most 65,535 units of 4 bytes. Takes no memory.
 pub fn tell_fits(tell: &Tell) -> bool
-    ensures { IsTrue result ↔ TellFits tell.now }
+    ensures value { IsTrue result ↔ TellFits tell.now }
+    ensures bytes { IsTrue result → IsOfBytes (attributes_of (tell_attrs tell.now)) }
 {
     numbers_fit(tell) && after_tell(LONGEST_PAYLOAD, tell).is_some()
 }
@@ -77,6 +80,7 @@ fn types_fit(types: &[u8]) -> bool
 
 /// What is left of the room behind the attributes of the message, where they can be written in it.
 fn after_tell(room: usize, tell: &Tell) -> Option<usize>
+    requires { NumbersFit tell.now }
     ensures { Leaves (tell_attrs tell.now) room result }
 {
     match tell {
@@ -94,14 +98,23 @@ fn after_tell(room: usize, tell: &Tell) -> Option<usize>
             primitives,
             attributes,
         } => {
-            let room = after_octets(room, primitives.as_slice().len())?;
+            let primitives = primitives.as_slice();
+            a_slice_is_of_bytes(primitives);
+            let room = after_octets(room, primitives.len())?;
             after_octets(room, attributes.as_slice().len())
         }
-        Tell::Error { details, .. } => after_error(room, details.as_slice().len()),
+        Tell::Error { code, details } => {
+            // Read for its range: an error code is a byte.
+            let _code = *code;
+            let details = details.as_slice();
+            a_slice_is_of_bytes(details);
+            after_error(room, details.len())
+        }
     }
 }
 
 fn after_infos(room: usize, infos: &[Info]) -> Option<usize>
+    requires { All PriorityFits infos.now }
     ensures { Leaves (map spec.info_attr infos.now) room result }
 {
     let mut left = room;
@@ -112,6 +125,7 @@ fn after_infos(room: usize, infos: &[Info]) -> Option<usize>
 }
 
 fn after_info(room: usize, info: &Info) -> Option<usize>
+    requires { PriorityFits info.now }
     ensures { Leaves (spec.info_attr info.now ∷ []) room result }
 {
     // Read for its range: a Floor Request ID has 16 bits.
@@ -122,6 +136,7 @@ fn after_info(room: usize, info: &Info) -> Option<usize>
 
 /// What is left of the room inside FLOOR-REQUEST-INFORMATION.
 fn after_info_parts(room: usize, info: &Info) -> Option<usize>
+    requires { PriorityFits info.now }
     ensures { Leaves (spec.info_attrs info.now) room result }
 {
     let room = after_overall(room, info.request, info.overall)?;
@@ -177,6 +192,7 @@ fn after_who(room: usize, who: &Option<Who>) -> Option<usize>
 }
 
 fn after_priority(room: usize, priority: Option<u8>) -> Option<usize>
+    requires { IfSome priority (λ priority. priority ≤ 4) }
     ensures { Leaves (optional spec.priority_attr priority) room result }
 {
     match priority {
@@ -199,14 +215,19 @@ fn after_optional_octets(room: usize, octets: &Option<Octets>) -> Option<usize>
         → Leaves (optional (spec.octets kind) octets.now) room result }
 {
     match octets {
-        Some(octets) => after_octets(room, octets.as_slice().len()),
+        Some(octets) => {
+            let octets = octets.as_slice();
+            a_slice_is_of_bytes(octets);
+            after_octets(room, octets.len())
+        }
         None => Some(room),
     }
 }
 
 fn after_octets(room: usize, len: usize) -> Option<usize>
     ensures { (kind : ℕ) (octets : List ℕ) → kind < 128 → format_of kind ≡ OctetString
-        → len ≡ length octets → Leaves (spec.octets kind octets ∷ []) room result }
+        → len ≡ length octets → IsBytes octets
+        → Leaves (spec.octets kind octets ∷ []) room result }
 {
     if len > MOST_OCTETS {
         return None;
@@ -217,6 +238,7 @@ fn after_octets(room: usize, len: usize) -> Option<usize>
 /// What is left of the room behind an ERROR-CODE with so many details.
 fn after_error(room: usize, details: usize) -> Option<usize>
     ensures { (code : ℕ) (octets : List ℕ) → details ≡ length octets
+        → code < 256 → IsBytes octets
         → Leaves (spec.octets 6 (code ∷ octets) ∷ []) room result }
 {
     if details >= MOST_OCTETS {

@@ -7,8 +7,9 @@ use Rattle.std.specs.List.{slice_range}
 use Rattle.floor_wire.specs.Attributes.{Attributes, no_attributes}
 use Rattle.floor_wire.specs.View.{attributes_of}
 use Rattle.floor_wire.specs.Spelling.{format_of, number_of, first_byte, Spells}
-use Rattle.floor_wire.specs.Fault.{is_bad_length, padded, front_kind, front_len, front_fault, HasFault, IsBytes}
-use Rattle.floor_wire.specs.Reading.{IsHead, IsFront, IsBodyOf}
+use Rattle.floor_wire.specs.Bytes.{IsBytes}
+use Rattle.floor_wire.specs.Fault.{is_bad_length, padded, front_kind, front_len, front_fault, HasFault}
+use Rattle.floor_wire.specs.steps.Reading.{IsHead, IsFront, IsBodyOf}
 use Rattle.floor_wire.specs.declared.attribute.Attr.{Attr}
 use Rattle.floor_wire.specs.declared.attribute.Body.{Body}
 use Rattle.floor_wire.specs.declared.attribute.Body.TheVariants as bodies

@@ -4,9 +4,10 @@ use Rattle.std.proofs.lemmas.List.{take_more, append-nil}
 use Rattle.floor_wire.specs.declared.attribute.Body.{Body}
 use Rattle.floor_wire.specs.declared.attribute.Body.TheVariants.{Num, Pair, Group, Octets}
 use Rattle.floor_wire.specs.declared.attribute.Attr.{Attr}
+use Rattle.floor_wire.specs.Bytes.{IsContentOfBytes, IsOfBytes}
 use Rattle.floor_wire.specs.Attributes.{content_size, attributes_size}
 use Rattle.floor_wire.specs.View.{content_of, attributes_of, items, body_of}
-use Rattle.floor_wire.specs.Writable.{IsWritableAttribute, attribute_bytes, IsShort}
+use Rattle.floor_wire.specs.steps.Writable.{IsWritableAttribute, attribute_bytes, IsShort}
 use Rattle.floor_wire.specs.Spelling.{canon, IsWritable}
 
 -- the body of an element is smaller than the list
@@ -60,6 +61,16 @@ pub writable_more : (xs : List Attr) (i : ℕ) (a : Attr) → i < length xs → 
     → IsWritable (attributes_of (take (i + 1) xs))
 writable_more xs i a h e w s = let P : List Attr → Type 0 = λ l. IsWritable (attributes_of l) in
     subst P (sym (take_more xs i a h ∙ ap (λ x. take i xs ++ x ∷ []) (sym e))) (writable_append (take i xs) a w s)
+
+bytes_append : (xs : List Attr) (a : Attr) → IsOfBytes (attributes_of xs) → IsContentOfBytes (content_of a.body) → IsOfBytes (attributes_of (xs ++ a ∷ []))
+bytes_append [] a w h = (h, tt)
+bytes_append (x ∷ xs) a w h = (w.0, bytes_append xs a w.1 h)
+
+-- one more attribute of bytes
+pub bytes_more : (xs : List Attr) (i : ℕ) (a : Attr) → i < length xs → a ≡ get_or xs i a → IsOfBytes (attributes_of (take i xs)) → IsContentOfBytes (content_of a.body)
+    → IsOfBytes (attributes_of (take (i + 1) xs))
+bytes_more xs i a h e w s = let P : List Attr → Type 0 = λ l. IsOfBytes (attributes_of l) in
+    subst P (sym (take_more xs i a h ∙ ap (λ x. take i xs ++ x ∷ []) (sym e))) (bytes_append (take i xs) a w s)
 
 -- one attribute that has no spelling is enough
 pub not_writable : (xs : List Attr) (i : ℕ) (a : Attr) → i < length xs → a ≡ get_or xs i a → (IsWritableAttribute a → ⊥) → IsWritable (attributes_of xs) → ⊥

@@ -4,7 +4,8 @@ use Rattle.std.specs.Prelude.{Result, Ok, Err, IfOk, IfErr, IsErr, MatchResult}
 use Rattle.floor_wire.specs.Attributes.{Attributes}
 use Rattle.floor_wire.specs.Spelling.{Spells, IsWritable}
 use Rattle.floor_wire.specs.Spelled.{spelled}
-use Rattle.floor_wire.specs.Fault.{IsBytes, HasFault, IsFaultFrom, fault_at_place}
+use Rattle.floor_wire.specs.Bytes.{IsBytes}
+use Rattle.floor_wire.specs.Fault.{HasFault, IsFaultFrom, fault_at_place}
 use Rattle.floor_wire.specs.declared.fault.Cause.{Cause}
 use Rattle.floor_wire.specs.declared.fault.Cause.TheVariants.{BadLength, Overrun}
 use Rattle.floor_wire.specs.declared.fault.WireFault.{WireFault}

@@ -5,7 +5,8 @@ use Rattle.std.proofs.lemmas.Bool.{cases_lt}
 use Rattle.std.specs.List.{slice_range}
 use Rattle.floor_wire.specs.Attributes.{Content, Attributes, no_attributes, attribute}
 use Rattle.floor_wire.specs.Spelling.{format_of, first_byte, Spells, SpellsFirst}
-use Rattle.floor_wire.specs.Fault.{padded, front_kind, front_len, front_fault, Begins, HasFault, itself, inside, IsBytes}
+use Rattle.floor_wire.specs.Bytes.{IsBytes}
+use Rattle.floor_wire.specs.Fault.{padded, front_kind, front_len, front_fault, Begins, HasFault, itself, inside}
 use Rattle.floor_wire.specs.FirstFault.{BeginsAt, foremost, behind, included, IsFirstFault}
 use Rattle.floor_wire.specs.declared.format.Format.TheVariants.{Grouped}
 use Rattle.floor_wire.specs.declared.fault.Cause.{Cause}

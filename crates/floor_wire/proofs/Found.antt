@@ -7,8 +7,9 @@ use Rattle.std.specs.List.{slice_range}
 use Rattle.floor_wire.specs.Attributes.{Content, num, pair, group, octets, Attributes, no_attributes, attribute}
 use Rattle.floor_wire.specs.View.{content_of, body_of}
 use Rattle.floor_wire.specs.Spelling.{format_of, format_of_content, number_of, Spells, SpellsContent}
-use Rattle.floor_wire.specs.Fault.{is_bad_length, padded, front_kind, front_len, front_fault, IsBytes}
-use Rattle.floor_wire.specs.Reading.{FitsFormat}
+use Rattle.floor_wire.specs.Bytes.{IsBytes}
+use Rattle.floor_wire.specs.Fault.{is_bad_length, padded, front_kind, front_len, front_fault}
+use Rattle.floor_wire.specs.steps.Reading.{FitsFormat}
 use Rattle.floor_wire.specs.Spelled.{content_in, in_front, front_first, spelled_within, spelled}
 use Rattle.floor_wire.specs.declared.format.Format.{Format}
 use Rattle.floor_wire.specs.declared.format.Format.TheVariants.{Unsigned16, OctetString16, Grouped, OctetString}

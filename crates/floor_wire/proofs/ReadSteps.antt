@@ -8,7 +8,7 @@ use Rattle.floor_wire.specs.Attributes.{Attributes, no_attributes, attribute}
 use Rattle.floor_wire.specs.View.{attributes_of, content_of}
 use Rattle.floor_wire.specs.Spelling.{format_of, first_byte, Spells}
 use Rattle.floor_wire.specs.Fault.{is_bad_length, front_kind, front_len, front_fault, Begins, HasFault, itself, inside, IsFaultFrom}
-use Rattle.floor_wire.specs.Reading.{IsHead, IsFront, IsBodyOf}
+use Rattle.floor_wire.specs.steps.Reading.{IsHead, IsFront, IsBodyOf}
 use Rattle.floor_wire.specs.declared.attribute.Attr.{Attr}
 use Rattle.floor_wire.specs.declared.attribute.Body.{Body}
 use Rattle.floor_wire.specs.declared.read.Head.{Head}

@@ -4,7 +4,7 @@ use Rattle.std.proofs.lemmas.List.{length-replicate, get_or_append_left, get_or-
 use Rattle.std.proofs.lemmas.Bool.Decides.{leb_tells}
 use Rattle.floor_wire.specs.Attributes.{Content, num, pair, group, octets, Attributes, no_attributes, attribute}
 use Rattle.floor_wire.specs.Spelling.{first_byte, number_of, zeros_after, content_canon, canon, IsWritable, IsWritableContent, Spells, SpellsContent}
-use Rattle.floor_wire.specs.Fault.{IsBytes}
+use Rattle.floor_wire.specs.Bytes.{IsBytes}
 
 IsBytes-left : (xs ys : List ℕ) → IsBytes (xs ++ ys) → IsBytes xs
 IsBytes-left xs ys h i = elim (leb_tells (length xs) i) [

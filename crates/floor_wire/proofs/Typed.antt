@@ -1,5 +1,5 @@
 -- The formats of the table.
-use Rattle.std.proofs.Common.{◌≡◌, ℕ, Bool, true, false, refl, arith}
+use Rattle.std.proofs.Common.{◌≡◌, ℕ, true, false, refl, arith}
 use Rattle.std.proofs.lemmas.Bool.Decides.{nat_tests}
 use Rattle.std.proofs.lemmas.List.Elements.{All-from_recursion}
 use Rattle.floor_wire.specs.Spelling.{format_of, is_known}

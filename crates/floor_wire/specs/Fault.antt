@@ -59,7 +59,3 @@ IsFaultFrom base bytes (faults.Overrun place) = (at : ℕ) × (place ≡ base + 
 abbrev pub fault_at_place : Cause → ℕ → WireFault
 fault_at_place BadLength at = faults.BadLength at
 fault_at_place Overrun at = faults.Overrun at
-
--- each is a byte
-abbrev pub IsBytes : List ℕ → Type 0
-IsBytes s = (i : ℕ) → slice_index s i < 256

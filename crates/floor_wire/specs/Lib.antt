@@ -1,15 +1,18 @@
-pub mod Attributes
-pub mod AttributesCode
-pub mod AttrsFalls
-pub mod Spelling
-pub mod Types
-pub mod View
-pub mod Fault
-pub mod FirstFault
-pub mod Reading
-pub mod AttributeExamples
-pub mod Writable
-pub mod Spelled
+-- What a reader has to believe, in the order of reading.
 pub mod Message
 pub mod Header
+pub mod Attributes
+pub mod Spelling
+pub mod Bytes
+pub mod Types
+pub mod Spelled
+pub mod Fault
+pub mod FirstFault
 pub mod MessageExamples
+pub mod AttributeExamples
+-- what the values of the types stand for
+pub mod View
+pub mod AttributesCode
+pub mod AttrsFalls
+-- the steps of the proofs
+pub mod steps

@@ -2,12 +2,14 @@
 
 ghost use Rattle.std.specs.Prelude.{◌≡◌, ◌≤◌, ◌*◌, ◌/◌, ◌++◌, length, IfOk, List, ℕ, SomeIff};
 ghost use Rattle.floor_wire.specs.Message.{IsMessage, message_len};
+ghost use Rattle.floor_wire.specs.Bytes.{IsBytes};
 ghost use Rattle.floor_wire.specs.Header.{header_bytes};
 ghost use Rattle.floor_wire.specs.Spelling.{canon, IsWritable};
 ghost use Rattle.floor_wire.specs.View.{attributes_of};
 
 use crate::attribute::Attr;
 use crate::header::{HEADER_LEN, Header};
+use crate::laws::a_slice_is_of_bytes;
 use crate::write;
 use bytes::Bytes;
 use std::alloc::{AllocError, Global};
@@ -56,7 +58,7 @@ impl Frame {
     ) -> Result<Frame, AllocError>
         requires writable { IsWritable (attributes_of attrs.now) }
         requires fits { length (canon (attributes_of attrs.now)) ≤ 4 * 65535 }
-        ensures { let payload = canon (attributes_of attrs.now) in
+        ensures value { let payload = canon (attributes_of attrs.now) in
             IfOk result (λ frame. frame
             ≡ header_bytes primitive (length payload / 4) conference transaction user ++ payload) }
     {
@@ -84,17 +86,20 @@ impl Frame {
     /// The bytes of the message, which are moved out.
     pub(crate) fn into_bytes(self) -> Bytes
         ensures value { result ≡ self }
-        ensures message { IsMessage self }
+        ensures kept { IsMessage self }
     {
         self.bytes
     }
 
     /// The bytes of the message, its header first.
     pub fn bytes(&self) -> &[u8]
-        ensures same { result.now ≡ self.now }
-        ensures message { IsMessage self.now }
+        ensures value { result.now ≡ self.now }
+        ensures kept { IsMessage self.now }
+        ensures bytes { IsBytes self.now }
     {
-        self.bytes.as_slice()
+        let bytes = self.bytes.as_slice();
+        a_slice_is_of_bytes(bytes);
+        bytes
     }
 
     /// The fields of the message's header.

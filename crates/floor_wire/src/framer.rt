@@ -38,8 +38,8 @@ impl Framer {
 
     /// Adds a piece of the stream at the end.
     pub fn push(&mut self, piece: &[u8]) -> Result<(), AllocError>
-        ensures ok { OnOk result (self.new ≡ self.old ++ piece.now) }
-        ensures err { OnErr result (self.new ≡ self.old) }
+        ensures next { OnOk result (self.new ≡ self.old ++ piece.now) }
+        ensures left { OnErr result (self.new ≡ self.old) }
     {
         self.held.extend_from_slice(piece)
     }
@@ -54,12 +54,12 @@ impl Framer {
 
     /// Takes off the first message, where a whole one is held. Its bytes are cut off, not copied.
     pub fn next(&mut self) -> Result<Option<Frame>, AllocError>
-        ensures message { IfOk result (λ next. MatchOption next
+        ensures found { IfOk result (λ next. MatchOption next
             ((messages self.old ≡ []) × (self.new ≡ self.old))
             (λ frame. (messages self.old ≡ frame ∷ messages self.new)
             × (self.old ≡ frame ++ self.new))) }
         ensures rest { OnOk result (rest self.new ≡ rest self.old) }
-        ensures err { OnErr result (self.new ≡ self.old) }
+        ensures left { OnErr result (self.new ≡ self.old) }
     {
         let held = self.held.as_slice();
         if held.len() < HEADER_LEN {

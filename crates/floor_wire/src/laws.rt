@@ -8,7 +8,8 @@ ghost use Rattle.floor_wire.specs.Attributes.{Attributes};
 ghost use Rattle.floor_wire.specs.Spelling.{Spells, IsWritable, canon, cleared};
 ghost use Rattle.floor_wire.specs.Spelled.{spelled};
 ghost use Rattle.floor_wire.specs.Types.{FormatsAreOfTable};
-ghost use Rattle.floor_wire.specs.Fault.{HasFault, IsBytes};
+ghost use Rattle.floor_wire.specs.Bytes.{IsBytes};
+ghost use Rattle.floor_wire.specs.Fault.{HasFault};
 ghost use Rattle.floor_wire.specs.FirstFault.{IsFirstFault};
 ghost use Rattle.floor_wire.specs.declared.fault.Cause.{Cause};
 
@@ -49,6 +50,11 @@ pub fn formats_are_those_of_the_table()
 /// Bytes spell at most one list of attributes.
 pub fn one_list_is_spelled()
     ensures { (a b : Attributes) (s : List ℕ) → Spells a s → Spells b s → a ≡ b }
+{}
+
+/// What a slice of bytes holds is from 0 to 255 each, as its type says.
+pub fn a_slice_is_of_bytes(slice: &[u8])
+    ensures { IsBytes slice.now }
 {}
 
 /// Bytes spell attributes or have a fault.

@@ -26,10 +26,11 @@ pub use frame::Frame;
 pub use framer::Framer;
 pub use header::{HEADER_LEN, Header};
 pub use laws::{
-    a_fault_is_the_only_one, a_rest_holds_no_message, a_stream_divides_in_one_way,
-    bytes_are_spelled_or_faulty, formats_are_those_of_the_table, messages_at_the_front_come_first,
-    one_list_is_spelled, pieces_add_up, the_fault_is_the_first, what_is_computed_is_spelled,
-    what_is_spelled_is_writable, what_is_written_is_read, what_is_written_is_spelled,
+    a_fault_is_the_only_one, a_rest_holds_no_message, a_slice_is_of_bytes,
+    a_stream_divides_in_one_way, bytes_are_spelled_or_faulty, formats_are_those_of_the_table,
+    messages_at_the_front_come_first, one_list_is_spelled, pieces_add_up, the_fault_is_the_first,
+    what_is_computed_is_spelled, what_is_spelled_is_writable, what_is_written_is_read,
+    what_is_written_is_spelled,
 };
 pub use numbers::Numbers;
 pub use octets::Octets;

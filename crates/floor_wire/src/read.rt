@@ -6,7 +6,7 @@ ghost use Rattle.floor_wire.specs.Spelled.{spelled};
 ghost use Rattle.floor_wire.specs.Fault.{is_bad_length, front_fault, HasFault, IsFaultFrom, fault_at_place};
 ghost use Rattle.floor_wire.specs.Attributes.{Attributes};
 ghost use Rattle.floor_wire.specs.declared.fault.Cause.{Cause};
-ghost use Rattle.floor_wire.specs.Reading.{IsHead, IsFront, FitsFormat, IsBodyOf};
+ghost use Rattle.floor_wire.specs.steps.Reading.{IsHead, IsFront, FitsFormat, IsBodyOf};
 
 use crate::attribute::{Attr, Attrs, Body};
 use crate::fault::{Cause, WireFault};
@@ -113,8 +113,8 @@ fn body_of(alloc: Global, format: Format, contents: &[u8], base: usize) -> Resul
 
 /// The head at the front, where the attribute has no fault itself.
 fn head_of(bytes: &[u8]) -> Result<Head, Cause>
-    ensures ok { IfOk result (λ head. (front_fault bytes.now ≡ None) × IsHead bytes.now head) }
-    ensures err { IfErr result (λ cause. front_fault bytes.now ≡ Some cause) }
+    ensures found { IfOk result (λ head. (front_fault bytes.now ≡ None) × IsHead bytes.now head) }
+    ensures fault { IfErr result (λ cause. front_fault bytes.now ≡ Some cause) }
 {
     if bytes.len() < 2 {
         return Err(Cause::Overrun);

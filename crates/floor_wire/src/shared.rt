@@ -1,11 +1,13 @@
 //! One message for several users: the payload is held once (RFC 8855, section 5.1).
 
 ghost use Rattle.std.specs.Prelude.{◌≡◌, length, take, drop, IfOk};
+ghost use Rattle.floor_wire.specs.Bytes.{IsBytes};
 ghost use Rattle.floor_wire.specs.Header.{addressed};
 ghost use Rattle.floor_wire.specs.Message.{IsMessage};
 
 use crate::frame::Frame;
 use crate::header::HEADER_LEN;
+use crate::laws::a_slice_is_of_bytes;
 use bytes::Bytes;
 use std::alloc::AllocError;
 use std::marker::Model;
@@ -60,16 +62,21 @@ impl SharedFrame {
     /// The 12 bytes of the header.
     pub fn header(&self) -> &[u8]
         ensures value { result.now ≡ take HEADER_LEN self.now }
-        ensures message { IsMessage self.now }
+        ensures kept { IsMessage self.now }
+        ensures bytes { IsBytes result.now }
     {
+        a_slice_is_of_bytes(&self.header);
         &self.header
     }
 
     /// The bytes behind the header.
     pub fn payload(&self) -> &[u8]
         ensures value { result.now ≡ drop HEADER_LEN self.now }
+        ensures bytes { IsBytes result.now }
     {
-        self.payload.as_slice()
+        let payload = self.payload.as_slice();
+        a_slice_is_of_bytes(payload);
+        payload
     }
 
     /// How many bytes the message has, its header included.

@@ -2,13 +2,15 @@
 //! 5.2).
 
 ghost use Rattle.std.specs.Prelude.{◌≡◌, ◌<◌, ◌≤◌, ◌+◌, ◌*◌, ◌/◌, ◌^◌, ◌++◌, length, vec_len, slice_set, IfOk, OnOk, if◌then◌else◌, false};
+ghost use Rattle.floor_wire.specs.Bytes.{IsBytes};
 ghost use Rattle.floor_wire.specs.Spelling.{canon, content_canon, first_byte, is_known, zeros_after, IsWritable, IsWritableContent};
 ghost use Rattle.floor_wire.specs.View.{attributes_of, content_of};
-ghost use Rattle.floor_wire.specs.Writable.{IsWritableAttribute, attribute_bytes};
+ghost use Rattle.floor_wire.specs.steps.Writable.{IsWritableAttribute, attribute_bytes};
 ghost use Rattle.floor_wire.specs.Header.{header_bytes};
 
 use crate::attribute::{Attr, Body};
 use crate::header::HEADER_LEN;
+use crate::laws::a_slice_is_of_bytes;
 use std::alloc::{AllocError, Global};
 
 /// Ver 1, with the R, F and reserved bits clear.
@@ -18,10 +20,12 @@ const FIRST_HEADER_BYTE: u8 = 0x20;
 /// the types 1 to 18.
 pub fn write_attrs(alloc: Global, attrs: &[Attr]) -> Result<Vec<u8>, AllocError>
     requires { IsWritable (attributes_of attrs.now) }
-    ensures canon { IfOk result (λ v. v.items ≡ canon (attributes_of attrs.now)) }
+    ensures value { IfOk result (λ v. v.items ≡ canon (attributes_of attrs.now)) }
+    ensures bytes { IfOk result (λ v. IsBytes v.items) }
 {
     let mut out = Vec::new(alloc);
     put_list(&mut out, attrs)?;
+    a_slice_is_of_bytes(out.as_slice());
     Ok(out)
 }
 
@@ -36,7 +40,7 @@ pub(crate) fn message(
 ) -> Result<Vec<u8>, AllocError>
     requires writable { IsWritable (attributes_of attrs.now) }
     requires fits { length (canon (attributes_of attrs.now)) ≤ 4 * 65535 }
-    ensures { let payload = canon (attributes_of attrs.now) in
+    ensures value { let payload = canon (attributes_of attrs.now) in
         IfOk result (λ v. v.items
         ≡ header_bytes primitive (length payload / 4) conference transaction user ++ payload) }
 {
@@ -101,7 +105,7 @@ fn put_attribute(out: &mut Vec<u8>, attr: &Attr) -> Result<(), AllocError>
 fn set_length(out: &mut Vec<u8>, start: usize, len: usize)
     requires room { start + 1 < vec_len out.old }
     requires fits { len < 256 }
-    ensures { out.new.items ≡ slice_set out.old.items (start + 1) len }
+    ensures value { out.new.items ≡ slice_set out.old.items (start + 1) len }
 {
     out[start + 1] = len as u8;
 }

@@ -1,5 +1,5 @@
 use Rattle.std.proofs.Common.{◌≡◌, drop, [], map}
-use Rattle.floor_message.specs.Adding.{add_all}
+use Rattle.floor_message.specs.steps.Adding.{add_all}
 use Rattle.floor_message.specs.Picked.{groups}
 use Rattle.floor_message.specs.Fields.{judged}
 use Rattle.floor_message.proofs.ask_fields.floors_judged.Given as goal

@@ -1,6 +1,6 @@
 use Rattle.std.proofs.Common.{arith, ◌∙◌, ap, List, ℕ}
 use Rattle.floor_wire.specs.View.{content_of}
-use Rattle.floor_message.specs.Adding.{add_all}
+use Rattle.floor_message.specs.steps.Adding.{add_all}
 use Rattle.floor_message.specs.Picked.{mandatory_inside}
 use Rattle.floor_message.proofs.Picking.{mandatory_step, smaller_at}
 use Rattle.floor_message.proofs.mandatory.+mandatory.Goals as goal

@@ -1,5 +1,5 @@
 use Rattle.std.proofs.Common.{◌≡◌, drop}
-use Rattle.floor_message.specs.Adding.{add_all}
+use Rattle.floor_message.specs.steps.Adding.{add_all}
 use Rattle.floor_message.specs.Picked.{mandatory}
 use Rattle.floor_wire.specs.Attributes.{content_size, attributes_size}
 use Rattle.floor_wire.specs.View.{attributes_of, content_of}

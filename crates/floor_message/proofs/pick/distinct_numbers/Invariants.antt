@@ -1,5 +1,5 @@
 use Rattle.std.proofs.Common.{◌≡◌, drop, []}
-use Rattle.floor_message.specs.Adding.{add_all}
+use Rattle.floor_message.specs.steps.Adding.{add_all}
 use Rattle.floor_message.specs.Picked.{numbers}
 use Rattle.floor_message.proofs.pick.distinct_numbers.Given as goal
 

@@ -1,5 +1,5 @@
 use Rattle.std.proofs.Common.{map, take, Some}
-use Rattle.floor_message.specs.Room.{Leaves}
+use Rattle.floor_message.specs.steps.Leaves.{Leaves}
 use Rattle.floor_message.specs.Written.{floor_attr}
 use Rattle.floor_message.proofs.tell_size.after_floors.Given as goal
 

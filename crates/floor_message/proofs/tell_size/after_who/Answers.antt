@@ -1,5 +1,5 @@
 use Rattle.std.proofs.Common.{◌++◌, refl, arith, Some, Option, subst, sym}
-use Rattle.floor_message.specs.Room.{Leaves}
+use Rattle.floor_message.specs.steps.Leaves.{Leaves}
 use Rattle.floor_message.specs.Written.{optional, octets, who_attr}
 use Rattle.floor_message.specs.declared.tell.Who.{Who}
 use Rattle.floor_message.proofs.Rooms.{group_leaves, leaves_append}

@@ -12,5 +12,5 @@ returns-in_ok-bytes-in-Message c =
     IfOk-weaker c.format-in-Message.result
     (λ text. string_bytes text ≡ written (string_bytes c.in_ok-bytes-in-Message.bytes))
     (λ text. string_bytes text ≡ line c.args.place c.args.event.now)
-    (λ text h. h ∙ ap written (c.in_ok-bytes-in-Message.ensures ∙ ap encode_lower c.bytes.ensures.same) ∙ sym (ap (line c.args.place) c.in-Message.is))
+    (λ text h. h ∙ ap written (c.in_ok-bytes-in-Message.ensures ∙ ap encode_lower c.bytes.ensures.value) ∙ sym (ap (line c.args.place) c.in-Message.is))
     (search rules)

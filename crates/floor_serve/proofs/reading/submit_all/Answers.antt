@@ -5,7 +5,7 @@ use Rattle.floor_serve.proofs.reading.submit_all.Goals as goal
 
 pub loop-frame-preserved : goal.loop-frame-preserved
 loop-frame-preserved g c =
-    let m = rw c.in-Some.is at c.in_ok-frame.ensures.message in
+    let m = rw c.in-Some.is at c.in_ok-frame.ensures.found in
     record {
       served = served-more c.args.seat.now c.loop-frame.seat c.submit.new.seat c.args.framer.now c.loop-frame.framer c.next.new.self c.in-Some.frame c.in_ok-submit.field-0.place c.loop-frame.invariant.served m.0 m.1 c.in_ok-submit.ensures.took;
       conference = ap (λ (s : Seat). s.conference) c.in_ok-submit.ensures.took ∙ c.loop-frame.invariant.conference;
@@ -13,5 +13,5 @@ loop-frame-preserved g c =
 
 pub returns-clause-rest : goal.returns-clause-rest
 returns-clause-rest g c =
-    let m = rw c.in_default.is at c.in_ok-frame.ensures.message in
+    let m = rw c.in_default.is at c.in_ok-frame.ensures.found in
     served-rest c.args.seat.now c.loop-frame.seat c.args.framer.now c.loop-frame.framer c.next.new.self c.loop-frame.invariant.served m.0 m.1

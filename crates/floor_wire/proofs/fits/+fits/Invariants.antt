@@ -1,4 +1,5 @@
 use Rattle.std.proofs.Common.{◌≡◌, ◌+◌, ◌*◌, ◌≤◌, length, take}
+use Rattle.floor_wire.specs.Bytes.{IsOfBytes}
 use Rattle.floor_wire.specs.Attributes.{content_size, attributes_size}
 use Rattle.floor_wire.specs.Spelling.{canon, IsWritable}
 use Rattle.floor_wire.specs.View.{attributes_of, content_of}
@@ -14,5 +15,5 @@ abbrev pub decreases-list_len : goal.decreases-list_len
 decreases-list_len l = 2 * attributes_size (attributes_of l.attrs.now)
 
 abbrev pub invariant-list_len-loop-attr : goal.invariant-list_len-loop-attr
-invariant-list_len-loop-attr l = IsWritable (attributes_of (take l.attr-index l.attrs))
+invariant-list_len-loop-attr l = IsWritable (attributes_of (take l.attr-index l.attrs)) × IsOfBytes (attributes_of (take l.attr-index l.attrs))
     × (l.sum ≡ length (canon (attributes_of (take l.attr-index l.attrs)))) × (l.sum ≤ l.most)

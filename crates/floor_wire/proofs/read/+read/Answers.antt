@@ -8,26 +8,26 @@ pub front_of-returns-in-Err-BadLength-clause-fault :
     goal.front_of-returns-in-Err-BadLength-clause-fault
 front_of-returns-in-Err-BadLength-clause-fault t c =
     told_here_length c.args.base c.args.bytes.now c.requires.some
-    (c.in-Err-BadLength.ensures.err ∙ ap (λ cause. Some cause) c.in-Err-BadLength.field-0-is)
+    (c.in-Err-BadLength.ensures.fault ∙ ap (λ cause. Some cause) c.in-Err-BadLength.field-0-is)
 
 pub front_of-returns-in-Err-Overrun-clause-fault :
     goal.front_of-returns-in-Err-Overrun-clause-fault
 front_of-returns-in-Err-Overrun-clause-fault t c =
     told_here_overrun c.args.base c.args.bytes.now c.requires.some
-    (c.in-Err-Overrun.ensures.err ∙ ap (λ cause. Some cause) c.in-Err-Overrun.field-0-is)
+    (c.in-Err-Overrun.ensures.fault ∙ ap (λ cause. Some cause) c.in-Err-Overrun.field-0-is)
 
 pub front_of-returns-in_err-body-clause-fault : goal.front_of-returns-in_err-body-clause-fault
 front_of-returns-in_err-body-clause-fault t c =
     let p = err_from_is_err_and c.from_residual.result c.from_residual.ensures.1 in
     rw (p.1, p.2) (elim c.in_err-body.ensures.fault [
       | inl memory ↦ rw memory tt
-      | inr w ↦ told_in_group c.in_err-body.field-0.0 c.args.base c.args.bytes.now c.in-Ok.head c.requires.some c.in-Ok.ensures.ok.0 c.in-Ok.ensures.ok.1
+      | inr w ↦ told_in_group c.in_err-body.field-0.0 c.args.base c.args.bytes.now c.in-Ok.head c.requires.some c.in-Ok.ensures.found.0 c.in-Ok.ensures.found.1
           (sym c.format_of_kind.ensures ∙ w.0) w.1
     ])
 
 pub front_of-returns-clause-found : goal.front_of-returns-clause-found
 front_of-returns-clause-found t c =
-    front_spelled c.args.bytes.now c.in-Ok.head c.in_ok-body.body c.in-Ok.ensures.ok.1 (rw c.format_of_kind.ensures at c.in_ok-body.ensures.found)
+    front_spelled c.args.bytes.now c.in-Ok.head c.in_ok-body.body c.in-Ok.ensures.found.1 (rw c.format_of_kind.ensures at c.in_ok-body.ensures.found)
 
 pub part_of-returns-in_err-attr-clause-fault : goal.part_of-returns-in_err-attr-clause-fault
 part_of-returns-in_err-attr-clause-fault t c =

@@ -1,7 +1,7 @@
 use Rattle.std.proofs.Common.{◌+◌, ◌++◌, ◌∷◌, length, take, arith, ap, ◌∙◌, sym, append_assoc}
 use Rattle.floor_wire.specs.Spelling.{canon, content_canon, zeros_after}
 use Rattle.floor_wire.specs.View.{attributes_of, content_of}
-use Rattle.floor_wire.specs.Writable.{attribute_bytes}
+use Rattle.floor_wire.specs.steps.Writable.{attribute_bytes}
 use Rattle.floor_wire.proofs.Elements.{NextIs-at, canon-attributes_of-take}
 use Rattle.floor_wire.proofs.Writing.{put_attribute_is}
 use Rattle.floor_wire.proofs.write.+write.Goals as goal
@@ -23,5 +23,5 @@ pub put_attribute-returns : goal.put_attribute-returns
 put_attribute-returns t c =
     let contents = content_canon (content_of c.args.attr.now.body) in
     put_attribute_is c.args.out.now.items _ _ _ _ _ (content_canon (content_of c.args.attr.now.body)) _ _ _ _
-    (omega arith) c.in_ok-push.ensures.items c.in_ok-push-2.ensures.items c.in_ok-put_contents.ensures (omega arith) c.set_length.ensures c.in_ok-extend_from_slice.ensures.items c.padding.ensures
+    (omega arith) c.in_ok-push.ensures.items c.in_ok-push-2.ensures.items c.in_ok-put_contents.ensures (omega arith) c.set_length.ensures.value c.in_ok-extend_from_slice.ensures.items c.padding.ensures
     ∙ ap (λ b. c.args.out.now.items ++ b ∷ (2 + length contents) ∷ (contents ++ zeros_after (length contents))) c.first_byte.ensures

@@ -9,6 +9,6 @@ use Rattle.floor_wire.proofs.frame.Frame.of_attributes.Goals as goal
 
 pub invariant_of-result : goal.invariant_of-result
 invariant_of-result c =
-    subst (λ (s : List ℕ). IsMessage s) (sym (c.in_ok-bytes-2.ensures.ok ∙ c.in_ok-bytes.ensures))
+    subst (λ (s : List ℕ). IsMessage s) (sym (c.in_ok-bytes-2.ensures.ok ∙ c.in_ok-bytes.ensures.value))
     (IsMessage-header_bytes c.args.primitive c.args.conference c.args.transaction c.args.user (canon (attributes_of c.args.attrs.now))
     (spelled_aligned _ _ (canon_spelled _ c.requires.writable)) c.requires.fits)

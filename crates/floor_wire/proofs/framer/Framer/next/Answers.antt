@@ -3,16 +3,16 @@ use Rattle.floor_wire.specs.Message.{message_len}
 use Rattle.floor_wire.proofs.Messages.{messages-none, takes_first, rest-taken}
 use Rattle.floor_wire.proofs.framer.Framer.next.Goals as goal
 
-pub returns-then-held-lt-HEADER_LEN-clause-message : goal.returns-then-held-lt-HEADER_LEN-clause-message
-returns-then-held-lt-HEADER_LEN-clause-message c =
+pub returns-then-held-lt-HEADER_LEN-clause-found : goal.returns-then-held-lt-HEADER_LEN-clause-found
+returns-then-held-lt-HEADER_LEN-clause-found c =
     let held = c.as_slice-held.ensures ∙ c.self.view_is in (messages-none _ (omega (arith, ap length held)), refl)
 
-pub returns-then-held-len-clause-message : goal.returns-then-held-len-clause-message
-returns-then-held-len-clause-message c =
+pub returns-then-held-len-clause-found : goal.returns-then-held-len-clause-found
+returns-then-held-len-clause-found c =
     let held = c.as_slice-held.ensures ∙ c.self.view_is in (messages-none _ (omega (arith, ap length held, ap message_len held)), refl)
 
-pub returns-clause-message : goal.returns-clause-message
-returns-clause-message c =
+pub returns-clause-found : goal.returns-clause-found
+returns-clause-found c =
     let held = c.as_slice-held.ensures ∙ c.self.view_is in
     let len = c.announced_len-len.ensures ∙ ap message_len held in
     takes_first c.args.self.now _ _ (omega (arith, ap length held, len))

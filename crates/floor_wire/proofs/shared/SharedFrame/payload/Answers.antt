@@ -9,6 +9,7 @@ second_part n first rest all long is =
 
 pub returns : goal.returns
 returns c = record {
-  value = c.as_slice.ensures
+  value = c.as_slice-payload.ensures
       ∙ second_part 12 c.self.inside.header c.self.inside.payload c.args.self.now c.self.invariant.0 c.self.view_is;
+  bytes = c.a_slice_is_of_bytes.ensures;
 }
