@@ -1,16 +1,16 @@
 -- A FloorQuery names each floor once.
-use Rattle.std.proofs.Common.{◌≡◌, ℕ, List, [], ◌∷◌, drop, Option, Some, None, refl, subst, ◌∙◌}
+use Rattle.std.proofs.Common.{◌≡◌, ℕ, Bool, true, false, List, [], ◌∷◌, drop, Option, Some, None, refl, sym, subst, ◌∙◌}
 use Rattle.std.specs.Prelude.{option_map, option_and_then}
 use Rattle.floor_wire.specs.Attributes.{Attributes}
-use Rattle.floor_wire.specs.Header.{header_of}
+use Rattle.floor_wire.specs.Header.{CommonHeader, header_of}
 use Rattle.floor_wire.specs.Spelled.{spelled}
 use Rattle.floor_wire.specs.Types.{FLOOR_ID, BENEFICIARY_ID, FLOOR_REQUEST_ID, PRIORITY, PARTICIPANT_PROVIDED_INFO, FLOOR_REQUEST_INFORMATION}
 use Rattle.floor_wire.specs.View.{items}
 use Rattle.floor_wire.specs.declared.attribute.Attr.{Attr}
-use Rattle.floor_message.specs.Ask.{ask, asks, by_attributes, by_header, by_mandatory, by_primitive, header_refusal}
+use Rattle.floor_message.specs.Ask.{Answer, Check, ask, asks, asks_if_any, checks, first_of, refused, unanswered, wanted, when}
 use Rattle.floor_message.specs.Binding.{Binding}
 use Rattle.floor_message.specs.Fields.{chair_action, chair_asked, fields, floor_request, floors_judged, given, priority_asked}
-use Rattle.floor_message.specs.Picked.{IsOnceBy, distinct, first, groups, mandatory, numbers, octet_strings, pairs}
+use Rattle.floor_message.specs.Picked.{IsOnceBy, distinct, first, groups, numbers, octet_strings, pairs}
 use Rattle.floor_message.specs.Primitive.{primitive_of}
 use Rattle.floor_message.specs.Text.{info_kept}
 use Rattle.floor_message.specs.declared.ask.Ask.{Ask}
@@ -69,36 +69,35 @@ once_fields primitive.ChairActionAck attrs a e = cc
 once_fields primitive.HelloAck attrs a e = cc
 once_fields primitive.Error attrs a e = cc
 
-once_mandatory : (p : Primitive) (types : List ℕ) (attrs : List Attr) (o : Option Ask) (a : Ask) → fields p attrs ≡ o → by_mandatory types o ≡ asks a → AreOnce a
-once_mandatory p (t ∷ types) attrs o a f e = cc
-once_mandatory p [] attrs None a f e = cc
-once_mandatory p [] attrs (Some b) a f e = once_fields p attrs a (f ∙ (let same : Some b ≡ Some a = cc in same))
+-- what is asked, if anything is
+found : (o : Option Ask) (a : Ask) → asks_if_any o ≡ asks a → o ≡ Some a
+found None a e = cc
+found (Some b) a e = cc
 
-once_attributes : (p : Primitive) (attrs : Option Attributes) (a : Ask) → by_attributes p attrs ≡ asks a → AreOnce a
-once_attributes p None a e = cc
-once_attributes p (Some attrs) a e = once_mandatory p (distinct (mandatory attrs)) (items attrs) (fields p (items attrs)) a refl e
+once_wanted : (p : Option Primitive) (attrs : Option Attributes) (a : Ask) → asks_if_any (wanted p attrs) ≡ asks a → AreOnce a
+once_wanted None attrs a e = cc
+once_wanted (Some p) None a e = cc
+once_wanted (Some p) (Some attrs) a e = once_fields p (items attrs) a (found (fields p (items attrs)) a e)
 
-once_primitive : (o : Option Primitive) (attrs : Option Attributes) (a : Ask) → by_primitive o attrs ≡ asks a → AreOnce a
-once_primitive None attrs a e = cc
-once_primitive (Some primitive.FloorRequest) attrs a e = once_attributes primitive.FloorRequest attrs a e
-once_primitive (Some primitive.FloorRelease) attrs a e = once_attributes primitive.FloorRelease attrs a e
-once_primitive (Some primitive.FloorRequestQuery) attrs a e = once_attributes primitive.FloorRequestQuery attrs a e
-once_primitive (Some primitive.UserQuery) attrs a e = once_attributes primitive.UserQuery attrs a e
-once_primitive (Some primitive.FloorQuery) attrs a e = once_attributes primitive.FloorQuery attrs a e
-once_primitive (Some primitive.ChairAction) attrs a e = once_attributes primitive.ChairAction attrs a e
-once_primitive (Some primitive.Hello) attrs a e = once_attributes primitive.Hello attrs a e
-once_primitive (Some primitive.FloorRequestStatus) attrs a e = cc
-once_primitive (Some primitive.UserStatus) attrs a e = cc
-once_primitive (Some primitive.FloorStatus) attrs a e = cc
-once_primitive (Some primitive.ChairActionAck) attrs a e = cc
-once_primitive (Some primitive.HelloAck) attrs a e = cc
-once_primitive (Some primitive.Error) attrs a e = cc
+-- a check that refuses doesn't apply where something is asked
+passed : (b : Bool) (code : ErrorCode) (details : List ℕ) (checks : List Check) (other : Answer) (a : Ask) →
+    first_of (when b (refused code details) ∷ checks) other ≡ asks a → first_of checks other ≡ asks a
+passed true code details checks other a e = cc
+passed false code details checks other a e = e
 
-once_header : (r : Option ErrorCode) (o : Option Primitive) (attrs : Option Attributes) (a : Ask) → by_header r o attrs ≡ asks a → AreOnce a
-once_header (Some code) o attrs a e = cc
-once_header None o attrs a e = once_primitive o attrs a e
+-- nor one that leaves the message unanswered
+answered : (b : Bool) (checks : List Check) (other : Answer) (a : Ask) → first_of (when b unanswered ∷ checks) other ≡ asks a → first_of checks other ≡ asks a
+answered true checks other a e = cc
+answered false checks other a e = e
+
+once_answer : (h : CommonHeader) (b : Binding) (p : Option Primitive) (attrs : Option Attributes) (a : Ask) →
+    first_of (checks h b p attrs) (asks_if_any (wanted p attrs)) ≡ asks a → AreOnce a
+once_answer h b p attrs a e =
+    once_wanted p attrs a
+    (passed _ _ _ _ _ a (passed _ _ _ _ _ a (passed _ _ _ _ _ a (passed _ _ _ _ _ a (answered _ _ _ a
+    (passed _ _ _ _ _ a (passed _ _ _ _ _ a (passed _ _ _ _ _ a (passed _ _ _ _ _ a e)))))))))
 
 -- the floors that a FloorQuery asks about differ
 pub asked_once : (bytes : List ℕ) (b : Binding) (floors : List ℕ) → ask bytes b ≡ asks (FloorQuery floors) → IsOnceBy (λ n. n) floors
 unfolding ask
-asked_once bytes b floors e = once_header (header_refusal (header_of bytes) b) (primitive_of (header_of bytes).primitive) (spelled (drop 12 bytes)) (FloorQuery floors) e
+asked_once bytes b floors e = once_answer (header_of bytes) b (primitive_of (header_of bytes).primitive) (spelled (drop 12 bytes)) (FloorQuery floors) e
