@@ -102,27 +102,6 @@ fn a_long_text_is_told_cut_to_62_bytes(rt: HostRuntime) -> Result<(), Fail> {
 }
 
 #[test]
-fn a_leave_ends_17_requests(rt: HostRuntime) -> Result<(), Fail> {
-    let alloc = rt.alloc();
-    let mut machine = machine(alloc, 2)?;
-    let first = floor_ids(alloc, &[1])?;
-    for _ in 0..16 {
-        let out = told(alloc, &mut machine, 1, &first)?;
-        assert!(rt; !out.is_empty());
-    }
-    let second = floor_ids(alloc, &[2])?;
-    let _out = told(alloc, &mut machine, 1, &second)?;
-    assert_eq!(rt; machine.ongoing_requests(), 17);
-    let mut out = Vec::new(alloc);
-    machine.leave(1, &mut out)?;
-    assert_eq!(rt; machine.ongoing_requests(), 0);
-    assert_eq!(rt; machine.live_members(), 1);
-    // Whoever left is told nothing, and nobody else asked.
-    assert_eq!(rt; out.len(), 0);
-    Ok(())
-}
-
-#[test]
 fn a_query_of_9_floors_is_answered_by_9_statuses(rt: HostRuntime) -> Result<(), Fail> {
     let alloc = rt.alloc();
     let mut machine = machine(alloc, 9)?;
@@ -148,5 +127,61 @@ fn a_message_of_32_kib_is_served(rt: HostRuntime) -> Result<(), Fail> {
     let out = told(alloc, &mut machine, 7, &attributes)?;
     assert_eq!(rt; out.len(), 1);
     assert_eq!(rt; out[0].payload(), [4, 4, 0, 1].as_slice());
+    Ok(())
+}
+
+/// Conference 1 with 32 floors, which user 10, who may ask for others, and user 11 have joined.
+fn crowd(alloc: Global) -> Result<Machine, Fail> {
+    let mut asker = user(10);
+    asker.proxy = true;
+    let users = vec![in alloc; asker, user(11)]?;
+    let mut floors = Vec::new(alloc);
+    for id in 1..=32 {
+        floors.push(Floor {
+            id,
+            room: 8,
+            chair: None,
+        })?;
+    }
+    let config = Config::build(
+        alloc,
+        1,
+        8,
+        Users::from_vec(users),
+        Floors::from_vec(floors),
+    )?;
+    let mut machine = Machine::new(alloc, config)?;
+    for user in [10, 11] {
+        join(&mut machine, user)?;
+    }
+    Ok(machine)
+}
+
+#[test]
+fn a_leave_ends_256_requests_and_tells_a_member_288_messages(rt: HostRuntime) -> Result<(), Fail> {
+    let alloc = rt.alloc();
+    let mut machine = crowd(alloc)?;
+    let mut floors = Vec::new(alloc);
+    for floor in 1..=32 {
+        floors.push(floor)?;
+        for _ in 0..8 {
+            // User 10 asks for user 11.
+            let mut attributes = Vec::from_slice(alloc, &[2, 4, 0, 11])?;
+            attributes.extend_from_slice(&floor_ids(alloc, &[floor])?)?;
+            let out = told(alloc, &mut machine, 1, &attributes)?;
+            assert_eq!(rt; out.len(), 2);
+        }
+    }
+    assert_eq!(rt; machine.ongoing_requests(), 256);
+    let all = floor_ids(alloc, &floors)?;
+    let _watches = told(alloc, &mut machine, 7, &all)?;
+    let mut out = Vec::new(alloc);
+    machine.leave(2, &mut out)?;
+    assert_eq!(rt; machine.ongoing_requests(), 0);
+    assert_eq!(rt; machine.live_members(), 1);
+    // A status of each request and of each floor, all to the member that asked and watches: who left
+    // is told nothing.
+    assert_eq!(rt; out.len(), 256 + 32);
+    assert!(rt; out.iter().all(|parcel| parcel.n() == 1));
     Ok(())
 }
