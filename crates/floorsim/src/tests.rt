@@ -2,17 +2,20 @@
 //! and whole runs that were worked out from the rules.
 
 mod act_rules;
+mod cases;
 mod chair_checks;
 mod chair_examples;
 mod conferences;
+mod cuts;
 mod faults;
 mod first_examples;
 mod interleavings;
 mod limits;
+mod long_messages;
 mod message_checks;
 mod query_examples;
+mod refusals;
 mod request_checks;
-mod runs;
 mod runs_chairs;
 mod runs_connections;
 mod runs_errors;
@@ -23,5 +26,4 @@ mod runs_requests;
 mod runs_users;
 mod runs_watching;
 mod script_rules;
-mod transcript;
 mod verdicts;

@@ -1,12 +1,12 @@
 //! Several conferences at once, and streams that are cut anywhere.
 
-use super::runs::follow;
 use crate::run::run;
+use crate::tests::cases::assert_cases;
 use std::alloc::{AllocError, Global};
 use std::test::Fail;
 
-/// Two conferences that look alike.
-const SLOT_USED_AGAIN: &str = r#"
+const CASES: &str = r#"
+@ Two conferences that look alike.
 [[conference]]
 id = 1
 [[conference.user]]
@@ -19,7 +19,8 @@ id = 2
 id = 10
 [[conference.floor]]
 id = 1
----
+
+= a slot used again
 > attach 1 10
 < attached 1
 > piece 1 200b0000000000
@@ -29,7 +30,7 @@ id = 1
 < attached 2
 > send 2 200b0000 00000002 0001 000a
 < 2 200c0009 00000002 0001 000a 160f0102 03040506 0708090a 0b0c0d00 14140204 06080a0c 0e101214
-    16181a1c 1e202224
+<  16181a1c 1e202224
 # Another conference is answered as if it weren't there.
 > send 2 200b0000 00000001 0005 000a
 < 2 200d0001 00000001 0005 000a 0c030100
@@ -48,10 +49,8 @@ id = 1
 < refused Ended
 > attach 2 10
 < refused Ended
-"#;
 
-/// What user 10 and user 11 of conference 1 ask and are told, beside nothing else.
-const ALONE: &str = r#"
+@ What user 10 and user 11 of conference 1 ask and are told, beside nothing else.
 [[conference]]
 id = 1
 [[conference.user]]
@@ -60,7 +59,8 @@ id = 10
 id = 11
 [[conference.floor]]
 id = 1
----
+
+= a conference alone
 > attach 1 10
 < attached 1
 > attach 1 11
@@ -71,10 +71,8 @@ id = 1
 < 2 20040007 00000001 0001 000b 1e1c0002 24080002 0a040201 22080001 0a040201 1c04000b 08044000
 > leave 1
 < 2 20040007 00000001 0000 000b 1e1c0002 24080002 0a040300 22080001 0a040300 1c04000b 08044000
-"#;
 
-/// The same, beside conference 2, which closes in the midst of a message.
-const BESIDE_ANOTHER: &str = r#"
+@ The same, beside conference 2, which closes in the midst of a message.
 [[conference]]
 id = 1
 [[conference.user]]
@@ -89,7 +87,8 @@ id = 2
 id = 10
 [[conference.floor]]
 id = 1
----
+
+= beside another
 > attach 2 10
 < attached 1
 > attach 1 10
@@ -110,14 +109,8 @@ id = 1
 "#;
 
 #[test]
-fn follows_the_runs_of_several_conferences(rt: HostRuntime) -> Result<(), Fail> {
-    let runs = [
-        ("a slot used again", SLOT_USED_AGAIN),
-        ("a conference alone", ALONE),
-        ("beside another", BESIDE_ANOTHER),
-    ];
-    follow(&rt, rt.alloc(), &runs)?;
-    Ok(())
+fn several_conferences_are_run_at_once(rt: HostRuntime) -> Result<(), Fail> {
+    assert_cases(&rt, rt.alloc(), CASES, 3)
 }
 
 /// How many conferences are open at once.

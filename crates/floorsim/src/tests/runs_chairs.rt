@@ -1,10 +1,10 @@
 //! What chairs decide, and what they are refused.
 
-use super::runs::follow;
+use crate::tests::cases::assert_cases;
 use std::test::Fail;
 
-/// A chair accepts, grants first, denies and revokes on one floor.
-const EXPRESS: &str = r#"
+const CASES: &str = r#"
+@ A chair accepts, grants first, denies and revokes on one floor.
 [[conference]]
 id = 1
 [[conference.user]]
@@ -18,7 +18,8 @@ id = 13
 [[conference.floor]]
 id = 4
 chair = 12
----
+
+= a chair accepts, grants first, denies and revokes on one floor
 # Connection 1 is user 10's.
 > attach 1 10
 < attached 1
@@ -67,7 +68,8 @@ chair = 12
 < 2 20040007 00000001 0000 000b 1e1c0002 24080002 0a040203 22080004 0a040203 1c04000b 08048000
 < 3 200a0000 00000001 0005 000c
 < 4 20040007 00000001 0000 000d 1e1c0003 24080003 0a040202 22080004 0a040202 1c04000d 08040000
-# The chair takes that back by Accepted: the last word counts, and request 4 isn't express any more.
+# The chair takes that back by Accepted: the last word counts, and request 4 isn't express any
+# more.
 > send 3 20090003 00000001 0006 000c 1e0c0004 22080004 0a040200
 < 1 20040007 00000001 0000 000a 1e1c0004 24080004 0a040203 22080004 0a040203 1c04000a 08046000
 < 2 20040007 00000001 0000 000b 1e1c0002 24080002 0a040202 22080004 0a040202 1c04000b 08048000
@@ -116,10 +118,8 @@ chair = 12
 > send 3 20090003 00000001 0010 000c 1e0c0005 22080004 0a040400
 < 1 20040007 00000001 0000 000a 1e1c0005 24080005 0a040400 22080004 0a040400 1c04000a 08044000
 < 3 200a0000 00000001 0010 000c
-"#;
 
-/// Two floors with a chair each, and one without.
-const TWO_CHAIRS: &str = r#"
+@ Two floors with a chair each, and one without.
 [[conference]]
 id = 1
 [[conference.user]]
@@ -138,7 +138,8 @@ id = 2
 chair = 12
 [[conference.floor]]
 id = 3
----
+
+= two floors with a chair each, and one without
 # Connection 1 is user 10's.
 > attach 1 10
 < attached 1
@@ -154,11 +155,12 @@ id = 3
 # Floor 3 is Accepted at once, floors 1 and 2 are Pending, and so is the whole.
 > send 1 20010003 00000001 0001 000a 04040003 04040001 04040002
 < 1 2004000b 00000001 0001 000a 1e2c0001 24080001 0a040100 22080003 0a040200 22080001 0a040100
-    22080002 0a040100 1c04000a 08044000
-# The chair of floor 1 accepts it: it shows Accepted with place 0, since the whole is still Pending.
+<  22080002 0a040100 1c04000a 08044000
+# The chair of floor 1 accepts it: it shows Accepted with place 0, since the whole is still
+# Pending.
 > send 2 20090003 00000001 0001 000b 1e0c0001 22080001 0a040200
 < 1 2004000b 00000001 0000 000a 1e2c0001 24080001 0a040100 22080003 0a040200 22080001 0a040200
-    22080002 0a040100 1c04000a 08044000
+<  22080002 0a040100 1c04000a 08044000
 < 2 200a0000 00000001 0001 000b
 # It isn't the chair of floor 2: Error 5.
 > send 2 20090003 00000001 0002 000b 1e0c0001 22080002 0a040200
@@ -169,7 +171,8 @@ id = 3
 # Nobody is the chair of floor 3.
 > send 2 20090003 00000001 0004 000b 1e0c0001 22080003 0a040200
 < 2 200d0001 00000001 0004 000b 0c030500
-# A floor that the request doesn't name is Error 6, before the question whose floors the others are.
+# A floor that the request doesn't name is Error 6, before the question whose floors the others
+# are.
 > send 2 20090005 00000001 0005 000b 1e140001 22080002 0a040200 22080009 0a040200
 < 2 200d0001 00000001 0005 000b 0c030600
 # No request 9: Error 7, before the floors.
@@ -184,12 +187,12 @@ id = 3
 # The chair of floor 2 says Granted: all floors are Accepted, and the request is granted.
 > send 3 20090003 00000001 0001 000c 1e0c0001 22080002 0a040300
 < 1 2004000b 00000001 0000 000a 1e2c0001 24080001 0a040300 22080003 0a040300 22080001 0a040300
-    22080002 0a040300 1c04000a 08044000
+<  22080002 0a040300 1c04000a 08044000
 < 3 200a0000 00000001 0001 000c
 # User 13 asks for floors 1 and 2 with priority 1.
 > send 4 20010003 00000001 0001 000d 04040001 04040002 08042000
 < 4 20040009 00000001 0001 000d 1e240002 24080002 0a040100 22080001 0a040100 22080002 0a040100
-    1c04000d 08042000
+<  1c04000d 08042000
 # And for floor 1 with priority 4.
 > send 4 20010002 00000001 0002 000d 04040001 08048000
 < 4 20040007 00000001 0002 000d 1e1c0003 24080003 0a040100 22080001 0a040100 1c04000d 08048000
@@ -201,35 +204,34 @@ id = 3
 > send 2 20090003 00000001 000a 000b 1e0c0002 22080001 0a040300
 < 2 200a0000 00000001 000a 000b
 < 4 20040009 00000001 0000 000d 1e240002 24080002 0a040100 22080001 0a040200 22080002 0a040100
-    1c04000d 08042000
-# The chair of floor 2 only accepts it: not express. By priority it is second for floor 1, and first
+<  1c04000d 08042000
+# The chair of floor 2 only accepts it: not express. By priority it is second for floor 1, and
+# first
 # for floor 2.
 > send 3 20090003 00000001 0002 000c 1e0c0002 22080002 0a040200
 < 3 200a0000 00000001 0002 000c
 < 4 20040009 00000001 0000 000d 1e240002 24080002 0a040202 22080001 0a040202 22080002 0a040201
-    1c04000d 08042000
+<  1c04000d 08042000
 # Granted by both chairs it is express: first for both floors, and request 3 is second.
 > send 3 20090003 00000001 0003 000c 1e0c0002 22080002 0a040300
 < 3 200a0000 00000001 0003 000c
 < 4 20040009 00000001 0000 000d 1e240002 24080002 0a040201 22080001 0a040201 22080002 0a040201
-    1c04000d 08042000
+<  1c04000d 08042000
 < 4 20040007 00000001 0000 000d 1e1c0003 24080003 0a040202 22080001 0a040202 1c04000d 08048000
 # One Denied denies the whole request; request 3 is first.
 > send 3 20090003 00000001 0004 000c 1e0c0002 22080002 0a040400
 < 3 200a0000 00000001 0004 000c
 < 4 20040009 00000001 0000 000d 1e240002 24080002 0a040400 22080001 0a040400 22080002 0a040400
-    1c04000d 08042000
+<  1c04000d 08042000
 < 4 20040007 00000001 0000 000d 1e1c0003 24080003 0a040201 22080001 0a040201 1c04000d 08048000
 # The chair of floor 1 revokes it, and with it all of request 1; request 3 is granted.
 > send 2 20090003 00000001 000b 000b 1e0c0001 22080001 0a040700
 < 1 2004000b 00000001 0000 000a 1e2c0001 24080001 0a040700 22080003 0a040700 22080001 0a040700
-    22080002 0a040700 1c04000a 08044000
+<  22080002 0a040700 1c04000a 08044000
 < 2 200a0000 00000001 000b 000b
 < 4 20040007 00000001 0000 000d 1e1c0003 24080003 0a040300 22080001 0a040300 1c04000d 08048000
-"#;
 
-/// One chair of two floors gives several verdicts in one message.
-const ONE_CHAIR_TWO_FLOORS: &str = r#"
+@ One chair of two floors gives several verdicts in one message.
 [[conference]]
 id = 1
 [[conference.user]]
@@ -244,7 +246,8 @@ chair = 12
 [[conference.floor]]
 id = 2
 chair = 12
----
+
+= one chair of two floors gives several verdicts in one message
 # Connection 1 is user 10's.
 > attach 1 10
 < attached 1
@@ -257,12 +260,12 @@ chair = 12
 # User 10 asks for both.
 > send 1 20010002 00000001 0001 000a 04040001 04040002
 < 1 20040009 00000001 0001 000a 1e240001 24080001 0a040100 22080001 0a040100 22080002 0a040100
-    1c04000a 08044000
+<  1c04000a 08044000
 # The chair accepts the one and grants the other: the request is granted. The chair's other
 # connection isn't told.
 > send 2 20090005 00000001 0001 000c 1e140001 22080001 0a040200 22080002 0a040300
 < 1 20040009 00000001 0000 000a 1e240001 24080001 0a040300 22080001 0a040300 22080002 0a040300
-    1c04000a 08044000
+<  1c04000a 08044000
 < 2 200a0000 00000001 0001 000c
 # The chair asks for floor 2 itself: pending like any other, and told on its other connection.
 > send 2 20010001 00000001 0002 000c 04040002
@@ -276,16 +279,16 @@ chair = 12
 # User 10 asks for floor 2, then 1.
 > send 1 20010002 00000001 0002 000a 04040002 04040001
 < 1 20040009 00000001 0002 000a 1e240003 24080003 0a040100 22080002 0a040100 22080001 0a040100
-    1c04000a 08044000
+<  1c04000a 08044000
 # One floor accepted and one denied: the whole is Denied.
 > send 2 20090005 00000001 0003 000c 1e140003 22080002 0a040200 22080001 0a040400
 < 1 20040009 00000001 0000 000a 1e240003 24080003 0a040400 22080002 0a040400 22080001 0a040400
-    1c04000a 08044000
+<  1c04000a 08044000
 < 2 200a0000 00000001 0003 000c
 # Once more, for floor 1, then 2.
 > send 1 20010002 00000001 0003 000a 04040001 04040002
 < 1 20040009 00000001 0003 000a 1e240004 24080004 0a040100 22080001 0a040100 22080002 0a040100
-    1c04000a 08044000
+<  1c04000a 08044000
 # One of two verdicts isn't allowed while the request isn't Granted: Error 14, and floor 1 stays
 # Pending.
 > send 2 20090005 00000001 0004 000c 1e140004 22080001 0a040200 22080002 0a040700
@@ -294,31 +297,33 @@ chair = 12
 # Queue places in the message are ignored.
 > send 2 20090005 00000001 0005 000c 1e140004 22080001 0a040207 22080001 0a040500
 < 1 20040009 00000001 0000 000a 1e240004 24080004 0a040100 22080001 0a040200 22080002 0a040100
-    1c04000a 08044000
+<  1c04000a 08044000
 < 2 200a0000 00000001 0005 000c
 # Floor 2 is named without a status, and the overall status says Accepted: that is its verdict.
 # Request 4 waits, first for floor 1, second for floor 2 behind the express request 2.
 > send 2 20090004 00000001 0006 000c 1e100004 22040002 24080004 0a040209
 < 1 20040009 00000001 0000 000a 1e240004 24080004 0a040202 22080001 0a040201 22080002 0a040202
-    1c04000a 08044000
+<  1c04000a 08044000
 < 2 200a0000 00000001 0006 000c
 # The first overall status counts, and the first status in it; the head number of that group means
 # nothing.
-> send 2 20090007 00000001 0007 000c 1e1c0004 240c004d 0a040200 0a040700 24080004 0a040400 22040002
+> send 2 20090007 00000001 0007 000c 1e1c0004 240c004d 0a040200 0a040700 24080004 0a040400
+>  22040002
 < 2 200a0000 00000001 0007 000c
-# Revoking floor 1 revokes request 1; request 2 is granted, and request 4 is first for both floors.
+# Revoking floor 1 revokes request 1; request 2 is granted, and request 4 is first for both
+# floors.
 > send 2 20090003 00000001 0008 000c 1e0c0001 22080001 0a040700
 < 1 20040009 00000001 0000 000a 1e240001 24080001 0a040700 22080001 0a040700 22080002 0a040700
-    1c04000a 08044000
+<  1c04000a 08044000
 < 1 20040009 00000001 0000 000a 1e240004 24080004 0a040201 22080001 0a040201 22080002 0a040201
-    1c04000a 08044000
+<  1c04000a 08044000
 < 2 200a0000 00000001 0008 000c
 < 2 20040007 00000001 0000 000c 1e1c0002 24080002 0a040300 22080002 0a040300 1c04000c 08044000
 < 3 20040007 00000001 0000 000c 1e1c0002 24080002 0a040300 22080002 0a040300 1c04000c 08044000
 # The chair releases its own request; request 4 gets both floors.
 > send 3 20020001 00000001 0002 000c 06040002
 < 1 20040009 00000001 0000 000a 1e240004 24080004 0a040300 22080001 0a040300 22080002 0a040300
-    1c04000a 08044000
+<  1c04000a 08044000
 < 2 20040007 00000001 0000 000c 1e1c0002 24080002 0a040600 22080002 0a040600 1c04000c 08044000
 < 3 20040007 00000001 0002 000c 1e1c0002 24080002 0a040600 22080002 0a040600 1c04000c 08044000
 # A Denied beside a Revoked isn't allowed of a Granted request.
@@ -327,12 +332,10 @@ chair = 12
 # Two Revoked are.
 > send 2 20090005 00000001 000a 000c 1e140004 22080001 0a040700 22080002 0a040700
 < 1 20040009 00000001 0000 000a 1e240004 24080004 0a040700 22080001 0a040700 22080002 0a040700
-    1c04000a 08044000
+<  1c04000a 08044000
 < 2 200a0000 00000001 000a 000c
-"#;
 
-/// A chair joins later, leaves, and comes again.
-const CHAIR_COMES_AND_GOES: &str = r#"
+@ A chair joins later, leaves, and comes again.
 [[conference]]
 id = 1
 [[conference.user]]
@@ -346,7 +349,8 @@ id = 12
 [[conference.floor]]
 id = 1
 chair = 12
----
+
+= a chair joins later, leaves, and comes again
 # Connection 1 is user 10's.
 > attach 1 10
 < attached 1
@@ -359,23 +363,23 @@ chair = 12
 # Request 2.
 > send 2 20010001 00000001 0001 000b 04040001
 < 2 20040009 00000001 0001 000b 1e240002 24080002 0a040100 22080001 0a040100 1c0c000b 1805426f
-    62000000 08044000
+<  62000000 08044000
 # Request 3, of the same user.
 > send 2 20010001 00000001 0002 000b 04040001
 < 2 20040009 00000001 0002 000b 1e240003 24080003 0a040100 22080001 0a040100 1c0c000b 1805426f
-    62000000 08044000
+<  62000000 08044000
 # The chair joins.
 > attach 1 12
 < attached 3
 # It asks about user 11: name and URI, and the requests with the name alone.
 > send 3 20050001 00000001 0001 000c 0204000b
 < 3 2006001b 00000001 0001 000c 1c24000b 1805426f 62000000 1a157369 703a626f 62406578 616d706c
-    652e636f 6d000000 1e240002 24080002 0a040100 22080001 0a040100 1c0c000b 1805426f 62000000
-    08044000 1e240003 24080003 0a040100 22080001 0a040100 1c0c000b 1805426f 62000000 08044000
+<  652e636f 6d000000 1e240002 24080002 0a040100 22080001 0a040100 1c0c000b 1805426f 62000000
+<  08044000 1e240003 24080003 0a040100 22080001 0a040100 1c0c000b 1805426f 62000000 08044000
 # It grants request 2; request 1, which came first, stays Pending.
 > send 3 20090003 00000001 0002 000c 1e0c0002 22080001 0a040300
 < 2 20040009 00000001 0000 000b 1e240002 24080002 0a040300 22080001 0a040300 1c0c000b 1805426f
-    62000000 08044000
+<  62000000 08044000
 < 3 200a0000 00000001 0002 000c
 # It asks for the floor itself.
 > send 3 20010001 00000001 0003 000c 04040001
@@ -386,7 +390,7 @@ chair = 12
 # Request 2 is still Granted.
 > send 1 20030001 00000001 0002 000a 06040002
 < 1 20040009 00000001 0002 000a 1e240002 24080002 0a040300 22080001 0a040300 1c0c000b 1805426f
-    62000000 08044000
+<  62000000 08044000
 # Request 4 isn't ongoing.
 > send 1 20030001 00000001 0003 000a 06040004
 < 1 200d0001 00000001 0003 000a 0c030700
@@ -396,11 +400,11 @@ chair = 12
 # The administrator revokes a pending request: Denied.
 > revoke 1 3
 < 2 20040009 00000001 0000 000b 1e240003 24080003 0a040400 22080001 0a040400 1c0c000b 1805426f
-    62000000 08044000
+<  62000000 08044000
 # And one that is Granted: Revoked.
 > revoke 1 2
 < 2 20040009 00000001 0000 000b 1e240002 24080002 0a040700 22080001 0a040700 1c0c000b 1805426f
-    62000000 08044000
+<  62000000 08044000
 # User 10 asks again.
 > send 1 20010001 00000001 0005 000a 04040001
 < 1 20040007 00000001 0005 000a 1e1c0005 24080005 0a040100 22080001 0a040100 1c04000a 08044000
@@ -413,10 +417,8 @@ chair = 12
 < 4 200a0000 00000001 0001 000c
 # The holder leaves: request 5 ends, and the chair isn't told, as it neither asked nor watches.
 > leave 1
-"#;
 
-/// An express request is earlier on floors without a chair, too.
-const EXPRESS_ELSEWHERE: &str = r#"
+@ An express request is earlier on floors without a chair, too.
 [[conference]]
 id = 1
 [[conference.user]]
@@ -430,7 +432,8 @@ id = 1
 chair = 12
 [[conference.floor]]
 id = 2
----
+
+= an express request is earlier on floors without a chair, too
 # Connection 1 is user 10's.
 > attach 1 10
 < attached 1
@@ -449,12 +452,13 @@ id = 2
 # User 10 asks for both floors with the lowest one.
 > send 1 20010003 00000001 0001 000a 04040001 04040002 08040000
 < 1 20040009 00000001 0001 000a 1e240003 24080003 0a040100 22080001 0a040100 22080002 0a040200
-    1c04000a 08040000
-# The chair of floor 1, its only chaired floor, says Granted: request 3 is express and first on both
+<  1c04000a 08040000
+# The chair of floor 1, its only chaired floor, says Granted: request 3 is express and first on
+# both
 # floors.
 > send 3 20090003 00000001 0001 000c 1e0c0003 22080001 0a040300
 < 1 20040009 00000001 0000 000a 1e240003 24080003 0a040201 22080001 0a040201 22080002 0a040201
-    1c04000a 08040000
+<  1c04000a 08040000
 < 2 20040007 00000001 0000 000b 1e1c0002 24080002 0a040202 22080002 0a040202 1c04000b 08048000
 < 3 200a0000 00000001 0001 000c
 # User 12 asks for floor 2: third, behind the express request and the one with priority 4.
@@ -463,7 +467,7 @@ id = 2
 # Request 1 is released: request 3 is granted, the others move up.
 > send 2 20020001 00000001 0003 000b 06040001
 < 1 20040009 00000001 0000 000a 1e240003 24080003 0a040300 22080001 0a040300 22080002 0a040300
-    1c04000a 08040000
+<  1c04000a 08040000
 < 2 20040007 00000001 0003 000b 1e1c0001 24080001 0a040600 22080002 0a040600 1c04000b 08044000
 < 2 20040007 00000001 0000 000b 1e1c0002 24080002 0a040201 22080002 0a040201 1c04000b 08048000
 < 3 20040007 00000001 0000 000c 1e1c0004 24080004 0a040202 22080002 0a040202 1c04000c 08044000
@@ -475,25 +479,5 @@ id = 2
 
 #[test]
 fn follows_the_runs_of_chairs(rt: HostRuntime) -> Result<(), Fail> {
-    let runs = [
-        (
-            "a chair accepts, grants first, denies and revokes on one floor",
-            EXPRESS,
-        ),
-        ("two floors with a chair each, and one without", TWO_CHAIRS),
-        (
-            "one chair of two floors gives several verdicts in one message",
-            ONE_CHAIR_TWO_FLOORS,
-        ),
-        (
-            "a chair joins later, leaves, and comes again",
-            CHAIR_COMES_AND_GOES,
-        ),
-        (
-            "an express request is earlier on floors without a chair, too",
-            EXPRESS_ELSEWHERE,
-        ),
-    ];
-    follow(&rt, rt.alloc(), &runs)?;
-    Ok(())
+    assert_cases(&rt, rt.alloc(), CASES, 5)
 }

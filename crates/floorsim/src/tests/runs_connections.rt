@@ -1,10 +1,12 @@
 //! As many connections as a conference bears.
 
-use super::runs::follow;
+use crate::tests::cases::assert_cases;
 use std::test::Fail;
 
-/// 64 live connections, most of one user.
-const SIXTY_FOUR: &str = r#"
+const CASES: &str = r#"
+@ The demonstration configuration.
+
+= 64 live connections, most of one user
 # Connection 1 is user 10's.
 > attach 1 10
 < attached 1
@@ -220,7 +222,7 @@ const SIXTY_FOUR: &str = r#"
 # User 11 watches.
 > send 64 20070001 00000001 0001 000b 04040001
 < 64 20080008 00000001 0001 000b 04040001 1e1c0001 24080001 0a040300 22080001 0a040300 1c04000c
-    08044000
+<  08044000
 # User 10 asks on connection 63: its 62 live connections are told, one by the reply; then the
 # watcher.
 > send 63 20010001 00000001 0001 000a 04040001
@@ -287,7 +289,7 @@ const SIXTY_FOUR: &str = r#"
 < 62 20040007 00000001 0000 000a 1e1c0002 24080002 0a040201 22080001 0a040201 1c04000a 08044000
 < 63 20040007 00000001 0001 000a 1e1c0002 24080002 0a040201 22080001 0a040201 1c04000a 08044000
 < 64 2008000f 00000001 0000 000b 04040001 1e1c0001 24080001 0a040300 22080001 0a040300 1c04000c
-    08044000 1e1c0002 24080002 0a040201 22080001 0a040201 1c04000a 08044000
+<  08044000 1e1c0002 24080002 0a040201 22080001 0a040201 1c04000a 08044000
 # User 12 leaves: request 1 ends, request 2 is granted.
 > leave 65
 < 1 20040007 00000001 0000 000a 1e1c0002 24080002 0a040300 22080001 0a040300 1c04000a 08044000
@@ -353,7 +355,7 @@ const SIXTY_FOUR: &str = r#"
 < 62 20040007 00000001 0000 000a 1e1c0002 24080002 0a040300 22080001 0a040300 1c04000a 08044000
 < 63 20040007 00000001 0000 000a 1e1c0002 24080002 0a040300 22080001 0a040300 1c04000a 08044000
 < 64 20080008 00000001 0000 000b 04040001 1e1c0002 24080002 0a040300 22080001 0a040300 1c04000a
-    08044000
+<  08044000
 # The next number is 66.
 > attach 1 12
 < attached 66
@@ -361,7 +363,5 @@ const SIXTY_FOUR: &str = r#"
 
 #[test]
 fn follows_the_runs_of_connections(rt: HostRuntime) -> Result<(), Fail> {
-    let runs = [("64 live connections, most of one user", SIXTY_FOUR)];
-    follow(&rt, rt.alloc(), &runs)?;
-    Ok(())
+    assert_cases(&rt, rt.alloc(), CASES, 1)
 }

@@ -1,10 +1,10 @@
 //! Refusals, pieces of messages and Transaction IDs.
 
-use super::runs::follow;
+use crate::tests::cases::assert_cases;
 use std::test::Fail;
 
-/// What the header is refused for, in order.
-const HEADER_CHECKS: &str = r#"
+const CASES: &str = r#"
+@ What the header is refused for, in order.
 [[conference]]
 id = 16909060
 [[conference.user]]
@@ -13,7 +13,8 @@ id = 10
 id = 11
 [[conference.floor]]
 id = 1
----
+
+= what the header is refused for, in order
 # Connection 1 is user 10's.
 > attach 16909060 10
 < attached 1
@@ -30,7 +31,7 @@ id = 1
 # All the bits that are ignored are set: version 1 is answered, with none of them.
 > send 1 3f0b0000 01020304 0004 000a
 < 1 200c0009 01020304 0004 000a 160f0102 03040506 0708090a 0b0c0d00 14140204 06080a0c 0e101214
-    16181a1c 1e202224
+<  16181a1c 1e202224
 # Another conference and an unknown user: Error 1.
 > send 1 200b0000 00000001 0005 0063
 < 1 200d0001 00000001 0005 0063 0c030100
@@ -60,7 +61,7 @@ id = 1
 < 1 200d0001 01020304 000d 000a 0c030300
 # FloorRequestStatusAck, FloorStatusAck, Goodbye and GoodbyeAck, in one piece.
 > send 1 200e0000 01020304 000e 000a 200f0000 01020304 000f 000a 20100000 01020304 0010 000a
-    20110000 01020304 0011 000a
+>  20110000 01020304 0011 000a
 < 1 200d0001 01020304 000e 000a 0c030300
 < 1 200d0001 01020304 000f 000a 0c030300
 < 1 200d0001 01020304 0010 000a 0c030300
@@ -85,14 +86,12 @@ id = 1
 > send 1 400b0001 01020304 0018 000a 04040001 200b0000 01020304 0019 000a
 < 1 200d0001 01020304 0018 000a 0c030c00
 < 1 200c0009 01020304 0019 000a 160f0102 03040506 0708090a 0b0c0d00 14140204 06080a0c 0e101214
-    16181a1c 1e202224
+<  16181a1c 1e202224
 # Nothing has happened in the conference: this is request 1.
 > send 1 20010001 01020304 001a 000a 04040001
 < 1 20040007 01020304 001a 000a 1e1c0001 24080001 0a040300 22080001 0a040300 1c04000a 08044000
-"#;
 
-/// What the attributes are refused for, in order.
-const ATTRIBUTE_CHECKS: &str = r#"
+@ What the attributes are refused for, in order.
 [[conference]]
 id = 1
 [[conference.user]]
@@ -101,7 +100,8 @@ id = 10
 id = 11
 [[conference.floor]]
 id = 1
----
+
+= what the attributes are refused for, in order
 # Connection 1 is user 10's.
 > attach 1 10
 < attached 1
@@ -114,7 +114,7 @@ id = 1
 # Type 20 with M clear is ignored, whatever it holds.
 > send 1 200b0002 00000001 0002 000a 28060102 03040000
 < 1 200c0009 00000001 0002 000a 160f0102 03040506 0708090a 0b0c0d00 14140204 06080a0c 0e101214
-    16181a1c 1e202224
+<  16181a1c 1e202224
 # Types 20 and 19 with M set inside a group, type 20 again and type 127 outside: three details, in
 # the order of their first bytes.
 > send 1 200b0005 00000001 0003 000a 1e0c0001 29040000 27040000 29040000 ff020000
@@ -128,7 +128,7 @@ id = 1
 # Known attributes that don't belong are ignored.
 > send 1 200b0003 00000001 0006 000a 04040009 1e040001 0c020000
 < 1 200c0009 00000001 0006 000a 160f0102 03040506 0708090a 0b0c0d00 14140204 06080a0c 0e101214
-    16181a1c 1e202224
+<  16181a1c 1e202224
 # But their shape is checked: FLOOR-REQUEST-ID with Length 5.
 > send 1 200b0002 00000001 0007 000a 06050001 00000000
 < 1 200d0001 00000001 0007 000a 0c030a00
@@ -213,11 +213,11 @@ id = 1
 # For itself, in any order: request 2 waits.
 > send 2 20010005 00000001 000e 000b 1008706c 65617365 08046000 0204000b 04040001
 < 2 20040009 00000001 000e 000b 1e240002 24080002 0a040201 22080001 0a040201 1c04000b 08046000
-    1008706c 65617365
-"#;
+<  1008706c 65617365
 
-/// What a message is refused for in the conference.
-const OWN_CHECKS: &str = r#"
+@ The demonstration configuration.
+
+= what a message is refused for in the conference
 # Connection 1 is user 10's.
 > attach 1 10
 < attached 1
@@ -276,8 +276,9 @@ const OWN_CHECKS: &str = r#"
 > send 2 20020001 00000001 0005 000b 06040001
 < 2 200d0001 00000001 0005 000b 0c030700
 # Four requests of a user for a floor are the limit where the configuration names none.
-> send 1 20010001 00000001 000d 000a 04040001 20010001 00000001 000e 000a 04040001 20010001 00000001
-    000f 000a 04040001 20010001 00000001 0010 000a 04040001 20010001 00000001 0011 000a 04040001
+> send 1 20010001 00000001 000d 000a 04040001 20010001 00000001 000e 000a 04040001 20010001
+>  00000001 000f 000a 04040001 20010001 00000001 0010 000a 04040001 20010001 00000001 0011 000a
+>  04040001
 < 1 20040007 00000001 000d 000a 1e1c0002 24080002 0a040300 22080001 0a040300 1c04000a 08044000
 < 1 20040007 00000001 000e 000a 1e1c0003 24080003 0a040201 22080001 0a040201 1c04000a 08044000
 < 1 20040007 00000001 000f 000a 1e1c0004 24080004 0a040202 22080001 0a040202 1c04000a 08044000
@@ -289,10 +290,8 @@ const OWN_CHECKS: &str = r#"
 # User 10 leaves: four requests end at once, and request 6 is granted.
 > leave 1
 < 2 20040007 00000001 0000 000b 1e1c0006 24080006 0a040300 22080001 0a040300 1c04000b 08044000
-"#;
 
-/// Messages that are cut anywhere, or come together.
-const PIECES: &str = r#"
+= messages that are cut anywhere, or come together
 # Connection 1 is user 10's.
 > attach 1 10
 < attached 1
@@ -308,13 +307,13 @@ const PIECES: &str = r#"
 # Another connection isn't disturbed by that.
 > send 2 200b0000 00000001 0001 000b
 < 2 200c0009 00000001 0001 000b 160f0102 03040506 0708090a 0b0c0d00 14140204 06080a0c 0e101214
-    16181a1c 1e202224
+<  16181a1c 1e202224
 # Inside the User ID.
 > send 1 0001 00
 # The last byte.
 > send 1 0a
 < 1 200c0009 00000001 0001 000a 160f0102 03040506 0708090a 0b0c0d00 14140204 06080a0c 0e101214
-    16181a1c 1e202224
+<  16181a1c 1e202224
 # A FloorRequest, cut inside its attribute.
 > send 1 20010001 00000001 0a0b 000a 0404
 # User 11 sends half a FloorRequest too, cut in the Transaction ID.
@@ -328,7 +327,7 @@ const PIECES: &str = r#"
 # The other half, and a whole UserQuery.
 > send 2 0001 0003 000b 20050000 00000001 0004 000b
 < 2 200c0009 00000001 0003 000b 160f0102 03040506 0708090a 0b0c0d00 14140204 06080a0c 0e101214
-    16181a1c 1e202224
+<  16181a1c 1e202224
 < 2 20060007 00000001 0004 000b 1e1c0002 24080002 0a040201 22080001 0a040201 1c04000b 08044000
 # Two messages in one piece: a release, by which user 11 gets the floor, and a new request, which
 # waits.
@@ -345,7 +344,7 @@ const PIECES: &str = r#"
 > send 2 20630000 00000001 0007 000b 200b0000 00000001 0008 000b
 < 2 200d0001 00000001 0007 000b 0c030300
 < 2 200c0009 00000001 0008 000b 160f0102 03040506 0708090a 0b0c0d00 14140204 06080a0c 0e101214
-    16181a1c 1e202224
+<  16181a1c 1e202224
 # A second connection of user 10 sends 11 bytes of a Hello, and leaves.
 > attach 1 10
 < attached 3
@@ -363,11 +362,9 @@ const PIECES: &str = r#"
 # Connection 1 goes on.
 > send 1 200b0000 00000001 0007 000a
 < 1 200c0009 00000001 0007 000a 160f0102 03040506 0708090a 0b0c0d00 14140204 06080a0c 0e101214
-    16181a1c 1e202224
-"#;
+<  16181a1c 1e202224
 
-/// Transaction IDs are copied, whatever they are, and notices have 0.
-const TRANSACTIONS: &str = r#"
+= Transaction IDs are copied, whatever they are, and notices have 0
 # Connection 1 is user 10's.
 > attach 1 10
 < attached 1
@@ -380,15 +377,15 @@ const TRANSACTIONS: &str = r#"
 # Transaction ID 0 in a Hello.
 > send 1 200b0000 00000001 0000 000a
 < 1 200c0009 00000001 0000 000a 160f0102 03040506 0708090a 0b0c0d00 14140204 06080a0c 0e101214
-    16181a1c 1e202224
+<  16181a1c 1e202224
 # The greatest.
 > send 1 200b0000 00000001 ffff 000a
 < 1 200c0009 00000001 ffff 000a 160f0102 03040506 0708090a 0b0c0d00 14140204 06080a0c 0e101214
-    16181a1c 1e202224
+<  16181a1c 1e202224
 # The same again.
 > send 1 200b0000 00000001 ffff 000a
 < 1 200c0009 00000001 ffff 000a 160f0102 03040506 0708090a 0b0c0d00 14140204 06080a0c 0e101214
-    16181a1c 1e202224
+<  16181a1c 1e202224
 # A smaller one in a FloorRequest; the other connection has a notice with 0.
 > send 1 20010001 00000001 00ff 000a 04040001
 < 1 20040007 00000001 00ff 000a 1e1c0001 24080001 0a040300 22080001 0a040300 1c04000a 08044000
@@ -403,17 +400,17 @@ const TRANSACTIONS: &str = r#"
 # In a UserStatus.
 > send 3 20050001 00000001 8000 000b 0204000a
 < 3 2006000f 00000001 8000 000b 1c04000a 1e1c0001 24080001 0a040300 22080001 0a040300 1c04000a
-    08044000 1e1c0002 24080002 0a040201 22080001 0a040201 1c04000a 08044000
+<  08044000 1e1c0002 24080002 0a040201 22080001 0a040201 1c04000a 08044000
 # In a FloorStatus; its notices have 0.
 > send 3 20070001 00000001 7fff 000b 04040001
 < 3 2008000f 00000001 7fff 000b 04040001 1e1c0001 24080001 0a040300 22080001 0a040300 1c04000a
-    08044000 1e1c0002 24080002 0a040201 22080001 0a040201 1c04000a 08044000
+<  08044000 1e1c0002 24080002 0a040201 22080001 0a040201 1c04000a 08044000
 # A release of the waiting request on connection 1.
 > send 1 20020001 00000001 0003 000a 06040002
 < 1 20040007 00000001 0003 000a 1e1c0002 24080002 0a040500 22080001 0a040500 1c04000a 08044000
 < 2 20040007 00000001 0000 000a 1e1c0002 24080002 0a040500 22080001 0a040500 1c04000a 08044000
 < 3 20080008 00000001 0000 000b 04040001 1e1c0001 24080001 0a040300 22080001 0a040300 1c04000a
-    08044000
+<  08044000
 # The same Transaction ID on another connection.
 > send 2 20020001 00000001 0003 000a 06040001
 < 1 20040007 00000001 0000 000a 1e1c0001 24080001 0a040600 22080001 0a040600 1c04000a 08044000
@@ -423,22 +420,5 @@ const TRANSACTIONS: &str = r#"
 
 #[test]
 fn follows_the_runs_of_refusals(rt: HostRuntime) -> Result<(), Fail> {
-    let runs = [
-        ("what the header is refused for, in order", HEADER_CHECKS),
-        (
-            "what the attributes are refused for, in order",
-            ATTRIBUTE_CHECKS,
-        ),
-        (
-            "what a message is refused for in the conference",
-            OWN_CHECKS,
-        ),
-        ("messages that are cut anywhere, or come together", PIECES),
-        (
-            "Transaction IDs are copied, whatever they are, and notices have 0",
-            TRANSACTIONS,
-        ),
-    ];
-    follow(&rt, rt.alloc(), &runs)?;
-    Ok(())
+    assert_cases(&rt, rt.alloc(), CASES, 5)
 }

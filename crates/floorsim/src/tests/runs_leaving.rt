@@ -1,10 +1,10 @@
 //! What follows where connections come and leave, and where a conference closes.
 
-use super::runs::follow;
+use crate::tests::cases::assert_cases;
 use std::test::Fail;
 
-/// A leave ends three requests and moves two queues.
-const LEAVE_ENDS_SEVERAL: &str = r#"
+const CASES: &str = r#"
+@ A leave ends three requests and moves two queues.
 [[conference]]
 id = 1
 limit = 2
@@ -23,7 +23,8 @@ id = 2
 room = 2
 [[conference.floor]]
 id = 3
----
+
+= a leave ends three requests and moves two queues
 # Connection 1 is user 10's.
 > attach 1 10
 < attached 1
@@ -60,7 +61,7 @@ id = 3
 # User 13 wants floors 2 and 3: second on the one, first on the other, second overall.
 > send 4 20010002 00000001 0002 000d 04040002 04040003
 < 4 20040009 00000001 0002 000d 1e240008 24080008 0a040202 22080002 0a040202 22080003 0a040201
-    1c04000d 08044000
+<  1c04000d 08044000
 # User 10 leaves: requests 1, 2 and 5 end, and user 10 isn't told. Floor 1 goes to request 4, the
 # free place of floor 2 to request 7; requests 6 and 8 are first now.
 > leave 1
@@ -68,12 +69,12 @@ id = 3
 < 3 20040007 00000001 0000 000c 1e1c0007 24080007 0a040300 22080002 0a040300 1c04000c 08044000
 < 4 20040007 00000001 0000 000d 1e1c0006 24080006 0a040201 22080001 0a040201 1c04000d 08044000
 < 4 20040009 00000001 0000 000d 1e240008 24080008 0a040201 22080002 0a040201 22080003 0a040201
-    1c04000d 08044000
+<  1c04000d 08044000
 # User 11 releases request 3: request 8 gets both its floors.
 > send 2 20020001 00000001 0002 000b 06040003
 < 2 20040007 00000001 0002 000b 1e1c0003 24080003 0a040600 22080002 0a040600 1c04000b 08044000
 < 4 20040009 00000001 0000 000d 1e240008 24080008 0a040300 22080002 0a040300 22080003 0a040300
-    1c04000d 08044000
+<  1c04000d 08044000
 # User 10 comes again, as connection 5.
 > attach 1 10
 < attached 5
@@ -90,10 +91,10 @@ id = 3
 > leave 3
 < 4 20040007 00000001 0000 000d 1e1c0006 24080006 0a040300 22080001 0a040300 1c04000d 08044000
 < 5 20040007 00000001 0000 000a 1e1c0009 24080009 0a040201 22080001 0a040201 1c04000a 08044000
-"#;
 
-/// A user with three connections, of which one after the other leaves.
-const SEVERAL_CONNECTIONS: &str = r#"
+@ The demonstration configuration.
+
+= a user with three connections, of which one after the other leaves
 # Connection 1 is user 10's.
 > attach 1 10
 < attached 1
@@ -155,18 +156,16 @@ const SEVERAL_CONNECTIONS: &str = r#"
 # Hello.
 > send 5 200b0000 00000001 0002 000a
 < 5 200c0009 00000001 0002 000a 160f0102 03040506 0708090a 0b0c0d00 14140204 06080a0c 0e101214
-    16181a1c 1e202224
-"#;
+<  16181a1c 1e202224
 
-/// A member that joins later asks about what is there.
-const COMES_LATER: &str = r#"
+= a member that joins later asks about what is there
 # Connection 1 is user 10's.
 > attach 1 10
 < attached 1
 # User 10 gets floor 1.
 > send 1 20010003 00000001 0001 000a 04040001 10076669 72737400
 < 1 20040009 00000001 0001 000a 1e240001 24080001 0a040300 22080001 0a040300 1c04000a 08044000
-    10076669 72737400
+<  10076669 72737400
 # Connection 2 is user 11's.
 > attach 1 11
 < attached 2
@@ -179,7 +178,7 @@ const COMES_LATER: &str = r#"
 # Whoever asks is shown request 1.
 > send 3 20030001 00000001 0001 000c 06040001
 < 3 20040009 00000001 0001 000c 1e240001 24080001 0a040300 22080001 0a040300 1c04000a 08044000
-    10076669 72737400
+<  10076669 72737400
 # And request 2.
 > send 3 20030001 00000001 0002 000c 06040002
 < 3 20040007 00000001 0002 000c 1e1c0002 24080002 0a040201 22080001 0a040201 1c04000b 08046000
@@ -189,38 +188,36 @@ const COMES_LATER: &str = r#"
 # User 11 has request 2.
 > send 3 20050001 00000001 0004 000c 0204000b
 < 3 20060008 00000001 0004 000c 1c04000b 1e1c0002 24080002 0a040201 22080001 0a040201 1c04000b
-    08046000
+<  08046000
 # Floor 1 has both.
 > send 3 20070001 00000001 0005 000c 04040001
 < 3 20080011 00000001 0005 000c 04040001 1e240001 24080001 0a040300 22080001 0a040300 1c04000a
-    08044000 10076669 72737400 1e1c0002 24080002 0a040201 22080001 0a040201 1c04000b 08046000
+<  08044000 10076669 72737400 1e1c0002 24080002 0a040201 22080001 0a040201 1c04000b 08046000
 # User 12 waits with the highest priority, and so before user 11.
 > send 3 20010002 00000001 0006 000c 04040001 08048000
 < 2 20040007 00000001 0000 000b 1e1c0002 24080002 0a040202 22080001 0a040202 1c04000b 08046000
 < 3 20040007 00000001 0006 000c 1e1c0003 24080003 0a040201 22080001 0a040201 1c04000c 08048000
 < 3 20080018 00000001 0000 000c 04040001 1e240001 24080001 0a040300 22080001 0a040300 1c04000a
-    08044000 10076669 72737400 1e1c0002 24080002 0a040202 22080001 0a040202 1c04000b 08046000
-    1e1c0003 24080003 0a040201 22080001 0a040201 1c04000c 08048000
+<  08044000 10076669 72737400 1e1c0002 24080002 0a040202 22080001 0a040202 1c04000b 08046000
+<  1e1c0003 24080003 0a040201 22080001 0a040201 1c04000c 08048000
 # User 10 joins a second time, and is told nothing by itself.
 > attach 1 10
 < attached 4
 # The new connection releases what the old one had asked for.
 > send 4 20020001 00000001 0001 000a 06040001
 < 1 20040009 00000001 0000 000a 1e240001 24080001 0a040600 22080001 0a040600 1c04000a 08044000
-    10076669 72737400
+<  10076669 72737400
 < 2 20040007 00000001 0000 000b 1e1c0002 24080002 0a040201 22080001 0a040201 1c04000b 08046000
 < 3 20040007 00000001 0000 000c 1e1c0003 24080003 0a040300 22080001 0a040300 1c04000c 08048000
 < 3 2008000f 00000001 0000 000c 04040001 1e1c0002 24080002 0a040201 22080001 0a040201 1c04000b
-    08046000 1e1c0003 24080003 0a040300 22080001 0a040300 1c04000c 08048000
+<  08046000 1e1c0003 24080003 0a040300 22080001 0a040300 1c04000c 08048000
 < 4 20040009 00000001 0001 000a 1e240001 24080001 0a040600 22080001 0a040600 1c04000a 08044000
-    10076669 72737400
+<  10076669 72737400
 # User 12 leaves, and user 11 gets the floor.
 > leave 3
 < 2 20040007 00000001 0000 000b 1e1c0002 24080002 0a040300 22080001 0a040300 1c04000b 08046000
-"#;
 
-/// A closed conference tells its watchers nothing and refuses what follows.
-const CLOSED: &str = r#"
+= a closed conference tells its watchers nothing and refuses what follows
 # User 10 is connected twice, users 11 and 12 once.
 > attach 1 10
 < attached 1
@@ -239,12 +236,12 @@ const CLOSED: &str = r#"
 # User 11 gets it.
 > send 2 20010001 00000001 0001 000b 04040001
 < 1 20080008 00000001 0000 000a 04040001 1e1c0001 24080001 0a040300 22080001 0a040300 1c04000b
-    08044000
+<  08044000
 < 2 20040007 00000001 0001 000b 1e1c0001 24080001 0a040300 22080001 0a040300 1c04000b 08044000
 # User 12 waits.
 > send 3 20010001 00000001 0001 000c 04040001
 < 1 2008000f 00000001 0000 000a 04040001 1e1c0001 24080001 0a040300 22080001 0a040300 1c04000b
-    08044000 1e1c0002 24080002 0a040201 22080001 0a040201 1c04000c 08044000
+<  08044000 1e1c0002 24080002 0a040201 22080001 0a040201 1c04000c 08044000
 < 3 20040007 00000001 0001 000c 1e1c0002 24080002 0a040201 22080001 0a040201 1c04000c 08044000
 # The first 4 bytes of a message stay on connection 1.
 > send 1 200b0000
@@ -301,24 +298,5 @@ const CLOSED: &str = r#"
 
 #[test]
 fn follows_the_runs_of_leaves_and_closes(rt: HostRuntime) -> Result<(), Fail> {
-    let runs = [
-        (
-            "a leave ends three requests and moves two queues",
-            LEAVE_ENDS_SEVERAL,
-        ),
-        (
-            "a user with three connections, of which one after the other leaves",
-            SEVERAL_CONNECTIONS,
-        ),
-        (
-            "a member that joins later asks about what is there",
-            COMES_LATER,
-        ),
-        (
-            "a closed conference tells its watchers nothing and refuses what follows",
-            CLOSED,
-        ),
-    ];
-    follow(&rt, rt.alloc(), &runs)?;
-    Ok(())
+    assert_cases(&rt, rt.alloc(), CASES, 4)
 }

@@ -1,10 +1,10 @@
 //! What floor requests are told: queues, rooms and priorities.
 
-use super::runs::follow;
+use crate::tests::cases::assert_cases;
 use std::test::Fail;
 
-/// A joint request is not overtaken, and its grant moves two queues.
-const NOT_OVERTAKEN: &str = r#"
+const CASES: &str = r#"
+@ A joint request is not overtaken, and its grant moves two queues.
 [[conference]]
 id = 1
 [[conference.user]]
@@ -19,7 +19,8 @@ id = 13
 id = 1
 [[conference.floor]]
 id = 2
----
+
+= a joint request is not overtaken, and its grant moves two queues
 # Connection 1 is user 10's.
 > attach 1 10
 < attached 1
@@ -38,8 +39,9 @@ id = 2
 # User 11 asks for floors 1 and 2: floor 1 is held, so request 2 waits in place 1 of both.
 > send 2 20010002 00000001 0001 000b 04040001 04040002
 < 2 20040009 00000001 0001 000b 1e240002 24080002 0a040201 22080001 0a040201 22080002 0a040201
-    1c04000b 08044000
-# User 12 asks for floor 2: nobody holds it, but request 2 waits for it earlier, so request 3 waits
+<  1c04000b 08044000
+# User 12 asks for floor 2: nobody holds it, but request 2 waits for it earlier, so request 3
+# waits
 # in place 2.
 > send 3 20010001 00000001 0001 000c 04040002
 < 3 20040007 00000001 0001 000c 1e1c0003 24080003 0a040202 22080002 0a040202 1c04000c 08044000
@@ -50,7 +52,8 @@ id = 2
 # is Granted. The places of requests 2 and 3 stay: holders don't count in them.
 > send 4 20010002 00000001 0002 000d 04040002 08048000
 < 4 20040007 00000001 0002 000d 1e1c0005 24080005 0a040300 22080002 0a040300 1c04000d 08048000
-# User 10 releases request 1. Request 2 still wants floor 2, which request 5 holds; request 4 stays
+# User 10 releases request 1. Request 2 still wants floor 2, which request 5 holds; request 4
+# stays
 # behind request 2, though floor 1 is free. Only the sender is told.
 > send 1 20020001 00000001 0002 000a 06040001
 < 1 20040007 00000001 0002 000a 1e1c0001 24080001 0a040600 22080001 0a040600 1c04000a 08044000
@@ -58,20 +61,18 @@ id = 2
 # on floor 1. The reply comes first, then the notice.
 > send 4 20020001 00000001 0003 000d 06040005
 < 2 20040009 00000001 0000 000b 1e240002 24080002 0a040300 22080001 0a040300 22080002 0a040300
-    1c04000b 08044000
+<  1c04000b 08044000
 < 3 20040007 00000001 0000 000c 1e1c0003 24080003 0a040201 22080002 0a040201 1c04000c 08044000
 < 4 20040007 00000001 0003 000d 1e1c0005 24080005 0a040600 22080002 0a040600 1c04000d 08048000
 < 4 20040007 00000001 0000 000d 1e1c0004 24080004 0a040201 22080001 0a040201 1c04000d 08040000
 # User 11 releases request 2: requests 3 and 4 are granted, each on its floor.
 > send 2 20020001 00000001 0002 000b 06040002
 < 2 20040009 00000001 0002 000b 1e240002 24080002 0a040600 22080001 0a040600 22080002 0a040600
-    1c04000b 08044000
+<  1c04000b 08044000
 < 3 20040007 00000001 0000 000c 1e1c0003 24080003 0a040300 22080002 0a040300 1c04000c 08044000
 < 4 20040007 00000001 0000 000d 1e1c0004 24080004 0a040300 22080001 0a040300 1c04000d 08040000
-"#;
 
-/// A joint request that is cancelled lets two others in, and revokes.
-const CANCELLED_JOINT: &str = r#"
+@ A joint request that is cancelled lets two others in, and revokes.
 [[conference]]
 id = 1
 [[conference.user]]
@@ -88,7 +89,8 @@ id = 1
 id = 2
 [[conference.floor]]
 id = 3
----
+
+= a joint request that is cancelled lets two others in, and revokes
 # Connection 1 is user 10's.
 > attach 1 10
 < attached 1
@@ -107,29 +109,31 @@ id = 3
 # Request 2 wants all three floors and waits for floor 3, in place 1 of each.
 > send 2 20010003 00000001 0001 000b 04040001 04040002 04040003
 < 2 2004000b 00000001 0001 000b 1e2c0002 24080002 0a040201 22080001 0a040201 22080002 0a040201
-    22080003 0a040201 1c04000b 08044000
+<  22080003 0a040201 1c04000b 08044000
 # Request 3 waits for floor 1 behind request 2, though nobody holds it.
 > send 3 20010001 00000001 0001 000c 04040001
 < 3 20040007 00000001 0001 000c 1e1c0003 24080003 0a040202 22080001 0a040202 1c04000c 08044000
 # Request 4 waits for floor 2 behind request 2.
 > send 4 20010001 00000001 0001 000d 04040002
 < 4 20040007 00000001 0001 000d 1e1c0004 24080004 0a040202 22080002 0a040202 1c04000d 08044000
-# Request 5 names floor 2, then floor 1: behind 2 and 4 on the one, behind 2 and 3 on the other. The
+# Request 5 names floor 2, then floor 1: behind 2 and 4 on the one, behind 2 and 3 on the other.
+# The
 # floors keep the order of the request.
 > send 3 20010002 00000001 0002 000c 04040002 04040001
 < 3 20040009 00000001 0002 000c 1e240005 24080005 0a040203 22080002 0a040203 22080001 0a040203
-    1c04000c 08044000
+<  1c04000c 08044000
 # Request 6 waits for floor 3 behind request 2.
 > send 4 20010001 00000001 0002 000d 04040003
 < 4 20040007 00000001 0002 000d 1e1c0006 24080006 0a040202 22080003 0a040202 1c04000d 08044000
-# User 11 gives up request 2, which waited: it is Cancelled. Requests 3 and 4 are granted; 5 is now
+# User 11 gives up request 2, which waited: it is Cancelled. Requests 3 and 4 are granted; 5 is
+# now
 # first on both its floors, 6 first on floor 3.
 > send 2 20020001 00000001 0002 000b 06040002
 < 2 2004000b 00000001 0002 000b 1e2c0002 24080002 0a040500 22080001 0a040500 22080002 0a040500
-    22080003 0a040500 1c04000b 08044000
+<  22080003 0a040500 1c04000b 08044000
 < 3 20040007 00000001 0000 000c 1e1c0003 24080003 0a040300 22080001 0a040300 1c04000c 08044000
 < 3 20040009 00000001 0000 000c 1e240005 24080005 0a040201 22080002 0a040201 22080001 0a040201
-    1c04000c 08044000
+<  1c04000c 08044000
 < 4 20040007 00000001 0000 000d 1e1c0004 24080004 0a040300 22080002 0a040300 1c04000d 08044000
 < 4 20040007 00000001 0000 000d 1e1c0006 24080006 0a040201 22080003 0a040201 1c04000d 08044000
 # The administrator revokes request 1, which is Granted: it is Revoked, and request 6 is granted.
@@ -142,7 +146,7 @@ id = 3
 # The administrator revokes request 5, which waits: it is Denied.
 > revoke 1 5
 < 3 20040009 00000001 0000 000c 1e240005 24080005 0a040400 22080002 0a040400 22080001 0a040400
-    1c04000c 08044000
+<  1c04000c 08044000
 # It isn't ongoing any more.
 > revoke 1 5
 < refused NoRequest
@@ -155,10 +159,8 @@ id = 3
 # Request 4 still holds floor 2.
 > send 1 20030001 00000001 0003 000a 06040004
 < 1 20040007 00000001 0003 000a 1e1c0004 24080004 0a040300 22080002 0a040300 1c04000d 08044000
-"#;
 
-/// Floors with room for two and three.
-const ROOMS: &str = r#"
+@ Floors with room for two and three.
 [[conference]]
 id = 1
 [[conference.user]]
@@ -177,7 +179,8 @@ room = 2
 [[conference.floor]]
 id = 2
 room = 3
----
+
+= floors with room for two and three
 # Connection 1 is user 10's.
 > attach 1 10
 < attached 1
@@ -202,18 +205,20 @@ room = 3
 # User 12 waits.
 > send 3 20010001 00000001 0001 000c 04040001
 < 3 20040007 00000001 0001 000c 1e1c0003 24080003 0a040201 22080001 0a040201 1c04000c 08044000
-# A joint request is in place 2 of floor 1 and place 1 of floor 2; the overall place is the greater
+# A joint request is in place 2 of floor 1 and place 1 of floor 2; the overall place is the
+# greater
 # one.
 > send 4 20010002 00000001 0001 000d 04040001 04040002
 < 4 20040009 00000001 0001 000d 1e240004 24080004 0a040202 22080001 0a040202 22080002 0a040201
-    1c04000d 08044000
+<  1c04000d 08044000
 # Floor 2 has room for three: no holder and one earlier waiting request are fewer.
 > send 1 20010001 00000001 0002 000a 04040002
 < 1 20040007 00000001 0002 000a 1e1c0005 24080005 0a040300 22080002 0a040300 1c04000a 08044000
 # One holder and one earlier waiting request are fewer than three.
 > send 2 20010001 00000001 0002 000b 04040002
 < 2 20040007 00000001 0002 000b 1e1c0006 24080006 0a040300 22080002 0a040300 1c04000b 08044000
-# Two holders and one earlier waiting request are three: request 7 waits, though floor 2 has a free
+# Two holders and one earlier waiting request are three: request 7 waits, though floor 2 has a
+# free
 # place, which is kept for request 4.
 > send 3 20010001 00000001 0002 000c 04040002
 < 3 20040007 00000001 0002 000c 1e1c0007 24080007 0a040202 22080002 0a040202 1c04000c 08044000
@@ -224,36 +229,36 @@ room = 3
 > send 5 20010002 00000001 0002 000e 04040001 08046000
 < 3 20040007 00000001 0000 000c 1e1c0003 24080003 0a040202 22080001 0a040202 1c04000c 08044000
 < 4 20040009 00000001 0000 000d 1e240004 24080004 0a040203 22080001 0a040203 22080002 0a040201
-    1c04000d 08044000
+<  1c04000d 08044000
 < 5 20040007 00000001 0002 000e 1e1c0009 24080009 0a040201 22080001 0a040201 1c04000e 08046000
 # Request 1 is released: one place of floor 1 is free and goes to request 9.
 > send 1 20020001 00000001 0003 000a 06040001
 < 1 20040007 00000001 0003 000a 1e1c0001 24080001 0a040600 22080001 0a040600 1c04000a 08044000
 < 3 20040007 00000001 0000 000c 1e1c0003 24080003 0a040201 22080001 0a040201 1c04000c 08044000
 < 4 20040009 00000001 0000 000d 1e240004 24080004 0a040202 22080001 0a040202 22080002 0a040201
-    1c04000d 08044000
+<  1c04000d 08044000
 < 5 20040007 00000001 0000 000e 1e1c0009 24080009 0a040300 22080001 0a040300 1c04000e 08046000
-# Request 8 is released: a place of floor 2 is free. Request 4 can't have floor 1, and request 7 may
+# Request 8 is released: a place of floor 2 is free. Request 4 can't have floor 1, and request 7
+# may
 # not overtake it: two holders and one earlier are three.
 > send 5 20020001 00000001 0003 000e 06040008
 < 5 20040007 00000001 0003 000e 1e1c0008 24080008 0a040600 22080002 0a040600 1c04000e 08048000
-# Request 2 is released: request 3 gets the place of floor 1, and request 4 is first on both floors.
+# Request 2 is released: request 3 gets the place of floor 1, and request 4 is first on both
+# floors.
 > send 2 20020001 00000001 0003 000b 06040002
 < 2 20040007 00000001 0003 000b 1e1c0002 24080002 0a040600 22080001 0a040600 1c04000b 08044000
 < 3 20040007 00000001 0000 000c 1e1c0003 24080003 0a040300 22080001 0a040300 1c04000c 08044000
 < 4 20040009 00000001 0000 000d 1e240004 24080004 0a040201 22080001 0a040201 22080002 0a040201
-    1c04000d 08044000
+<  1c04000d 08044000
 # Request 9 is released: request 4 gets both floors, and request 7 is first on floor 2, which is
 # full again.
 > send 5 20020001 00000001 0004 000e 06040009
 < 3 20040007 00000001 0000 000c 1e1c0007 24080007 0a040201 22080002 0a040201 1c04000c 08044000
 < 4 20040009 00000001 0000 000d 1e240004 24080004 0a040300 22080001 0a040300 22080002 0a040300
-    1c04000d 08044000
+<  1c04000d 08044000
 < 5 20040007 00000001 0004 000e 1e1c0009 24080009 0a040600 22080001 0a040600 1c04000e 08046000
-"#;
 
-/// Priorities order a queue, and a user stops at its limit.
-const PRIORITIES: &str = r#"
+@ Priorities order a queue, and a user stops at its limit.
 [[conference]]
 id = 1
 limit = 3
@@ -265,7 +270,8 @@ id = 11
 id = 12
 [[conference.floor]]
 id = 1
----
+
+= priorities order a queue, and a user stops at its limit
 # Connection 1 is user 10's.
 > attach 1 10
 < attached 1
@@ -308,7 +314,8 @@ id = 1
 < 2 20040007 00000001 0000 000b 1e1c0004 24080004 0a040201 22080001 0a040201 1c04000b 08048000
 < 3 20040007 00000001 0000 000c 1e1c0005 24080005 0a040204 22080001 0a040204 1c04000c 08040000
 < 3 20040007 00000001 0000 000c 1e1c0006 24080006 0a040202 22080001 0a040202 1c04000c 08046000
-# So user 11 may ask again. The refused request took no number: this is 7, with priority 2, between
+# So user 11 may ask again. The refused request took no number: this is 7, with priority 2,
+# between
 # 6 and 2.
 > send 2 20010001 00000001 0006 000b 04040001
 < 2 20040007 00000001 0006 000b 1e1c0007 24080007 0a040203 22080001 0a040203 1c04000b 08044000
@@ -321,21 +328,5 @@ id = 1
 
 #[test]
 fn follows_the_runs_of_floor_requests(rt: HostRuntime) -> Result<(), Fail> {
-    let runs = [
-        (
-            "a joint request is not overtaken, and its grant moves two queues",
-            NOT_OVERTAKEN,
-        ),
-        (
-            "a joint request that is cancelled lets two others in, and revokes",
-            CANCELLED_JOINT,
-        ),
-        ("floors with room for two and three", ROOMS),
-        (
-            "priorities order a queue, and a user stops at its limit",
-            PRIORITIES,
-        ),
-    ];
-    follow(&rt, rt.alloc(), &runs)?;
-    Ok(())
+    assert_cases(&rt, rt.alloc(), CASES, 4)
 }
