@@ -26,7 +26,7 @@ returns-in-Err g c =
     let marked = g.S.Source.marked c.read.new.self in
     subst (λ (f : ReadFault). Ended (Err f) c.args.seat.now c.submit_all.new.seat was now marked) (sym c.fault_of.ensures)
     (read-refused c.args.seat.now c.loop.seat c.submit_all.new.seat was (g.S.Source.remaining c.loop.source) now c.loop.framer (take c.in-Some.count c.read.new.buffer) c.push.new.self c.in-Err.refusal marked
-    c.loop.invariant.read c.in-Some.ensures.some.1 c.in-Ok.ensures.ok c.in-Err.ensures.left c.in-Some.ensures.some.3)
+    c.loop.invariant.read c.in-Some.ensures.some.1 c.in-Ok.ensures.next c.in-Err.ensures.left c.in-Some.ensures.some.3)
 
 pub loop-preserved : goal.loop-preserved
 loop-preserved g c =
@@ -35,5 +35,5 @@ loop-preserved g c =
       unmarked = c.in-Some.ensures.some.3;
       conference = ap (λ (s : Seat). s.conference) ok.took.next ∙ c.loop.invariant.conference;
       read = read-more c.args.seat.now c.loop.seat c.submit_all.new.seat (g.S.Source.remaining c.args.source.now) (g.S.Source.remaining c.loop.source) (g.S.Source.remaining c.read.new.self) c.loop.framer (take c.in-Some.count c.read.new.buffer)
-          c.push.new.self c.submit_all.new.framer c.loop.invariant.read c.in-Some.ensures.some.1 c.in-Ok.ensures.ok ok.took ok.rest;
+          c.push.new.self c.submit_all.new.framer c.loop.invariant.read c.in-Some.ensures.some.1 c.in-Ok.ensures.next ok.took ok.rest;
     }
