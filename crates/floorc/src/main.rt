@@ -11,6 +11,7 @@ mod lines;
 mod messages;
 mod run;
 mod session;
+mod stream;
 #[cfg(test)]
 mod tests;
 mod writing;

@@ -1,38 +1,59 @@
 //! The messages of a stream that comes in pieces (RFC 8855, section 5.1).
 
+ghost use Rattle.std.specs.Prelude.{◌≡◌, ℕ, List, [], IfOk, OnErr, OnOk};
+ghost use Rattle.floorc.specs.Session.{Received};
+
 use crate::lines::MAX_TURNS;
 use crate::session::SessionFault;
+use crate::stream::Stream;
 use floor_wire::{Frame, Framer};
-use std::alloc::Global;
-use std::io::Read;
 
-/// The bytes of a stream that are no whole message yet.
-#[derive(Drop)]
-pub struct Messages {
-    framer: Framer,
+/// How many bytes are received at once at most.
+const RECEIVE_LEN: usize = 4096;
+
+/// The next message, which the framer doesn't hold afterwards. A stream that fails or ends before
+/// it is `Socket`.
+pub fn next_message<S: Stream>(framer: &mut Framer, stream: &mut S) -> Result<Frame, SessionFault>
+    ensures took { IfOk result (λ frame. Received
+        (S.remaining stream.old) (S.remaining stream.new)
+        (S.contents stream.old) (S.contents stream.new) framer.old frame framer.new) }
+    ensures left { OnErr result ((held : List ℕ) × Received
+        (S.remaining stream.old) (S.remaining stream.new)
+        (S.contents stream.old) (S.contents stream.new) framer.old [] held) }
+{
+    for _ in 0..MAX_TURNS {
+        let Ok(next) = framer.next() else {
+            return Err(SessionFault::Memory);
+        };
+        if let Some(frame) = next {
+            return Ok(frame);
+        }
+        match receive(framer, stream) {
+            Ok(()) => {}
+            Err(fault) => return Err(fault),
+        }
+    }
+    Err(SessionFault::Socket)
 }
 
-impl Messages {
-    /// No message. Takes no memory.
-    pub fn new(alloc: Global) -> Messages {
-        Messages {
-            framer: Framer::new(alloc),
-        }
+/// Receives once.
+fn receive<S: Stream>(framer: &mut Framer, stream: &mut S) -> Result<(), SessionFault>
+    ensures took { OnOk result (Received
+        (S.remaining stream.old) (S.remaining stream.new)
+        (S.contents stream.old) (S.contents stream.new) framer.old [] framer.new) }
+    ensures left { OnErr result ((held : List ℕ) × Received
+        (S.remaining stream.old) (S.remaining stream.new)
+        (S.contents stream.old) (S.contents stream.new) framer.old [] held) }
+{
+    let mut chunk = [0u8; RECEIVE_LEN];
+    let Ok(count) = stream.receive(&mut chunk) else {
+        return Err(SessionFault::Socket);
+    };
+    if count == 0 {
+        return Err(SessionFault::Socket);
     }
-
-    /// The next message. A stream that fails or ends before it is `Socket`.
-    pub fn next<S: Read>(&mut self, stream: &mut S) -> Result<Frame, SessionFault> {
-        let mut chunk = [0u8; 4096];
-        for _ in 0..MAX_TURNS {
-            if let Some(frame) = self.framer.next()? {
-                return Ok(frame);
-            }
-            match stream.read(&mut chunk) {
-                Ok(0) => return Err(SessionFault::Socket),
-                Ok(count) => self.framer.push(&chunk[..count])?,
-                Err(_) => return Err(SessionFault::Socket),
-            }
-        }
-        Err(SessionFault::Socket)
-    }
+    let Ok(()) = framer.push(&chunk[..count]) else {
+        return Err(SessionFault::Memory);
+    };
+    Ok(())
 }

@@ -2,6 +2,7 @@
 
 use crate::arguments::{ArgumentFault, parse_arguments};
 use crate::session::{SessionFault, session};
+use crate::stream::Socket;
 use crate::writing::write_whole;
 use clap::error::ErrorKind;
 use floor_client::Client;
@@ -40,7 +41,10 @@ pub fn run<N: Net, S: AsStr, R: Read, W: Write, E: Write>(
     };
     let mut client = Client::new(alloc, arguments.conference, arguments.user);
     let outcome = match TcpStream::connect(rt, arguments.address) {
-        Ok(mut stream) => session(alloc, &mut client, input, output, &mut stream),
+        Ok(stream) => {
+            let mut stream = Socket::new(stream);
+            session(alloc, &mut client, input, output, &mut stream)
+        }
         Err(_) => Err(SessionFault::Socket),
     };
     match outcome {

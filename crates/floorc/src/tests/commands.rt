@@ -43,17 +43,22 @@ request 1 priority 1|20010002 04040001 08042000
 request 1 priority 3|20010002 04040001 08046000
 request 1 priority 4|20010002 04040001 08048000
 request 1 priority 004|20010002 04040001 08048000
+request 1 priority 00000000003|error
 request 1 priority 5|error
 request 1 priority 256|error
 request 1 priority high|error
 request 1 priority|error
 request 1 priority 3 for 11|error
 request 1 for 11 priority 3|20010003 04040001 0204000b 08046000
+request 1 for 0 priority 2|20010003 04040001 02040000 08044000
+request 1 for 65535|20010003 04040001 0204ffff 08044000
 request 1 info hi!|20010004 04040001 1005 686921 000000 08044000
 request 1 info  two  spaces |20010006 04040001 100f 2074776f2020737061636573 20 00 08044000
 request 1 info info x|20010004 04040001 1008 696e666f2078 08044000
 request 1 info priority 3|20010005 04040001 100c 7072696f726974792033 08044000
 request 1 info h\u{e9}|20010004 04040001 1005 68c3a9 000000 08044000
+request 1 priority 3 info x|20010003 04040001 1003 78 00 08046000
+request 1 info \"\\|20010003 04040001 1004 225c 08044000
 request 1 info 12345678901234567890123456789012345678901234567890123456789012|20010012 04040001 1040 3132333435363738393031323334353637383930313233343536373839303132333435363738393031323334353637383930313233343536373839303132 08044000
 request 1 info 123456789012345678901234567890123456789012345678901234567890123|error
 request 1 info|error
@@ -64,18 +69,27 @@ request 1 for 11 info a priority 4|20010007 04040001 0204000b 100e 61207072696f7
 information 1|error
 release 1|20020001 06040001
 release 65535|20020001 0604ffff
+release 0|20020001 06040000
+release 65536|error
+release 1 info x|error
 release|error
 release 1 2|error
 release x|error
 query 7|20030001 06040007
+query 65535|20030001 0604ffff
+query 1 2|error
 query|error
 query 99999|error
 user|20050000
 user 11|20050001 0204000b
+user 65535|20050001 0204ffff
+user 65536|error
 user 11 12|error
 user x|error
 watch|20070000
 watch 2 1|20070002 04040002 04040001
+watch 65535|20070001 0404ffff
+watch 65536|error
 watch 2 1 2|error
 watch x|error
 watch 1 info 2|error
@@ -88,8 +102,13 @@ chair 1 2|error
 chair 1 2 grant 3|error
 chair 1 x grant|error
 chair 65536 1 grant|error
+chair 1 65536 grant|error
+chair 0 65535 accept|20090003 1e0c0000 2208ffff 0a040200
+chair 1 2 GRANT|error
 listen 0|listen 0
 listen 9999999999|listen 9999999999
+listen 0000000001|listen 1
+listen 00000000001|error
 listen 10000000000|error
 listen x|error
 listen|error
@@ -118,7 +137,7 @@ fn a_line_sends_its_message(rt: HostRuntime) -> Result<(), Fail> {
         assert_eq!(rt; found.as_str(), wanted.as_str(), "{line}");
         rows = rows.saturating_add(1);
     }
-    assert_eq!(rt; rows, 88);
+    assert_eq!(rt; rows, 107);
     Ok(())
 }
 

@@ -1,5 +1,9 @@
 //! A server over memory, writers that have no more room, and bytes from hexadecimal.
 
+ghost use Rattle.std.specs.Prelude.{None};
+
+use crate::stream::Stream;
+use crate::writing::write_whole;
 use std::alloc::{AllocError, Global};
 use std::io;
 use std::io::{Read, Write};
@@ -84,5 +88,40 @@ impl Write for Peer<'_> {
 
     fn flush(&mut self) -> io::Result<()> {
         Ok(())
+    }
+}
+
+impl Stream for Peer<'_> {
+    ghost remaining = { λ _. None };
+
+    ghost contents = { λ _. None };
+
+    fn receive(&mut self, buffer: &mut [u8]) -> io::Result<usize> {
+        self.read(buffer)
+    }
+
+    fn send(&mut self, bytes: &[u8]) -> io::Result<()> {
+        write_whole(self, bytes)
+    }
+}
+
+/// A reader and a writer as one stream, whose bytes are known where theirs are.
+#[derive(Drop)]
+pub struct Halves<R, W> {
+    pub reader: R,
+    pub writer: W,
+}
+
+impl<R: Read, W: Write> Stream for Halves<R, W> {
+    ghost remaining = { λ h. R.remaining h.reader };
+
+    ghost contents = { λ h. W.contents h.writer };
+
+    fn receive(&mut self, buffer: &mut [u8]) -> io::Result<usize> {
+        self.reader.read(buffer)
+    }
+
+    fn send(&mut self, bytes: &[u8]) -> io::Result<()> {
+        write_whole(&mut self.writer, bytes)
     }
 }
