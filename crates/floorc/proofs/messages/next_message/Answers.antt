@@ -6,5 +6,5 @@ loop-init g c = received-nothing _ _ _
 
 pub returns-in-Some-clause-took : goal.returns-in-Some-clause-took
 returns-in-Some-clause-took g c =
-    let found = rw c.in-Some.is at c.in-Ok.ensures.message in
+    let found = rw c.in-Some.is at c.in-Ok.ensures.found in
     received-taken _ _ _ _ _ _ _ _ c.loop.invariant found.1

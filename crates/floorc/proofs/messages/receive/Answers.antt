@@ -19,4 +19,4 @@ returns-in_default-push-clause-left g c =
 pub returns-clause-took : goal.returns-clause-took
 returns-clause-took g c =
     let piece = take c.in-Ok.count c.receive.new.buffer in
-    received-piece (g.S.Stream.remaining c.args.stream.now) (g.S.Stream.remaining c.receive.new.self) (g.S.Stream.contents c.args.stream.now) (g.S.Stream.contents c.receive.new.self) c.args.framer.now piece c.push.new.self c.in-Ok.ensures.given.0 c.in-Ok.ensures.kept c.in-Ok-push.ensures.ok
+    received-piece (g.S.Stream.remaining c.args.stream.now) (g.S.Stream.remaining c.receive.new.self) (g.S.Stream.contents c.args.stream.now) (g.S.Stream.contents c.receive.new.self) c.args.framer.now piece c.push.new.self c.in-Ok.ensures.given.0 c.in-Ok.ensures.kept c.in-Ok-push.ensures.next
