@@ -1,13 +1,14 @@
 -- A FloorQuery names each floor once.
 use Rattle.std.proofs.Common.{◌≡◌, ℕ, Bool, true, false, List, [], ◌∷◌, drop, Option, Some, None, refl, sym, subst, ◌∙◌}
-use Rattle.std.specs.Prelude.{option_map, option_and_then}
+use Rattle.std.specs.Prelude.{option_map, option_and_then, ◌*◌, ◌==◌, not, map, is_some}
+use Rattle.std.specs.List.{list_any}
 use Rattle.floor_wire.specs.Attributes.{Attributes}
 use Rattle.floor_wire.specs.Header.{CommonHeader, header_of}
 use Rattle.floor_wire.specs.Spelled.{spelled}
 use Rattle.floor_wire.specs.Types.{FLOOR_ID, BENEFICIARY_ID, FLOOR_REQUEST_ID, PRIORITY, PARTICIPANT_PROVIDED_INFO, FLOOR_REQUEST_INFORMATION}
 use Rattle.floor_wire.specs.View.{items}
 use Rattle.floor_wire.specs.declared.attribute.Attr.{Attr}
-use Rattle.floor_message.specs.Ask.{Answer, Check, ask, asks, asks_if_any, checks, first_of, refused, unanswered, wanted, when}
+use Rattle.floor_message.specs.Ask.{Answer, Check, ask, asks, asks_if_any, checks, first_of, has_any, is_error, is_served, refused, unanswered, unknown_types, wanted, when}
 use Rattle.floor_message.specs.Binding.{Binding}
 use Rattle.floor_message.specs.Fields.{chair_action, chair_asked, fields, floor_request, floors_judged, given, priority_asked}
 use Rattle.floor_message.specs.Picked.{IsOnceBy, distinct, first, groups, numbers, octet_strings, pairs}
@@ -17,6 +18,7 @@ use Rattle.floor_message.specs.declared.ask.Ask.{Ask}
 use Rattle.floor_message.specs.declared.ask.Ask.TheVariants.{FloorRequest, FloorRelease, FloorRequestQuery, UserQuery, FloorQuery, ChairAction, Hello}
 use Rattle.floor_message.specs.declared.ask.Verdict.{Verdict}
 use Rattle.floor_message.specs.declared.code.ErrorCode.{ErrorCode}
+use Rattle.floor_message.specs.declared.code.ErrorCode.TheVariants as code
 use Rattle.floor_message.specs.declared.primitive.Primitive.{Primitive}
 use Rattle.floor_message.specs.declared.primitive.Primitive.TheVariants as primitive
 use Rattle.floor_message.proofs.Once.{once_by-once}
@@ -80,10 +82,10 @@ once_wanted (Some p) None a e = cc
 once_wanted (Some p) (Some attrs) a e = once_fields p (items attrs) a (found (fields p (items attrs)) a e)
 
 -- a check that refuses doesn't apply where something is asked
-passed : (b : Bool) (code : ErrorCode) (details : List ℕ) (checks : List Check) (other : Answer) (a : Ask) →
-    first_of (when b (refused code details) ∷ checks) other ≡ asks a → first_of checks other ≡ asks a
-passed true code details checks other a e = cc
-passed false code details checks other a e = e
+passed : (b : Bool) (kind : ErrorCode) (details : List ℕ) (checks : List Check) (other : Answer) (a : Ask) →
+    first_of (when b (refused kind details) ∷ checks) other ≡ asks a → first_of checks other ≡ asks a
+passed true kind details checks other a e = cc
+passed false kind details checks other a e = e
 
 -- nor one that leaves the message unanswered
 answered : (b : Bool) (checks : List Check) (other : Answer) (a : Ask) → first_of (when b unanswered ∷ checks) other ≡ asks a → first_of checks other ≡ asks a
@@ -93,9 +95,26 @@ answered false checks other a e = e
 once_answer : (h : CommonHeader) (b : Binding) (p : Option Primitive) (attrs : Option Attributes) (a : Ask) →
     first_of (checks h b p attrs) (asks_if_any (wanted p attrs)) ≡ asks a → AreOnce a
 once_answer h b p attrs a e =
-    once_wanted p attrs a
-    (passed _ _ _ _ _ a (passed _ _ _ _ _ a (passed _ _ _ _ _ a (passed _ _ _ _ _ a (answered _ _ _ a
-    (passed _ _ _ _ _ a (passed _ _ _ _ _ a (passed _ _ _ _ _ a (passed _ _ _ _ _ a e)))))))))
+    let types = unknown_types attrs in
+    let other = asks_if_any (wanted p attrs) in
+    let nothing : List Check = [] in
+    let unread : List Check = when (not (is_some (wanted p attrs))) (refused code.UnableToParseMessage []) ∷ nothing in
+    let unknown : List Check = when (has_any types) (refused code.UnknownMandatoryAttribute (map (λ k. 2 * k) types)) ∷ unread in
+    let unparsed : List Check = when (not (is_some attrs)) (refused code.UnableToParseMessage []) ∷ unknown in
+    let unserved : List Check = when (not (is_served p)) (refused code.UnknownPrimitive []) ∷ unparsed in
+    let answered_none : List Check = when (is_error p) unanswered ∷ unserved in
+    let other_user : List Check = when (not (h.user == b.user)) (refused code.UnauthorizedOperation []) ∷ answered_none in
+    let no_user : List Check = when (not (list_any (λ u. u == h.user) b.users)) (refused code.UserDoesNotExist []) ∷ other_user in
+    let no_conference : List Check = when (not (h.conference == b.conference)) (refused code.ConferenceDoesNotExist []) ∷ no_user in
+    let e2 = passed (not (h.version == 1)) code.UnsupportedVersion [] no_conference other a e in
+    let e3 = passed (not (h.conference == b.conference)) code.ConferenceDoesNotExist [] no_user other a e2 in
+    let e4 = passed (not (list_any (λ u. u == h.user) b.users)) code.UserDoesNotExist [] other_user other a e3 in
+    let e5 = passed (not (h.user == b.user)) code.UnauthorizedOperation [] answered_none other a e4 in
+    let e6 = answered (is_error p) unserved other a e5 in
+    let e7 = passed (not (is_served p)) code.UnknownPrimitive [] unparsed other a e6 in
+    let e8 = passed (not (is_some attrs)) code.UnableToParseMessage [] unknown other a e7 in
+    let e9 = passed (has_any types) code.UnknownMandatoryAttribute (map (λ k. 2 * k) types) unread other a e8 in
+    once_wanted p attrs a (passed (not (is_some (wanted p attrs))) code.UnableToParseMessage [] nothing other a e9)
 
 -- the floors that a FloorQuery asks about differ
 pub asked_once : (bytes : List ℕ) (b : Binding) (floors : List ℕ) → ask bytes b ≡ asks (FloorQuery floors) → IsOnceBy (λ n. n) floors
