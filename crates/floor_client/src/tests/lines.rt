@@ -32,6 +32,9 @@ const LINES: &str = r#"
 04 1e2c0003 24080003 0a040200 22080002 0a040300 1c0a000b 18046869 2008000c 1803ff00 08046000 10045c22=bad
 04 1e2c0003 24080003 0a040201 22080002 0a040300 1c08000b 18046869 2008000c 1803ff00 08046000 10045c22=FloorRequestStatus request 3 overall Accepted:1 floor 2:Granted:0 for 11 "hi" by 12 "\xff" priority 3 info "\x5c\x22"
 04 1e100001 100b 00 09 0a 1f 20 7e 7f 80 c3 00=FloorRequestStatus request 1 info "\x00\x09\x0a\x1f ~\x7f\x80\xc3"
+04 1e100001 1c0c000b 18074122 5c00ff00=FloorRequestStatus request 1 for 11 "A\x22\x5c\x00\xff"
+04 1e100001 200c000c 18074122 5c00ff00=FloorRequestStatus request 1 by 12 "A\x22\x5c\x00\xff"
+04 1e080001 0804a000=FloorRequestStatus request 1 priority 4
 04 =bad
 04 28040000=bad
 06 =UserStatus
@@ -41,6 +44,8 @@ const LINES: &str = r#"
 06 1c14000d 1805416e 6e000000 1a077369 703a6100=UserStatus user 13 name "Ann" uri "sip:a"
 06 1c0c000d 18020000 1a020000=UserStatus user 13 name "" uri ""
 06 1c08000d 1a045c27=UserStatus user 13 uri "\x5c'"
+06 1c0c000d 1807225c 00ff7f00=UserStatus user 13 name "\x22\x5c\x00\xff\x7f"
+06 1c0c000d 1a08207e 225c8000=UserStatus user 13 uri " ~\x22\x5c\x80\x00"
 06 1e040001=UserStatus [request 1]
 06 1c04000a 1e080001 1c04000a 1e040002=UserStatus user 10 [request 1 for 10] [request 2]
 08 =FloorStatus
@@ -51,6 +56,8 @@ const LINES: &str = r#"
 0c 16030100 14030200=HelloAck
 0c 16030100=bad
 0d 0c030100=Error 1
+0d 0c030000=Error 0
+0d 0c0404fe=Error 4 fe
 0d 0c05042800000000=Error 4 2800
 0d 0c0604280afe0000=Error 4 280afe
 0d 0c03ff00=Error 255
@@ -91,7 +98,7 @@ fn a_message_is_a_line(rt: HostRuntime) -> Result<(), Fail> {
         assert_eq!(rt; found, wanted, "{payload}");
         lines = lines.saturating_add(1);
     }
-    assert_eq!(rt; lines, 50);
+    assert_eq!(rt; lines, 57);
     Ok(())
 }
 
