@@ -12,12 +12,14 @@ mod outbox;
 mod rule;
 mod sender;
 mod taker;
+mod waker;
 
 pub use floor_machine::Parcel;
 pub use line::pair;
 pub use outbox::{Outbox, rejoin};
 pub use sender::Sender;
 pub use taker::Taker;
+pub use waker::Waker;
 
 #[cfg(test)]
 mod tests;

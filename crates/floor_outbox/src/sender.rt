@@ -4,8 +4,9 @@ ghost use Rattle.std.specs.Prelude.{◌≡◌, [], ◌∷◌, ◌++◌, OnOk, If
 
 use crate::line::Line;
 use crate::rule::{Pass, Puts};
+use crate::waker::Waker;
 use floor_machine::Parcel;
-use std::alloc::Global;
+use std::alloc::{AllocError, Global};
 use std::marker::Model;
 use std::sync::atomic::Ordering;
 use std::sync::{Arc, Wait};
@@ -43,12 +44,32 @@ impl Sender {
             ≡ record self.old { put = self.old.put ++ parcel ∷ [] }) }
         ensures left { IfErr result (λ back. (back ≡ parcel) × (self.new ≡ self.old)) }
     {
-        let answer = self
-            .line
-            .queue
-            .push_as::<Puts, R>(rt, &mut self.pass, parcel);
+        let answer = self.put_asleep(rt, parcel);
         self.line.parker.unpark();
         answer
+    }
+
+    /// The same, but the taker sleeps on: whoever puts so wakes it by a [`Waker`] later.
+    pub fn put_asleep<R: Wait>(&mut self, rt: &R, parcel: Parcel) -> Result<(), Parcel>
+        ensures took { OnOk result (self.new
+            ≡ record self.old { put = self.old.put ++ parcel ∷ [] }) }
+        ensures left { IfErr result (λ back. (back ≡ parcel) × (self.new ≡ self.old)) }
+    {
+        self.line
+            .queue
+            .push_as::<Puts, R>(rt, &mut self.pass, parcel)
+    }
+
+    /// What wakes the taker.
+    pub fn waker(&self) -> Result<Waker, AllocError> {
+        Ok(Waker {
+            line: Arc::try_clone(&self.line)?,
+        })
+    }
+
+    /// Wakes the taker, or lets its next sleep end at once. Takes no memory.
+    pub fn wake(&self) {
+        self.line.parker.unpark();
     }
 
     /// Sets the pair's closed mark, for good, and wakes the taker. Takes no memory.

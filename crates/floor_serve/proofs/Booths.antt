@@ -22,7 +22,7 @@ use Rattle.floor_room.proofs.Adding.{parcels_to-more}
 use Rattle.floor_room.proofs.Joining.{members-next, parcels_to-before}
 use Rattle.floor_room.proofs.Ledgers.{IsOpen, allowed-open, journal-more}
 use Rattle.floor_outbox.specs.Ends.{Sender}
-use Rattle.floor_serve.specs.Senders.{AreFed, IsFed, IsInPart, IsPut, fed, sender_of, with_put}
+use Rattle.floor_serve.specs.Senders.{AreFed, IsFed, IsInPart, IsPut, fed, sender_of, with_put, without}
 use Rattle.floor_serve.specs.Booth.{Booth, IsBooth, IsGone, off}
 
 -- senders into which nothing was put yet
@@ -215,6 +215,14 @@ booth-reclaimed b n x h gone low is =
           gone)
           low (h.seated unbroken is_open k live);
     })
+
+-- what a booth keeps that let go of a sender
+pub booth-released : (b : Booth) (n : ℕ) (os : List (Option Sender)) → IsBooth b → IsGone b n → os ≡ without b.senders n → IsBooth (record { ledger = b.ledger; senders = os })
+booth-released b zero os h gone e = subst (λ (s : List (Option Sender)). IsBooth (record { ledger = b.ledger; senders = s })) (sym e) h
+booth-released b (suc k) os h gone e =
+    let i : suc k - 1 ≡ k = omega arith in
+    subst (λ (s : List (Option Sender)). IsBooth (record { ledger = b.ledger; senders = s })) (ap (λ (j : ℕ). slice_set b.senders j None) i ∙ sym e)
+    (booth-reclaimed b (suc k) None h gone (omega arith) refl)
 
 -- who has a sender isn't 0
 pub number-low : (P : Sender → Type 0) (os : List (Option Sender)) (n : ℕ) → IsSomeAnd (sender_of os n) P → 0 < n

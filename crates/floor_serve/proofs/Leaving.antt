@@ -1,5 +1,5 @@
 -- Who has left a booth.
-use Rattle.std.proofs.Common.{◌≡◌, inr, ℕ, Bool, true, false, cond, List, [], ◌∷◌, map, Option, refl, sym, ap, subst, ◌∙◌}
+use Rattle.std.proofs.Common.{◌≡◌, ◌⊎◌, inl, inr, ℕ, Bool, true, false, cond, List, [], ◌∷◌, map, Option, refl, sym, ap, subst, ◌∙◌}
 use Rattle.std.specs.Prelude.{◌==◌, ◌&&◌, is_some}
 use Rattle.floor_machine.specs.declared.event.Event.TheVariants.{Leave}
 use Rattle.floor_machine.specs.declared.member.Member.{Member}
@@ -7,6 +7,9 @@ use Rattle.floor_machine.specs.Conference.{Conference, opening, is_live, member_
 use Rattle.floor_machine.specs.Change.{change, next, leaving}
 use Rattle.floor_machine.proofs.Runs.{after_from-more}
 use Rattle.floor_room.specs.Ledger.{Ledger, conference_of, with_entry}
+use Rattle.floor_room.specs.declared.status.Phase.TheVariants.{Running}
+use Rattle.floor_room.specs.declared.status.Status.{Status}
+use Rattle.floor_room.specs.Status.{IsStatus, phase_of}
 use Rattle.floor_outbox.specs.Ends.{Sender}
 use Rattle.floor_serve.specs.Booth.{Booth, IsGone, Took}
 
@@ -30,3 +33,12 @@ gone-left l n = subst (λ (s : Conference). is_live s n ≡ false) (sym (after_f
 -- a booth from which n has left
 pub gone_took : (old new : Booth) (n : ℕ) (more : List (Option Sender)) → Took old new (Leave n) more → IsGone new n
 gone_took old new n more h = inr (inr (ap (λ (b : Booth). is_live (conference_of b.ledger) n) h.next ∙ gone-left old.ledger n))
+
+-- a conference that doesn't run has ended or is broken off
+pub closed_of : (l : Ledger) (s : Status) → IsStatus l s → (s.phase ≡ Running → ⊥) → (l.is_broken ≡ true) ⊎ ((conference_of l).is_open ≡ false)
+closed_of l s h other = by l.is_broken (conference_of l).is_open refl refl
+  where
+    by : (b o : Bool) → l.is_broken ≡ b → (conference_of l).is_open ≡ o → (l.is_broken ≡ true) ⊎ ((conference_of l).is_open ≡ false)
+    by true o e f = inl e
+    by false false e f = inr f
+    by false true e f = absurd (other (h.phase ∙ ap (λ (b : Bool). phase_of b (conference_of l).is_open) e ∙ ap (phase_of false) f))

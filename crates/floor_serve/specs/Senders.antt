@@ -1,5 +1,5 @@
 -- The senders of the members of a conference.
-use Rattle.std.specs.Prelude.{◌≡◌, ℕ, zero, suc, ◌+◌, List, [], ◌∷◌, ◌++◌, Bool, false, Option, Some, None, get_or}
+use Rattle.std.specs.Prelude.{◌≡◌, ℕ, zero, suc, ◌+◌, List, [], ◌∷◌, ◌++◌, Bool, false, Option, Some, None, get_or, slice_set}
 use Rattle.floor_config.specs.Configuration.{Configuration}
 use Rattle.floor_machine.specs.declared.event.Event.{Event}
 use Rattle.floor_machine.specs.Parcel.{Parcel}
@@ -28,6 +28,11 @@ pub record IsInPart (out : List Parcel) (old new : List (Option Sender)) : Type 
 abbrev pub sender_of : List (Option Sender) → ℕ → Option Sender
 sender_of os zero = None
 sender_of os (suc k) = get_or os k None
+
+-- the senders without that of the member n
+abbrev pub without : List (Option Sender) → ℕ → List (Option Sender)
+without os zero = os
+without os (suc k) = slice_set os k None
 
 -- Of what is called for at a member, this was put first. Nothing is left out unless an event was broken off.
 pub record IsPut (all put : List Parcel) (is_broken : Bool) : Type 0 where

@@ -1,6 +1,6 @@
 //! One conference with its journal, and the sender of each member that ever joined.
 
-ghost use Rattle.std.specs.Prelude.{◌≡◌, ◌↔◌, IsTrue, ◌+◌, ◌-◌, ◌++◌, ◌⊎◌, [], true, None, IfErr, IfOk, IsSomeAnd, OnOk, OnErr, Err, length, slice_set};
+ghost use Rattle.std.specs.Prelude.{◌≡◌, ◌↔◌, IsTrue, ◌+◌, ◌-◌, ◌++◌, ◌⊎◌, [], true, None, IfErr, IfOk, IsSomeAnd, OnOk, OnErr, Err, length, slice_set, false};
 ghost use Rattle.floor_machine.specs.declared.event.Event.TheVariants.{Join, Message, Leave};
 ghost use Rattle.floor_machine.specs.Machine.{event_of_act};
 ghost use Rattle.floor_room.specs.declared.refusal.RoomRefusal.TheVariants.{Refused};
@@ -10,11 +10,12 @@ ghost use Rattle.floor_room.specs.Room.{joined, parcels_to};
 ghost use Rattle.floor_room.specs.Status.{IsStatus};
 ghost use Rattle.floor_serve.specs.Booth.{IsBooth, IsGone, Left, LeftJoin, Took, new_booth, opened};
 ghost use Rattle.floor_serve.specs.Fits.{messages_of};
-ghost use Rattle.floor_serve.specs.Senders.{IsInPart, IsPut, fed, sender_of};
+ghost use Rattle.floor_serve.specs.Senders.{IsInPart, IsPut, fed, sender_of, without};
 
 use crate::fitting::fits;
 use crate::seat::Seat;
 use crate::senders::{close, close_all, deliver};
+use crate::wakers::Wakers;
 use floor_outbox::{Outbox, Parcel, Sender, Taker, pair, rejoin};
 use floor_room::{Act, Config, Event, Frame, Ledger, Phase, Place, Refusal, RoomRefusal, Status};
 use std::alloc::{AllocError, Global};
@@ -22,10 +23,16 @@ use std::marker::Model;
 use std::sync::Wait;
 
 /// One conference with its journal, and the sender of each member that ever joined.
+///
+/// Changes: `join`, `submit` and `leave` of a member, `admin` of the administrator, and `reclaim` or
+/// `release` of what is left of a member.
+/// What they put wakes nobody yet: after each of them, also after a refusal, `wakers` gives whom to
+/// wake, once a lock that is held is given back. Readers: `journal`, `status`, `fits`.
 #[derive(Drop)]
 pub struct Booth {
     ledger: Ledger,
     senders: Vec<Option<Sender>>,
+    wakers: Wakers,
 }
 
 impl Model for Booth {
@@ -47,7 +54,15 @@ impl Booth {
         Ok(Booth {
             ledger,
             senders: Vec::new(alloc),
+            wakers: Wakers::new(alloc),
         })
+    }
+
+    /// Whom to wake of those for whom something was put since the last such call. Takes no memory.
+    pub fn wakers(&mut self) -> Wakers
+        ensures kept { self.new ≡ self.old }
+    {
+        self.wakers.take()
     }
 
     /// What happened so far. Takes no memory.
@@ -72,6 +87,19 @@ impl Booth {
         self.status().phase == Phase::Broken
     }
 
+    /// Whether no event is taken any more: the conference has ended, or an event was broken off.
+    /// Takes no memory.
+    #[tactic(auto, using(crate::proofs::Leaving::closed_of))]
+    pub(crate) fn is_closed(&self) -> bool
+        ensures { result ≡ true → (self.now.ledger.is_broken ≡ true)
+            ⊎ ((conference_of self.now.ledger).is_open ≡ false) }
+    {
+        match self.status().phase {
+            Phase::Running => false,
+            Phase::Ended | Phase::Broken => true,
+        }
+    }
+
     /// Whether what the seat recorded is all that the journal has of its member.
     pub fn fits(&self, seat: &Seat) -> bool
         ensures { IsTrue result ↔ (seat.now.sent ≡ messages_of self.now.ledger.journal seat.now.n) }
@@ -94,7 +122,13 @@ impl Booth {
         ensures left { IfErr result (Left self.old self.new event) }
     {
         let out = add(&mut self.ledger, &self.senders, event)?;
-        feed(rt, &mut self.ledger, &mut self.senders, out)
+        feed(
+            rt,
+            &mut self.ledger,
+            &mut self.senders,
+            out,
+            &mut self.wakers,
+        )
     }
 
     /// Takes a connection of the user as a member, and gives its number and what takes its parcels.
@@ -112,7 +146,13 @@ impl Booth {
         self.senders.reserve(1)?;
         let out = add(&mut self.ledger, &self.senders, Event::Join { user })?;
         self.senders.push_reserved(Some(sender));
-        feed(rt, &mut self.ledger, &mut self.senders, out)?;
+        feed(
+            rt,
+            &mut self.ledger,
+            &mut self.senders,
+            out,
+            &mut self.wakers,
+        )?;
         Ok((self.members(), taker))
     }
 
@@ -170,6 +210,28 @@ impl Booth {
         };
         rejoin(rt, sender, taker)
     }
+
+    /// Takes out the sender of a member that isn't live any more, or of any where the conference has
+    /// ended or is broken off. Its taker still takes what was put. Takes no memory.
+    pub fn release(&mut self, n: u32)
+        requires gone { IsGone self.old n }
+        ensures next { self.new ≡ record self.old { senders = without self.old.senders n } }
+    {
+        let_go(&mut self.senders, n);
+    }
+}
+
+/// Takes out the sender of n, if there is one.
+fn let_go(senders: &mut Vec<Option<Sender>>, n: u32)
+    ensures { senders.new.items ≡ without senders.old.items n }
+{
+    let Some(index) = (n as usize).checked_sub(1) else {
+        return;
+    };
+    match senders.get_mut(index) {
+        Some(place) => *place = None,
+        None => {}
+    }
 }
 
 /// Adds an event to the ledger, where nothing refuses it, and gives what it tells. Where it is
@@ -191,12 +253,14 @@ fn add(
     added
 }
 
-/// Puts what an event tells. Where memory is refused, the ledger is broken off.
+/// Puts what an event tells, and adds whom to wake. Where memory is refused, the ledger is broken
+/// off.
 fn feed<R: Wait>(
     rt: &R,
     ledger: &mut Ledger,
     senders: &mut Vec<Option<Sender>>,
     out: Vec<Parcel>,
+    wakers: &mut Wakers,
 ) -> Result<(), RoomRefusal>
     ensures senders { OnOk result (senders.new.items ≡ fed out.items 1 senders.old.items) }
     ensures ledger { OnOk result (ledger.new ≡ ledger.old) }
@@ -204,7 +268,7 @@ fn feed<R: Wait>(
     ensures left { OnErr result (IsInPart out.items senders.old.items senders.new.items) }
     ensures broken { OnErr result (ledger.new ≡ broken_off ledger.old) }
 {
-    match deliver(rt, senders, out) {
+    match deliver(rt, senders, out, wakers) {
         Ok(()) => Ok(()),
         Err(_) => {
             ledger.break_off();

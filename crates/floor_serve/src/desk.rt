@@ -12,8 +12,8 @@ use std::alloc::{AllocError, Global};
 use std::marker::Model;
 use std::sync::{Arc, Mutex, Wait};
 
-/// One conference as threads share it. Each call is one hold of the conference's lock. Contracts
-/// see its number.
+/// One conference as threads share it. Each call is one hold of the conference's lock, and wakes
+/// whom it told something once the lock is given back. Contracts see its number.
 ///
 /// Changes: `join`, `submit` and `leave` of a member, `admin` of the administrator. Readers:
 /// `conference`, `status`, `journal_text`. What the calls do to the conference stands in the
@@ -59,7 +59,12 @@ impl Desk {
         ensures sent { IfOk result (λ joined. joined.0.sent ≡ []) }
         ensures taken { IfOk result (λ joined. joined.1.taken ≡ []) }
     {
-        let (n, taker) = self.booth.lock(rt).join(rt, user)?;
+        let mut booth = self.booth.lock(rt);
+        let joined = booth.join(rt, user);
+        let wakers = booth.wakers();
+        drop(booth);
+        wakers.wake();
+        let (n, taker) = joined?;
         Ok((Seat::new(self.alloc, self.conference, n), taker))
     }
 
@@ -83,26 +88,47 @@ impl Desk {
         let bytes = Octets::from_vec(Vec::from_slice(self.alloc, frame.bytes())?);
         seat.sent.reserve(1)?;
         let mut booth = self.booth.lock(rt);
-        let place = booth.submit(rt, seat.n(), frame)?;
-        gate.pass(seat.conference(), seat.n());
+        let submitted = booth.submit(rt, seat.n(), frame);
+        match &submitted {
+            Ok(_) => gate.pass(seat.conference(), seat.n()),
+            Err(_) => {}
+        }
+        let wakers = booth.wakers();
         drop(booth);
+        wakers.wake();
+        let place = submitted?;
         seat.sent.push_reserved(Sent { place, bytes });
         Ok(Receipt { place })
     }
 
     /// Takes it that the seat's member has left, and lets its writer end, also after a refusal.
-    /// Refused as [`Booth::leave`].
+    /// Refused as [`Booth::leave`]. Of a member that is gone nothing stays but its taker, until the
+    /// writer has taken what was put.
+    #[tactic(auto, using(crate::proofs::Leaving::gone_took))]
     pub fn leave<R: Wait>(&self, rt: &R, seat: &mut Seat) -> Result<(), RoomRefusal>
         requires { seat.old.conference ≡ self.now.conference }
         ensures kept { seat.new ≡ seat.old }
     {
-        self.booth.lock(rt).leave(rt, seat.n())
+        let mut booth = self.booth.lock(rt);
+        let left = booth.leave(rt, seat.n());
+        if left.is_ok() || booth.is_closed() {
+            booth.release(seat.n());
+        }
+        let wakers = booth.wakers();
+        drop(booth);
+        wakers.wake();
+        left
     }
 
     /// Does what the administrator does. A Close lets every writer end. Refused as
     /// [`Booth::admin`].
     pub fn admin<R: Wait>(&self, rt: &R, act: Act) -> Result<(), RoomRefusal> {
-        self.booth.lock(rt).admin(rt, act)
+        let mut booth = self.booth.lock(rt);
+        let done = booth.admin(rt, act);
+        let wakers = booth.wakers();
+        drop(booth);
+        wakers.wake();
+        done
     }
 
     /// How the conference stands. Takes no memory.

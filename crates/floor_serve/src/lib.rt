@@ -20,6 +20,7 @@ mod registry;
 mod seat;
 mod senders;
 mod table;
+mod wakers;
 mod writing;
 
 pub use booth::Booth;
@@ -35,6 +36,7 @@ pub use reading::{MAX_TURNS, ReadEnd, read_loop, read_turns};
 pub use registry::Registry;
 pub use seat::{Receipt, Seat, Sent};
 pub use table::Table;
+pub use wakers::Wakers;
 pub use writing::{Written, write_loop, write_parcel};
 
 #[cfg(test)]

@@ -3,18 +3,28 @@
 ghost use Rattle.std.specs.Prelude.{◌≡◌, ◌∷◌, [], OnOk, OnErr};
 ghost use Rattle.floor_serve.specs.Senders.{IsInPart, fed, with_put};
 
+use crate::wakers::Wakers;
 use floor_outbox::{Parcel, Sender};
 use std::alloc::AllocError;
 use std::sync::Wait;
 
-/// Puts a parcel by a sender that is still there. After an error nothing was put.
-fn put_by<R: Wait>(rt: &R, place: &mut Option<Sender>, parcel: Parcel) -> Result<(), AllocError>
+/// Puts a parcel by a sender that is still there, and adds whom to wake. After an error nothing was
+/// put.
+fn put_by<R: Wait>(
+    rt: &R,
+    place: &mut Option<Sender>,
+    parcel: Parcel,
+    wakers: &mut Wakers,
+) -> Result<(), AllocError>
     ensures ok { OnOk result (place.new ≡ with_put place.old (parcel ∷ [])) }
     ensures err { OnErr result (place.new ≡ place.old) }
 {
     match place {
-        Some(sender) => match sender.put(rt, parcel) {
-            Ok(()) => Ok(()),
+        Some(sender) => match sender.put_asleep(rt, parcel) {
+            Ok(()) => {
+                wakers.add(sender);
+                Ok(())
+            }
             Err(_) => Err(AllocError),
         },
         None => Ok(()),
@@ -22,7 +32,12 @@ fn put_by<R: Wait>(rt: &R, place: &mut Option<Sender>, parcel: Parcel) -> Result
 }
 
 /// Puts a parcel by the sender of its member. After an error nothing was put.
-fn put<R: Wait>(rt: &R, senders: &mut Vec<Option<Sender>>, parcel: Parcel) -> Result<(), AllocError>
+fn put<R: Wait>(
+    rt: &R,
+    senders: &mut Vec<Option<Sender>>,
+    parcel: Parcel,
+    wakers: &mut Wakers,
+) -> Result<(), AllocError>
     ensures ok { OnOk result (senders.new.items ≡ fed (parcel ∷ []) 1 senders.old.items) }
     ensures err { OnErr result (senders.new.items ≡ senders.old.items) }
 {
@@ -30,23 +45,24 @@ fn put<R: Wait>(rt: &R, senders: &mut Vec<Option<Sender>>, parcel: Parcel) -> Re
         return Ok(());
     };
     match senders.get_mut(index) {
-        Some(place) => put_by(rt, place, parcel),
+        Some(place) => put_by(rt, place, parcel, wakers),
         None => Ok(()),
     }
 }
 
-/// Puts each of these parcels, in order, by the sender of its member. After an error some first of
-/// them were put.
+/// Puts each of these parcels, in order, by the sender of its member, and adds whom to wake. After
+/// an error some first of them were put.
 pub(crate) fn deliver<R: Wait>(
     rt: &R,
     senders: &mut Vec<Option<Sender>>,
     out: Vec<Parcel>,
+    wakers: &mut Wakers,
 ) -> Result<(), AllocError>
     ensures ok { OnOk result (senders.new.items ≡ fed out.items 1 senders.old.items) }
     ensures err { OnErr result (IsInPart out.items senders.old.items senders.new.items) }
 {
     for parcel in out {
-        put(rt, senders, parcel)?;
+        put(rt, senders, parcel, wakers)?;
     }
     Ok(())
 }

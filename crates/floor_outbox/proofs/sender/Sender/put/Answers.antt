@@ -1,6 +1,0 @@
-use Rattle.std.proofs.Common.{ap}
-use Rattle.floor_outbox.proofs.Relays.{sends}
-use Rattle.floor_outbox.proofs.sender.Sender.put.Goals as goal
-
-pub push_as-answer-requires-clause-rule : goal.push_as-answer-requires-clause-rule
-push_as-answer-requires-clause-rule g c = λ n. sends n _ _ _ (ap (λ v. v.puts) c.self.invariant.1)
