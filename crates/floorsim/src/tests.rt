@@ -2,6 +2,7 @@
 //! and whole runs that were worked out from the rules.
 
 mod act_rules;
+mod alone;
 mod cases;
 mod chair_checks;
 mod chair_examples;
@@ -9,6 +10,7 @@ mod conferences;
 mod cuts;
 mod faults;
 mod first_examples;
+mod generated;
 mod interleavings;
 mod limits;
 mod long_messages;
