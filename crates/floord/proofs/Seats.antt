@@ -13,6 +13,6 @@ pub same_conference : (result : Result ReadEnd ReadFault) (old new : Seat) (mark
 same_conference (Ok end.Closed) old new marked read h = ap (λ s. s.conference) h.0.next
 same_conference (Ok (end.Cut k)) old new marked read h = ap (λ s. s.conference) h.0.next
 same_conference (Err fault.Read) old new marked read h = ap (λ s. s.conference) h.0.next
-same_conference (Err fault.TurnLimit) old new marked read h = ap (λ s. s.conference) h.next
-same_conference (Err (fault.Refused refusal)) old new marked read h = ap (λ s. s.conference) h.record_is.next
-same_conference (Err fault.Memory) old new marked read h = ap (λ s. s.conference) h.record_is.next
+same_conference (Err fault.TurnLimit) old new marked read h = ap (λ s. s.conference) h.0.next
+same_conference (Err (fault.Refused refusal)) old new marked read h = ap (λ s. s.conference) h.0.record_is.next
+same_conference (Err fault.Memory) old new marked read h = ap (λ s. s.conference) h.0.record_is.next
