@@ -189,6 +189,7 @@ impl Hub {
     {
         match self.rooms.get(&conference) {
             Some(room) => {
+                // What its contract says of the room is handed out.
                 let _journal = room.journal();
                 Ok(room.status())
             }

@@ -1,4 +1,4 @@
--- How much an event tells a member at most.
+-- How much an event tells a member at most (RFC 8855, sections 8.1, 13.1.2 and 13.5).
 use Rattle.std.specs.Prelude.{◌≤◌, ℕ, ◌+◌, ◌*◌, List, length}
 use Rattle.floor_config.specs.Configuration.{Configuration, IsConfiguration}
 use Rattle.floor_message.specs.Fits.{TellFits}

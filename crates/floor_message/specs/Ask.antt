@@ -28,6 +28,7 @@ pub record Check : Type 0 where
   pub applies : Bool
   pub answer : Answer
 
+-- a check that applies so, and what the message comes to then
 abbrev pub when : Bool → Answer → Check
 when applies answer = record { applies = applies; answer = answer }
 

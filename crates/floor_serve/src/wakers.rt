@@ -1,7 +1,6 @@
 //! Whom to wake once a conference's lock is given back.
 //!
-//! Waking a sleeping thread is a call of the system, and dearer than putting a parcel: no other
-//! thread waits for the lock meanwhile.
+//! Waking a sleeping thread is a call of the system: no other thread waits for the lock meanwhile.
 
 use floor_outbox::{Sender, Waker};
 use std::alloc::Global;

@@ -22,16 +22,18 @@ const MAX_BLOCK: usize = 16 * 1024;
 /// last of its copies.
 #[derive(Debug, Drop)]
 pub struct Copies {
-    room: BytesMut,
-    block: usize,
+    /// What is left of the last block.
+    free: BytesMut,
+    /// How large the next block is, in bytes.
+    next_block: usize,
 }
 
 impl Copies {
     /// No copy was made yet. Takes no memory.
     pub fn new(alloc: Global) -> Copies {
         Copies {
-            room: BytesMut::new(alloc),
-            block: FIRST_BLOCK,
+            free: BytesMut::new(alloc),
+            next_block: FIRST_BLOCK,
         }
     }
 
@@ -41,18 +43,18 @@ impl Copies {
     {
         let bytes = frame.bytes();
         if bytes.len() > MAX_SHARED {
-            return frame.copy(*self.room.allocator());
+            return frame.copy(*self.free.allocator());
         }
-        // What a copy that failed has left goes.
-        self.room.truncate(0);
-        if self.room.capacity() < bytes.len() {
-            self.room.reserve(self.block.max(bytes.len()))?;
-            if self.block < MAX_BLOCK {
-                self.block *= 2;
+        // A copy that found no memory may have left its bytes here.
+        self.free.truncate(0);
+        if self.free.capacity() < bytes.len() {
+            self.free.reserve(self.next_block.max(bytes.len()))?;
+            if self.next_block < MAX_BLOCK {
+                self.next_block *= 2;
             }
         }
-        self.room.extend_from_slice(bytes)?;
-        let copy = self.room.freeze_to(bytes.len())?;
+        self.free.extend_from_slice(bytes)?;
+        let copy = self.free.freeze_to(bytes.len())?;
         Ok(Frame::new(copy))
     }
 }

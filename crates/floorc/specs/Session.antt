@@ -71,7 +71,8 @@ pub record Received (remaining left sent still : Option (List ℕ)) (old taken n
   pub kept : Keeps sent still
   pub parts : old ++ received ≡ taken ++ new
 
--- how a session stands: its client, the transaction whose response is awaited, the bytes that were sent, that were printed, that the stream will give where they are known, and those received that are no message heard yet
+-- How a session stands: its client, the transaction whose response is awaited, the bytes that were sent, that were printed, and that
+-- the stream will give, where they are known, and those received that are no message heard yet.
 pub record State : Type 0 where
   pub client : Client
   pub awaited : Option ℕ
@@ -80,11 +81,13 @@ pub record State : Type 0 where
   pub remaining : Option (List ℕ)
   pub held : List ℕ
 
+-- the same, part by part
 abbrev pub state : Client → Option ℕ → Option (List ℕ) → Option (List ℕ) → Option (List ℕ) → List ℕ → State
 state client awaited sent printed remaining held =
     record { client = client; awaited = awaited; sent = sent; printed = printed; remaining = remaining; held = held }
 
--- Between two states are steps: just what they send was sent, just what they print was printed, and the bytes that were received are the messages that they hear, one behind another, and what is held.
+-- Between two states are steps: just what they send was sent, just what they print was printed, and the bytes that were received are
+-- the messages that they hear, one behind another, and what is held.
 pub record Conversed (old new : State) : Type 0 where
   pub steps : List Step
   pub follow : Follows old.client old.awaited steps new.client new.awaited
