@@ -23,6 +23,3 @@ pub use laws::{
     a_number_opens_and_closes_alone, a_response_closes_its_transaction, the_next_number_is_one,
 };
 pub use rendering::render;
-
-#[cfg(test)]
-mod tests;

@@ -26,6 +26,3 @@ pub use laws::{doubles_are_found, kept_is_built, read_is_built};
 pub use reading::read_configs;
 pub use text::Text;
 pub use users::Users;
-
-#[cfg(test)]
-mod tests;

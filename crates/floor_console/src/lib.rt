@@ -17,6 +17,3 @@ pub use console::run_line;
 pub use floor_config::{ConfigFault, Text};
 pub use floor_room::{Phase, Refusal, RoomRefusal, Status};
 pub use laws::a_printed_command_is_read_back;
-
-#[cfg(test)]
-mod tests;

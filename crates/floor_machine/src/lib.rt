@@ -38,6 +38,3 @@ pub use member::Member;
 pub use parcel::Parcel;
 pub use running::Stopped;
 pub use status::RequestStatus;
-
-#[cfg(test)]
-mod tests;

@@ -48,6 +48,3 @@ pub use tell_reader::read_tell;
 pub use tell_size::tell_fits;
 pub use tell_writer::write_tell;
 pub use verdicts::Verdicts;
-
-#[cfg(test)]
-mod tests;

@@ -20,6 +20,3 @@ pub use outbox::{Outbox, rejoin};
 pub use sender::Sender;
 pub use taker::Taker;
 pub use waker::Waker;
-
-#[cfg(test)]
-mod tests;

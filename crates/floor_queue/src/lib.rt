@@ -22,6 +22,3 @@ pub use laws::{
 pub use request::{New, Request};
 pub use requested_floor::{FloorStatus, RequestedFloor, RequestedFloors, Word};
 pub use requests::{AddRefusal, MAX_ONGOING, Requests};
-
-#[cfg(test)]
-mod tests;

@@ -21,6 +21,3 @@ pub use refusal::RoomRefusal;
 pub use replaying::{ReplayFault, replay};
 pub use room::Room;
 pub use status::{Phase, Status};
-
-#[cfg(test)]
-mod tests;

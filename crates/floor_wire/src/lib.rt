@@ -37,6 +37,3 @@ pub use octets::Octets;
 pub use read::read_attrs;
 pub use shared::SharedFrame;
 pub use write::write_attrs;
-
-#[cfg(test)]
-mod tests;

@@ -16,6 +16,3 @@ pub use laws::{numbers_are_read_back, words_are_plain, words_are_read_back};
 pub use line::{Cut, cut_line};
 pub use number::{read_u16, read_u32, read_u64};
 pub use word::words;
-
-#[cfg(test)]
-mod tests;

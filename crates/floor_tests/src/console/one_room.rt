@@ -1,7 +1,7 @@
 //! A board that holds one room.
 
-use crate::{Board, BoardRefusal, Status, StopRefusal, Stopped, Text, run_line};
 use floor_config::Config;
+use floor_console::{Board, BoardRefusal, Status, StopRefusal, Stopped, Text, run_line};
 use floor_room::{Act, Frame, Room, journal_text};
 use std::alloc::Global;
 use std::test::Fail;

@@ -1,6 +1,8 @@
 use super::cases::cases;
 use super::shown::{bytes, frame};
-use crate::{FloorStatuses, Head, Info, Tell, TellFault, Who, read_tell, tell_fits, write_tell};
+use floor_message::{
+    FloorStatuses, Head, Info, Tell, TellFault, Who, read_tell, tell_fits, write_tell,
+};
 use floor_wire::Octets;
 use std::alloc::{AllocError, Global};
 use std::test::Fail;

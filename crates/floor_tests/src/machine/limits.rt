@@ -1,8 +1,8 @@
 //! Messages and changes at their greatest size.
 
 use super::runs::join;
-use crate::{Config, Floor, Machine, Parcel, User};
 use floor_config::{Floors, Users};
+use floor_machine::{Config, Floor, Machine, Parcel, User};
 use floor_wire::Frame;
 use std::alloc::{AllocError, Global};
 use std::test::Fail;

@@ -1,7 +1,7 @@
 mod faults;
 mod order;
 
-use super::*;
+use floor_config::*;
 use std::alloc::{AllocError, Global};
 use std::fmt::Write;
 use std::test::Fail;

@@ -1,5 +1,5 @@
 use super::shown::{Case, bytes, case_of, shown};
-use crate::{
+use floor_wire::{
     Attr, Attrs, Body, Format, Numbers, Octets, fits_message, format_of_kind, read_attrs, writable,
     write_attrs,
 };

@@ -1,5 +1,5 @@
 use super::shown::bytes;
-use crate::{
+use floor_wire::{
     Attr, Attrs, Body, Frame, Framer, SharedFrame, WireFault, fits_message, read_attrs, write_attrs,
 };
 use std::test::Fail;

@@ -1,7 +1,7 @@
 //! A client that asks and hears: conference 1, user 10.
 
 use super::shared::{bytes, frame};
-use crate::{Ask, AskRefusal, Client, render};
+use floor_client::{Ask, AskRefusal, Client, render};
 use std::alloc::Global;
 use std::process::Abort;
 use std::test::Fail;

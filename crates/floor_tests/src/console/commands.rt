@@ -1,6 +1,6 @@
 //! What each line asks for, as one table.
 
-use crate::{Command, ConsoleFault, parse_line};
+use floor_console::{Command, ConsoleFault, parse_line};
 use std::alloc::{AllocError, Global};
 use std::test::Fail;
 

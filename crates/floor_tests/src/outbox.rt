@@ -1,6 +1,6 @@
 //! What no clause says of an outbox.
 
-use super::*;
+use floor_outbox::*;
 use floor_wire::Frame;
 use std::alloc::Global;
 use std::test::*;

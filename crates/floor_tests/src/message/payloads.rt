@@ -1,7 +1,7 @@
 //! Many payloads of one word: what they ask is read back where it is written.
 
 use super::shown::{asked, bytes, frame, shown};
-use crate::{Head, ask_fits, write_ask};
+use floor_message::{Head, ask_fits, write_ask};
 use std::alloc::Global;
 use std::process::Abort;
 use std::test::Fail;

@@ -1,6 +1,6 @@
 use super::cases::cases;
 use super::shown::{answer_to, asked, bytes, frame, shown};
-use crate::Ask;
+use floor_message::Ask;
 use std::alloc::{AllocError, Global};
 use std::test::Fail;
 

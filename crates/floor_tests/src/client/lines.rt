@@ -1,7 +1,7 @@
 //! Each kind of message as a line, with each part there and absent.
 
 use super::shared::{bytes, frame};
-use crate::{Client, Frame, render};
+use floor_client::{Ask, Client, Frame, render};
 use std::alloc::Global;
 use std::test::Fail;
 
@@ -106,7 +106,7 @@ fn a_message_is_a_line(rt: HostRuntime) -> Result<(), Fail> {
 fn a_response_has_its_number(rt: HostRuntime) -> Result<(), Fail> {
     let alloc = rt.alloc();
     let mut client = Client::new(alloc, 4_294_967_295, 65_535);
-    client.ask(crate::Ask::Hello)?;
+    client.ask(Ask::Hello)?;
     let heard = client.heard(&frame(alloc, "200d0001 ffffffff 0001 ffff 0c030e00")?)?;
     assert_eq!(rt; render(alloc, &heard)?.as_str(), "reply 1 Error 14");
     Ok(())

@@ -1,7 +1,7 @@
 //! Written asks: their bytes, and that they are read back.
 
 use super::shown::{asked, bytes, shown};
-use crate::{Ask, Head, Verdict, Verdicts, ask_fits, write_ask};
+use floor_message::{Ask, Head, Verdict, Verdicts, ask_fits, write_ask};
 use floor_wire::{Numbers, Octets};
 use std::alloc::{AllocError, Global};
 use std::process::Abort;

@@ -1,6 +1,6 @@
 //! Cases from lines, bytes from hexadecimal, and attributes as a text to compare.
 
-use crate::{Attr, Body};
+use floor_wire::{Attr, Body};
 use std::alloc::{AllocError, Global};
 
 /// A case of a table.

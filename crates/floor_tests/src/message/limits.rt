@@ -1,6 +1,8 @@
 //! Which messages can be written: each limit, and what is one beyond it.
 
-use crate::{Ask, FloorStatuses, Info, Infos, Tell, Verdict, Verdicts, Who, ask_fits, tell_fits};
+use floor_message::{
+    Ask, FloorStatuses, Info, Infos, Tell, Verdict, Verdicts, Who, ask_fits, tell_fits,
+};
 use floor_wire::{Numbers, Octets};
 use std::alloc::{AllocError, Global};
 use std::test::Fail;

@@ -1,7 +1,7 @@
 //! Runs of the demonstration configuration: who is told which bytes.
 
-use crate::{Event, Machine, Parcel, Refusal, Stopped};
 use floor_config::Config;
+use floor_machine::{Event, Machine, Parcel, Refusal, Stopped};
 use floor_wire::Frame;
 use std::alloc::{AllocError, Global};
 use std::process::Abort;

@@ -1,7 +1,7 @@
 //! The order of faults, and counts.
 
 use super::{differing, fault_of};
-use crate::{ConfigFault, read_configs};
+use floor_config::{ConfigFault, read_configs};
 use std::alloc::{AllocError, Global};
 use std::fmt::Write;
 use std::test::Fail;

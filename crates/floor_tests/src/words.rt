@@ -1,6 +1,8 @@
 //! Words, numbers, hexadecimal and lines, as tables of one text each.
 
-use crate::{HexadecimalFault, cut_line, read_hexadecimal, read_u16, read_u32, read_u64, words};
+use floor_words::{
+    HexadecimalFault, cut_line, read_hexadecimal, read_u16, read_u32, read_u64, words,
+};
 use std::alloc::{AllocError, Global};
 use std::test::Fail;
 

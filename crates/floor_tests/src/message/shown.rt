@@ -1,6 +1,6 @@
 //! Bytes from hexadecimal, messages of them, and answers as a text to compare.
 
-use crate::{Ask, AskFault, Binding, read_ask};
+use floor_message::{Ask, AskFault, Binding, read_ask};
 use floor_wire::Frame;
 use std::alloc::{AllocError, Global};
 use std::test::Fail;

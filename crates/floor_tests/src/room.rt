@@ -1,6 +1,6 @@
 //! Runs of a room, as lines that act on it and lines that they answer, and a full journal.
 
-use crate::{
+use floor_room::{
     Act, Config, Event, Frame, Ledger, ReplayFault, Room, RoomRefusal, journal_text, replay,
 };
 use std::alloc::Global;

@@ -1,6 +1,6 @@
 //! The text of each refusal.
 
-use crate::{
+use floor_console::{
     Board, BoardRefusal, ConfigFault, Refusal, RoomRefusal, Status, StopRefusal, Stopped, Text,
     run_line,
 };
