@@ -52,7 +52,7 @@ impl Config {
 fn users_fit(users: &[User]) -> bool
     ensures value { result ≡ users_fit users.now }
     ensures few { result ≡ true → length users.now ≤ 256 }
-    ensures fit { result ≡ true → All (λ u. IsUser (without_empty_texts u)) users.now }
+    ensures fits { result ≡ true → All (λ u. IsUser (without_empty_texts u)) users.now }
 {
     users.len() <= 256 && all_users_fit(users)
 }
@@ -60,7 +60,7 @@ fn users_fit(users: &[User]) -> bool
 /// Whether each user is within its ranges.
 fn all_users_fit(users: &[User]) -> bool
     ensures value { result ≡ list_all user_fits users.now }
-    ensures fit { result ≡ true → All (λ u. IsUser (without_empty_texts u)) users.now }
+    ensures fits { result ≡ true → All (λ u. IsUser (without_empty_texts u)) users.now }
 {
     for user in users {
         if !user_fits(user) {
@@ -107,7 +107,7 @@ fn port_fits(port: Option<u16>) -> bool
 fn floors_fit(floors: &[Floor]) -> bool
     ensures value { result ≡ floors_fit floors.now }
     ensures few { result ≡ true → length floors.now ≤ 32 }
-    ensures fit { result ≡ true → All IsFloor floors.now }
+    ensures fits { result ≡ true → All IsFloor floors.now }
 {
     floors.len() <= 32 && all_floors_fit(floors)
 }
@@ -115,7 +115,7 @@ fn floors_fit(floors: &[Floor]) -> bool
 /// Whether each floor is within its ranges.
 fn all_floors_fit(floors: &[Floor]) -> bool
     ensures value { result ≡ list_all floor_fits floors.now }
-    ensures fit { result ≡ true → All IsFloor floors.now }
+    ensures fits { result ≡ true → All IsFloor floors.now }
 {
     for floor in floors {
         if !floor_fits(floor) {

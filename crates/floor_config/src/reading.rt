@@ -57,7 +57,7 @@ use toml::{Table, Value};
 /// The configurations of a text in TOML, in its order, or the first fault. A text without
 /// conferences has to say so, by an empty array.
 pub fn read_configs(alloc: Global, text: &str) -> Result<Vec<Config>, ConfigFault>
-    ensures reads { Gives (λ configs. configs.items) result (reading text.now) }
+    ensures value { Gives (λ configs. configs.items) result (reading text.now) }
     ensures conferences { IfOk result (λ configs. AllDiffer (conference_ids configs.items)) }
     ensures ports { IfOk result (λ configs. AllDiffer (ports configs.items)) }
 {
@@ -71,7 +71,7 @@ pub fn read_configs(alloc: Global, text: &str) -> Result<Vec<Config>, ConfigFaul
 /// The configurations of a document's table.
 #[tactic(auto, unfolding(crate::specs::Reading::conferences_of))]
 fn conferences(alloc: Global, table: &Table) -> Result<Vec<Config>, ConfigFault>
-    ensures reads { Gives (λ configs. configs.items) result
+    ensures value { Gives (λ configs. configs.items) result
         (conferences_of (table_view table.now)) }
     ensures conferences { IfOk result (λ configs. AllDiffer (conference_ids configs.items)) }
     ensures ports { IfOk result (λ configs. AllDiffer (ports configs.items)) }
@@ -91,7 +91,7 @@ fn conferences(alloc: Global, table: &Table) -> Result<Vec<Config>, ConfigFault>
 
 /// The conferences of the tables among the values.
 fn all_conferences(alloc: Global, values: &[Value]) -> Result<Vec<Config>, ConfigFault>
-    ensures reads { Gives (λ configs. configs.items) result
+    ensures value { Gives (λ configs. configs.items) result
         (all_of conference_of (tables (items_view values.now))) }
 {
     let mut configs = Vec::new(alloc);
@@ -106,7 +106,7 @@ fn all_conferences(alloc: Global, values: &[Value]) -> Result<Vec<Config>, Confi
 /// The conference of a table.
 #[tactic(auto, using(crate::proofs::Limits::chairs_known), unfolding(crate::specs::Reading::conference_of))]
 fn conference(alloc: Global, table: &Table) -> Result<Config, ConfigFault>
-    ensures reads { Gives (λ config. config) result (conference_of (table_view table.now)) }
+    ensures value { Gives (λ config. config) result (conference_of (table_view table.now)) }
 {
     let id = values::number_needed(table, "id", 0, 4_294_967_295)?;
     let limit = values::short_at(table, "limit", 1, 16)?.unwrap_or(4);
@@ -121,10 +121,10 @@ fn conference(alloc: Global, table: &Table) -> Result<Config, ConfigFault>
 /// The users of a conference's table.
 #[tactic(auto, unfolding(crate::specs::Reading::users_of))]
 fn users(alloc: Global, table: &Table) -> Result<Users, ConfigFault>
-    ensures reads { Gives (λ users. users) result
+    ensures value { Gives (λ users. users) result
         (users_of (get_member (codes "user") (table_view table.now))) }
     ensures few { IfOk result (λ users. length users ≤ 256) }
-    ensures fit { IfOk result (All IsUser) }
+    ensures fits { IfOk result (All IsUser) }
     ensures differ { IfOk result (λ users. AllDiffer (user_ids users)) }
 {
     let Some(value) = values::find(table, "user") else {
@@ -139,9 +139,9 @@ fn users(alloc: Global, table: &Table) -> Result<Users, ConfigFault>
 
 /// The users of the tables among the values.
 fn all_users(alloc: Global, values: &[Value]) -> Result<Vec<User>, ConfigFault>
-    ensures reads { Gives (λ users. users.items) result
+    ensures value { Gives (λ users. users.items) result
         (all_of user_of (tables (items_view values.now))) }
-    ensures fit { IfOk result (λ users. All IsUser users.items) }
+    ensures fits { IfOk result (λ users. All IsUser users.items) }
     ensures few { IfOk result (λ users. length users.items ≤ length values.now) }
 {
     let mut users = Vec::new(alloc);
@@ -156,7 +156,7 @@ fn all_users(alloc: Global, values: &[Value]) -> Result<Vec<User>, ConfigFault>
 /// The user of a table.
 #[tactic(auto, unfolding(crate::specs::Reading::user_of))]
 fn user(alloc: Global, table: &Table) -> Result<User, ConfigFault>
-    ensures reads { Gives (λ user. user) result (user_of (table_view table.now)) }
+    ensures value { Gives (λ user. user) result (user_of (table_view table.now)) }
     ensures fits { IfOk result IsUser }
 {
     let id = values::short_needed(table, "id", 0, 65_535)?;
@@ -176,10 +176,10 @@ fn user(alloc: Global, table: &Table) -> Result<User, ConfigFault>
 /// The floors of a conference's table.
 #[tactic(auto, unfolding(crate::specs::Reading::floors_of))]
 fn floors(alloc: Global, table: &Table) -> Result<Floors, ConfigFault>
-    ensures reads { Gives (λ floors. floors) result
+    ensures value { Gives (λ floors. floors) result
         (floors_of (get_member (codes "floor") (table_view table.now))) }
     ensures few { IfOk result (λ floors. length floors ≤ 32) }
-    ensures fit { IfOk result (All IsFloor) }
+    ensures fits { IfOk result (All IsFloor) }
     ensures differ { IfOk result (λ floors. AllDiffer (floor_ids floors)) }
 {
     let Some(value) = values::find(table, "floor") else {
@@ -194,9 +194,9 @@ fn floors(alloc: Global, table: &Table) -> Result<Floors, ConfigFault>
 
 /// The floors of the tables among the values.
 fn all_floors(alloc: Global, values: &[Value]) -> Result<Vec<Floor>, ConfigFault>
-    ensures reads { Gives (λ floors. floors.items) result
+    ensures value { Gives (λ floors. floors.items) result
         (all_of floor_of (tables (items_view values.now))) }
-    ensures fit { IfOk result (λ floors. All IsFloor floors.items) }
+    ensures fits { IfOk result (λ floors. All IsFloor floors.items) }
     ensures few { IfOk result (λ floors. length floors.items ≤ length values.now) }
 {
     let mut floors = Vec::new(alloc);
@@ -211,7 +211,7 @@ fn all_floors(alloc: Global, values: &[Value]) -> Result<Vec<Floor>, ConfigFault
 /// The floor of a table.
 #[tactic(auto, unfolding(crate::specs::Reading::floor_of))]
 fn floor(table: &Table) -> Result<Floor, ConfigFault>
-    ensures reads { result ≡ floor_of (table_view table.now) }
+    ensures value { result ≡ floor_of (table_view table.now) }
     ensures fits { IfOk result IsFloor }
 {
     let id = values::short_needed(table, "id", 0, 65_535)?;

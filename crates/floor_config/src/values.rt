@@ -23,7 +23,7 @@ pub fn find<'a>(table: &'a Table, key: &str) -> Option<&'a Value>
 
 /// The number that has to stand at a key, from `least` to `most`.
 pub fn number_needed(table: &Table, key: &str, least: u32, most: u32) -> Result<u32, ConfigFault>
-    ensures reads { result
+    ensures value { result
         ≡ needed (number_of least most) (get_member key.now (table_view table.now)) }
     ensures range { IfOk result (λ n. (least ≤ n) × (n ≤ most)) }
 {
@@ -35,7 +35,7 @@ pub fn number_needed(table: &Table, key: &str, least: u32, most: u32) -> Result<
 
 /// The number at a key, from `least` to `most`.
 fn number_at(table: &Table, key: &str, least: u32, most: u32) -> Result<Option<u32>, ConfigFault>
-    ensures reads { result
+    ensures value { result
         ≡ optional (number_of least most) (get_member key.now (table_view table.now)) }
     ensures range { IfOk result (λ o. IfSome o (λ n. (least ≤ n) × (n ≤ most))) }
 {
@@ -47,7 +47,7 @@ fn number_at(table: &Table, key: &str, least: u32, most: u32) -> Result<Option<u
 
 /// The number of 16 bits that has to stand at a key, from `least` to `most`.
 pub fn short_needed(table: &Table, key: &str, least: u16, most: u16) -> Result<u16, ConfigFault>
-    ensures reads { result
+    ensures value { result
         ≡ needed (number_of least most) (get_member key.now (table_view table.now)) }
     ensures range { IfOk result (λ n. (least ≤ n) × (n ≤ most)) }
 {
@@ -56,7 +56,7 @@ pub fn short_needed(table: &Table, key: &str, least: u16, most: u16) -> Result<u
 
 /// The number of 16 bits at a key, from `least` to `most`.
 pub fn short_at(table: &Table, key: &str, least: u16, most: u16) -> Result<Option<u16>, ConfigFault>
-    ensures reads { result
+    ensures value { result
         ≡ optional (number_of least most) (get_member key.now (table_view table.now)) }
     ensures range { IfOk result (λ o. IfSome o (λ n. (least ≤ n) × (n ≤ most))) }
 {
@@ -73,7 +73,7 @@ pub fn text_at(
     key: &str,
     most: usize,
 ) -> Result<Option<Text>, ConfigFault>
-    ensures reads { Gives (λ t. t) result
+    ensures value { Gives (λ t. t) result
         (optional_text most (get_member key.now (table_view table.now))) }
     ensures range { IfOk result (λ o. IfSome o (λ t. (1 ≤ length t) × (length t ≤ most))) }
 {
@@ -85,7 +85,7 @@ pub fn text_at(
 
 /// The truth at a key.
 pub fn flag_at(table: &Table, key: &str) -> Result<Option<bool>, ConfigFault>
-    ensures reads { result
+    ensures value { result
         ≡ optional flag_of (get_member key.now (table_view table.now)) }
 {
     match find(table, key) {
@@ -97,7 +97,7 @@ pub fn flag_at(table: &Table, key: &str) -> Result<Option<bool>, ConfigFault>
 /// The items of an array, each of them a table.
 #[tactic(auto, using(crate::proofs::Tables::are_tables_all))]
 pub fn tables(value: &Value) -> Result<&[Value], ConfigFault>
-    ensures reads { result_map_both (λ a. tables (items_view a.now)) (λ fault. fault) result
+    ensures value { result_map_both (λ a. tables (items_view a.now)) (λ fault. fault) result
         ≡ tables_of (view value.now) }
     ensures all { IfOk result (λ a. are_tables (items_view a.now) ≡ true) }
 {
@@ -113,7 +113,7 @@ pub fn tables(value: &Value) -> Result<&[Value], ConfigFault>
 /// The items of an array, each of them a table, and at most `most` of them.
 #[tactic(auto, using(crate::proofs::Tables::length_tables))]
 pub fn few_tables(value: &Value, most: usize) -> Result<&[Value], ConfigFault>
-    ensures reads { result_map_both (λ a. tables (items_view a.now)) (λ fault. fault) result
+    ensures value { result_map_both (λ a. tables (items_view a.now)) (λ fault. fault) result
         ≡ few_tables_of most (view value.now) }
     ensures few { IfOk result (λ a. length a.now ≤ most) }
 {
@@ -134,7 +134,7 @@ fn are_tables(values: &[Value]) -> bool
 
 /// The number that a value is, from `least` to `most`.
 fn number(value: &Value, least: u32, most: u32) -> Result<u32, ConfigFault>
-    ensures reads { result ≡ number_of least most (view value.now) }
+    ensures value { result ≡ number_of least most (view value.now) }
     ensures range { IfOk result (λ n. (least ≤ n) × (n ≤ most)) }
 {
     let Some(integer) = value.as_integer() else {
@@ -148,7 +148,7 @@ fn number(value: &Value, least: u32, most: u32) -> Result<u32, ConfigFault>
 
 /// The text that a value is, of at most `most` bytes. An empty one counts as absent.
 fn text(alloc: Global, value: &Value, most: usize) -> Result<Option<Text>, ConfigFault>
-    ensures reads { Gives (λ t. t) result (text_of most (view value.now)) }
+    ensures value { Gives (λ t. t) result (text_of most (view value.now)) }
     ensures range { IfOk result (λ o. IfSome o (λ t. (1 ≤ length t) × (length t ≤ most))) }
 {
     let Some(text) = value.as_str() else {
@@ -165,7 +165,7 @@ fn text(alloc: Global, value: &Value, most: usize) -> Result<Option<Text>, Confi
 
 /// The truth that a value is.
 fn flag(value: &Value) -> Result<bool, ConfigFault>
-    ensures reads { result ≡ flag_of (view value.now) }
+    ensures value { result ≡ flag_of (view value.now) }
 {
     match value.as_bool() {
         Some(flag) => Ok(flag),

@@ -141,7 +141,7 @@ impl Machine {
     /// How many floor requests are ongoing. Takes no memory.
     pub fn ongoing_requests(&self) -> usize
         ensures value { result ≡ length self.now.conference.ongoing }
-        ensures few { result ≤ 256 }
+        ensures range { result ≤ 256 }
     {
         self.state.requests.ongoing().len()
     }

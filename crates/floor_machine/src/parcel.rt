@@ -48,7 +48,7 @@ impl Parcel {
     /// The 12 bytes of the message's header (RFC 8855, section 5.1).
     pub fn header(&self) -> &[u8]
         ensures value { result.now ≡ take 12 self.now.bytes }
-        ensures message { IsMessage self.now.bytes }
+        ensures kept { IsMessage self.now.bytes }
     {
         self.message.header()
     }

@@ -8,5 +8,5 @@ use Rattle.floor_config.proofs.building.all_floors_fit.Goals as goal
 pub loop-floor-preserved : goal.loop-floor-preserved
 loop-floor-preserved c = record {
   pass = passes_more floor_fits c.args.floors.now c.loop-floor.floor-index _ c.loop-floor-test.true c.loop-floor.invariant.pass (sym c.floor_fits.ensures.value ∙ c.if-not-floor_fits.false);
-  fit = All-more IsFloor c.args.floors.now c.loop-floor.floor-index _ c.loop-floor-test.true c.loop-floor.invariant.fit (c.floor_fits.ensures.fits c.if-not-floor_fits.false);
+  fits = All-more IsFloor c.args.floors.now c.loop-floor.floor-index _ c.loop-floor-test.true c.loop-floor.invariant.fits (c.floor_fits.ensures.fits c.if-not-floor_fits.false);
 }

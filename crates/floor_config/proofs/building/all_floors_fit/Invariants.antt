@@ -7,5 +7,5 @@ use Rattle.floor_config.proofs.building.all_floors_fit.Given as goal
 abbrev pub invariant-loop-floor : goal.invariant-loop-floor
 invariant-loop-floor l = record {
   pass : list_all floor_fits (take l.floor-index l.floors) ≡ true;
-  fit : All (λ u. IsFloor u) (take l.floor-index l.floors);
+  fits : All (λ u. IsFloor u) (take l.floor-index l.floors);
 }

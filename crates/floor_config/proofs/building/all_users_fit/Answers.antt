@@ -12,7 +12,7 @@ loop-user-preserved c =
     ap user_fits (sym c.user-item.is) ∙ (sym c.user_fits.ensures.value ∙ c.if-not-user_fits.false) in
     record {
       pass = passes_more user_fits c.args.users.now c.loop-user.user-index c.user-item.result c.loop-user-test.true c.loop-user.invariant.pass one;
-      fit =
-          All-more (λ (u : User). IsUser (without_empty_texts u)) c.args.users.now c.loop-user.user-index c.user-item.result c.loop-user-test.true c.loop-user.invariant.fit
+      fits =
+          All-more (λ (u : User). IsUser (without_empty_texts u)) c.args.users.now c.loop-user.user-index c.user-item.result c.loop-user-test.true c.loop-user.invariant.fits
           (rw (sym c.user-item.is) (c.user_fits.ensures.fits c.if-not-user_fits.false));
     }

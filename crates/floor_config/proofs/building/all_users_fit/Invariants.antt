@@ -7,5 +7,5 @@ use Rattle.floor_config.proofs.building.all_users_fit.Given as goal
 abbrev pub invariant-loop-user : goal.invariant-loop-user
 invariant-loop-user l = record {
   pass : list_all user_fits (take l.user-index l.users) ≡ true;
-  fit : All (λ u. IsUser (without_empty_texts u)) (take l.user-index l.users);
+  fits : All (λ u. IsUser (without_empty_texts u)) (take l.user-index l.users);
 }

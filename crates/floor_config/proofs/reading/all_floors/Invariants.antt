@@ -9,7 +9,7 @@ use Rattle.floor_config.proofs.reading.all_floors.Given as goal
 abbrev pub invariant-loop-value : goal.invariant-loop-value
 invariant-loop-value l = record {
   told : with_front l.floors.items (all_of floor_of (tables (items_view (drop l.value-index l.values)))) ≡ all_of floor_of (tables (items_view l.fn.values));
-  fit : All IsFloor l.floors.items;
+  fits : All IsFloor l.floors.items;
   few : length l.floors.items ≤ l.value-index;
   within : l.value-index ≤ length l.values;
 }

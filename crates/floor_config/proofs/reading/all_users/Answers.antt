@@ -10,27 +10,27 @@ use Rattle.floor_config.proofs.Tables.{goes_on, passes_over, stops, is_done}
 use Rattle.floor_config.proofs.reading.all_users.Goals as goal
 use Rattle.floor_config.proofs.reading.all_users.Goals.{in-Some+in_ok-user+in_ok-push, in_default}
 
-pub returns-in_err-user-clause-reads : goal.returns-in_err-user-clause-reads
-returns-in_err-user-clause-reads c =
+pub returns-in_err-user-clause-value : goal.returns-in_err-user-clause-value
+returns-in_err-user-clause-value c =
     let p = err_from_is_err_and c.from_residual.result c.from_residual.ensures.1 in
-    rw (p.1, p.2) (stops user_of c.in_err-user.field-0.0 c.loop-value.users.items c.args.values.now c.loop-value.value-index c.value-item.result (table_view c.in-Some.table.now) (all_of user_of (tables (items_view c.args.values.now))) c.loop-value-test.true c.value-item.is (sym c.in-Some.ensures) c.in_err-user.ensures.reads c.loop-value.invariant.told)
+    rw (p.1, p.2) (stops user_of c.in_err-user.field-0.0 c.loop-value.users.items c.args.values.now c.loop-value.value-index c.value-item.result (table_view c.in-Some.table.now) (all_of user_of (tables (items_view c.args.values.now))) c.loop-value-test.true c.value-item.is (sym c.in-Some.ensures) c.in_err-user.ensures.value c.loop-value.invariant.told)
 
 pub loop-value-preserved : goal.loop-value-preserved
 loop-value-preserved c =
     elim c.match-as_table.branch [
       | in-Some+in_ok-user+in_ok-push w ↦ rw (w.users-is, w.in_ok-push.ensures.items) record {
-        told = goes_on user_of c.loop-value.users.items c.args.values.now c.loop-value.value-index c.value-item.result (table_view w.in-Some.table.now) w.in_ok-user.field-0 (all_of user_of (tables (items_view c.args.values.now))) c.loop-value-test.true c.value-item.is (sym w.in-Some.ensures) w.in_ok-user.ensures.reads c.loop-value.invariant.told;
-        fit = All-push IsUser c.loop-value.users.items w.in_ok-user.field-0 c.loop-value.invariant.fit w.in_ok-user.ensures.fits;
+        told = goes_on user_of c.loop-value.users.items c.args.values.now c.loop-value.value-index c.value-item.result (table_view w.in-Some.table.now) w.in_ok-user.field-0 (all_of user_of (tables (items_view c.args.values.now))) c.loop-value-test.true c.value-item.is (sym w.in-Some.ensures) w.in_ok-user.ensures.value c.loop-value.invariant.told;
+        fits = All-push IsUser c.loop-value.users.items w.in_ok-user.field-0 c.loop-value.invariant.fits w.in_ok-user.ensures.fits;
         few = omega (arith, length-append c.loop-value.users.items (w.in_ok-user.field-0 ∷ []), c.loop-value.invariant.few);
         within = omega (arith, c.loop-value-test.true);
       }
       | in_default w ↦ rw w.users-is record {
         told = passes_over user_of c.loop-value.users.items c.args.values.now c.loop-value.value-index c.value-item.result (all_of user_of (tables (items_view c.args.values.now))) c.loop-value-test.true c.value-item.is (sym w.in_default.ensures) c.loop-value.invariant.told;
-        fit = c.loop-value.invariant.fit;
+        fits = c.loop-value.invariant.fits;
         few = omega (arith, c.loop-value.invariant.few);
         within = omega (arith, c.loop-value-test.true);
       }
     ]
 
-pub returns-clause-reads : goal.returns-clause-reads
-returns-clause-reads c = is_done user_of c.loop-value.users.items c.args.values.now c.loop-value.value-index (all_of user_of (tables (items_view c.args.values.now))) c.loop-value-test.false c.loop-value.invariant.told
+pub returns-clause-value : goal.returns-clause-value
+returns-clause-value c = is_done user_of c.loop-value.users.items c.args.values.now c.loop-value.value-index (all_of user_of (tables (items_view c.args.values.now))) c.loop-value-test.false c.loop-value.invariant.told

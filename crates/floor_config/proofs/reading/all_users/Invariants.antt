@@ -9,7 +9,7 @@ use Rattle.floor_config.proofs.reading.all_users.Given as goal
 abbrev pub invariant-loop-value : goal.invariant-loop-value
 invariant-loop-value l = record {
   told : with_front l.users.items (all_of user_of (tables (items_view (drop l.value-index l.values)))) ≡ all_of user_of (tables (items_view l.fn.values));
-  fit : All IsUser l.users.items;
+  fits : All IsUser l.users.items;
   few : length l.users.items ≤ l.value-index;
   within : l.value-index ≤ length l.values;
 }

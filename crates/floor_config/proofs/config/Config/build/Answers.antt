@@ -9,9 +9,9 @@ of_parts-requires c =
     rw c.without_empty_texts-users.ensures
     (IsConfiguration-plain c.args.conference c.args.limit c.args.users c.args.floors id c.if-limit-lt1.false most
     (rw c.as_slice.ensures at (c.users_fit.ensures.few c.if-not-users_fit.false))
-    (rw c.as_slice.ensures at (c.users_fit.ensures.fit c.if-not-users_fit.false))
+    (rw c.as_slice.ensures at (c.users_fit.ensures.fits c.if-not-users_fit.false))
     (rw c.as_slice-2.ensures at (c.in_ok-has_double_user.ensures.differ c.if-branch.false))
     (rw c.as_slice-3.ensures at (c.floors_fit.ensures.few c.if-not-floors_fit.false))
-    (rw c.as_slice-3.ensures at (c.floors_fit.ensures.fit c.if-not-floors_fit.false))
+    (rw c.as_slice-3.ensures at (c.floors_fit.ensures.fits c.if-not-floors_fit.false))
     (rw c.as_slice-4.ensures at (c.in_ok-has_double_floor.ensures.differ c.if-branch-2.false))
     (rw (c.are_known.ensures, c.as_slice-5.ensures, c.as_slice-6.ensures) at c.if-not-are_known.false))
