@@ -2,6 +2,7 @@
 
 mod asks;
 mod cases;
+mod greatest;
 mod limits;
 mod payloads;
 mod shown;
