@@ -8,7 +8,7 @@ use Rattle.floor_machine.specs.Conference.{Conference}
 use Rattle.floor_machine.specs.declared.event.Event.{Event}
 use Rattle.floor_machine.specs.declared.event.Event.TheVariants.{Join, Message, Leave as Leaves, Revoke, Close}
 use Rattle.floor_machine.specs.declared.machine.Refusal.TheVariants.{Ended}
-use Rattle.floor_machine.specs.Journal.{after}
+use Rattle.floor_machine.specs.Journal.{MAX_EVENTS, after}
 use Rattle.floor_machine.specs.Machine.{event_of_act}
 use Rattle.floor_room.specs.declared.refusal.RoomRefusal.{RoomRefusal}
 use Rattle.floor_room.specs.declared.refusal.RoomRefusal.TheVariants.{JournalFull, Refused as ByMachine}
@@ -39,8 +39,9 @@ state_of p = after p.config p.events
 abbrev pub ledger_of : Part → Ledger
 ledger_of p = record { config = p.config; journal = p.events; is_broken = false }
 
+-- the part has had its 1,000,000 events
 abbrev pub is_full : Part → Bool
-is_full p = nat_le 1000000 (length p.events)
+is_full p = nat_le MAX_EVENTS (length p.events)
 
 -- why this event may not be added
 abbrev pub refused : Part → Event → Option RoomRefusal

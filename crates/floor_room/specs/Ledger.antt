@@ -7,7 +7,7 @@ use Rattle.floor_machine.specs.declared.event.Event.{Event}
 use Rattle.floor_machine.specs.declared.machine.Refusal.TheVariants.{Broken, Ended, Memory}
 use Rattle.floor_machine.specs.Parcel.{Parcel}
 use Rattle.floor_machine.specs.Change.{IsLawful}
-use Rattle.floor_machine.specs.Journal.{after, parcels_of}
+use Rattle.floor_machine.specs.Journal.{MAX_EVENTS, after, parcels_of}
 use Rattle.floor_machine.specs.Machine.{event_refusal, whole}
 use Rattle.floor_room.specs.declared.refusal.RoomRefusal.{RoomRefusal}
 use Rattle.floor_room.specs.declared.refusal.RoomRefusal.TheVariants.{JournalFull, Refused}
@@ -31,7 +31,7 @@ abbrev pub closed : Ledger → Option RoomRefusal
 closed l =
     if l.is_broken then Some (Refused Broken)
     else if not (conference_of l).is_open then Some (Refused Ended)
-    else if nat_le 1000000 (length l.journal) then Some JournalFull
+    else if nat_le MAX_EVENTS (length l.journal) then Some JournalFull
     else None
 
 -- the first of two refusals
