@@ -113,7 +113,7 @@ pub(crate) fn doubled(alloc: Global, types: &[u8]) -> Result<Vec<u8>, AllocError
     requires { All (λ t. t < 128) types.now }
     ensures { IfOk result (λ v. v.items ≡ map (λ k. 2 * k) types.now) }
 {
-    let mut bytes = Vec::new(alloc);
+    let mut bytes = Vec::with_capacity(alloc, types.len())?;
     for kind in types {
         bytes.push(2 * *kind)?;
     }

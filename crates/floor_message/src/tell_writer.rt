@@ -83,7 +83,7 @@ fn tell_attrs(alloc: Global, tell: &Tell) -> Result<Vec<Attr>, AllocError>
 fn error_bytes(alloc: Global, code: u8, details: &[u8]) -> Result<Vec<u8>, AllocError>
     ensures { IfOk result (λ v. v.items ≡ code ∷ details.now) }
 {
-    let mut bytes = Vec::new(alloc);
+    let mut bytes = Vec::with_capacity(alloc, 1 + details.len())?;
     bytes.push(code)?;
     bytes.extend_from_slice(details)?;
     Ok(bytes)

@@ -45,6 +45,18 @@ pub fn fits_message(attrs: &[Attr]) -> bool
     }
 }
 
+/// How long the payload with these attributes is.
+pub(crate) fn payload_len(attrs: &[Attr]) -> usize
+    requires writable { IsWritable (attributes_of attrs.now) }
+    requires fits { length (canon (attributes_of attrs.now)) ≤ 4 * 65535 }
+    ensures value { result ≡ length (canon (attributes_of attrs.now)) }
+{
+    let Some(len) = list_len(attrs, MAX_PAYLOAD_LEN) else {
+        unreachable!()
+    };
+    len
+}
+
 /// How long the attributes are as they are written, where they can be, in at most so many bytes.
 #[cycle(fits)]
 fn list_len(attrs: &[Attr], most: usize) -> Option<usize>

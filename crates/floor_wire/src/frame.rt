@@ -8,6 +8,7 @@ ghost use Rattle.floor_wire.specs.Spelling.{canon, IsWritable};
 ghost use Rattle.floor_wire.specs.View.{attributes_of};
 
 use crate::attribute::Attr;
+use crate::fits::payload_len;
 use crate::header::{HEADER_LEN, Header};
 use crate::laws::a_slice_is_of_bytes;
 use crate::write;
@@ -62,7 +63,8 @@ impl Frame {
             IfOk result (λ frame. frame
             ≡ header_bytes primitive (length payload / 4) conference transaction user ++ payload) }
     {
-        let bytes = write::message(alloc, primitive, conference, transaction, user, attrs)?;
+        let room = HEADER_LEN + payload_len(attrs);
+        let bytes = write::message(alloc, room, primitive, conference, transaction, user, attrs)?;
         let bytes = Bytes::from_vec(bytes)?;
         Ok(Frame { bytes })
     }

@@ -29,9 +29,11 @@ pub fn write_attrs(alloc: Global, attrs: &[Attr]) -> Result<Vec<u8>, AllocError>
     Ok(out)
 }
 
-/// A message with this header and these attributes.
+/// A message with this header and these attributes, in a buffer that has room for so many bytes at
+/// first.
 pub(crate) fn message(
     alloc: Global,
+    room: usize,
     primitive: u8,
     conference: u32,
     transaction: u16,
@@ -44,7 +46,7 @@ pub(crate) fn message(
         IfOk result (λ v. v.items
         ≡ header_bytes primitive (length payload / 4) conference transaction user ++ payload) }
 {
-    let mut out = Vec::new(alloc);
+    let mut out = Vec::with_capacity(alloc, room)?;
     put_header(&mut out, primitive, conference, transaction, user)?;
     put_list(&mut out, attrs)?;
     // The Payload Length is known once the payload is written.
