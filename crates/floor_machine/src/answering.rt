@@ -24,7 +24,7 @@ fn one(alloc: Global, tell: Tell) -> Result<Vec<Tell>, AllocError>
     ensures value { IfOk result (λ tells. tells.items ≡ tell ∷ []) }
     ensures shown { IfOk result (λ tells. All IsShown tells.items) }
 {
-    let mut tells = Vec::new(alloc);
+    let mut tells = Vec::with_capacity(alloc, 1)?;
     tells.push(tell)?;
     Ok(tells)
 }

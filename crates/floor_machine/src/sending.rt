@@ -1,6 +1,6 @@
 //! Telling the members what an event changed (RFC 8855, sections 8 and 12.1).
 
-ghost use Rattle.std.specs.Prelude.{◌≡◌, ◌==◌, ◌||◌, ◌∷◌, [], ◌++◌, All, IfOk, OnOk, map, filter, if◌then◌else◌};
+ghost use Rattle.std.specs.Prelude.{◌≡◌, ◌==◌, ◌||◌, ◌∷◌, [], ◌++◌, All, IfOk, OnOk, OnErr, map, filter, if◌then◌else◌};
 ghost use Rattle.std.specs.List.{list_any};
 ghost use Rattle.floor_message.specs.Shown.{IsShown};
 ghost use Rattle.floor_machine.specs.steps.Fitting.{AreFloorsShown, AreUpdatesShown, IsReplyShown};
@@ -307,6 +307,18 @@ fn put_members(
         put_member(alloc, out, conference, member, reply, updates, notices)?;
     }
     Ok(())
+}
+
+/// Puts parcels behind those that are there, or in place of none. After an error `out` is as it was.
+pub(crate) fn put_behind(out: &mut Vec<Parcel>, mut parcels: Vec<Parcel>) -> Result<(), AllocError>
+    ensures out { OnOk result (out.new.items ≡ out.old.items ++ parcels.items) }
+    ensures err { OnErr result (out.new.items ≡ out.old.items) }
+{
+    if out.is_empty() {
+        *out = parcels;
+        return Ok(());
+    }
+    out.append(&mut parcels)
 }
 
 /// Puts all that an event tells the live members, by ascending number. The status of a changed

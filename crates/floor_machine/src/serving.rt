@@ -22,7 +22,7 @@ use crate::ending::release_request;
 use crate::judged::Judged;
 use crate::member::Member;
 use crate::parcel::Parcel;
-use crate::sending::{Reply, put_all};
+use crate::sending::{Reply, put_all, put_behind};
 use crate::showing::copied;
 use crate::state::State;
 use floor_message::{Ask, AskFault, Binding, Head, read_ask, what_is_asked_fits};
@@ -327,7 +327,7 @@ impl State {
             &[],
             &[],
         )?;
-        out.append(&mut parcels)?;
+        put_behind(out, parcels)?;
         Ok(())
     }
 

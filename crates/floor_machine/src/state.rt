@@ -16,7 +16,7 @@ ghost use Rattle.floor_machine.specs.steps.Telling.{infos_of, parcels_to_all};
 use crate::course::{Course, floor_updates, updates};
 use crate::member::Member;
 use crate::parcel::Parcel;
-use crate::sending::{Reply, put_all};
+use crate::sending::{Reply, put_all, put_behind};
 use crate::showing::infos;
 use floor_config::{Config, User};
 use floor_queue::{Request, Requests};
@@ -180,7 +180,7 @@ impl State {
             &updates,
             &floor_updates,
         )?;
-        out.append(&mut parcels)?;
+        put_behind(out, parcels)?;
         Ok(())
     }
 }

@@ -41,7 +41,7 @@ returns-clause-out c =
     ∙ ap (λ (user : ℕ). judged_tells (next s e) [] user j) c.requires.user in
     let replied : (k : ℕ) → answered_to (Some r) k ≡ reply_to s e k =
     replied-message s n bytes j r c.requires.judged c.requires.kept settled c.ongoing-ongoing.ensures.kept.ascending refl c.response_head.ensures tells in
-    c.in_ok-append.ensures.items
+    c.in_ok-put_behind.ensures.out
     ∙ ap (λ (ps : List Parcel). c.args.out.now.items ++ ps)
     (c.in_ok-put_all.ensures
     ∙ ap (λ (ps : List Parcel). ps ++ parcels_to_all c.conference.result (Some r) [] [] c.deref.result.now) c.new-parcels.ensures.items
