@@ -1,7 +1,7 @@
 //! Why a call of the registry, a loop or the end is refused.
 
 ghost use Rattle.std.specs.Prelude.{◌≡◌};
-ghost use Rattle.floor_serve.specs.Names.{desk_name, finish_name, open_name};
+ghost use Rattle.floor_serve.specs.Names.{desk_name, finish_name, open_name, read_name};
 
 use floor_room::RoomRefusal;
 
@@ -58,6 +58,20 @@ pub enum ReadFault {
     Refused(RoomRefusal),
     /// Memory was refused, to the loop or to the conference.
     Memory,
+}
+
+impl ReadFault {
+    /// The name of the variant, or of the conference's refusal that it wraps. Takes no memory.
+    pub fn name(&self) -> &'static str
+        ensures { result.now ≡ read_name self.now }
+    {
+        match self {
+            ReadFault::Read => "Read",
+            ReadFault::TurnLimit => "TurnLimit",
+            ReadFault::Refused(refusal) => refusal.name(),
+            ReadFault::Memory => "Memory",
+        }
+    }
 }
 
 /// A write failed.
