@@ -2,7 +2,7 @@
 
 ghost use Rattle.std.specs.Prelude.{None};
 
-use super::{HELLO, frame, joined, opened, submits};
+use super::{HELLO, answer_of, frame, joined, opened, submits};
 use crate::*;
 use std::alloc::Global;
 use std::sync::Wait;
@@ -98,6 +98,22 @@ fn reading_ends_at_a_failed_read_or_at_the_limit(rt: HostRuntime) -> Result<(), 
     assert_eq!(rt; read_by(&rt, alloc, 11, 1)?, (Err(ReadFault::TurnLimit), 0));
     assert_eq!(rt; read_by(&rt, alloc, 12, 1)?, (Err(ReadFault::TurnLimit), 1));
     assert_eq!(rt; read_by(&rt, alloc, 13, 1)?, (Err(ReadFault::Read), 1));
+    Ok(())
+}
+
+#[test]
+fn a_message_that_a_closed_conference_refuses_is_not_recorded(rt: HostRuntime) -> Result<(), Fail> {
+    let alloc = rt.alloc();
+    let (_registry, desk) = opened(&rt, alloc)?;
+    let (mut seat, _taker) = joined(&rt, &desk, 10)?;
+    let Ok(()) = desk.admin(&rt, Act::Close) else {
+        return Err(Fail::from("the conference doesn't close"));
+    };
+    assert_eq!(rt;
+        answer_of(&rt, &desk, &mut seat, frame(alloc, &HELLO)?, &FreePass),
+        Some(Err(RoomRefusal::Refused(Refusal::Ended)))
+    );
+    assert_eq!(rt; seat.sent().len(), 0);
     Ok(())
 }
 
