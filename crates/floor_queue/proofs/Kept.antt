@@ -1,12 +1,12 @@
 -- What each change of the queue keeps.
 use Rattle.std.proofs.Common.{◌≡◌, ℕ, ◌+◌, ◌<◌, ◌≤◌, Bool, true, false, cond, List, [], ◌∷◌, ◌++◌, length, refl, sym, ◌∙◌, ap, subst, add-zero, arith, length-append, map}
-use Rattle.std.specs.Prelude.{not, ◌&&◌, nat_lt, ◌==◌, filter, if◌then◌else◌, Option, Some, None, IsSomeAnd, IsTrue}
+use Rattle.std.specs.Prelude.{not, ◌&&◌, nat_lt, ◌==◌, filter, if◌then◌else◌, Option, Some, None, IsSomeAnd, IsTrue, All}
 use Rattle.std.specs.List.{list_any, list_all}
 use Rattle.std.specs.Option.{option_map}
 use Rattle.std.proofs.lemmas.Bool.{lt-ltb}
 use Rattle.std.proofs.lemmas.List.{length-map}
 use Rattle.std.proofs.lemmas.List.Folds.{list_all-append}
-use Rattle.std.proofs.lemmas.List.Elements.{All-map, All-filter, All-push, All-weaker}
+use Rattle.std.proofs.lemmas.List.Elements.{All-map, All-filter, All-push, All-weaker, All-nil}
 use Rattle.std.proofs.lemmas.List.Sums.{sum_by_push, list_all-from_AllPass, length-filter, count_by-le-length}
 use Rattle.floor_config.specs.declared.config.Floor.{Floor}
 use Rattle.floor_queue.specs.declared.request.New.{New}
@@ -16,7 +16,7 @@ use Rattle.floor_queue.specs.declared.requested_floor.RequestedFloor.{RequestedF
 use Rattle.floor_queue.specs.declared.requested_floor.Word.{Word}
 use Rattle.floor_queue.specs.Requested.{floor_with_word}
 use Rattle.floor_queue.specs.Order.{room_of, names, holders, is_due, granted_if}
-use Rattle.floor_queue.specs.Queue.{Queue, IsQueue, IsAddable, MaySetFloor, is_ascending, new_of, first_floor, first_request, request_at, with_word, after_add, after_set_floor, after_settle, after_end}
+use Rattle.floor_queue.specs.Queue.{Queue, IsQueue, IsAddable, MaySetFloor, is_ascending, new_of, first_floor, first_request, request_at, with_word, after_add, after_set_floor, after_settle, after_end, after_clear, empty_queue}
 use Rattle.floor_queue.proofs.Counts.{and_left, and_right, and_both, count_by-map, count_by-filter}
 use Rattle.floor_queue.proofs.Settling.{room-settle}
 
@@ -30,7 +30,7 @@ list_all-map_number : (p : ℕ → Bool) (f : Request → Request) → ((r : Req
 list_all-map_number p f h [] = refl
 list_all-map_number p f h (r ∷ rs) = rw (h r, list_all-map_number p f h rs) refl
 
-is_ascending-map : (f : Request → Request) → ((r : Request) → (f r).number ≡ r.number) → (rs : List Request) → is_ascending (map f rs) ≡ is_ascending rs
+pub is_ascending-map : (f : Request → Request) → ((r : Request) → (f r).number ≡ r.number) → (rs : List Request) → is_ascending (map f rs) ≡ is_ascending rs
 is_ascending-map f h [] = refl
 is_ascending-map f h (r ∷ rs) = rw (h r, list_all-map_number (nat_lt r.number) f h rs, is_ascending-map f h rs) refl
 
@@ -52,7 +52,7 @@ IsQueue-map q f keeps fits h =
 
 -- settling ------------------------------------------------------------------------------------
 
-keeps_granted_if : (b : Request → Bool) → KeepsRequest (λ r. granted_if (b r) r)
+pub keeps_granted_if : (b : Request → Bool) → KeepsRequest (λ r. granted_if (b r) r)
 keeps_granted_if b = record { number = λ r. number (b r) r; new = λ r. new (b r) r }
   where
     number : (b : Bool) (r : Request) → (granted_if b r).number ≡ r.number
@@ -70,18 +70,18 @@ IsQueue-settle q h =
 
 -- a chair's word ------------------------------------------------------------------------------
 
-floor-floor_with_word : (floor : ℕ) (word : Word) (f : RequestedFloor) → (floor_with_word floor word f).floor ≡ f.floor
+pub floor-floor_with_word : (floor : ℕ) (word : Word) (f : RequestedFloor) → (floor_with_word floor word f).floor ≡ f.floor
 floor-floor_with_word floor word f = by (f.floor == floor)
   where
     by : (b : Bool) → (if b then record { floor = f.floor; status = Accepted; word = Some word } else f).floor ≡ f.floor
     by true = refl
     by false = refl
 
-list_any-map_same : {X Y : Type 0} (key : X → Y) (p : Y → Bool) (g : X → X) → ((x : X) → key (g x) ≡ key x) → (xs : List X) → list_any (λ x. p (key x)) (map g xs) ≡ list_any (λ x. p (key x)) xs
+pub list_any-map_same : {X Y : Type 0} (key : X → Y) (p : Y → Bool) (g : X → X) → ((x : X) → key (g x) ≡ key x) → (xs : List X) → list_any (λ x. p (key x)) (map g xs) ≡ list_any (λ x. p (key x)) xs
 list_any-map_same key p g h [] = refl
 list_any-map_same key p g h (x ∷ xs) = rw (h x, list_any-map_same key p g h xs) refl
 
-map-map_key : {X Y : Type 0} (key : X → Y) (g : X → X) → ((x : X) → key (g x) ≡ key x) → (xs : List X) → map key (map g xs) ≡ map key xs
+pub map-map_key : {X Y : Type 0} (key : X → Y) (g : X → X) → ((x : X) → key (g x) ≡ key x) → (xs : List X) → map key (map g xs) ≡ map key xs
 map-map_key key g h [] = refl
 map-map_key key g h (x ∷ xs) = rw (h x, map-map_key key g h xs) refl
 
@@ -208,3 +208,27 @@ IsQueue-filter q t h =
 
 pub IsQueue-end : (q : Queue) (request : ℕ) → IsQueue q → IsQueue (after_end q request)
 IsQueue-end q request h = IsQueue-filter q (λ r. not (r.number == request)) h
+
+-- no request -----------------------------------------------------------------------------------
+
+pub IsQueue-clear : (q : Queue) → IsQueue q → IsQueue (after_clear q)
+IsQueue-clear q h =
+    record {
+      rooms = h.rooms;
+      ascending = refl;
+      numbers = All-nil (λ (r : Request). (1 ≤ r.number) × (r.number ≤ q.given));
+      few = omega arith;
+      addable = All-nil (λ (r : Request). IsAddable q.floors (new_of r));
+      holders_fit = λ id. omega arith;
+    }
+
+pub IsQueue-empty : (floors : List Floor) → All (λ f. 1 ≤ f.room) floors → IsQueue (empty_queue floors)
+IsQueue-empty floors rooms =
+    record {
+      rooms = rooms;
+      ascending = refl;
+      numbers = All-nil (λ (r : Request). (1 ≤ r.number) × (r.number ≤ 0));
+      few = omega arith;
+      addable = All-nil (λ (r : Request). IsAddable floors (new_of r));
+      holders_fit = λ id. omega arith;
+    }

@@ -6,3 +6,8 @@ pub mod Granting
 pub mod Kept
 pub mod Places
 pub mod Placing
+pub mod Ranking
+pub mod Lining
+pub mod Changing
+pub mod Firsts
+pub mod Searching

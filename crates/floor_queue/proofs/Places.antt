@@ -86,7 +86,7 @@ settled_from floors all (y ∷ ys) h = both (here (is_due floors all y) (and_lef
     here true n = cc
     here false n = refl
 
-count_pos : (p : Request → Bool) (rs : List Request) (r : Request) → IsAmong rs r → p r ≡ true → 1 ≤ count_by p rs
+pub count_pos : (p : Request → Bool) (rs : List Request) (r : Request) → IsAmong rs r → p r ≡ true → 1 ≤ count_by p rs
 count_pos p rs r a h = by (counted p rs)
   where
     clash : (b : Bool) → b ≡ true → not b ≡ true → 1 ≤ count_by p rs
@@ -114,7 +114,7 @@ holder floors rs m first' (f ∷ fs) h k =
     step false e h later = (f.floor, held (holders rs f.floor) (ahead floors rs m f.floor) (room_of floors f.floor) (first' f.floor) (sym e) (and_left _ _ k))
 
 -- each floor that the request names has room for someone
-abbrev have_rooms : List Floor → Request → Bool
+abbrev pub have_rooms : List Floor → Request → Bool
 have_rooms floors r = list_all (λ f. nat_lt 0 (room_of floors f.floor)) r.floors
 
 -- whoever waits first isn't due, so someone holds; the holder, r and those ahead of r are different requests
@@ -183,7 +183,7 @@ floors_have_rooms floors (f ∷ fs) h k =
     and_both _ _ (lt-ltb 0 (room_of floors f.floor) (room_of_floor floors f.floor h (All-head (λ id. IsTrue (is_floor floors id)) f.floor (map (λ (f : RequestedFloor). f.floor) fs) k)))
     (floors_have_rooms floors fs h (All-tail (λ id. IsTrue (is_floor floors id)) f.floor (map (λ (f : RequestedFloor). f.floor) fs) k))
 
-queue_has_rooms : (q : Queue) → IsQueue q → list_all (have_rooms q.floors) q.ongoing ≡ true
+pub queue_has_rooms : (q : Queue) → IsQueue q → list_all (have_rooms q.floors) q.ongoing ≡ true
 queue_has_rooms q h =
     list_all-from_AllPass (have_rooms q.floors) q.ongoing
     (All-weaker (λ (r : Request). IsAddable q.floors (new_of r)) (λ (r : Request). have_rooms q.floors r ≡ true)

@@ -4,3 +4,5 @@ pub mod Requested
 pub mod Order
 pub mod Queue
 pub mod Examples
+-- the steps of the proofs
+pub mod steps

@@ -7,6 +7,8 @@
 #![tactic(auto)]
 
 mod addable;
+mod due;
+mod index;
 mod laws;
 mod order;
 mod request;

@@ -1,14 +1,19 @@
 //! The ongoing floor requests of one conference (RFC 8855, sections 10, 11 and 13).
 
-ghost use Rattle.std.specs.Prelude.{◌≡◌, ◌<◌, ◌+◌, ◌↔◌, ◌==◌, ℕ, IfOk, OnOk, OnErr, Some, IsSome, IsTrue, length, map, filter};
-ghost use Rattle.std.specs.List.{list_any, position, position_or_len};
+ghost use Rattle.std.specs.Prelude.{true, ◌≡◌, ◌<◌, ◌++◌, ◌∷◌, [], ◌+◌, ◌↔◌, ◌==◌, ℕ, IfOk, OnOk, OnErr, Some, IsSome, IsTrue, length, map, filter, remove, slice_index_or};
+ghost use Rattle.std.specs.List.{list_any};
 ghost use Rattle.std.specs.Option.{option_copied};
 ghost use Rattle.floor_queue.specs.Order.{settle, due_numbers, holders, names, granted_if};
-ghost use Rattle.floor_queue.specs.Queue.{HasFloor, IsAddable, IsQueue, IsSettled, MaySetFloor, after_add, after_clear, after_end, after_set_floor, after_settle, empty_queue, first_floor, involves, numbers_of, position_of, request_at, with_word};
+ghost use Rattle.floor_queue.specs.Queue.{HasFloor, IsAddable, IsQueue, IsSettled, MaySetFloor, after_add, after_clear, after_end, after_set_floor, after_settle, empty_queue, first_floor, involves, is_ascending, numbers_of, position_of, request_at, with_word};
+ghost use Rattle.floor_queue.specs.steps.Lines.{AreLines};
+ghost use Rattle.floor_queue.specs.Requested.{floor_with_word};
 
+use crate::index::lines::Lines;
+use crate::index::number::{find_request, place_of};
+use crate::index::rank::rank_of;
 use crate::request::{New, Request};
 use crate::requested_floor::{FloorStatus, RequestedFloor, RequestedFloors, Word};
-use crate::{addable, order};
+use crate::{addable, due, order};
 use floor_config::{Config, Floor};
 use floor_wire::Numbers;
 use std::alloc::{AllocError, AllocFailed, Global};
@@ -39,18 +44,21 @@ pub struct Requests {
     floors: Vec<Floor>,
     given: u16,
     ongoing: Vec<Request>,
+    lines: Lines,
 }
 
 impl Model for Requests {
     ghost use Rattle.floor_queue.specs.Queue.{Queue, IsQueue};
+    ghost use Rattle.floor_queue.specs.steps.Lines.{AreLines};
 
     ghost Value = { Queue };
 
     ghost view = { λ q.
         record { floors = q.floors.items; given = q.given; ongoing = q.ongoing.items } };
 
-    ghost invariant = { λ q. IsQueue
-        record { floors = q.floors.items; given = q.given; ongoing = q.ongoing.items } };
+    ghost invariant = { λ q.
+        IsQueue record { floors = q.floors.items; given = q.given; ongoing = q.ongoing.items }
+        × AreLines q.floors.items q.ongoing.items q.lines };
 }
 
 impl Requests {
@@ -59,10 +67,12 @@ impl Requests {
         ensures { IfOk result (λ requests. requests ≡ empty_queue config.now.floors) }
     {
         let floors = Vec::from_slice(alloc, config.floors())?;
+        let lines = Lines::new(alloc, config.floors())?;
         Ok(Requests {
             floors,
             given: 0,
             ongoing: Vec::new(alloc),
+            lines,
         })
     }
 
@@ -99,14 +109,17 @@ impl Requests {
     pub fn get(&self, request: u16) -> Option<&Request>
         ensures { option_copied result ≡ request_at self.now.ongoing request }
     {
-        self.ongoing.iter().find(|r| r.number == request)
+        find_request(&self.ongoing, request)
     }
 
     /// How many requests hold the floor. Takes no memory.
     pub fn holders(&self, floor: u16) -> usize
         ensures { result ≡ holders self.now.ongoing floor }
     {
-        order::holders(&self.ongoing, floor)
+        match self.lines.of(floor) {
+            Some(line) => line.holders(),
+            None => 0,
+        }
     }
 
     /// Whether the request may be added: the condition of `add`. Takes no memory.
@@ -142,7 +155,7 @@ impl Requests {
     pub fn is_settled(&self) -> bool
         ensures { IsTrue result ↔ IsSettled self.now }
     {
-        !order::has_due(&self.floors, &self.ongoing)
+        !due::has_due(&self.floors, &self.lines, &self.ongoing)
     }
 
     /// The queue position of the request for one of its floors: 0 where it doesn't wait (RFC 8855,
@@ -153,7 +166,7 @@ impl Requests {
         ensures { result ≡ position_of self.now request floor }
     {
         match self.get(request) {
-            Some(found) => order::position(&self.floors, &self.ongoing, found, floor),
+            Some(found) => { due::position(&self.floors, &self.lines, &self.ongoing, found, floor) }
             None => 0,
         }
     }
@@ -208,7 +221,7 @@ impl Requests {
             floors: RequestedFloors::from_vec(floors),
             is_granted: false,
         };
-        self.ongoing.push(request)?;
+        append(&self.floors, &mut self.ongoing, &mut self.lines, request)?;
         self.given = number;
         Ok(number)
     }
@@ -220,7 +233,14 @@ impl Requests {
         ensures still { (other id : ℕ) →
             MaySetFloor self.old other id → MaySetFloor self.new other id }
     {
-        set_floors(&mut self.ongoing, request, floor, word);
+        store_word(
+            &self.floors,
+            &mut self.ongoing,
+            &mut self.lines,
+            request,
+            floor,
+            word,
+        );
     }
 
     /// Takes a request out: it was cancelled, denied, released or revoked. Takes no memory.
@@ -230,7 +250,10 @@ impl Requests {
         ensures next { self.new ≡ after_end self.old request }
     {
         let place = place_of(&self.ongoing, request);
-        self.ongoing.remove(place)
+        let ended = take_out(&mut self.ongoing, place);
+        let rank = rank_of(&self.floors, &ended);
+        self.lines.take(&ended, rank);
+        ended
     }
 
     /// Takes all requests out, as at the end of the conference. Their numbers are not given again.
@@ -239,6 +262,8 @@ impl Requests {
         ensures { self.new ≡ after_clear self.old }
     {
         self.ongoing.clear();
+        self.ongoing.shrink_to_fit();
+        self.lines.clear();
     }
 
     /// Grants each request that is due, and gives their numbers, ascending. After an error nothing
@@ -252,8 +277,8 @@ impl Requests {
         ensures err { OnErr result (self.new ≡ self.old) }
     {
         let alloc = *self.ongoing.allocator();
-        let numbers = order::due_numbers(alloc, &self.floors, &self.ongoing)?;
-        grant_all(&mut self.ongoing, &numbers);
+        let numbers = due::due_numbers(alloc, &self.floors, &self.lines, &self.ongoing)?;
+        grant_all(&self.floors, &mut self.ongoing, &mut self.lines, &numbers);
         Ok(Numbers::from_vec(numbers))
     }
 }
@@ -310,53 +335,102 @@ fn first_floor(floors: &[Floor], floor: u16) -> RequestedFloor
     }
 }
 
-fn set_floors(requests: &mut Vec<Request>, number: u16, floor: u16, word: Word)
-    ensures { requests.new.items ≡ map (with_word number floor word) requests.old.items }
+/// Puts the request behind the others, and into the lines of its floors.
+fn append(
+    floors: &[Floor],
+    requests: &mut Vec<Request>,
+    lines: &mut Lines,
+    request: Request,
+) -> Result<(), AllocError>
+    requires lines { AreLines floors.now requests.old.items lines.old }
+
+    ensures next { OnOk result (requests.new.items ≡ requests.old.items ++ request ∷ []) }
+    ensures lines { AreLines floors.now requests.new.items lines.new }
+
+    ensures err { OnErr result (requests.new.items ≡ requests.old.items) }
 {
-    for request in requests.iter_mut() {
-        set_floor_if(request, number, floor, word);
+    requests.reserve(1)?;
+    lines.add(&request, rank_of(floors, &request))?;
+    let _pushed = requests.push(request);
+    Ok(())
+}
+
+/// Takes out the request at this place. The last one that is taken out gives the memory back.
+fn take_out(requests: &mut Vec<Request>, place: usize) -> Request
+    requires { place < length requests.old.items }
+    ensures value { result ≡ slice_index_or requests.old.items place result }
+    ensures items { requests.new.items ≡ remove requests.old.items place }
+{
+    let request = requests.remove(place);
+    if requests.is_empty() {
+        requests.shrink_to_fit();
+    }
+    request
+}
+
+/// Stores the word on the request with this number.
+fn store_word(
+    floors: &[Floor],
+    requests: &mut Vec<Request>,
+    lines: &mut Lines,
+    number: u16,
+    floor: u16,
+    word: Word,
+)
+    requires ascending { IsTrue (is_ascending requests.old.items) }
+    requires lines { AreLines floors.now requests.old.items lines.old }
+    ensures next { requests.new.items ≡ map (with_word number floor word) requests.old.items }
+    ensures lines { AreLines floors.now requests.new.items lines.new }
+{
+    let place = place_of(requests, number);
+    if place < requests.len() {
+        let old = rank_of(floors, &requests[place]);
+        set_word(&mut requests[place], floor, word);
+        let request = &requests[place];
+        lines.change(request, old, rank_of(floors, request));
     }
 }
 
-/// Stores the word, if it is on this request.
-fn set_floor_if(request: &mut Request, number: u16, floor: u16, word: Word)
-    ensures { request.new ≡ with_word number floor word request.old }
-{
-    if request.number == number {
-        request.floors.set_word(floor, word);
-    }
-}
-
-/// The place of the request with this number, and the number of requests where none has it.
-fn place_of(requests: &[Request], number: u16) -> usize
-    ensures { result ≡ position_or_len (λ r. r.number == number) requests.now }
-{
-    find_place(requests, number).unwrap_or(requests.len())
-}
-
-fn find_place(requests: &[Request], number: u16) -> Option<usize>
-    ensures { result ≡ position (λ r. r.number == number) requests.now }
-{
-    requests.iter().position(|r| r.number == number)
-}
-
-fn grant_all(requests: &mut Vec<Request>, numbers: &[u16])
-    ensures { requests.new.items
-        ≡ map (λ r. granted_if (list_any (λ n. n == r.number) numbers.now) r) requests.old.items }
-{
-    for request in requests.iter_mut() {
-        grant_if(request, numbers);
-    }
-}
-
-/// Grants the request, if its number is among these.
-fn grant_if(request: &mut Request, numbers: &[u16])
+fn set_word(request: &mut Request, floor: u16, word: Word)
     ensures { request.new
-        ≡ granted_if (list_any (λ n. n == request.old.number) numbers.now) request.old }
+        ≡ record request.old { floors = map (floor_with_word floor word) request.old.floors } }
 {
-    if numbers.contains(&request.number) {
-        request.is_granted = true;
+    request.floors.set_word(floor, word);
+}
+
+fn grant_all(floors: &[Floor], requests: &mut Vec<Request>, lines: &mut Lines, numbers: &[u16])
+    requires ascending { IsTrue (is_ascending requests.old.items) }
+    requires lines { AreLines floors.now requests.old.items lines.old }
+    ensures next { requests.new.items
+        ≡ map (λ r. granted_if (list_any (λ n. n == r.number) numbers.now) r) requests.old.items }
+    ensures lines { AreLines floors.now requests.new.items lines.new }
+{
+    for number in numbers {
+        grant_one(floors, requests, lines, *number);
     }
+}
+
+/// Grants the request with this number.
+fn grant_one(floors: &[Floor], requests: &mut Vec<Request>, lines: &mut Lines, number: u16)
+    requires ascending { IsTrue (is_ascending requests.old.items) }
+    requires lines { AreLines floors.now requests.old.items lines.old }
+    ensures next { requests.new.items
+        ≡ map (λ r. granted_if (r.number == number) r) requests.old.items }
+    ensures lines { AreLines floors.now requests.new.items lines.new }
+{
+    let place = place_of(requests, number);
+    if place < requests.len() {
+        let old = rank_of(floors, &requests[place]);
+        grant(&mut requests[place]);
+        let request = &requests[place];
+        lines.change(request, old, rank_of(floors, request));
+    }
+}
+
+fn grant(request: &mut Request)
+    ensures { request.new ≡ granted_if true request.old }
+{
+    request.is_granted = true;
 }
 
 impl From<AllocError> for AddRefusal {

@@ -1,14 +1,37 @@
-use Rattle.std.proofs.Common.{◌<◌, length, arith}
+use Rattle.std.proofs.Common.{◌∙◌, ap, map, take, sym, get_or, List, ℕ}
 use Rattle.std.specs.Prelude.{◌==◌}
 use Rattle.std.specs.List.{list_any}
+use Rattle.std.proofs.lemmas.List.{take_more}
 use Rattle.floor_queue.specs.declared.request.Request.{Request}
 use Rattle.floor_queue.specs.Order.{granted_if}
-use Rattle.floor_queue.proofs.Loops.{set-map_front}
+use Rattle.floor_queue.specs.Queue.{is_ascending}
+use Rattle.floor_queue.proofs.Changing.{granted_more, granted_none}
+use Rattle.floor_queue.proofs.Kept.{is_ascending-map, keeps_granted_if}
 use Rattle.floor_queue.proofs.requests.grant_all.Goals as goal
 
-pub loop-request-preserved : goal.loop-request-preserved
-loop-request-preserved c =
-    let within : c.loop-request.request-index < length c.args.requests.now.items = omega arith in
-    let within_now : c.loop-request.request-index < length c.loop-request.request-items = omega arith in
-    set-map_front (λ (r : Request). granted_if (list_any (λ n. n == r.number) c.args.numbers.now) r) c.args.requests.now.items c.loop-request.request-items c.loop-request.request-index _ _ within within_now
-    c.grant_if.ensures c.loop-request.invariant
+abbrev granted : List ℕ → Request → Request
+granted ns r = granted_if (list_any (λ n. n == r.number) ns) r
+
+pub grant_one-requires : goal.grant_one-requires
+grant_one-requires c =
+    let so_far : List ℕ = take c.loop-number.number-index c.args.numbers.now in
+    record {
+      ascending = ap is_ascending c.loop-number.invariant.next
+          ∙ is_ascending-map (granted so_far) ((keeps_granted_if (λ r. list_any (λ n. n == r.number) so_far)).number) c.args.requests.now.items
+          ∙ c.requires.ascending;
+      lines = c.loop-number.invariant.lines;
+    }
+
+pub loop-number-init : goal.loop-number-init
+loop-number-init c = record { next = sym (granted_none c.args.requests.now.items); lines = c.requires.lines }
+
+pub loop-number-preserved : goal.loop-number-preserved
+loop-number-preserved c =
+    let so_far : List ℕ = take c.loop-number.number-index c.args.numbers.now in
+    let n : ℕ = get_or c.args.numbers.now c.loop-number.number-index 0 in
+    record {
+      next = c.grant_one.ensures.next ∙ ap (λ (rs : List Request). map (λ r. granted_if (r.number == n) r) rs) c.loop-number.invariant.next
+          ∙ granted_more so_far n c.args.requests.now.items
+          ∙ ap (λ (ns : List ℕ). map (granted ns) c.args.requests.now.items) (sym (take_more c.args.numbers.now c.loop-number.number-index 0 c.loop-number-test.true));
+      lines = c.grant_one.ensures.lines;
+    }

@@ -3,10 +3,15 @@ use Rattle.floor_queue.specs.Queue.{Queue, IsAddable, first_request}
 use Rattle.floor_queue.proofs.Kept.{IsQueue-add}
 use Rattle.floor_queue.proofs.requests.Requests.add.Goals as goal
 
+pub append-requires : goal.append-requires
+append-requires c = record { lines = rw c.deref-2.ensures.value c.self.invariant.1 }
+
 pub invariant_of-self-2 : goal.invariant_of-self-2
 invariant_of-self-2 c =
     let q : Queue = record { floors = c.self.inside.floors.items; given = c.self.inside.given; ongoing = c.self.inside.ongoing.items } in
     let few : length c.self.inside.ongoing.items < 256 = omega arith in
     let addable : IsAddable q.floors c.args.new = subst (λ (q : Queue). IsAddable q.floors c.args.new) (sym c.self.view_is) c.requires in
-    let e : c.push.new.self.items ≡ c.self.inside.ongoing.items ++ first_request q.floors (q.given + 1) c.args.new ∷ [] = search rules in
-    rw e (IsQueue-add q c.args.new c.self.invariant few addable)
+    let e : c.append.new.requests.items ≡ c.self.inside.ongoing.items ++ first_request q.floors (q.given + 1) c.args.new ∷ [] = search rules in (
+      rw e (IsQueue-add q c.args.new c.self.invariant.0 few addable),
+      rw c.deref-2.ensures.value at c.in_ok-append.ensures.lines,
+    )

@@ -2,13 +2,17 @@ use Rattle.std.proofs.Common.{◌≡◌, ◌∙◌, ap, sym, subst, refl, arith,
 use Rattle.std.specs.Prelude.{◌==◌, IsSome}
 use Rattle.std.specs.List.{position_or_len}
 use Rattle.floor_queue.specs.declared.request.Request.{Request}
-use Rattle.floor_queue.specs.Queue.{Queue, request_at}
+use Rattle.floor_queue.specs.Queue.{Queue, is_ascending, request_at}
 use Rattle.floor_queue.proofs.Kept.{IsQueue-end}
+use Rattle.floor_queue.proofs.Lining.{AreLines-ended}
 use Rattle.floor_queue.proofs.Placing.{TakesOut, found_within, takes_out}
 use Rattle.floor_queue.proofs.requests.Requests.end.Goals as goal
 
-pub remove-requires : goal.remove-requires
-remove-requires c =
+pub place_of-place-requires : goal.place_of-place-requires
+place_of-place-requires c = ap is_ascending c.deref.ensures.value ∙ c.self.invariant.0.ascending
+
+pub take_out-ended-requires : goal.take_out-ended-requires
+take_out-ended-requires c =
     let ongoing : IsSome (request_at c.self.inside.ongoing.items c.args.request) =
     subst (λ (q : Queue). IsSome (request_at q.ongoing c.args.request)) (sym c.self.view_is) c.requires in
     let place : c.place_of-place.result ≡ position_or_len (λ (r : Request). r.number == c.args.request) c.self.inside.ongoing.items =
@@ -16,17 +20,20 @@ remove-requires c =
     omega (arith, found_within (λ (r : Request). r.number == c.args.request) c.self.inside.ongoing.items ongoing, place, ap length c.deref.ensures.value, c.deref.ensures.len)
 
 -- the requests inside after the one is taken out, and that one
-made : (c : goal.After-remove) → TakesOut c.self.inside.ongoing.items c.remove.new.self.items c.args.request c.remove.result
+made : (c : goal.After-take) → TakesOut c.self.inside.ongoing.items c.take_out-ended.new.requests.items c.args.request c.take_out-ended.result
 made c =
-    takes_out c.self.inside.ongoing.items c.remove.new.self.items c.args.request c.place_of-place.result c.remove.result c.self.invariant.ascending
+    takes_out c.self.inside.ongoing.items c.take_out-ended.new.requests.items c.args.request c.place_of-place.result c.take_out-ended.result c.self.invariant.0.ascending
     (subst (λ (q : Queue). IsSome (request_at q.ongoing c.args.request)) (sym c.self.view_is) c.requires)
     (c.place_of-place.ensures ∙ ap (position_or_len (λ (r : Request). r.number == c.args.request)) c.deref.ensures.value)
-    c.remove.ensures.value c.remove.ensures.items
+    c.take_out-ended.ensures.value c.take_out-ended.ensures.items
 
 pub invariant_of-self : goal.invariant_of-self
-invariant_of-self c =
-    rw ((made c).others)
-    (IsQueue-end record { floors = c.self.inside.floors.items; given = c.self.inside.given; ongoing = c.self.inside.ongoing.items } c.args.request c.self.invariant)
+invariant_of-self c = (
+  rw ((made c).others)
+      (IsQueue-end record { floors = c.self.inside.floors.items; given = c.self.inside.given; ongoing = c.self.inside.ongoing.items } c.args.request c.self.invariant.0),
+  rw ((made c).others, c.take.ensures, c.rank_of-rank.ensures, c.deref-2.ensures.value)
+      (AreLines-ended c.self.inside.floors.items c.self.inside.ongoing.items c.args.request c.take_out-ended.result c.self.inside.lines c.self.invariant.0.ascending (made c).ended c.self.invariant.1),
+)
 
 pub returns-clause-ended : goal.returns-clause-ended
 returns-clause-ended c = rw (← c.self.view_is) ((made c).ended)

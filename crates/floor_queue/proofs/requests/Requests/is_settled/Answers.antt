@@ -1,10 +1,16 @@
-use Rattle.std.proofs.Common.{◌≡◌, ◌∙◌, ap}
-use Rattle.floor_queue.specs.Queue.{Queue}
+use Rattle.std.proofs.Common.{◌∙◌, ap}
+use Rattle.floor_queue.specs.Queue.{Queue, is_ascending}
+use Rattle.floor_queue.specs.steps.Lines.{IsLined}
+use Rattle.floor_queue.proofs.Firsts.{is_lined, has_due-lines}
 use Rattle.floor_queue.proofs.Places.{settled_exactly}
 use Rattle.floor_queue.proofs.requests.Requests.is_settled.Goals as goal
 
+pub has_due-requires : goal.has_due-requires
+has_due-requires c = ap is_ascending c.deref-2.ensures.value ∙ c.self.invariant.0.ascending
+
 pub returns : goal.returns
 returns c =
-    let floors : c.deref.result.now ≡ c.args.self.now.floors = c.deref.ensures.value ∙ ap (λ (q : Queue). q.floors) c.self.view_is in
-    let ongoing : c.deref-2.result.now ≡ c.args.self.now.ongoing = c.deref-2.ensures.value ∙ ap (λ (q : Queue). q.ongoing) c.self.view_is in
-    rw (c.has_due.ensures, floors, ongoing) (settled_exactly c.args.self.now.floors c.args.self.now.ongoing)
+    let q : Queue = record { floors = c.self.inside.floors.items; given = c.self.inside.given; ongoing = c.self.inside.ongoing.items } in
+    let lined : IsLined q.floors q.ongoing c.self.inside.lines = is_lined q c.self.inside.lines c.self.invariant.0 c.self.invariant.1 in
+    rw (c.has_due.ensures, c.deref.ensures.value, c.deref-2.ensures.value, has_due-lines c.self.inside.floors.items c.self.inside.ongoing.items c.self.inside.lines lined, ← c.self.view_is)
+    (settled_exactly c.self.inside.floors.items c.self.inside.ongoing.items)

@@ -3,13 +3,18 @@ use Rattle.floor_queue.specs.Queue.{Queue, MaySetFloor}
 use Rattle.floor_queue.proofs.Kept.{IsQueue-set_floor, MaySetFloor-set_floor}
 use Rattle.floor_queue.proofs.requests.Requests.set_floor.Goals as goal
 
+pub store_word-requires : goal.store_word-requires
+store_word-requires c = record { ascending = c.self.invariant.0.ascending; lines = rw c.deref.ensures.value c.self.invariant.1 }
+
 pub invariant_of-self : goal.invariant_of-self
-invariant_of-self c =
-    rw c.set_floors.ensures
-    (IsQueue-set_floor record { floors = c.self.inside.floors.items; given = c.self.inside.given; ongoing = c.self.inside.ongoing.items } c.args.request c.args.floor c.args.word c.self.invariant)
+invariant_of-self c = (
+  rw c.store_word.ensures.next
+      (IsQueue-set_floor record { floors = c.self.inside.floors.items; given = c.self.inside.given; ongoing = c.self.inside.ongoing.items } c.args.request c.args.floor c.args.word c.self.invariant.0),
+  rw c.deref.ensures.value at c.store_word.ensures.lines,
+)
 
 pub returns-clause-still : goal.returns-clause-still
 returns-clause-still c = λ other id may.
     let q : Queue = record { floors = c.self.inside.floors.items; given = c.self.inside.given; ongoing = c.self.inside.ongoing.items } in
-    rw c.set_floors.ensures
+    rw c.store_word.ensures.next
     (MaySetFloor-set_floor q c.args.request c.args.floor c.args.word other id (subst (λ (q : Queue). MaySetFloor q other id) (sym c.self.view_is) may))

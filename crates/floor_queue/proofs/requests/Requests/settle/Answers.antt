@@ -3,23 +3,40 @@ use Rattle.std.specs.Prelude.{◌==◌, map}
 use Rattle.std.specs.List.{list_any}
 use Rattle.floor_queue.specs.declared.request.Request.{Request}
 use Rattle.floor_queue.specs.Order.{settle, due_numbers, granted_if}
+use Rattle.floor_queue.specs.Queue.{Queue}
 use Rattle.floor_queue.proofs.Granting.{granted-due}
 use Rattle.floor_queue.proofs.Kept.{IsQueue-settle}
+use Rattle.floor_queue.proofs.Firsts.{is_lined}
 use Rattle.floor_queue.proofs.Settling.{settle-settle}
 use Rattle.floor_queue.proofs.requests.Requests.settle.Goals as goal
+
+pub grant_all-requires : goal.grant_all-requires
+grant_all-requires c = record { ascending = c.self.invariant.0.ascending; lines = rw c.deref-3.ensures.value c.self.invariant.1 }
+
+pub due_numbers-requires : goal.due_numbers-requires
+due_numbers-requires c =
+    rw (c.deref.ensures.value, c.deref-2.ensures.value)
+    (is_lined record { floors = c.self.inside.floors.items; given = c.self.inside.given; ongoing = c.self.inside.ongoing.items } c.self.inside.lines c.self.invariant.0 c.self.invariant.1)
+
+-- the numbers that are due
+due : (c : goal.After-from_vec) → c.in_ok-numbers.numbers.items ≡ due_numbers c.self.inside.floors.items c.self.inside.ongoing.items
+due c = rw (c.deref.ensures.value, c.deref-2.ensures.value) at c.in_ok-numbers.ensures
 
 -- the requests inside after the grants
 made : (c : goal.After-from_vec) → c.grant_all.new.requests.items ≡ settle c.self.inside.floors.items c.self.inside.ongoing.items
 made c =
-    let numbers : c.deref-3.result.now ≡ due_numbers c.self.inside.floors.items c.self.inside.ongoing.items =
-    c.deref-3.ensures.value ∙ rw (← c.deref.ensures.value, ← c.deref-2.ensures.value) c.in_ok-numbers.ensures in
-    c.grant_all.ensures
-    ∙ ap (λ (ns : List ℕ). map (λ (r : Request). granted_if (list_any (λ n. n == r.number) ns) r) c.self.inside.ongoing.items) numbers
-    ∙ granted-due c.self.inside.floors.items c.self.inside.ongoing.items c.self.invariant.ascending
+    c.grant_all.ensures.next
+    ∙ ap (λ (ns : List ℕ). map (λ (r : Request). granted_if (list_any (λ n. n == r.number) ns) r) c.self.inside.ongoing.items) (c.deref-4.ensures.value ∙ due c)
+    ∙ granted-due c.self.inside.floors.items c.self.inside.ongoing.items c.self.invariant.0.ascending
 
 pub invariant_of-self : goal.invariant_of-self
-invariant_of-self c =
-    rw (made c) (IsQueue-settle record { floors = c.self.inside.floors.items; given = c.self.inside.given; ongoing = c.self.inside.ongoing.items } c.self.invariant)
+invariant_of-self c = (
+  rw (made c) (IsQueue-settle record { floors = c.self.inside.floors.items; given = c.self.inside.given; ongoing = c.self.inside.ongoing.items } c.self.invariant.0),
+  rw c.deref-3.ensures.value at c.grant_all.ensures.lines,
+)
+
+pub returns-clause-granted : goal.returns-clause-granted
+returns-clause-granted c = c.from_vec.ensures ∙ due c ∙ ap (λ (q : Queue). due_numbers q.floors q.ongoing) c.self.view_is
 
 pub returns-clause-next : goal.returns-clause-next
 returns-clause-next c = rw (← c.self.view_is, made c) refl

@@ -1,0 +1,6 @@
+use Rattle.std.proofs.Common.{◌≡◌, ◌++◌, take, drop, map}
+use Rattle.floor_queue.specs.steps.Lines.{added}
+use Rattle.floor_queue.proofs.index.lines.add_to_first.Given as goal
+
+abbrev pub invariant-loop-index : goal.invariant-loop-index
+invariant-loop-index l = l.lines.items ≡ map (added l.request l.rank) (take l.index l.fn.lines.items) ++ drop l.index l.fn.lines.items

@@ -1,0 +1,2 @@
+-- How the indexes stand for the ongoing requests. Nobody has to believe it: no public clause rests on it.
+pub mod Lines

@@ -1,0 +1,108 @@
+-- The ongoing requests of each floor in one line: those that hold it, then those that wait in their order, then the rest.
+use Rattle.std.specs.Prelude.{◌≡◌, ℕ, ◌==◌, nat_lt, Bool, true, false, not, ◌&&◌, if◌then◌else◌, List, [], ◌∷◌, map, count_by, find, take, length, All}
+use Rattle.std.specs.List.{list_all, list_any, position_or_len}
+use Rattle.std.specs.Option.{option_map_or}
+use Rattle.floor_config.specs.declared.config.Floor.{Floor}
+use Rattle.floor_queue.specs.declared.index.rank.Rank.{Rank}
+use Rattle.floor_queue.specs.declared.request.Request.{Request}
+use Rattle.floor_queue.specs.Order.{names, waits, is_express, room_of}
+use Rattle.floor_queue.specs.Queue.{is_ascending, request_at}
+
+-- what the place of a request in its lines goes by
+unfoldable pub rank_of : List Floor → Request → Rank
+rank_of floors r =
+    record { is_granted = r.is_granted; waits = waits r; is_express = is_express floors r; priority = r.priority; number = r.number }
+
+-- the one of which the mark stands is first, and t says which where both have it or neither
+abbrev pub first_by : Bool → Bool → Bool → Bool
+first_by a b t = if a then (if b then t else true) else (if b then false else t)
+
+-- the higher priority is first, then the lower number
+abbrev pub first_by_priority : Rank → Rank → Bool
+first_by_priority a b =
+    if a.priority == b.priority then nat_lt a.number b.number else nat_lt b.priority a.priority
+
+-- whoever holds is first, then whoever waits, then the express one, then the one of higher priority or lower number
+unfoldable pub before : Rank → Rank → Bool
+before a b =
+    first_by a.is_granted b.is_granted (first_by a.waits b.waits (first_by a.is_express b.is_express (first_by_priority a b)))
+
+-- how many of the first ranks are before x
+abbrev pub place_in : Rank → List Rank → ℕ
+place_in x xs = position_or_len (λ k. not (before k x)) xs
+
+-- the ranks with x before the first that isn't before it
+abbrev pub with_rank : Rank → List Rank → List Rank
+with_rank x [] = x ∷ []
+with_rank x (y ∷ ys) = if before y x then y ∷ with_rank x ys else x ∷ y ∷ ys
+
+-- the ranks without the first that isn't before x
+abbrev pub without_rank : Rank → List Rank → List Rank
+without_rank x [] = []
+without_rank x (y ∷ ys) = if before y x then y ∷ without_rank x ys else ys
+
+-- the ranks with y in the stead of x, where x stands among them
+abbrev pub moved_rank : Rank → Rank → List Rank → List Rank
+moved_rank x y xs = if nat_lt (place_in x xs) (length xs) then with_rank y (without_rank x xs) else xs
+
+-- no rank is before an earlier one
+abbrev pub is_in_order : List Rank → Bool
+is_in_order [] = true
+is_in_order (x ∷ xs) = list_all (λ k. not (before k x)) xs && is_in_order xs
+
+-- a floor, and the ranks of the requests that name it
+pub record FloorLine : Type 0 where
+  pub floor : ℕ
+  pub ranks : List Rank
+
+abbrev pub empty_line : Floor → FloorLine
+empty_line f = record { floor = f.id; ranks = [] }
+
+abbrev pub emptied : FloorLine → FloorLine
+emptied l = record l { ranks = [] }
+
+-- the line after r, whose rank is x, was added
+abbrev pub added : Request → Rank → FloorLine → FloorLine
+added r x l = if names r l.floor then record l { ranks = with_rank x l.ranks } else l
+
+-- the line after r, whose rank was x, was taken out
+abbrev pub taken : Request → Rank → FloorLine → FloorLine
+taken r x l = if names r l.floor then record l { ranks = without_rank x l.ranks } else l
+
+-- the line after the rank of r became y, which was x
+abbrev pub moved : Request → Rank → Rank → FloorLine → FloorLine
+moved r x y l = if names r l.floor then record l { ranks = moved_rank x y l.ranks } else l
+
+-- a line is in order, and has as many ranks under each test as requests that name the floor
+pub record IsLine (floors : List Floor) (rs : List Request) (l : FloorLine) : Type 0 where
+  pub in_order : is_in_order l.ranks ≡ true
+  pub counts : (p : Rank → Bool) → count_by p l.ranks ≡ count_by (λ r. names r l.floor && p (rank_of floors r)) rs
+
+-- each floor has its line
+pub record AreLines (floors : List Floor) (rs : List Request) (lines : List FloorLine) : Type 0 where
+  pub floors_same : map (λ (l : FloorLine). l.floor) lines ≡ map (λ (f : Floor). f.id) floors
+  pub each : All (IsLine floors rs) lines
+
+-- the floor has a place for the rank within its room: never, where it has no line
+abbrev pub has_place : List Floor → List FloorLine → Rank → ℕ → Bool
+has_place floors lines x floor =
+    option_map_or (λ l. nat_lt (place_in x l.ranks) (room_of floors floor)) (find (λ l. l.floor == floor) lines) false
+
+-- r waits, and each of its floors has a place for it
+abbrev pub is_due_in : List Floor → List FloorLine → Request → Bool
+is_due_in floors lines r = waits r && list_all (λ f. has_place floors lines (rank_of floors r) f.floor) r.floors
+
+-- the request with this number is due
+abbrev pub is_number_due : List Floor → List FloorLine → List Request → ℕ → Bool
+is_number_due floors lines rs number = option_map_or (is_due_in floors lines) (request_at rs number) false
+
+-- one of the line's first requests, as many as the floor has room for, is due
+abbrev pub line_has_due : List Floor → List FloorLine → List Request → FloorLine → Bool
+line_has_due floors lines rs l =
+    list_any (λ k. k.waits && is_number_due floors lines rs k.number) (take (room_of floors l.floor) l.ranks)
+
+-- The requests by ascending number, each of which names a floor, and their lines.
+pub record IsLined (floors : List Floor) (rs : List Request) (lines : List FloorLine) : Type 0 where
+  pub ascending : is_ascending rs ≡ true
+  pub named : list_all (λ r. nat_lt 0 (length r.floors)) rs ≡ true
+  pub lined : AreLines floors rs lines

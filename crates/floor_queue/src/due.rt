@@ -1,0 +1,144 @@
+//! Which ongoing floor requests are due, and their queue positions, by the lines of their floors.
+
+ghost use Rattle.std.specs.Prelude.{◌≡◌, ◌≤◌, ◌==◌, ◌&&◌, IfOk, IsSome, IsTrue, filter, find};
+ghost use Rattle.std.specs.List.{list_any, list_all};
+ghost use Rattle.floor_queue.specs.Order.{due_numbers, position};
+ghost use Rattle.floor_queue.specs.Queue.{is_ascending, numbers_of};
+ghost use Rattle.floor_queue.specs.steps.Lines.{AreLines, IsLined, has_place, is_due_in, is_number_due, line_has_due};
+
+use crate::index::line::Line;
+use crate::index::lines::Lines;
+use crate::index::number::find_request;
+use crate::index::rank::{Rank, rank_of};
+use crate::order::room_of;
+use crate::request::Request;
+use crate::requested_floor::RequestedFloor;
+use floor_config::Floor;
+use std::alloc::{AllocError, Global};
+
+/// The queue position of the request for the floor: 0 where it doesn't wait.
+pub(crate) fn position(
+    floors: &[Floor],
+    lines: &Lines,
+    requests: &[Request],
+    request: &Request,
+    floor: u16,
+) -> u8
+    requires fits { position floors.now requests.now request.now floor ≤ 255 }
+    requires lines { AreLines floors.now requests.now lines.now }
+    requires named { IsSome (find (λ l. l.floor == floor) lines.now) }
+    ensures { result ≡ position floors.now requests.now request.now floor }
+{
+    if request.waits() {
+        match lines.of(floor) {
+            Some(line) => (line.place(rank_of(floors, request)) - line.holders() + 1) as u8,
+            None => 0,
+        }
+    } else {
+        0
+    }
+}
+
+/// Whether the floor has a place for the rank within its room.
+fn has_place(floors: &[Floor], lines: &Lines, rank: Rank, floor: u16) -> bool
+    ensures { result ≡ has_place floors.now lines.now rank floor }
+{
+    match lines.of(floor) {
+        Some(line) => line.place(rank) < room_of(floors, floor),
+        None => false,
+    }
+}
+
+/// Whether each of these floors has a place for the rank.
+fn have_places(floors: &[Floor], lines: &Lines, rank: Rank, requested: &[RequestedFloor]) -> bool
+    ensures { result ≡ list_all (λ f. has_place floors.now lines.now rank f.floor) requested.now }
+{
+    requested
+        .iter()
+        .all(|f| has_place(floors, lines, rank, f.floor))
+}
+
+/// Whether the request waits and all its floors have a place for it.
+fn is_due(floors: &[Floor], lines: &Lines, request: &Request) -> bool
+    ensures { result ≡ is_due_in floors.now lines.now request.now }
+{
+    request.waits()
+        && have_places(
+            floors,
+            lines,
+            rank_of(floors, request),
+            request.floors.as_slice(),
+        )
+}
+
+/// Whether the request with this number is due.
+fn is_number_due(floors: &[Floor], lines: &Lines, requests: &[Request], number: u16) -> bool
+    requires { IsTrue (is_ascending requests.now) }
+    ensures { result ≡ is_number_due floors.now lines.now requests.now number }
+{
+    match find_request(requests, number) {
+        Some(request) => is_due(floors, lines, request),
+        None => false,
+    }
+}
+
+/// Whether one of these ranks is that of a request that is due.
+fn have_due(floors: &[Floor], lines: &Lines, requests: &[Request], ranks: &[Rank]) -> bool
+    requires { IsTrue (is_ascending requests.now) }
+    ensures { result ≡ list_any
+        (λ k. k.waits && is_number_due floors.now lines.now requests.now k.number) ranks.now }
+{
+    ranks.iter().any(|k| k.waits && is_number_due(floors, lines, requests, k.number))
+}
+
+/// Whether one of the line's first requests, as many as the floor has room for, is due.
+fn line_has_due(floors: &[Floor], lines: &Lines, requests: &[Request], line: &Line) -> bool
+    requires { IsTrue (is_ascending requests.now) }
+    ensures { result ≡ line_has_due floors.now lines.now requests.now line.now }
+{
+    let room = room_of(floors, line.floor());
+    have_due(floors, lines, requests, line.first(room))
+}
+
+/// Whether one of the requests is due. Looks at the first requests of each line alone.
+pub(crate) fn has_due(floors: &[Floor], lines: &Lines, requests: &[Request]) -> bool
+    requires { IsTrue (is_ascending requests.now) }
+    ensures { result ≡ list_any (line_has_due floors.now lines.now requests.now) lines.now }
+{
+    lines
+        .as_slice()
+        .iter()
+        .any(|l| line_has_due(floors, lines, requests, l))
+}
+
+/// The numbers of the requests that are due, in their order.
+pub(crate) fn due_numbers(
+    alloc: Global,
+    floors: &[Floor],
+    lines: &Lines,
+    requests: &[Request],
+) -> Result<Vec<u16>, AllocError>
+    requires { IsLined floors.now requests.now lines.now }
+    ensures { IfOk result (λ numbers. numbers.items ≡ due_numbers floors.now requests.now) }
+{
+    if has_due(floors, lines, requests) {
+        return all_due(alloc, floors, lines, requests);
+    }
+    Ok(Vec::new(alloc))
+}
+
+fn all_due(
+    alloc: Global,
+    floors: &[Floor],
+    lines: &Lines,
+    requests: &[Request],
+) -> Result<Vec<u16>, AllocError>
+    ensures { IfOk result (λ numbers.
+        numbers.items ≡ numbers_of (filter (is_due_in floors.now lines.now) requests.now)) }
+{
+    requests
+        .iter()
+        .filter(|r| is_due(floors, lines, r))
+        .map(|r| r.number)
+        .collect(alloc)
+}
