@@ -1,7 +1,5 @@
 //! Runs of a room, as lines that act on it and lines that they answer, and a full journal.
 
-mod joins;
-
 use floor_room::{
     Act, Config, Event, Frame, Ledger, ReplayFault, Room, RoomRefusal, journal_text, replay,
 };
