@@ -1,3 +1,4 @@
+pub mod Commands
 pub mod Growing
 pub mod Receiving
 pub mod Steps

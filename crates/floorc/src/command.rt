@@ -1,7 +1,10 @@
 //! One command line as what it asks (RFC 8855, section 5.3).
 
-ghost use Rattle.std.specs.Prelude.{◌≤◌, length, IfOk};
-ghost use Rattle.floorc.specs.Commands.{CommandFits};
+ghost use Rattle.std.specs.Prelude.{◌≡◌, ◌^◌, ◌≤◌, [], ◌∷◌, IfOk, length, map};
+ghost use Rattle.std.specs.List.{position, position_or_len};
+ghost use Rattle.std.specs.Option.{option_map};
+ghost use Rattle.floor_words.specs.Words.{number};
+ghost use Rattle.floorc.specs.Commands.{CommandFits, IsCommand, IsFitted, IsParted, Reads, alone, chair_action, count_of, decided, floor_request, is_option, number_of, numbers_of, one_number, options_of, or_bad, plain, requested, said, user_of, verdict_of};
 
 use floor_client::{Ask, Numbers, Octets, Verdict, Verdicts, ask_fits};
 use floor_words::{read_u16, read_u64, words};
@@ -31,12 +34,22 @@ pub enum LineFault {
 }
 
 impl From<AllocError> for LineFault {
+    ghost use Rattle.std.specs.Prelude.{◌≡◌};
+    ghost use Rattle.floorc.specs.declared.command.LineFault.TheVariants.{Memory};
+
+    ghost from_gives = { λ _ e. e ≡ Memory };
+
     fn from(_e: AllocError) -> LineFault {
         LineFault::Memory
     }
 }
 
 impl<T: Drop> From<AllocFailed<T>> for LineFault {
+    ghost use Rattle.std.specs.Prelude.{◌≡◌};
+    ghost use Rattle.floorc.specs.declared.command.LineFault.TheVariants.{Memory};
+
+    ghost from_gives = { λ _ e. e ≡ Memory };
+
     fn from(_e: AllocFailed<T>) -> LineFault {
         LineFault::Memory
     }
@@ -45,102 +58,207 @@ impl<T: Drop> From<AllocFailed<T>> for LineFault {
 /// The command of a line without its line feed. A message that it sends can be written.
 pub fn parse_line(alloc: Global, line: &str) -> Result<Command, LineFault>
     ensures fits { IfOk result CommandFits }
+    ensures value { IsCommand line.now result }
 {
-    // What follows `info` and one space is a text; its spaces part no words.
-    let (head, info) = match line.split_once(" info ") {
+    let (head, info) = parted(line);
+    let words = words(alloc, head)?;
+    match said(alloc, &words, info) {
+        Ok(command) => fitting(command),
+        Err(fault) => Err(fault),
+    }
+}
+
+/// What stands before the first ` info ` of a line, and the text behind it, whose spaces part no
+/// words.
+fn parted(line: &str) -> (&str, Option<&str>)
+    ensures { IsParted line.now result.0.now (option_map (λ text. text.now) result.1) }
+{
+    match line.split_once(" info ") {
         Some((head, text)) => (head, Some(text)),
         None => (line, None),
+    }
+}
+
+/// The command, where a message that it sends fits.
+fn fitting(command: Command) -> Result<Command, LineFault>
+    ensures { IsFitted command result }
+{
+    match &command {
+        Command::Send(ask) if !ask_fits(ask) => Err(LineFault::BadLine),
+        _ => Ok(command),
+    }
+}
+
+fn said(alloc: Global, words: &[&str], info: Option<&str>) -> Result<Command, LineFault>
+    ensures { Reads (said (map (λ w. w.now) words.now) (option_map (λ text. text.now) info.entry)) result }
+{
+    let [name, words @ ..] = words else {
+        return Err(LineFault::BadLine);
     };
-    let words = words(alloc, head)?;
-    match words.as_slice() {
-        ["request", rest @ ..] => fitting(floor_request(alloc, rest, info)?),
-        _ if info.is_some() => Err(LineFault::BadLine),
-        ["listen", count] => listen(count),
-        ["quit"] => Ok(Command::Quit),
-        words => fitting(plain(alloc, words)?),
+    if *name == "request" {
+        let ask = floor_request(alloc, words, info)?;
+        return Ok(Command::Send(ask));
+    }
+    match info {
+        Some(_) => Err(LineFault::BadLine),
+        None => plain(alloc, name, words),
     }
 }
 
-fn listen(count: &str) -> Result<Command, LineFault>
-    ensures fits { IfOk result CommandFits }
+/// What a line says that has no text.
+fn plain(alloc: Global, name: &str, words: &[&str]) -> Result<Command, LineFault>
+    ensures { Reads (plain name.now (map (λ w. w.now) words.now)) result }
 {
-    match read_u64(count) {
-        Some(count) => Ok(Command::Listen(count)),
-        None => Err(LineFault::BadLine),
+    if name == "hello" {
+        return alone(Command::Send(Ask::Hello), words);
     }
+    if name == "release" {
+        let request = one_number(words)?;
+        return Ok(Command::Send(Ask::FloorRelease { request }));
+    }
+    if name == "query" {
+        let request = one_number(words)?;
+        return Ok(Command::Send(Ask::FloorRequestQuery { request }));
+    }
+    if name == "user" {
+        let beneficiary = user_of(words)?;
+        return Ok(Command::Send(Ask::UserQuery { beneficiary }));
+    }
+    if name == "watch" {
+        let floors = numbers_of(alloc, words)?;
+        return Ok(Command::Send(Ask::FloorQuery { floors }));
+    }
+    if name == "chair" {
+        let ask = chair_action(alloc, words)?;
+        return Ok(Command::Send(ask));
+    }
+    if name == "listen" {
+        let count = count_of(words)?;
+        return Ok(Command::Listen(count));
+    }
+    if name == "quit" {
+        return alone(Command::Quit, words);
+    }
+    Err(LineFault::BadLine)
 }
 
-/// The command that sends the message, where it fits.
-fn fitting(ask: Ask) -> Result<Command, LineFault>
-    ensures fits { IfOk result CommandFits }
+/// What a name alone says.
+fn alone(command: Command, words: &[&str]) -> Result<Command, LineFault>
+    ensures { result ≡ or_bad (alone command (map (λ w. w.now) words.now)) }
 {
-    if ask_fits(&ask) {
-        Ok(Command::Send(ask))
-    } else {
-        Err(LineFault::BadLine)
-    }
-}
-
-/// A message that words alone say, but for a FloorRequest.
-fn plain(alloc: Global, words: &[&str]) -> Result<Ask, LineFault> {
     match words {
-        ["hello"] => Ok(Ask::Hello),
-        ["release", request] => Ok(Ask::FloorRelease {
-            request: number(request)?,
-        }),
-        ["query", request] => Ok(Ask::FloorRequestQuery {
-            request: number(request)?,
-        }),
-        ["user"] => Ok(Ask::UserQuery { beneficiary: None }),
-        ["user", user] => Ok(Ask::UserQuery {
-            beneficiary: Some(number(user)?),
-        }),
-        ["watch", floors @ ..] => Ok(Ask::FloorQuery {
-            floors: numbers(alloc, floors)?,
-        }),
-        ["chair", request, floor, verdict] => chair_action(alloc, request, floor, verdict),
+        [] => Ok(command),
         _ => Err(LineFault::BadLine),
     }
 }
 
-fn chair_action(
-    alloc: Global,
-    request: &str,
-    floor: &str,
-    verdict: &str,
-) -> Result<Ask, LineFault> {
-    let request = number(request)?;
-    let floor = number(floor)?;
-    let verdict = match verdict {
-        "accept" => Verdict::Accepted,
-        "grant" => Verdict::Granted,
-        "deny" => Verdict::Denied,
-        "revoke" => Verdict::Revoked,
-        _ => return Err(LineFault::BadLine),
-    };
+/// The number that is the only word.
+fn one_number(words: &[&str]) -> Result<u16, LineFault>
+    ensures { result ≡ or_bad (one_number (map (λ w. w.now) words.now)) }
+{
+    match words {
+        [word] => number_of(word),
+        _ => Err(LineFault::BadLine),
+    }
+}
+
+/// The user that is named, where one is.
+fn user_of(words: &[&str]) -> Result<Option<u16>, LineFault>
+    ensures { result ≡ or_bad (user_of (map (λ w. w.now) words.now)) }
+{
+    match words {
+        [] => Ok(None),
+        [word] => {
+            let user = number_of(word)?;
+            Ok(Some(user))
+        }
+        _ => Err(LineFault::BadLine),
+    }
+}
+
+/// How many messages are listened for.
+fn count_of(words: &[&str]) -> Result<u64, LineFault>
+    ensures { result ≡ or_bad (count_of (map (λ w. w.now) words.now)) }
+{
+    match words {
+        [word] => match read_u64(word) {
+            Some(count) => Ok(count),
+            None => Err(LineFault::BadLine),
+        },
+        _ => Err(LineFault::BadLine),
+    }
+}
+
+/// A chair's word on one floor of a floor request.
+fn chair_action(alloc: Global, words: &[&str]) -> Result<Ask, LineFault>
+    ensures { Reads (chair_action (map (λ w. w.now) words.now)) result }
+{
+    match words {
+        [request, floor, verdict] => decided(alloc, request, floor, verdict),
+        _ => Err(LineFault::BadLine),
+    }
+}
+
+fn decided(alloc: Global, request: &str, floor: &str, verdict: &str) -> Result<Ask, LineFault>
+    ensures { Reads (decided (number_of request.now) (number_of floor.now)
+        (verdict_of verdict.now)) result }
+{
+    let request = number_of(request)?;
+    let floor = number_of(floor)?;
+    let verdict = verdict_of(verdict)?;
+    let verdicts = verdict_on(alloc, floor, verdict)?;
+    Ok(Ask::ChairAction { request, verdicts })
+}
+
+/// A verdict on one floor.
+fn verdict_on(alloc: Global, floor: u16, verdict: Verdict) -> Result<Verdicts, AllocError>
+    ensures { IfOk result (λ verdicts. verdicts ≡ (floor, verdict) ∷ []) }
+{
     let mut verdicts = Vec::new(alloc);
     verdicts.push((floor, verdict))?;
-    Ok(Ask::ChairAction {
-        request,
-        verdicts: Verdicts::from_vec(verdicts),
-    })
+    Ok(Verdicts::from_vec(verdicts))
+}
+
+fn verdict_of(word: &str) -> Result<Verdict, LineFault>
+    ensures { result ≡ or_bad (verdict_of word.now) }
+{
+    if word == "accept" {
+        return Ok(Verdict::Accepted);
+    }
+    if word == "grant" {
+        return Ok(Verdict::Granted);
+    }
+    if word == "deny" {
+        return Ok(Verdict::Denied);
+    }
+    if word == "revoke" {
+        return Ok(Verdict::Revoked);
+    }
+    Err(LineFault::BadLine)
 }
 
 /// A FloorRequest: the floors, then the options in their order, then the text.
-fn floor_request(alloc: Global, words: &[&str], info: Option<&str>) -> Result<Ask, LineFault> {
+fn floor_request(alloc: Global, words: &[&str], info: Option<&str>) -> Result<Ask, LineFault>
+    ensures { Reads (floor_request (map (λ w. w.now) words.now)
+        (option_map (λ text. text.now) info.entry)) result }
+{
     let (floors, options) = words.split_at(options_at(words));
-    let floors = numbers(alloc, floors)?;
-    let (beneficiary, priority) = match options {
-        [] => (None, PRIORITY),
-        ["for", user] => (Some(number(user)?), PRIORITY),
-        ["priority", priority] => (None, priority_of(priority)?),
-        ["for", user, "priority", priority] => (Some(number(user)?), priority_of(priority)?),
-        _ => return Err(LineFault::BadLine),
-    };
-    let info = match info {
-        Some(text) => Some(Octets::from_vec(Vec::from_slice(alloc, text.as_bytes())?)),
-        None => None,
-    };
+    requested(alloc, floors, options, info)
+}
+
+fn requested(
+    alloc: Global,
+    floors: &[&str],
+    options: &[&str],
+    info: Option<&str>,
+) -> Result<Ask, LineFault>
+    ensures { Reads (requested (numbers_of (map (λ w. w.now) floors.now))
+        (options_of (map (λ w. w.now) options.now))
+        (option_map (λ text. text.now) info.entry)) result }
+{
+    let floors = numbers_of(alloc, floors)?;
+    let (beneficiary, priority) = options_of(options)?;
+    let info = octets_of(alloc, info)?;
     Ok(Ask::FloorRequest {
         beneficiary,
         floors,
@@ -150,35 +268,103 @@ fn floor_request(alloc: Global, words: &[&str], info: Option<&str>) -> Result<As
 }
 
 /// At which word the options begin.
+#[tactic(auto, using(crate::proofs::Commands::at_or_end, crate::proofs::Commands::first_within))]
 fn options_at(words: &[&str]) -> usize
-    ensures { result ≤ length words.now }
+    ensures value { result ≡ position_or_len (λ w. is_option w.now) words.now }
+    ensures range { result ≤ length words.now }
 {
-    for (place, word) in words.iter().enumerate() {
-        if *word == "for" || *word == "priority" {
-            return place;
+    option_at(words).unwrap_or(words.len())
+}
+
+/// The place of the first word that begins an option.
+fn option_at(words: &[&str]) -> Option<usize>
+    ensures { result ≡ position (λ w. is_option w.now) words.now }
+{
+    words.iter().position(|word| is_option(word))
+}
+
+fn is_option(word: &str) -> bool
+    ensures { result ≡ is_option word.now }
+{
+    word == "for" || word == "priority"
+}
+
+/// For whom a FloorRequest is, and its priority.
+fn options_of(words: &[&str]) -> Result<(Option<u16>, u8), LineFault>
+    ensures { result ≡ or_bad (options_of (map (λ w. w.now) words.now)) }
+{
+    match words {
+        [] => Ok((None, PRIORITY)),
+        [name, word] => option_of(name, word),
+        [name, user, other, priority] => {
+            if *name == "for" && *other == "priority" {
+                let user = number_of(user)?;
+                let priority = priority_of(priority)?;
+                return Ok((Some(user), priority));
+            }
+            Err(LineFault::BadLine)
         }
-    }
-    words.len()
-}
-
-fn priority_of(word: &str) -> Result<u8, LineFault> {
-    match u8::try_from(number(word)?) {
-        Ok(priority) => Ok(priority),
-        Err(_) => Err(LineFault::BadLine),
+        _ => Err(LineFault::BadLine),
     }
 }
 
-fn number(word: &str) -> Result<u16, LineFault> {
+/// One of the options.
+fn option_of(name: &str, word: &str) -> Result<(Option<u16>, u8), LineFault>
+    ensures { result ≡ or_bad (options_of (name.now ∷ word.now ∷ [])) }
+{
+    if name == "for" {
+        let user = number_of(word)?;
+        return Ok((Some(user), PRIORITY));
+    }
+    if name == "priority" {
+        let priority = priority_of(word)?;
+        return Ok((None, priority));
+    }
+    Err(LineFault::BadLine)
+}
+
+fn priority_of(word: &str) -> Result<u8, LineFault>
+    ensures { result ≡ or_bad (number (2 ^ 8) word.now) }
+{
+    match read_u16(word) {
+        Some(number) => match u8::try_from(number) {
+            Ok(priority) => Ok(priority),
+            Err(_) => Err(LineFault::BadLine),
+        },
+        None => Err(LineFault::BadLine),
+    }
+}
+
+/// A copy of the text.
+fn octets_of(alloc: Global, text: Option<&str>) -> Result<Option<Octets>, AllocError>
+    ensures { IfOk result (λ octets. octets ≡ option_map (λ text. text.now) text.entry) }
+{
+    match text {
+        Some(text) => {
+            let bytes = Vec::from_slice(alloc, text.as_bytes())?;
+            Ok(Some(Octets::from_vec(bytes)))
+        }
+        None => Ok(None),
+    }
+}
+
+fn number_of(word: &str) -> Result<u16, LineFault>
+    ensures { result ≡ or_bad (number_of word.now) }
+{
     match read_u16(word) {
         Some(number) => Ok(number),
         None => Err(LineFault::BadLine),
     }
 }
 
-fn numbers(alloc: Global, words: &[&str]) -> Result<Numbers, LineFault> {
+/// The numbers of words that are all numbers.
+fn numbers_of(alloc: Global, words: &[&str]) -> Result<Numbers, LineFault>
+    ensures { Reads (numbers_of (map (λ w. w.now) words.now)) result }
+{
     let mut numbers = Vec::new(alloc);
     for word in words {
-        numbers.push(number(word)?)?;
+        let number = number_of(word)?;
+        numbers.push(number)?;
     }
     Ok(Numbers::from_vec(numbers))
 }
