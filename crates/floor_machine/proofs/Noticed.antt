@@ -1,6 +1,7 @@
 -- The statuses of the changed floors, written once: to each member they are its own.
 use Rattle.std.proofs.Common.{◌≡◌, ℕ, Bool, true, false, cond, List, [], ◌∷◌, ◌++◌, map, Option, refl, ap, ◌∙◌}
-use Rattle.std.specs.Prelude.{filter}
+use Rattle.std.specs.Prelude.{◌&&◌, ◌||◌, filter}
+use Rattle.std.proofs.lemmas.Bool.{or_left, or_right}
 use Rattle.floor_wire.specs.Header.{addressed}
 use Rattle.floor_message.specs.Written.{tell_bytes}
 use Rattle.floor_message.specs.declared.tell.Tell.{Tell}
@@ -11,8 +12,7 @@ use Rattle.floor_machine.specs.declared.sending.Reply.{Reply}
 use Rattle.floor_machine.specs.declared.sending.Update.{Update}
 use Rattle.floor_machine.specs.Journal.{parcel}
 use Rattle.floor_machine.specs.Outgoing.{notice, notice_head, outgoing_bytes}
-use Rattle.floor_machine.specs.steps.Telling.{answered_to, floor_notice, floor_notice_to, floor_update_to, is_due_to, is_noticed, is_watched, noticed_to, noticed_to_all, parcels_to, parcels_to_all, update_to}
-use Rattle.floor_machine.proofs.Telling.{flat_map-same}
+use Rattle.floor_machine.specs.steps.Telling.{answered_to, floor_notice, floor_notice_to, floor_update_to, is_due_to, is_noticed, is_watched, is_watched_by, noticed_to, noticed_to_all, parcels_to, parcels_to_all, update_to}
 
 -- a message that is written for nobody and then addressed is the message to the user
 addressed-notice : (conference user : ℕ) (t : Tell) → addressed (tell_bytes (notice_head conference 0) t) user ≡ outgoing_bytes (notice conference user t)
@@ -22,29 +22,59 @@ addressed-notice conference user t = refl
 notice-parcel : (conference : ℕ) (m : Member) (u : FloorUpdate) → floor_notice_to m (floor_notice conference u) ≡ parcel m.n (floor_update_to conference m u)
 notice-parcel conference m u = ap (λ (bytes : List ℕ). record { n = m.n; bytes = bytes }) (addressed-notice conference m.user u.tell)
 
-noticed-floors : (conference : ℕ) (m : Member) (us : List FloorUpdate) →
-    map (floor_notice_to m) (filter (is_noticed m) (map (floor_notice conference) us)) ≡ map (λ u. parcel m.n (floor_update_to conference m u)) (filter (is_watched m) us)
-noticed-floors conference m [] = refl
-noticed-floors conference m (u ∷ us) = by (is_watched m u) (noticed-floors conference m us)
+-- Only statuses that pass are written. A member misses none where those of all floors that it watches pass.
+noticed-floors : (conference : ℕ) (m : Member) (q : FloorUpdate → Bool) → ((u : FloorUpdate) → is_watched m u ≡ true → q u ≡ true) → (us : List FloorUpdate) →
+    map (floor_notice_to m) (filter (is_noticed m) (map (floor_notice conference) (filter q us))) ≡ map (λ u. parcel m.n (floor_update_to conference m u)) (filter (is_watched m) us)
+noticed-floors conference m q all [] = refl
+noticed-floors conference m q all (u ∷ us) = by (q u) (all u) (noticed-floors conference m q all us)
   where
-    by : (b : Bool) → map (floor_notice_to m) (filter (is_noticed m) (map (floor_notice conference) us)) ≡ map (λ u. parcel m.n (floor_update_to conference m u)) (filter (is_watched m) us) →
-        map (floor_notice_to m) (cond b (floor_notice conference u ∷ filter (is_noticed m) (map (floor_notice conference) us)) (filter (is_noticed m) (map (floor_notice conference) us)))
+    passes : (b : Bool) → map (floor_notice_to m) (filter (is_noticed m) (map (floor_notice conference) (filter q us))) ≡ map (λ u. parcel m.n (floor_update_to conference m u)) (filter (is_watched m) us) →
+        map (floor_notice_to m) (cond b (floor_notice conference u ∷ filter (is_noticed m) (map (floor_notice conference) (filter q us))) (filter (is_noticed m) (map (floor_notice conference) (filter q us))))
         ≡ map (λ u. parcel m.n (floor_update_to conference m u)) (cond b (u ∷ filter (is_watched m) us) (filter (is_watched m) us))
-    by true h =
-        ap (λ (p : Parcel). p ∷ map (floor_notice_to m) (filter (is_noticed m) (map (floor_notice conference) us))) (notice-parcel conference m u)
+    passes true h =
+        ap (λ (p : Parcel). p ∷ map (floor_notice_to m) (filter (is_noticed m) (map (floor_notice conference) (filter q us)))) (notice-parcel conference m u)
         ∙ ap (λ (ps : List Parcel). parcel m.n (floor_update_to conference m u) ∷ ps) h
-    by false h = h
+    passes false h = h
 
-noticed-member : (conference : ℕ) (reply : Option Reply) (requests : List Update) (us : List FloorUpdate) (m : Member) →
-    noticed_to conference reply requests (map (floor_notice conference) us) m ≡ parcels_to conference reply requests us m
-noticed-member conference reply requests us m =
+    fails : (b : Bool) → (b ≡ true → false ≡ true) →
+        map (floor_notice_to m) (filter (is_noticed m) (map (floor_notice conference) (filter q us))) ≡ map (λ u. parcel m.n (floor_update_to conference m u)) (filter (is_watched m) us) →
+        map (floor_notice_to m) (filter (is_noticed m) (map (floor_notice conference) (filter q us)))
+        ≡ map (λ u. parcel m.n (floor_update_to conference m u)) (cond b (u ∷ filter (is_watched m) us) (filter (is_watched m) us))
+    fails true seen h = absurd (let yes : false ≡ true = seen refl in cc)
+    fails false seen h = h
+
+    by : (k : Bool) → (is_watched m u ≡ true → k ≡ true) →
+        map (floor_notice_to m) (filter (is_noticed m) (map (floor_notice conference) (filter q us))) ≡ map (λ u. parcel m.n (floor_update_to conference m u)) (filter (is_watched m) us) →
+        map (floor_notice_to m) (filter (is_noticed m) (map (floor_notice conference) (cond k (u ∷ filter q us) (filter q us))))
+        ≡ map (λ u. parcel m.n (floor_update_to conference m u)) (cond (is_watched m u) (u ∷ filter (is_watched m) us) (filter (is_watched m) us))
+    by true seen h = passes (is_watched m u) h
+    by false seen h = fails (is_watched m u) seen h
+
+noticed-member : (conference : ℕ) (reply : Option Reply) (requests : List Update) (q : FloorUpdate → Bool) (us : List FloorUpdate) (m : Member) →
+    ((u : FloorUpdate) → is_watched m u ≡ true → q u ≡ true) →
+    noticed_to conference reply requests (map (floor_notice conference) (filter q us)) m ≡ parcels_to conference reply requests us m
+noticed-member conference reply requests q us m all =
     ap (λ (ps : List Parcel). map (parcel m.n) (answered_to reply m.n) ++ map (λ u. parcel m.n (update_to conference m u)) (filter (is_due_to reply m) requests) ++ ps)
-    (noticed-floors conference m us)
+    (noticed-floors conference m q all us)
 
--- the parcels of all are the same, however often a status is written
+-- a member that isn't live is put nothing
+noticed-live : (conference : ℕ) (reply : Option Reply) (requests : List Update) (q : FloorUpdate → Bool) (us : List FloorUpdate) (m : Member) (live : Bool) →
+    ((u : FloorUpdate) → (live && is_watched m u) ≡ true → q u ≡ true) →
+    cond live (noticed_to conference reply requests (map (floor_notice conference) (filter q us)) m) [] ≡ cond live (parcels_to conference reply requests us m) []
+noticed-live conference reply requests q us m true all = noticed-member conference reply requests q us m all
+noticed-live conference reply requests q us m false all = refl
+
+noticed-some : (conference : ℕ) (reply : Option Reply) (requests : List Update) (q : FloorUpdate → Bool) (us : List FloorUpdate) (members : List Member) →
+    ((u : FloorUpdate) → is_watched_by members u ≡ true → q u ≡ true) →
+    noticed_to_all conference reply requests (map (floor_notice conference) (filter q us)) members ≡ parcels_to_all conference reply requests us members
+noticed-some conference reply requests q us [] all = refl
+noticed-some conference reply requests q us (m ∷ members) all =
+    ap (λ (ps : List Parcel). ps ++ noticed_to_all conference reply requests (map (floor_notice conference) (filter q us)) members)
+    (noticed-live conference reply requests q us m m.is_live (λ u seen. all u (or_left (m.is_live && is_watched m u) (is_watched_by members u) seen)))
+    ∙ ap (λ (ps : List Parcel). cond m.is_live (parcels_to conference reply requests us m) [] ++ ps)
+    (noticed-some conference reply requests q us members (λ u seen. all u (or_right (m.is_live && is_watched m u) (is_watched_by members u) seen)))
+
+-- the parcels of all are the same, however often a status is written, and though one that nobody watches isn't
 pub noticed-all : (conference : ℕ) (reply : Option Reply) (requests : List Update) (us : List FloorUpdate) (members : List Member) →
-    noticed_to_all conference reply requests (map (floor_notice conference) us) members ≡ parcels_to_all conference reply requests us members
-noticed-all conference reply requests us members =
-    flat_map-same (λ m. cond m.is_live (noticed_to conference reply requests (map (floor_notice conference) us) m) [])
-    (λ m. cond m.is_live (parcels_to conference reply requests us m) [])
-    (λ m. ap (λ (ps : List Parcel). cond m.is_live ps []) (noticed-member conference reply requests us m)) members
+    noticed_to_all conference reply requests (map (floor_notice conference) (filter (is_watched_by members) us)) members ≡ parcels_to_all conference reply requests us members
+noticed-all conference reply requests us members = noticed-some conference reply requests (is_watched_by members) us members (λ u seen. seen)

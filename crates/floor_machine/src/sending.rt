@@ -1,12 +1,12 @@
 //! Telling the members what an event changed (RFC 8855, sections 8 and 12.1).
 
-ghost use Rattle.std.specs.Prelude.{◌≡◌, ◌==◌, ◌||◌, ◌∷◌, [], ◌++◌, All, IfOk, OnOk, OnErr, map, filter, if◌then◌else◌};
+ghost use Rattle.std.specs.Prelude.{◌≡◌, ◌==◌, ◌&&◌, ◌||◌, ◌∷◌, [], ◌++◌, All, IfOk, OnOk, OnErr, map, filter, if◌then◌else◌};
 ghost use Rattle.std.specs.List.{list_any};
 ghost use Rattle.floor_message.specs.Shown.{IsShown};
 ghost use Rattle.floor_machine.specs.steps.Fitting.{AreFloorsShown, AreUpdatesShown, IsReplyShown};
 ghost use Rattle.floor_machine.specs.Told.{is_status_of};
 ghost use Rattle.floor_machine.specs.Journal.{parcel};
-ghost use Rattle.floor_machine.specs.steps.Telling.{answered, answered_to, floor_notice, floor_notice_to, is_answered, is_due_to, is_noticed, noticed_to, noticed_to_all, parcels_to_all, update_to};
+ghost use Rattle.floor_machine.specs.steps.Telling.{answered, answered_to, floor_notice, floor_notice_to, is_answered, is_due_to, is_noticed, is_watched, is_watched_by, noticed_to, noticed_to_all, parcels_to_all, update_to};
 
 use crate::member::Member;
 use crate::parcel::Parcel;
@@ -208,14 +208,30 @@ fn put_updates(
     Ok(())
 }
 
-/// The statuses of the changed floors as they are written.
-fn floor_notices(
+/// Whether the member is live and watches the changed floor.
+fn is_to_see(member: &Member, update: &FloorUpdate) -> bool
+    ensures { result ≡ (member.now.is_live && is_watched member.now update.now) }
+{
+    member.is_live && watches(member, update.floor)
+}
+
+/// Whether a live member watches the changed floor.
+fn is_watched_by(members: &[Member], update: &FloorUpdate) -> bool
+    ensures { result ≡ is_watched_by members.now update.now }
+{
+    members.iter().any(|member| is_to_see(member, update))
+}
+
+/// Writes the status of a changed floor.
+fn write_floor_notice(
     alloc: Global,
+    notices: &mut Vec<FloorNotice>,
     conference: u32,
-    updates: &[FloorUpdate],
-) -> Result<Vec<FloorNotice>, AllocError>
-    requires { AreFloorsShown updates.now }
-    ensures { IfOk result (λ notices. notices.items ≡ map (floor_notice conference) updates.now) }
+    update: &FloorUpdate,
+) -> Result<(), AllocError>
+    requires { IsShown update.now.tell }
+    ensures { OnOk result (notices.new.items
+        ≡ notices.old.items ++ floor_notice conference update.now ∷ []) }
 {
     what_is_shown_fits();
     let head = Head {
@@ -223,13 +239,30 @@ fn floor_notices(
         transaction: 0,
         user: 0,
     };
+    let frame = write_tell(alloc, &head, &update.tell)?;
+    notices.push(FloorNotice {
+        floor: update.floor,
+        message: SharedFrame::of(frame),
+    })?;
+    Ok(())
+}
+
+/// The statuses of the changed floors that a live member watches, as they are written.
+fn floor_notices(
+    alloc: Global,
+    conference: u32,
+    members: &[Member],
+    updates: &[FloorUpdate],
+) -> Result<Vec<FloorNotice>, AllocError>
+    requires { AreFloorsShown updates.now }
+    ensures { IfOk result (λ notices. notices.items
+        ≡ map (floor_notice conference) (filter (is_watched_by members.now) updates.now)) }
+{
     let mut notices = Vec::new(alloc);
     for update in updates {
-        let frame = write_tell(alloc, &head, &update.tell)?;
-        notices.push(FloorNotice {
-            floor: update.floor,
-            message: SharedFrame::of(frame),
-        })?;
+        if is_watched_by(members, update) {
+            write_floor_notice(alloc, &mut notices, conference, update)?;
+        }
     }
     Ok(notices)
 }
@@ -322,7 +355,7 @@ pub(crate) fn put_behind(out: &mut Vec<Parcel>, mut parcels: Vec<Parcel>) -> Res
 }
 
 /// Puts all that an event tells the live members, by ascending number. The status of a changed
-/// floor is spelled once, however many watch the floor.
+/// floor is spelled once, however many watch the floor, and where nobody does not at all.
 pub(crate) fn put_all(
     alloc: Global,
     out: &mut Vec<Parcel>,
@@ -338,6 +371,6 @@ pub(crate) fn put_all(
     ensures { OnOk result (out.new.items ≡ out.old.items
         ++ parcels_to_all conference reply.now updates.now floor_updates.now members.now) }
 {
-    let notices = floor_notices(alloc, conference, floor_updates)?;
+    let notices = floor_notices(alloc, conference, members, floor_updates)?;
     put_members(alloc, out, conference, members, reply, updates, &notices)
 }

@@ -137,6 +137,10 @@ is_due_to reply m update =
 abbrev pub is_watched : Member → FloorUpdate → Bool
 is_watched m update = list_any (λ floor. floor == update.floor) m.watched
 
+-- a live member watches the floor
+abbrev pub is_watched_by : List Member → FloorUpdate → Bool
+is_watched_by members update = list_any (λ m. m.is_live && is_watched m update) members
+
 -- a status of a changed request, to the member
 abbrev pub update_to : ℕ → Member → Update → Outgoing
 update_to conference m update = notice conference m.user update.tell
