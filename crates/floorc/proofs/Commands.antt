@@ -1,5 +1,5 @@
 -- What a command line asks.
-use Rattle.std.proofs.Common.{◌≡◌, ◌≢◌, ◌⊎◌, inl, inr, ℕ, zero, suc, ◌+◌, ◌<◌, ◌≤◌, Bool, cond, eqb, List, [], ◌∷◌, ◌++◌, length, length-append, take, drop, map, Option, Some, None, Bor, refl, sym, ap, subst, ◌∙◌, arith, append_assoc, append-nil}
+use Rattle.std.proofs.Common.{◌≡◌, ◌≢◌, ◌⊎◌, inl, inr, ℕ, zero, suc, ◌+◌, ◌<◌, ◌≤◌, Bool, cond, List, [], ◌∷◌, ◌++◌, length, length-append, take, drop, map, Option, Some, None, Bor, refl, sym, ap, subst, ◌∙◌, arith}
 use Rattle.std.specs.Prelude.{not, nat_lt, position, unwrap_or, Result, Ok, Err}
 use Rattle.std.specs.List.{position_or_len}
 use Rattle.std.specs.Option.{option_map}
@@ -12,7 +12,7 @@ use Rattle.floorc.specs.declared.command.LineFault.TheVariants.{BadLine, Memory}
 use Rattle.floor_message.specs.declared.ask.Ask.{Ask}
 use Rattle.floor_words.specs.Words.{words}
 use Rattle.floorc.specs.declared.command.Command.{Command}
-use Rattle.floorc.specs.Commands.{CommandFits, IsCommand, IsFitted, IsParted, Reads, Says, both, floor_request, is_option, number_of, numbers_of, options_of, or_bad, requested, said}
+use Rattle.floorc.specs.Commands.{CommandFits, IsCommand, IsFitted, IsParted, Reads, Says, floor_request, is_option, numbers_of, options_of, or_bad, requested, said}
 
 -- the place of the first element that passes, and the length where none does
 pub at_or_end : {X : Type 0} (p : X → Bool) (xs : List X) → unwrap_or (position p xs) (length xs) ≡ position_or_len p xs
@@ -32,14 +32,6 @@ first_within p xs = prefix_len-le-length (λ x. not (p x)) xs
 -- numbers behind those that were read
 abbrev pub behind : List ℕ → Option (List ℕ) → Option (List ℕ)
 behind ns more = option_map (λ ms. ns ++ ms) more
-
-pub behind-none : (more : Option (List ℕ)) → more ≡ behind [] more
-behind-none (Some ms) = refl
-behind-none None = refl
-
-pub behind-more : (ns : List ℕ) (n : ℕ) (more : Option (List ℕ)) → behind ns (both (Some n) more) ≡ behind (ns ++ n ∷ []) more
-behind-more ns n (Some ms) = ap (λ l. Some l) (sym (append_assoc ns (n ∷ []) ms))
-behind-more ns n None = refl
 
 lt_or_le : (m n : ℕ) → (m < n) ⊎ (n ≤ m)
 lt_or_le m zero = inr (omega arith)
