@@ -47,7 +47,7 @@ pub fn two_worlds()
 /// events.
 pub fn arrivals_fit()
     ensures step { StepNumbers }
-    ensures fit { ArrivalsFit }
+    ensures fits { ArrivalsFit }
 {}
 
 /// The headline: isolation over all interleavings. Where two runs give a conference one

@@ -31,7 +31,7 @@ pub(crate) fn open_at(
         → get nat_eq rooms.new d ≡ get nat_eq rooms.old d))
         (λ r. (r ≡ HubRefusal.Memory) ⊎ ((r ≡ HubRefusal.Used)
         × (get nat_eq rooms.old config.conference ≢ None))) }
-    ensures err { OnErr result ((other : ℕ) → get nat_eq rooms.new other
+    ensures left { OnErr result ((other : ℕ) → get nat_eq rooms.new other
         ≡ get nat_eq rooms.old other) }
 {
     let conference = config.conference();

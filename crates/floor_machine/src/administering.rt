@@ -51,7 +51,7 @@ impl State {
         ensures out { OnOk result (out.new.items ≡ out.old.items
             ++ parcels_of (conference_of self.old) (Revoke request)) }
         ensures shown { OnOk result (IsToldShown (conference_of self.old) (Revoke request)) }
-        ensures err { OnErr result (out.new.items ≡ out.old.items) }
+        ensures left { OnErr result (out.new.items ≡ out.old.items) }
         ensures state { OnOk result (IsState self.new) }
         ensures settled { OnOk result (IsSettled self.new.requests) }
     {

@@ -33,7 +33,7 @@ impl State {
             ++ parcels_of (conference_of self.old) (event_of event.entry)) }
         ensures fits { OnOk result (ToldFits (conference_of self.old) (event_of event.entry)) }
         ensures silent { OnOk result (IsSilent (conference_of self.old) (event_of event.entry)) }
-        ensures err { OnErr result (out.new.items ≡ out.old.items) }
+        ensures left { OnErr result (out.new.items ≡ out.old.items) }
         ensures state { OnOk result (IsState self.new) }
         ensures settled { OnOk result (IsSettled self.new.requests) }
     {

@@ -345,7 +345,7 @@ fn put_members(
 /// Puts parcels behind those that are there, or in place of none. After an error `out` is as it was.
 pub(crate) fn put_behind(out: &mut Vec<Parcel>, mut parcels: Vec<Parcel>) -> Result<(), AllocError>
     ensures out { OnOk result (out.new.items ≡ out.old.items ++ parcels.items) }
-    ensures err { OnErr result (out.new.items ≡ out.old.items) }
+    ensures left { OnErr result (out.new.items ≡ out.old.items) }
 {
     if out.is_empty() {
         *out = parcels;

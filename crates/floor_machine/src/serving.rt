@@ -266,7 +266,7 @@ impl State {
         ensures out { OnOk result (out.new.items ≡ out.old.items
             ++ parcels_of (conference_of self.old) (Message n frame.now)) }
         ensures shown { OnOk result (IsToldShown (conference_of self.old) (Message n frame.now)) }
-        ensures err { OnErr result (out.new.items ≡ out.old.items) }
+        ensures left { OnErr result (out.new.items ≡ out.old.items) }
         ensures state { OnOk result (IsState self.new) }
         ensures settled { OnOk result (IsSettled self.new.requests) }
     {
@@ -304,7 +304,7 @@ impl State {
         ensures out { OnOk result (out.new.items ≡ out.old.items
             ++ parcels_of (conference_of self.old) (Message n frame.now)) }
         ensures shown { OnOk result (IsToldShown (conference_of self.old) (Message n frame.now)) }
-        ensures err { OnErr result (out.new.items ≡ out.old.items) }
+        ensures left { OnErr result (out.new.items ≡ out.old.items) }
         ensures state { OnOk result (IsState self.new) }
         ensures settled { OnOk result (IsSettled self.new.requests) }
     {
@@ -345,7 +345,7 @@ impl State {
         ensures out { OnOk result (out.new.items ≡ out.old.items
             ++ parcels_of (conference_of self.old) (Message n frame.now)) }
         ensures shown { OnOk result (IsToldShown (conference_of self.old) (Message n frame.now)) }
-        ensures err { OnErr result (out.new.items ≡ out.old.items) }
+        ensures left { OnErr result (out.new.items ≡ out.old.items) }
         ensures state { OnOk result (IsState self.new) }
         ensures settled { OnOk result (IsSettled self.new.requests) }
         ensures message { IsMessage frame.now }

@@ -165,7 +165,7 @@ impl State {
         ensures floors_shown { OnOk result (AreFloorsShown
             (steps.floor_updates course.now.before.items
             (infos_of self.now.config self.now.requests.ongoing) self.now.config.floors)) }
-        ensures err { OnErr result (out.new.items ≡ out.old.items) }
+        ensures left { OnErr result (out.new.items ≡ out.old.items) }
     {
         let updates = updates(alloc, &self.config, &self.requests, course)?;
         let now = infos(alloc, &self.config, &self.requests)?;

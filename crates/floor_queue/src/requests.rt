@@ -201,7 +201,7 @@ impl Requests {
         ensures full { (result ≡ Err AddRefusal.Full) ↔ (length self.old.ongoing ≡ 256) }
         ensures no_number { (result ≡ Err AddRefusal.NoNumber)
             ↔ ((length self.old.ongoing < 256) × (self.old.given ≡ 65535)) }
-        ensures err { OnErr result (self.new ≡ self.old) }
+        ensures left { OnErr result (self.new ≡ self.old) }
     {
         if self.ongoing.len() >= MAX_ONGOING {
             return Err(AddRefusal::Full);
@@ -274,7 +274,7 @@ impl Requests {
         ensures next { OnOk result (self.new ≡ after_settle self.old) }
         ensures settled { OnOk result (IsSettled self.new) }
 
-        ensures err { OnErr result (self.new ≡ self.old) }
+        ensures left { OnErr result (self.new ≡ self.old) }
     {
         let alloc = *self.ongoing.allocator();
         let numbers = due::due_numbers(alloc, &self.floors, &self.lines, &self.ongoing)?;
@@ -347,7 +347,7 @@ fn append(
     ensures next { OnOk result (requests.new.items ≡ requests.old.items ++ request ∷ []) }
     ensures lines { AreLines floors.now requests.new.items lines.new }
 
-    ensures err { OnErr result (requests.new.items ≡ requests.old.items) }
+    ensures left { OnErr result (requests.new.items ≡ requests.old.items) }
 {
     requests.reserve(1)?;
     lines.add(&request, rank_of(floors, &request))?;

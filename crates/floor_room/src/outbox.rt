@@ -44,8 +44,8 @@ impl Outbox {
 
     /// Puts a parcel behind those that wait. After an error nothing has changed.
     pub(crate) fn put(&mut self, parcel: Parcel) -> Result<(), AllocError>
-        ensures ok { OnOk result (self.new ≡ with_held self.old (parcel ∷ [])) }
-        ensures err { OnErr result (self.new ≡ self.old) }
+        ensures next { OnOk result (self.new ≡ with_held self.old (parcel ∷ [])) }
+        ensures left { OnErr result (self.new ≡ self.old) }
     {
         self.held.push_back(parcel)?;
         Ok(())
@@ -81,8 +81,8 @@ pub(crate) fn outbox_for(alloc: Global, event: &Event) -> Option<Outbox>
 
 /// Puts a parcel into the outbox of its member. After an error nothing has changed.
 fn put(outboxes: &mut Vec<Outbox>, parcel: Parcel) -> Result<(), AllocError>
-    ensures ok { OnOk result (outboxes.new.items ≡ delivered (parcel ∷ []) 1 outboxes.old.items) }
-    ensures err { OnErr result (outboxes.new.items ≡ outboxes.old.items) }
+    ensures next { OnOk result (outboxes.new.items ≡ delivered (parcel ∷ []) 1 outboxes.old.items) }
+    ensures left { OnErr result (outboxes.new.items ≡ outboxes.old.items) }
 {
     let Some(place) = (parcel.n() as usize).checked_sub(1) else {
         return Ok(());
@@ -96,8 +96,8 @@ fn put(outboxes: &mut Vec<Outbox>, parcel: Parcel) -> Result<(), AllocError>
 /// Puts each of these parcels, in order, into the outbox of its member. After an error some first
 /// of them were put.
 fn deliver(outboxes: &mut Vec<Outbox>, out: Vec<Parcel>) -> Result<(), AllocError>
-    ensures ok { OnOk result (outboxes.new.items ≡ delivered out.items 1 outboxes.old.items) }
-    ensures err { OnErr result (IsInPart out.items outboxes.old.items outboxes.new.items) }
+    ensures next { OnOk result (outboxes.new.items ≡ delivered out.items 1 outboxes.old.items) }
+    ensures left { OnErr result (IsInPart out.items outboxes.old.items outboxes.new.items) }
     ensures count { length out.items < 18446744073709551616 }
 {
     let _count = out.len();
@@ -119,10 +119,10 @@ pub(crate) fn queue(
     out: Vec<Parcel>,
 ) -> Result<(), AllocError>
     requires { vec_len outboxes.old < vec_capacity outboxes.old }
-    ensures ok { OnOk result (outboxes.new.items
+    ensures next { OnOk result (outboxes.new.items
         ≡ delivered out.items 1 (outboxes.old.items ++ option_to_list outbox)) }
     ensures spare { OnOk result (vec_len outboxes.new < vec_capacity outboxes.new) }
-    ensures err { OnErr result (IsInPart out.items
+    ensures left { OnErr result (IsInPart out.items
         (outboxes.old.items ++ option_to_list outbox) outboxes.new.items) }
     ensures count { length out.items < 18446744073709551616 }
 {

@@ -16,8 +16,8 @@ fn put_by<R: Wait>(
     parcel: Parcel,
     wakers: &mut Wakers,
 ) -> Result<(), AllocError>
-    ensures ok { OnOk result (place.new ≡ with_put place.old (parcel ∷ [])) }
-    ensures err { OnErr result (place.new ≡ place.old) }
+    ensures next { OnOk result (place.new ≡ with_put place.old (parcel ∷ [])) }
+    ensures left { OnErr result (place.new ≡ place.old) }
 {
     match place {
         Some(sender) => match sender.put_asleep(rt, parcel) {
@@ -38,8 +38,8 @@ fn put<R: Wait>(
     parcel: Parcel,
     wakers: &mut Wakers,
 ) -> Result<(), AllocError>
-    ensures ok { OnOk result (senders.new.items ≡ fed (parcel ∷ []) 1 senders.old.items) }
-    ensures err { OnErr result (senders.new.items ≡ senders.old.items) }
+    ensures next { OnOk result (senders.new.items ≡ fed (parcel ∷ []) 1 senders.old.items) }
+    ensures left { OnErr result (senders.new.items ≡ senders.old.items) }
 {
     let Some(index) = (parcel.n() as usize).checked_sub(1) else {
         return Ok(());
@@ -58,8 +58,8 @@ pub(crate) fn deliver<R: Wait>(
     out: Vec<Parcel>,
     wakers: &mut Wakers,
 ) -> Result<(), AllocError>
-    ensures ok { OnOk result (senders.new.items ≡ fed out.items 1 senders.old.items) }
-    ensures err { OnErr result (IsInPart out.items senders.old.items senders.new.items) }
+    ensures next { OnOk result (senders.new.items ≡ fed out.items 1 senders.old.items) }
+    ensures left { OnErr result (IsInPart out.items senders.old.items senders.new.items) }
 {
     for parcel in out {
         put(rt, senders, parcel, wakers)?;

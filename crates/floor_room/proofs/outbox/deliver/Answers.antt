@@ -18,7 +18,7 @@ loop-parcel-preserved c =
       all = before.all
           ∙ ap (λ (ps : List Parcel). c.loop-parcel.yielded ++ ps) c.in-Some.ensures.steps.0
           ∙ sym (append_assoc c.loop-parcel.yielded (c.in-Some.parcel ∷ []) (into_iter_items c.next.new.self));
-      put = c.in_ok-put.ensures.ok
+      put = c.in_ok-put.ensures.next
           ∙ ap (delivered (c.in-Some.parcel ∷ []) 1) before.put
           ∙ delivered-append c.loop-parcel.yielded (c.in-Some.parcel ∷ []) 1 c.args.outboxes.now.items;
     }

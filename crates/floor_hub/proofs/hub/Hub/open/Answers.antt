@@ -28,13 +28,13 @@ turns c w st =
     let g = good (old c) w st in
     ended (new c) w w (Open c.args.config) Want (λ v. Done) c.open_at.ensures.range g g c.open_at.result
     (open_result (room_at (old c)) (room_at (new c)) (connection_at c.self.inside.connections) c.self.inside.arrivals w c.args.config st.stands
-    c.open_at.result c.open_at.ensures.done c.open_at.ensures.err)
+    c.open_at.result c.open_at.ensures.done c.open_at.ensures.left)
 
 pub invariant_of-self : goal.invariant_of-self
 invariant_of-self c =
     let w = c.self.invariant.0 in
     stood (new c) w w (Open c.args.config) Want (λ v. Done) c.open_at.result (turns c w c.self.invariant.1)
-    (keeps-outboxes (old c) (new c) (grows-opened _ c.open_at.result c.args.config (old c) (new c) c.open_at.ensures.done c.open_at.ensures.err)
+    (keeps-outboxes (old c) (new c) (grows-opened _ c.open_at.result c.args.config (old c) (new c) c.open_at.ensures.done c.open_at.ensures.left)
     (were-same (old c).connections (new c).connections (λ k. refl)) c.self.invariant.2)
 
 pub returns-clause-next : goal.returns-clause-next

@@ -21,13 +21,13 @@ invariant_of-self-in-Ok-queue c =
     keeps-queued r c.add.new.self c.add.new.self c.args.event c.in-Ok.out.items c.in-Ok.out.items [] false c.queue.new.outboxes.items
     (vec_capacity c.self.inside.outboxes) (vec_capacity c.queue.new.outboxes) c.self.invariant c.in-Ok.ensures.took c.queue.ensures.count (sym (append-nil c.in-Ok.out.items)) (λ h. refl)
     (entry-whole c.self.inside.ledger c.add.new.self c.args.event c.in-Ok.ensures.took.next)
-    (c.in-Ok-queue.ensures.ok ∙ ap (λ (os : List Outbox). delivered c.in-Ok.out.items 1 (c.self.inside.outboxes.items ++ os)) c.outbox_for-outbox.ensures)
+    (c.in-Ok-queue.ensures.next ∙ ap (λ (os : List Outbox). delivered c.in-Ok.out.items 1 (c.self.inside.outboxes.items ++ os)) c.outbox_for-outbox.ensures)
     (λ h. few)
 
 pub invariant_of-self-in-Err-queue : goal.invariant_of-self-in-Err-queue
 invariant_of-self-in-Err-queue c =
     let r : spec.Room = record { ledger = c.self.inside.ledger; outboxes = c.self.inside.outboxes.items } in
-    let part = c.in-Err-queue.ensures.err in
+    let part = c.in-Err-queue.ensures.left in
     keeps-queued r c.add.new.self c.break_off.new.self c.args.event c.in-Ok.out.items part.put part.rest true c.queue.new.outboxes.items
     (vec_capacity c.self.inside.outboxes) (vec_capacity c.queue.new.outboxes) c.self.invariant c.in-Ok.ensures.took c.queue.ensures.count part.all (λ h. cc)
     c.break_off.ensures.next
