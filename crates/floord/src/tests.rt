@@ -2,5 +2,6 @@
 
 mod clients;
 mod console;
+mod replayed;
 mod sockets;
 mod words;
