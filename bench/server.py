@@ -1,5 +1,6 @@
 """Starts and stops a floord, reads what the system says of it, and makes a client's bytes."""
 import os
+import resource
 import select
 import socket
 import struct
@@ -32,17 +33,25 @@ def configuration(conferences, users, first_port=FIRST_PORT):
 
 
 class Server:
-    """A floord that runs, pinned to processors where they are given."""
+    """A floord that runs, pinned to processors where they are given, under limits of the system
+    (`resource.RLIMIT_NOFILE` to a number, and the like) and with variables of the environment
+    where they are."""
 
-    def __init__(self, floord, text, processors=None):
+    def __init__(self, floord, text, processors=None, limits=None, variables=None):
         handle, self.path = tempfile.mkstemp(suffix='.toml')
         with os.fdopen(handle, 'w') as file:
             file.write(text)
         pinned = ['taskset', '-c', processors] if processors else []
+
+        def limit():
+            for kind, value in (limits or {}).items():
+                resource.setrlimit(kind, (value, value))
         self.process = subprocess.Popen(
             pinned + [os.path.abspath(floord), self.path],
-            stdin=subprocess.PIPE, stdout=subprocess.PIPE)
+            stdin=subprocess.PIPE, stdout=subprocess.PIPE, preexec_fn=limit,
+            env={**os.environ, **(variables or {})})
         self.pid = self.process.pid
+        self.printed = b''
         if self.line(20) != 'ready':
             self.process.kill()
             raise SystemExit('the server did not print ready')
@@ -50,16 +59,23 @@ class Server:
     def line(self, seconds):
         """The next line that it prints."""
         end = time.monotonic() + seconds
-        text = b''
-        while not text.endswith(b'\n'):
+        while b'\n' not in self.printed:
             left = end - time.monotonic()
             if left <= 0 or not select.select([self.process.stdout], [], [], left)[0]:
                 raise SystemExit('the server prints nothing')
-            byte = os.read(self.process.stdout.fileno(), 1)
-            if not byte:
+            piece = os.read(self.process.stdout.fileno(), 1 << 20)
+            if not piece:
                 break
-            text += byte
-        return text.decode().rstrip('\n')
+            self.printed += piece
+        text, _, self.printed = self.printed.partition(b'\n')
+        return text.decode()
+
+    def journal(self, conference, seconds=60):
+        """The lines of a conference's journal, the last of which is its end."""
+        lines = [self.ask('journal %d' % conference, seconds)]
+        while not lines[-1].startswith(('end ', 'error ')):
+            lines.append(self.line(seconds))
+        return lines
 
     def ask(self, line, seconds=30):
         self.process.stdin.write(line.encode() + b'\n')
@@ -72,17 +88,22 @@ class Server:
         os.unlink(self.path)
         return answer, status
 
-    def seen(self):
-        """Memory in kB, threads, descriptors, mappings, processor seconds."""
-        seen = {}
+    def held(self):
+        """Memory in kB, threads, descriptors."""
+        held = {}
         with open('/proc/%d/status' % self.pid) as file:
             for row in file:
                 name, _, value = row.partition(':')
                 if name in ('VmRSS', 'VmSize', 'Threads'):
-                    seen[name] = int(value.split()[0])
+                    held[name] = int(value.split()[0])
+        held['descriptors'] = len(os.listdir('/proc/%d/fd' % self.pid))
+        return held
+
+    def seen(self):
+        """The same, mappings, processor seconds."""
+        seen = self.held()
         with open('/proc/%d/maps' % self.pid) as file:
             seen['maps'] = sum(1 for _ in file)
-        seen['descriptors'] = len(os.listdir('/proc/%d/fd' % self.pid))
         seen['processor'] = 0
         for task in os.listdir('/proc/%d/task' % self.pid):
             try:
@@ -93,8 +114,12 @@ class Server:
         return seen
 
 
-def connect(port):
-    client = socket.create_connection(('127.0.0.1', port))
+def connect(port, unread=None):
+    """A client of the port, whose side keeps some so many bytes unread where that is given."""
+    client = socket.socket()
+    if unread:
+        client.setsockopt(socket.SOL_SOCKET, socket.SO_RCVBUF, unread)
+    client.connect(('127.0.0.1', port))
     client.setsockopt(socket.IPPROTO_TCP, socket.TCP_NODELAY, 1)
     return client
 

@@ -1,0 +1,832 @@
+#!/usr/bin/env python3
+"""Peers that mean no good: ./hostile.py FLOORD [CASE ..]
+
+Runs each case (or those that are named) against a floord of its own, whose conference 1 the case
+may do to what it likes. Meanwhile a Hello of conference 2 is answered all the while, each within
+DEADLINE. Every answer is compared with what messages.py has for it; at the end of a case the
+conference's events, the report of `stop` and its status are what the case did, and threads and
+descriptors are what they were. Prints what was answered, the times of conference 2's Hellos, and
+the server's memory, threads and descriptors: before, at most, after. Status 1 where a case failed.
+"""
+import multiprocessing
+import random
+import resource
+import select
+import socket
+import struct
+import sys
+import threading
+import time
+
+import messages
+from messages import (FLOOR_QUERY, FLOOR_RELEASE, FLOOR_REQUEST, FLOOR_REQUEST_ID, GRANTED, HELLO,
+                      attribute, floor_request_status, floors, hello_ack, message, number)
+from server import Server, connect, hear
+
+DEADLINE = 30
+FIRST_PORT = 7700
+USERS = (10, 11, 12, 13)
+OTHER_PORT = FIRST_PORT + len(USERS)
+CONFERENCE = messages.Conference(1, messages.WORKED.users, range(1, 10))
+FLOOD = 100_000
+
+
+class Failed(Exception):
+    """What a case found wrong."""
+
+
+def configuration():
+    """Conference 1 as messages.py has it, with a port for each user, and conference 2."""
+    rows = ['[[conference]]\nid = 1\nlimit = 16\n']
+    for user, (name, _, proxy) in CONFERENCE.users.items():
+        rows.append('[[conference.user]]\nid = %d\nname = "%s"\nproxy = %s\nport = %d\n' % (
+            user, name, str(proxy).lower(), port_of(user)))
+    rows += ['[[conference.floor]]\nid = %d\n' % floor for floor in CONFERENCE.floors]
+    rows.append('[[conference]]\nid = 2\n[[conference.user]]\nid = 10\nport = %d\n' % OTHER_PORT)
+    return ''.join(rows)
+
+
+def port_of(user):
+    return FIRST_PORT + user - USERS[0]
+
+
+def hello(transaction=1, user=10):
+    return message(HELLO, 1, transaction, user)
+
+
+def ack(transaction=1, user=10):
+    return hello_ack(1, transaction, user)
+
+
+def greet_all_the_while(pipe):
+    """Sends Hellos of conference 2, one each 2 ms; the times so far are sent when asked for."""
+    client = connect(OTHER_PORT)
+    client.settimeout(DEADLINE)
+    wrong = None
+    count = 0
+    times = []
+    while True:
+        if pipe.poll():
+            if pipe.recv() == 'end':
+                client.close()
+                pipe.send(count)
+                return
+            pipe.send((wrong, times))
+            times = []
+        if wrong:
+            time.sleep(0.01)
+            continue
+        transaction = count % 65536
+        began = time.perf_counter()
+        try:
+            client.sendall(message(HELLO, 2, transaction, 10))
+            if hear(client, 48) != hello_ack(2, transaction, 10):
+                wrong = 'a Hello of conference 2 was answered wrongly'
+        except OSError as fault:
+            wrong = 'a Hello of conference 2 was not answered: %s' % fault
+        count += 1
+        times.append(1e6 * (time.perf_counter() - began))
+        time.sleep(0.002)
+
+
+class Case:
+    """A server, the connection of conference 2, and what the report will have to say."""
+
+    def __init__(self, floord, limits=None, variables=None):
+        self.server = Server(floord, configuration(), limits=limits, variables=variables)
+        self.seats = 0
+        self.events = 0
+        self.pipe, theirs = multiprocessing.Pipe()
+        self.other = multiprocessing.Process(target=greet_all_the_while, args=(theirs,),
+                                             daemon=True)
+        self.other.start()
+        time.sleep(0.3)
+        self.idle = self.times()
+        self.remains = None
+        self.is_stopped = False
+        self.before = self.most = self.server.held()
+        self.goes_on = True
+        self.sampler = threading.Thread(target=self.sample, daemon=True)
+        self.sampler.start()
+
+    def sample(self):
+        while self.goes_on:
+            try:
+                held = self.server.held()
+            except OSError:
+                return
+            self.most = {name: max(value, self.most[name]) for name, value in held.items()}
+            time.sleep(0.05)
+
+    def times(self):
+        """The times of the Hellos of conference 2 since the last call, sorted."""
+        self.pipe.send('times')
+        if not self.pipe.poll(2 * DEADLINE):
+            raise Failed('a Hello of conference 2 is not answered')
+        wrong, times = self.pipe.recv()
+        if wrong:
+            raise Failed(wrong)
+        return sorted(times)
+
+    def member(self, user=10, unread=None):
+        """A connection that becomes a member: a seat, and events for its join and its leave."""
+        client = self.connect(user, unread)
+        self.seats += 1
+        self.events += 2
+        return client
+
+    def connect(self, user=10, unread=None):
+        client = connect(port_of(user), unread)
+        client.settimeout(DEADLINE)
+        return client
+
+    def exchange(self, client, asked, wanted, events=1):
+        """Sends bytes that are so many messages, and hears their answers."""
+        client.sendall(asked)
+        self.events += events
+        self.hear(client, wanted)
+
+    def hear(self, client, wanted):
+        heard = hear(client, len(wanted))
+        if heard != wanted:
+            at = next((k for k, (a, b) in enumerate(zip(heard, wanted)) if a != b), len(heard))
+            raise Failed('heard %s at byte %d, in place of %s' % (
+                heard[at // 4 * 4:][:40].hex(), at, wanted[at // 4 * 4:][:40].hex()))
+
+    def status(self):
+        return self.server.ask('status 1', DEADLINE)
+
+    def wait_for(self, wanted):
+        """Waits until the status of conference 1 is this."""
+        end = time.monotonic() + DEADLINE
+        while True:
+            seen = self.status()
+            if seen == wanted:
+                return
+            if time.monotonic() > end:
+                raise Failed('the status is "%s", not "%s"' % (seen, wanted))
+            time.sleep(0.01)
+
+    def wait_for_members(self, members, ongoing=0):
+        """Waits until so many are members, and all events have come but their leaves."""
+        self.wait_for('conference 1 members %d ongoing %d events %d open' % (
+            members, ongoing, self.events - members))
+
+    def wait_until_back(self):
+        """Waits until threads and descriptors are what they were before the case."""
+        end = time.monotonic() + DEADLINE
+        while True:
+            held = self.server.held()
+            if all(held[name] == self.before[name] for name in ('Threads', 'descriptors')):
+                return held
+            if time.monotonic() > end:
+                raise Failed('threads and descriptors stay: %s, before %s' % (held, self.before))
+            time.sleep(0.02)
+
+    def stop(self):
+        """Stops the server, and compares its report; the seconds that it took."""
+        self.goes_on = False
+        self.sampler.join()
+        if self.other.is_alive():
+            self.pipe.send('end')
+            self.events += 2 + self.pipe.recv()
+            self.seats += 1
+            self.other.join()
+        began = time.monotonic()
+        report = self.server.stop()
+        wanted = ('ok stopped seats %d events %d' % (self.seats, self.events), 0)
+        if report != wanted:
+            raise Failed('the report is %s, not %s' % (report, wanted))
+        return time.monotonic() - began
+
+    def end(self):
+        """What stands behind each case: nobody is a member, and all is as before."""
+        if self.is_stopped:
+            return
+        times = self.times()
+        if self.remains:
+            self.wait_for(self.remains)
+        else:
+            self.wait_for_members(0)
+        after = self.wait_until_back()
+        took = self.stop()
+
+        def at(share, of):
+            return of[min(len(of) - 1, int(share * len(of)))]
+        say('conference 2: %d Hellos, p50 %.0f us, p99 %.0f us, longest %.0f us '
+            '(before: p50 %.0f, p99 %.0f)' % (
+                len(times), at(0.5, times), at(0.99, times), times[-1],
+                at(0.5, self.idle), at(0.99, self.idle)))
+        say('; '.join('%s %d, %d, %d' % (name, self.before[name], self.most[name], after[name])
+                      for name in ('VmRSS', 'Threads', 'descriptors')))
+        say('%d seats, %d events; stopped in %.2f s' % (self.seats, self.events, took))
+
+    def abandon(self):
+        self.goes_on = False
+        self.other.kill()
+        self.server.process.kill()
+        self.server.process.wait()
+
+
+def say(text):
+    print('    %s' % text, flush=True)
+
+
+def silent(client, seconds=0.3):
+    """Whether nothing comes for a while, and the stream doesn't end."""
+    return not select.select([client], [], [], seconds)[0]
+
+
+def ended(client):
+    """How a stream ends that bears nothing more."""
+    try:
+        rest = client.recv(65536)
+        if rest:
+            raise Failed('%s came in place of the end' % rest[:40].hex())
+        return 'its end'
+    except ConnectionResetError:
+        return 'a reset'
+    except socket.timeout:
+        raise Failed('the stream does not end')
+
+
+def reset(client):
+    """Ends a connection by a reset, without a farewell."""
+    client.setsockopt(socket.SOL_SOCKET, socket.SO_LINGER, struct.pack('ii', 1, 0))
+    client.close()
+
+
+# The cases.
+
+def half_a_header(case):
+    """Headers that are begun, waited on, and finished or not."""
+    clients = [(k, case.member()) for k in range(1, 12)]
+    for k, client in clients:
+        client.sendall(hello()[:k])
+    time.sleep(1)
+    for k, client in clients:
+        if not silent(client, 0):
+            raise Failed('%d bytes of a header are answered' % k)
+    for k, client in clients[::2]:
+        case.exchange(client, hello()[k:], ack())
+    for _, client in clients:
+        client.close()
+    return '1 to 11 bytes of a header and a second: nothing; the rest: HelloAck'
+
+
+def byte_by_byte(case):
+    """One byte in each send."""
+    client = case.member()
+    chance = random.Random(8855)
+    kinds = messages.hostile(chance, 1, 10)
+    count = sent = 0
+    while count < 100:
+        _, text = next(kinds)
+        wanted = CONFERENCE.answers(text, 10)
+        if wanted is None or len(text) > 400:
+            continue
+        for at in range(len(text)):
+            client.sendall(text[at:at + 1])
+        count += 1
+        sent += len(text)
+        case.events += 1
+        case.hear(client, wanted)
+    client.close()
+    return '%d messages in %d sends of a byte: each as if it had come at once' % (count, sent)
+
+
+def announced(case):
+    """65,535 words announced by each of 60 connections, and none sent."""
+    clients = [case.member(USERS[k % 4]) for k in range(60)]
+    for k, client in enumerate(clients):
+        client.sendall(struct.pack('>BBHIHH', 0x20, HELLO, 65535, 1, 1, USERS[k % 4]))
+    time.sleep(1)
+    grown = case.server.held()['VmRSS'] - case.before['VmRSS']
+    if grown > 60 * 128:
+        raise Failed('60 messages that are only announced take %d kB' % grown)
+    if not all(silent(client, 0) for client in clients):
+        raise Failed('a message that is only announced is answered')
+    case.exchange(clients[0], bytes.fromhex('28040000') * 65535, ack())
+    for client in clients:
+        client.close()
+    return ('60 times 65,535 words announced: nothing, %d kB in all; '
+            'the words sent: HelloAck' % grown)
+
+
+def flood_with(port, seed, count):
+    """Floods a port of user 10 with messages of every kind; gives (what was wrong, how many)."""
+    client = connect(port)
+    client.settimeout(DEADLINE)
+    chance = random.Random(seed)
+    kinds = messages.hostile(chance, 1, 10)
+    sent = 0
+    while sent < count:
+        piece = []
+        while len(piece) < 200:
+            kind, text = next(kinds)
+            wanted = CONFERENCE.answers(text, 10)
+            if wanted is not None:
+                piece.append((kind, text, wanted))
+        whole = b''.join(text for _, text, _ in piece)
+        cut = chance.randint(0, len(whole))
+        client.sendall(whole[:cut])
+        client.sendall(whole[cut:])
+        sent += len(piece)
+        try:
+            heard = hear(client, sum(len(wanted) for _, _, wanted in piece))
+        except OSError as fault:
+            return 'seed %d: after %d messages: %s' % (seed, sent, fault), sent
+        at = 0
+        for kind, text, wanted in piece:
+            if heard[at:at + len(wanted)] != wanted:
+                return 'seed %d, %s: %s is answered by %s, not by %s' % (
+                    seed, kind, text[:64].hex(), heard[at:at + max(16, len(wanted))].hex(),
+                    wanted.hex()), sent
+            at += len(wanted)
+    calm = silent(client)
+    client.close()
+    return None if calm else 'seed %d: more is answered than was asked' % seed, sent
+
+
+def malformed(case):
+    """A flood of messages of every kind that isn't wanted, from three connections."""
+    with multiprocessing.Pool(3) as pool:
+        results = pool.starmap(flood_with, [(port_of(10), seed, FLOOD) for seed in (1, 2, 3)])
+    for wrong, sent in results:
+        if wrong:
+            raise Failed(wrong)
+        case.seats += 1
+        case.events += 2 + sent
+    return '%d messages of 25 kinds: each answered as the order of checks has it' % (
+        sum(sent for _, sent in results))
+
+
+def largest(case):
+    """Messages of 65,535 words."""
+    client = case.member()
+    words = 65535
+    rows = (
+        ('unknown attributes', HELLO, bytes.fromhex('28040000') * words),
+        ('types that have to be known, each anew', HELLO,
+         b''.join(bytes([(k % 109 + 19) << 1 | 1, 4, 0, 0]) for k in range(words))),
+        ('one floor', FLOOR_QUERY, floors(1) * words),
+        ('floors that are none', FLOOR_QUERY, b''.join(floors(k + 1) for k in range(words))),
+        ('floors that are none, asked for', FLOOR_REQUEST,
+         b''.join(floors(k + 1) for k in range(words))),
+        ('a fault in the last', HELLO, floors(1) * (words - 1) + bytes.fromhex('04050001')),
+        ('deepest groups', HELLO, messages.deep(63) * (words // 63) + floors(1) * (words % 63)),
+    )
+    told = []
+    for name, primitive, payload in rows:
+        text = message(primitive, 1, 7, 10, payload)
+        began = time.perf_counter()
+        case.exchange(client, text, CONFERENCE.answers(text, 10))
+        told.append('%s %.1f ms' % (name, 1000 * (time.perf_counter() - began)))
+    client.close()
+    return 'answered after ' + '; '.join(told)
+
+
+def beyond_64(case):
+    """More connections than a conference takes, of two peers at two ports."""
+    clients = [case.member(USERS[k % 2]) for k in range(64)]
+    for k, client in enumerate(clients):
+        case.exchange(client, hello(k, USERS[k % 2]), ack(k, USERS[k % 2]))
+    ends = {}
+    began = time.perf_counter()
+    for k in range(100):
+        beyond = case.connect(USERS[k % 4])
+        if k % 2:
+            try:
+                beyond.sendall(hello(1, USERS[k % 4]))
+            except OSError:
+                pass
+        how = ended(beyond)
+        ends[how] = ends.get(how, 0) + 1
+        beyond.close()
+    took = (time.perf_counter() - began) / 100
+    case.wait_for_members(64)
+    for k, client in enumerate(clients):
+        case.exchange(client, hello(k, USERS[k % 2]), ack(k, USERS[k % 2]))
+    clients.pop().close()
+    case.wait_for_members(63)
+    client = case.member(13)
+    case.exchange(client, hello(1, 13), ack(1, 13))
+    clients.append(client)
+    for client in clients:
+        client.close()
+    return 'of 100 beyond 64 each had no byte but %s, after %.1f ms; the 64 go on' % (
+        ' or '.join('%s (%d)' % pair for pair in sorted(ends.items())), 1000 * took)
+
+
+def two_peers(case):
+    """Two peers at one port: the same user twice."""
+    one, two, three = case.member(10), case.member(10), case.member(11)
+    for client, user in ((one, 10), (two, 10), (three, 11)):
+        case.exchange(client, hello(1, user), ack(1, user))
+    case.exchange(one, message(FLOOR_REQUEST, 1, 2, 10, floors(1)),
+                  floor_request_status(1, 2, 10, 1, GRANTED, 0, 1))
+    case.hear(two, floor_request_status(1, 0, 10, 1, GRANTED, 0, 1))
+    case.exchange(three, message(FLOOR_REQUEST, 1, 2, 11, floors(1)),
+                  floor_request_status(1, 2, 11, 2, messages.ACCEPTED, 1, 1))
+    reset(one)
+    case.wait_for_members(2, 2)
+    if not silent(two) or not silent(three):
+        raise Failed('one of two connections of a user has left, and somebody is told')
+    two.close()
+    case.hear(three, floor_request_status(1, 0, 11, 2, GRANTED, 0, 1))
+    three.close()
+    return 'what one asks the other is told; the floor is given up when both have left'
+
+
+def connect_and_leave(case):
+    """10,000 connections that come and leave; 10,000 that don't wait to be served."""
+    before = case.server.held()['VmRSS']
+    for k in range(10_000):
+        client = case.member(USERS[k % 4])
+        client.shutdown(socket.SHUT_WR)
+        ended(client)
+        client.close()
+    case.wait_for_members(0)
+    time.sleep(0.5)
+    each = (case.server.held()['VmRSS'] - before) / 10_000
+    for k in range(10_000):
+        reset(case.connect(USERS[k % 4]))
+    end = time.monotonic() + DEADLINE
+    seen = ''
+    while True:
+        words = case.status().split()
+        if words == seen and words[3] == '0':
+            break
+        if time.monotonic() > end:
+            raise Failed('after 10,000 resets the status is "%s"' % ' '.join(words))
+        seen = words
+        time.sleep(0.5)
+    # Those that came while 64 were members were shut down, without an event.
+    joined = (int(words[7]) - case.events) / 2
+    if not 0 < joined <= 10_000 or joined % 1:
+        raise Failed('10,000 resets are %s events' % (2 * joined))
+    case.seats += int(joined)
+    case.events += 2 * int(joined)
+    return '10,000 came and left, %.2f kB stay of each; of 10,000 resets at once %d had joined' % (
+        each, joined)
+
+
+def resets(case):
+    """A reset at each point of an exchange."""
+    query = message(FLOOR_QUERY, 1, 1, 10, floors(1, 2, 3))
+    answer = CONFERENCE.answers(query, 10)
+    points = 0
+    for at in range(len(query) + 1):
+        client = case.member()
+        client.sendall(query[:at])
+        if at == len(query):
+            case.events += 1
+            case.hear(client, answer)
+        else:
+            silent(client, 0.01)
+        reset(client)
+        points += 1
+    for at in range(0, len(answer) + 1, 4):
+        client = case.member()
+        case.exchange(client, query + hello(), answer[:at], 2)
+        # What is not read makes the end a reset too, as a farewell that is sent.
+        case.wait_for_members(1)
+        (reset if at % 8 else socket.socket.close)(client)
+        case.wait_for_members(0)
+        points += 1
+    for pause in (0, 0.0005, 0.002, 0.01, 0.05):
+        for _ in range(20):
+            client = case.member()
+            seen = case.events
+            try:
+                client.sendall(hello() * 500)
+                time.sleep(pause)
+            except OSError:
+                pass
+            reset(client)
+            points += 1
+            # Of a flood that is reset any beginning has come.
+            settle(case, seen, 500)
+    return '%d connections reset before, in and behind messages and answers: each has left' % points
+
+
+def settle(case, seen, most):
+    """Waits until nobody is a member, and takes as many events as came of at most so many."""
+    end = time.monotonic() + DEADLINE
+    while True:
+        words = case.status().split()
+        if words[3] == '0' and int(words[7]) >= seen:
+            break
+        if time.monotonic() > end:
+            raise Failed('the status is "%s"' % ' '.join(words))
+        time.sleep(0.005)
+    came = int(words[7]) - seen
+    if came > most:
+        raise Failed('of %d messages %d came' % (most, came))
+    case.events += came
+
+
+def crowd(case):
+    """256 requests: each of four users asks 16 times for each of four floors, with a long text.
+    Their connections, which leave what they are told unread."""
+    text = attribute(messages.INFO, b'x' * 62)
+    clients = []
+    for user in USERS:
+        client = case.member(user)
+        clients.append(client)
+        for floor in (1, 2, 3, 4):
+            client.sendall(message(FLOOR_REQUEST, 1, 1, user, floors(floor) + text) * 16)
+        case.events += 64
+        case.wait_for_members(len(clients), 64 * len(clients))
+    return clients
+
+
+def unread(case):
+    """A peer that floods and never reads: what its outbox holds, and that it is used again.
+
+    With one arena, so that malloc keeps what was given back in one place.
+    """
+    before = case.server.held()['VmRSS']
+    client = case.member(unread=4096)
+    for _ in range(200):
+        client.sendall(hello() * 1000)
+    case.events += 200_000
+    case.wait_for_members(1)
+    full = case.server.held()['VmRSS']
+    client.close()
+    case.wait_for_members(0)
+    said = '200,000 Hellos %d bytes each' % (1024 * (full - before) / 200_000)
+    fulls = []
+    for _ in range(5):
+        clients = crowd(case)
+        before = case.server.held()['VmRSS']
+        clients[3].sendall(message(FLOOR_QUERY, 1, 1, 13, floors(1, 2, 3, 4)) * 4000)
+        case.events += 4000
+        case.wait_for_members(4, 256)
+        fulls.append(case.server.held()['VmRSS'])
+        for client in clients:
+            reset(client)
+        case.wait_for_members(0)
+    if fulls[-1] > 1.2 * fulls[0]:
+        raise Failed('five outboxes one after another take %s kB' % fulls)
+    return said + '; 4,000 FloorQuerys of 256 requests, five times: %s MB in all' % (
+        ', '.join('%.0f' % (full / 1024) for full in fulls))
+
+
+def slow(case):
+    """A peer that reads a byte now and then: what it reads is right, and others don't wait."""
+    client = case.member(unread=4096)
+    client.sendall(hello() * 4000)
+    case.events += 4000
+    heard = b''
+    for _ in range(1000):
+        heard += client.recv(1)
+        time.sleep(0.001)
+    neighbour = case.member(11)
+    case.exchange(neighbour, hello(1, 11), ack(1, 11))
+    neighbour.close()
+    case.hear(client, (ack() * 4000)[len(heard):])
+    if heard != (ack() * 21)[:1000]:
+        raise Failed('a byte that was read alone is wrong')
+    client.close()
+    return '1,000 bytes one by one, then the rest of 4,000 HelloAcks: all right'
+
+
+def unread_queries(case, count, turns=120):
+    """So many connections of user 10, each with more unread answers than its socket takes."""
+    query = message(FLOOR_QUERY, 1, 1, 10, floors(1, 2, 3, 4))
+    clients = []
+    for _ in range(count):
+        client = case.member(unread=4096)
+        client.sendall(query * turns)
+        case.events += turns
+        clients.append(client)
+    return clients
+
+
+def unread_by_60(case):
+    """60 peers that watch four floors with 256 requests, and never read."""
+    members = crowd(case) + unread_queries(case, 60)
+    case.wait_for_members(64, 256)
+    before = case.server.held()['VmRSS']
+    began = time.monotonic()
+    for request in range(200, 100, -1):
+        user = USERS[(request - 1) // 64]
+        members[USERS.index(user)].sendall(
+            message(FLOOR_RELEASE, 1, 1, user, number(FLOOR_REQUEST_ID, request)))
+    case.events += 100
+    case.wait_for_members(64, 156)
+    took = time.monotonic() - began
+    full = case.server.held()['VmRSS']
+    for client in members:
+        reset(client)
+    return '100 releases, of which all are told, take %.0f kB and %.1f ms each' % (
+        (full - before) / 100, 10 * took)
+
+
+def half_closed(case):
+    """100 peers that end their sending and leave their answers unread."""
+    members = crowd(case)
+    before = case.server.held()
+    clients = []
+    for _ in range(100):
+        clients += unread_queries(case, 1)
+        clients[-1].shutdown(socket.SHUT_WR)
+        case.wait_for_members(4, 256)
+    time.sleep(1)
+    held = case.server.held()
+    for client in clients:
+        reset(client)
+    for client in members:
+        reset(client)
+    return ('100 are no members any more, and keep %d threads, %d descriptors and %.1f MB each '
+            'until they close' % (held['Threads'] - before['Threads'],
+                                  held['descriptors'] - before['descriptors'],
+                                  (held['VmRSS'] - before['VmRSS']) / 100 / 1024))
+
+
+def closed_while_blocked(case):
+    """`close` while 50 writers are blocked on peers that never read."""
+    members = crowd(case)
+    clients = unread_queries(case, 50)
+    for client in clients[:20]:
+        client.shutdown(socket.SHUT_WR)
+    case.wait_for_members(34, 256)
+    began = time.monotonic()
+    answer = case.server.ask('close 1', DEADLINE)
+    took = time.monotonic() - began
+    if answer != 'ok closed 1':
+        raise Failed('close is answered by %s' % answer)
+    # The 34 that were members never leave, and the Close is an event.
+    case.events -= 34 - 1
+    case.remains = 'conference 1 members 34 ongoing 0 events %d ended' % case.events
+    case.wait_for(case.remains)
+    # So do the threads and descriptors of its four ports.
+    case.before['Threads'] -= 4
+    case.before['descriptors'] -= 2 * 4
+    case.wait_until_back()
+    for client in members + clients:
+        reset(client)
+    return 'closed in %.0f ms' % (1000 * took)
+
+
+def stopped_while_blocked(case):
+    """`stop` while 50 writers are blocked on peers that never read."""
+    members = crowd(case)
+    clients = unread_queries(case, 50)
+    for client in clients[:20]:
+        client.shutdown(socket.SHUT_WR)
+    case.wait_for_members(34, 256)
+    case.times()
+    took = case.stop()
+    if took > 10:
+        raise Failed('stop took %.1f s' % took)
+    case.is_stopped = True
+    for client in members + clients:
+        reset(client)
+    return 'stopped in %.0f ms, with its report' % (1000 * took)
+
+
+def journal_full(case):
+    """All 1,000,000 events of a conference, and what comes behind them."""
+    client = case.member()
+    wanted = ack() * 1000
+    for k in range(1000):
+        client.sendall(hello() * 1000)
+        # The first event was the join, so that the last Hello finds the journal full.
+        case.hear(client, wanted[48 * (k == 999):])
+    case.events += 999_999
+    how = ended(client)
+    client.close()
+    # Its leave is no event any more.
+    case.events -= 1
+    case.remains = 'conference 1 members 1 ongoing 0 events 1000000 open'
+    case.wait_for(case.remains)
+    for user in USERS:
+        ended(case.connect(user))
+    for line in ('close 1', 'revoke 1 1'):
+        answer = case.server.ask(line, DEADLINE)
+        if answer != 'error JournalFull':
+            raise Failed('%s is answered by %s' % (line, answer))
+    return '999,999 Hellos are answered, then comes %s; newcomers are shut down' % how
+
+
+def beyond_descriptors(case):
+    """More connections than there are descriptors: 40 for the whole server."""
+    clients = [(case.connect(USERS[k % 4]), USERS[k % 4]) for k in range(50)]
+    for client, user in clients:
+        client.sendall(hello(1, user))
+    time.sleep(1)
+    served = [(client, user) for client, user in clients if not silent(client, 0)]
+    waiting = [pair for pair in clients if pair not in served]
+    # A port takes two, and a third while it waits for a connection; conference 2 has one.
+    if not 40 - 4 - 3 * 5 <= len(served) <= 40 - 4 - 2 * 5:
+        raise Failed('%d connections are served' % len(served))
+    used = case.server.seen()['processor']
+    time.sleep(2)
+    used = (case.server.seen()['processor'] - used) / 2
+    for client, user in served:
+        case.hear(client, ack(1, user))
+        case.exchange(client, hello(2, user), ack(2, user), 1)
+    if not all(silent(client, 0) for client, _ in waiting):
+        raise Failed('a connection without a descriptor is answered')
+    for client, _ in served:
+        client.close()
+    for client, user in waiting:
+        case.hear(client, ack(1, user))
+        client.close()
+    case.seats += 50
+    case.events += 3 * 50
+    return ('%d are served; %d more wait, at %.1f%% of a processor, and are served when those '
+            'have left' % (len(served), len(waiting), 100 * used))
+
+
+def beyond_addresses(case):
+    """More connections than there are addresses for stacks: 1 GB for the whole server."""
+    served, refused = [], 0
+    for k in range(120):
+        user = USERS[k % 4]
+        client = case.connect(user)
+        try:
+            client.sendall(hello(1, user))
+            heard = hear(client, 48)
+        except ConnectionResetError:
+            heard = b''
+        if heard == ack(1, user):
+            served.append((client, user))
+        elif heard:
+            raise Failed('%s is heard' % heard.hex())
+        else:
+            refused += 1
+            client.close()
+    for client, user in served:
+        case.exchange(client, hello(2, user), ack(2, user))
+    seen = case.status().split()
+    if seen[3] != str(len(served)) or seen[8] != 'open':
+        raise Failed('%d are served, and the status is %s' % (len(served), seen))
+    if not served or not refused:
+        raise Failed('%d are served, %d refused' % (len(served), refused))
+    # One for whose writer there was no thread had joined, and left.
+    others = (int(seen[7]) - 3 * len(served)) // 2
+    case.seats += len(served) + others
+    case.events += 3 * len(served) + 2 * others
+    for client, _ in served:
+        client.close()
+    case.wait_for_members(0)
+    client = case.member()
+    case.exchange(client, hello(), ack())
+    client.close()
+    return '%d are served and go on; %d are shut down, of which %d had joined and left' % (
+        len(served), refused, others)
+
+
+def main():
+    if len(sys.argv) < 2:
+        raise SystemExit(__doc__)
+    chosen = sys.argv[2:]
+    failed = []
+    for body, how in CASES:
+        name = body.__name__
+        if chosen and name not in chosen:
+            continue
+        print('%s: %s' % (name, body.__doc__.split('\n')[0]), flush=True)
+        case = Case(sys.argv[1], **how)
+        try:
+            began = time.monotonic()
+            say('%s (%.1f s)' % (body(case), time.monotonic() - began))
+            case.end()
+        except (Failed, OSError, SystemExit) as fault:
+            say('FAILED: %s' % fault)
+            failed.append(name)
+            case.abandon()
+    if failed:
+        print('failed: %s' % ', '.join(failed))
+        raise SystemExit(1)
+    print('all as it has to be')
+
+
+CASES = (
+    (half_a_header, {}),
+    (byte_by_byte, {}),
+    (announced, {}),
+    (malformed, {}),
+    (largest, {}),
+    (beyond_64, {}),
+    (two_peers, {}),
+    (connect_and_leave, {}),
+    (resets, {}),
+    (slow, {}),
+    (unread, {'variables': {'MALLOC_ARENA_MAX': '1'}}),
+    (unread_by_60, {}),
+    (half_closed, {}),
+    (closed_while_blocked, {}),
+    (stopped_while_blocked, {}),
+    (journal_full, {}),
+    (beyond_descriptors, {'limits': {resource.RLIMIT_NOFILE: 40}}),
+    (beyond_addresses, {'limits': {resource.RLIMIT_AS: 1 << 30},
+                        'variables': {'MALLOC_ARENA_MAX': '1'}}),
+)
+
+
+if __name__ == '__main__':
+    main()
