@@ -1,0 +1,434 @@
+#!/usr/bin/env python3
+"""Does the server send what its journal calls for? ./replay.py FLOORD FLOORSIM [SEED [ROUNDS]]
+
+Random clients with a seed (1) play against floord: they ask, chair, watch, send nonsense, cut their
+messages anywhere, read late or never, leave, are cut off, while an administrator revokes and
+closes. Then the console prints each conference's journal. The journal has to hold what each
+connection sent, in its order; and floorsim, which runs it as a script, has to print for each
+connection the bytes that it heard: all of them where it ended in order, else a beginning of them.
+So many rounds (3), each with the next seed. A difference is printed with its seed, conference,
+connection and place, and the script is kept; then the status is 1.
+"""
+import collections
+import multiprocessing
+import os
+import random
+import select
+import socket
+import struct
+import subprocess
+import sys
+import tempfile
+import time
+
+import messages
+from messages import (BENEFICIARY_ID, CHAIR_ACTION, FLOOR_QUERY, FLOOR_RELEASE, FLOOR_REQUEST,
+                      FLOOR_REQUEST_ID, FLOOR_REQUEST_QUERY, HELLO, INFO, PRIORITY, USER_QUERY,
+                      attribute, floors, message, number, verdict)
+from server import Server, connect
+
+FIRST_PORT = 8200
+CONFERENCES = 4
+USERS = range(10, 16)
+FLOORS = range(1, 7)
+DRIVERS = 3
+PEERS = 5
+STEPS = 6000
+DEADLINE = 60
+
+
+def port_of(conference, user):
+    return FIRST_PORT + (conference - 1) * len(USERS) + user - USERS[0]
+
+
+def configuration(chance, conference):
+    """One conference: some of its floors have a chair, some of its users a name."""
+    rows = ['[[conference]]\nid = %d\nlimit = %d\n' % (conference, chance.randint(1, 16))]
+    for user in USERS:
+        rows.append('[[conference.user]]\nid = %d\nport = %d\nproxy = %s\n' % (
+            user, port_of(conference, user), chance.choice(('true', 'false'))))
+        if chance.random() < 0.5:
+            rows.append('name = "%s"\n' % ('x' * chance.randint(0, 30)))
+        if chance.random() < 0.5:
+            rows.append('uri = "sip:%d@example.com"\n' % user)
+    for floor in FLOORS:
+        rows.append('[[conference.floor]]\nid = %d\nroom = %d\n' % (floor, chance.randint(1, 3)))
+        if chance.random() < 0.5:
+            rows.append('chair = %d\n' % chance.choice(USERS))
+    return ''.join(rows)
+
+
+def whole(stream):
+    """The messages at the front of a stream."""
+    found = []
+    at = 0
+    while at + 12 <= len(stream):
+        end = at + 12 + 4 * struct.unpack('>H', stream[at + 2:at + 4])[0]
+        if end > len(stream):
+            break
+        found.append(bytes(stream[at:end]))
+        at = end
+    return found
+
+
+class Peer:
+    """One connection. Its first message is a Hello with its mark, by which the journal has it."""
+
+    def __init__(self, chance, conference, user, mark):
+        self.chance = chance
+        self.conference = conference
+        self.user = user
+        self.mark = mark
+        self.stream = message(HELLO, conference, 1, user, attribute(100, mark))
+        self.first = len(self.stream)
+        self.flushed = 0
+        self.heard = bytearray()
+        self.seen = 0
+        self.requests = [1]
+        self.named = [(1, 1)]
+        self.is_deaf = chance.random() < 0.15
+        self.goes_on = True
+        self.how = 'in order'
+        self.socket = connect(port_of(conference, user))
+        self.socket.setblocking(False)
+        self.nonsense = messages.hostile(chance, conference, user)
+
+    def send(self, count):
+        """Sends as many bytes of its stream as the socket takes, at most so many."""
+        try:
+            self.flushed += self.socket.send(self.stream[self.flushed:self.flushed + count])
+        except BlockingIOError:
+            pass
+        except OSError:
+            self.give_up()
+
+    def read(self):
+        try:
+            piece = self.socket.recv(65536)
+        except BlockingIOError:
+            return
+        except OSError:
+            self.give_up()
+            return
+        self.heard += piece
+        if not piece:
+            if self.goes_on:
+                self.how = 'cut off'
+            self.socket.close()
+            self.socket = None
+
+    def give_up(self):
+        self.how = 'cut off'
+        self.socket.close()
+        self.socket = None
+
+    def learn(self):
+        """The floor requests that it was told of: its user's, and those for the floors it asked
+        about."""
+        for text in whole(self.heard[self.seen:]):
+            self.seen += len(text)
+            if text[1] == messages.FLOOR_REQUEST_STATUS:
+                self.requests.append(struct.unpack('>H', text[14:16])[0])
+            elif text[1] == messages.FLOOR_STATUS:
+                told = messages.read(text[12:])
+                self.named += [(contents[0], told[0][2]) for _, _, contents in told[1:]]
+                del self.named[:-20]
+
+    def request(self):
+        """A number that may be a floor request's."""
+        if self.chance.random() < 0.2:
+            return max(self.requests) + self.chance.randint(-9, 9) & 0xffff
+        return self.chance.choice(self.requests[-6:])
+
+    def some(self, most):
+        return floors(*(self.chance.choice(FLOORS)
+                        for _ in range(self.chance.randint(1, most))))
+
+    def ask(self):
+        """A message of some kind."""
+        chance = self.chance
+        kind = chance.choices(
+            (FLOOR_REQUEST, FLOOR_RELEASE, CHAIR_ACTION, FLOOR_QUERY, FLOOR_REQUEST_QUERY,
+             USER_QUERY, HELLO, 0), (30, 22, 25, 5, 5, 5, 4, 8))[0]
+        if kind == 0:
+            return next(self.nonsense)[1]
+        payload = b''
+        if kind == FLOOR_REQUEST:
+            payload = self.some(3)
+            if chance.random() < 0.3:
+                payload += number(BENEFICIARY_ID, chance.choice(USERS))
+            if chance.random() < 0.5:
+                payload += attribute(PRIORITY, bytes([chance.randint(0, 255), 0]))
+            if chance.random() < 0.3:
+                payload += attribute(INFO, ('\u00e4' * chance.randint(0, 40)).encode())
+        elif kind in (FLOOR_RELEASE, FLOOR_REQUEST_QUERY):
+            payload = number(FLOOR_REQUEST_ID, self.request())
+        elif kind == CHAIR_ACTION:
+            payload = verdict(*chance.choice(self.named), chance.choice((2, 3, 3, 3, 4, 7)))
+        elif kind == FLOOR_QUERY and chance.random() < 0.9:
+            payload = self.some(6)
+        elif kind == USER_QUERY and chance.random() < 0.5:
+            payload = number(BENEFICIARY_ID, chance.choice(USERS))
+        return message(kind, self.conference, chance.randint(0, 65535), self.user, payload)
+
+    def step(self):
+        chance = self.chance
+        if self.flushed < self.first:
+            self.send(self.first)
+            return
+        fate = chance.random()
+        if fate < 0.004:
+            self.end(all_of_it=chance.random() < 0.7)
+        elif fate < 0.006:
+            self.how = 'cut off'
+            self.socket.setsockopt(socket.SOL_SOCKET, socket.SO_LINGER, struct.pack('ii', 1, 0))
+            self.socket.close()
+            self.socket = None
+        elif fate < 0.008:
+            self.how = 'cut off'
+            self.socket.close()
+            self.socket = None
+        else:
+            self.learn()
+            for _ in range(chance.choice((1, 1, 1, 5))):
+                self.stream += self.ask()
+            left = len(self.stream) - self.flushed
+            self.send(left if chance.random() < 0.6 else chance.randint(1, left))
+
+    def end(self, all_of_it=True):
+        """Ends its sending, here or behind its last message, and goes on reading."""
+        if all_of_it and self.flushed < len(self.stream):
+            self.socket.settimeout(DEADLINE)
+            try:
+                self.socket.sendall(self.stream[self.flushed:])
+                self.flushed = len(self.stream)
+            except OSError:
+                self.give_up()
+                return
+            self.socket.setblocking(False)
+        self.goes_on = False
+        try:
+            self.socket.shutdown(socket.SHUT_WR)
+        except OSError:
+            self.give_up()
+
+    def result(self):
+        return (self.conference, self.user, self.mark, whole(self.stream[:self.flushed]),
+                bytes(self.heard), self.how)
+
+
+def read_all(peers, seconds, deaf):
+    """Reads what there is, of those that don't read too where that is said."""
+    reading = {peer.socket: peer for peer in peers if peer.socket and (deaf or not peer.is_deaf)}
+    for ready in select.select(list(reading), [], [], seconds)[0]:
+        reading[ready].read()
+
+
+def drive(seed, driver, closing, done, results):
+    """Plays some connections of each conference."""
+    chance = random.Random('%d %d' % (seed, driver))
+    peers = []
+    count = 0
+    for step in range(STEPS):
+        live = [peer for peer in peers if peer.socket and peer.goes_on]
+        if len(live) < PEERS * CONFERENCES:
+            count += 1
+            conference = chance.randint(1, CONFERENCES)
+            if not (conference == CONFERENCES and closing.is_set()):
+                peers.append(Peer(chance, conference, chance.choice(USERS),
+                                  struct.pack('>HHI', seed & 0xffff, driver, count)))
+        elif live:
+            chance.choice(live).step()
+        read_all(peers, 0, False)
+        if step == STEPS * 3 // 4:
+            closing.set()
+    for peer in peers:
+        if peer.socket and peer.goes_on:
+            peer.end()
+    end = time.monotonic() + DEADLINE
+    while any(peer.socket for peer in peers) and time.monotonic() < end:
+        read_all(peers, 1, True)
+    for peer in peers:
+        if peer.socket:
+            peer.how = 'no end'
+    done.set()
+    results.put([peer.result() for peer in peers])
+
+
+class Difference(Exception):
+    """What the journal, the clients and floorsim have otherwise."""
+
+
+def script_of(conference, lines):
+    """The journal as a script, and each member's user and messages."""
+    script = []
+    users = []
+    sent = collections.defaultdict(list)
+    for place, line in enumerate(lines[:-1], 1):
+        words = line.split()
+        if words[0] != str(place):
+            raise Difference('place %d of the journal is "%s"' % (place, line))
+        if words[1] == 'join':
+            users.append(int(words[2]))
+            script.append('attach %d %s' % (conference, words[2]))
+        elif words[1] == 'message':
+            sent[int(words[2])].append(bytes.fromhex(words[3]))
+            script.append('send %s %s' % (words[2], words[3]))
+        elif words[1] == 'leave':
+            script.append('leave %s' % words[2])
+        elif words[1] == 'revoke':
+            script.append('revoke %d %s' % (conference, words[2]))
+        else:
+            script.append('close %d' % conference)
+    if lines[-1] != 'end %d' % len(script):
+        raise Difference('%d events end by "%s"' % (len(script), lines[-1]))
+    return script, users, sent
+
+
+def printed_for(floorsim, text, members):
+    """What floorsim prints for each member."""
+    done = subprocess.run([os.path.abspath(floorsim)], input=text.encode(),
+                          stdout=subprocess.PIPE, timeout=600)
+    if done.returncode:
+        raise Difference('floorsim ends with status %d' % done.returncode)
+    told = collections.defaultdict(list)
+    attached = 0
+    for line in done.stdout.decode().split('\n'):
+        first, _, rest = line.partition(' ')
+        if first == 'attached':
+            attached += 1
+            if rest != str(attached):
+                raise Difference('floorsim prints "%s"' % line)
+        elif first in ('refused', 'error', 'nothing'):
+            raise Difference('floorsim prints "%s": the journal is none' % line)
+        elif first:
+            told[int(first)].append(bytes.fromhex(rest))
+    if attached != members:
+        raise Difference('%d members are %d attached' % (members, attached))
+    return told
+
+
+def compare(conference, users, sent, told, peers, counts):
+    """Compares the journal and what it calls for with what each connection sent and heard."""
+    by_mark = {peer[2]: peer for peer in peers}
+    silent = []
+    for n, user in enumerate(users, 1):
+        counts['members'] += 1
+        if not sent[n]:
+            silent.append((user, b''.join(told[n])))
+            continue
+        _, of, mark, messages_, heard, how = by_mark.pop(sent[n][0][14:22], [None] * 6)
+        if mark is None:
+            raise Difference('member %d is no connection that was made' % n)
+        if of != user:
+            raise Difference('member %d is user %d, and was %d' % (n, user, of))
+        if sent[n] != messages_[:len(sent[n])]:
+            raise Difference('member %d sent something else than the journal has' % n)
+        if conference == CONFERENCES and how == 'in order':
+            # Its conference was closed, perhaps before it had heard all.
+            how = 'cut off'
+        if how == 'in order' and len(sent[n]) != len(messages_):
+            raise Difference('member %d sent %d messages, the journal has %d' % (
+                n, len(messages_), len(sent[n])))
+        if how == 'no end':
+            raise Difference('the stream of member %d does not end' % n)
+        wanted = b''.join(told[n])
+        if heard != wanted[:len(heard)] or how == 'in order' and heard != wanted:
+            at = next((k for k, (a, b) in enumerate(zip(heard, wanted)) if a != b),
+                      min(len(heard), len(wanted)))
+            raise Difference('member %d, byte %d of %d: %s is heard, %s is called for' % (
+                n, at, len(wanted), heard[at:at + 32].hex(), wanted[at:at + 32].hex()))
+        counts[how] += 1
+        counts['bytes'] += len(heard)
+        for text in told[n]:
+            counts['primitive %d' % text[1]] += 1
+    for _, user, _, _, heard, how in by_mark.values():
+        # Cut off before its first message was taken: a member that sent nothing, or none.
+        counts['cut off early'] += 1
+        if how == 'in order' and conference != CONFERENCES:
+            raise Difference('a connection that ended in order is not in the journal')
+        if heard and not any(user == of and wanted.startswith(heard) for of, wanted in silent):
+            raise Difference('a connection of user %d that the journal does not have heard %s' % (
+                user, heard[:64].hex()))
+
+
+def administer(server, chance, closing, done):
+    """Revokes now and then, and closes the last conference while its clients are at work."""
+    is_closed = False
+    while not done.is_set():
+        if closing.is_set() and not is_closed:
+            if server.ask('close %d' % CONFERENCES) != 'ok closed %d' % CONFERENCES:
+                raise Difference('the last conference is not closed')
+            is_closed = True
+        conference = chance.randint(1, CONFERENCES)
+        words = server.ask('status %d' % conference).split()
+        last = max(1, int(words[7]) // 8)
+        line = 'revoke %d %d' % (conference, chance.randint(1, last))
+        wanted = (line.replace('revoke', 'ok revoked'), 'error NoRequest', 'error Ended')
+        answer = server.ask(line)
+        if answer not in wanted:
+            raise Difference('%s is answered by %s' % (line, answer))
+        time.sleep(0.005)
+
+
+def round_of(floord, floorsim, seed):
+    chance = random.Random(seed)
+    texts = [configuration(chance, conference) for conference in range(1, CONFERENCES + 1)]
+    server = Server(floord, ''.join(texts))
+    results = multiprocessing.Queue()
+    closing, done = multiprocessing.Event(), multiprocessing.Event()
+    drivers = [multiprocessing.Process(target=drive, args=(seed, k, closing, done, results),
+                                       daemon=True) for k in range(DRIVERS)]
+    for driver in drivers:
+        driver.start()
+    peers = []
+    counts = collections.Counter()
+    where = 'seed %d' % seed
+    script = None
+    try:
+        administer(server, chance, closing, done)
+        for _ in drivers:
+            peers += results.get(timeout=2 * DEADLINE)
+        events = 0
+        for conference in range(1, CONFERENCES + 1):
+            where = 'seed %d, conference %d' % (seed, conference)
+            script, users, sent = script_of(conference, server.journal(conference))
+            events += len(script)
+            script = texts[conference - 1] + '---\n' + '\n'.join(script) + '\n'
+            told = printed_for(floorsim, script, len(users))
+            compare(conference, users, sent, told,
+                    [peer for peer in peers if peer[0] == conference], counts)
+        where = 'seed %d' % seed
+        report = server.stop()
+        wanted = ('ok stopped seats %d events %d' % (counts['members'], events), 0)
+        if report != wanted:
+            raise Difference('the report is %s, not %s' % (report, wanted))
+        return events, counts
+    except (Difference, SystemExit) as fault:
+        server.process.kill()
+        if script:
+            handle, path = tempfile.mkstemp(suffix='.script')
+            with os.fdopen(handle, 'w') as file:
+                file.write(script if isinstance(script, str) else '\n'.join(script))
+            where += ' (%s)' % path
+        raise SystemExit('FAILED: %s: %s' % (where, fault))
+
+
+def main():
+    if len(sys.argv) < 3:
+        raise SystemExit(__doc__)
+    first = int(sys.argv[3]) if len(sys.argv) > 3 else 1
+    rounds = int(sys.argv[4]) if len(sys.argv) > 4 else 3
+    for seed in range(first, first + rounds):
+        began = time.monotonic()
+        events, counts = round_of(sys.argv[1], sys.argv[2], seed)
+        print('seed %d: %d events, %d members; %d streams heard whole, %d in part, %d bytes, all '
+              'as the journal calls for (%.1f s)' % (
+                  seed, events, counts['members'], counts['in order'], counts['cut off'],
+                  counts['bytes'], time.monotonic() - began))
+        print('    %s' % ', '.join('%s: %d' % pair for pair in sorted(counts.items())
+                                   if pair[0].startswith('primitive')), flush=True)
+
+
+if __name__ == '__main__':
+    main()
