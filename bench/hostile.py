@@ -23,7 +23,7 @@ from messages import (FLOOR_QUERY, FLOOR_RELEASE, FLOOR_REQUEST, FLOOR_REQUEST_I
                       attribute, floor_request_status, floors, hello_ack, message, number)
 from server import Server, connect, hear
 
-DEADLINE = 30
+DEADLINE = 120
 FIRST_PORT = 7700
 USERS = (10, 11, 12, 13)
 OTHER_PORT = FIRST_PORT + len(USERS)
@@ -100,8 +100,7 @@ class Case:
         self.other = multiprocessing.Process(target=greet_all_the_while, args=(theirs,),
                                              daemon=True)
         self.other.start()
-        time.sleep(0.3)
-        self.idle = self.times()
+        self.idle = self.some_times(100)
         self.remains = None
         self.is_stopped = False
         self.before = self.most = self.server.held()
@@ -126,6 +125,14 @@ class Case:
         wrong, times = self.pipe.recv()
         if wrong:
             raise Failed(wrong)
+        return sorted(times)
+
+    def some_times(self, count):
+        """The times of at least so many Hellos of conference 2, sorted."""
+        times = []
+        while len(times) < count:
+            time.sleep(0.02)
+            times += self.times()
         return sorted(times)
 
     def member(self, user=10, unread=None):
@@ -203,7 +210,7 @@ class Case:
         """What stands behind each case: nobody is a member, and all is as before."""
         if self.is_stopped:
             return
-        times = self.times()
+        times = self.some_times(20)
         if self.remains:
             self.wait_for(self.remains)
         else:
@@ -386,6 +393,23 @@ def largest(case):
     return 'answered after ' + '; '.join(told)
 
 
+LONG = message(HELLO, 1, 1, 10, attribute(100, bytes(250)) * 1040)
+
+
+def long_messages(case):
+    """A peer that sends messages of 262,092 bytes, and reads every answer."""
+    client = case.member()
+    before = case.server.held()['VmRSS']
+    began = time.monotonic()
+    for _ in range(400):
+        case.exchange(client, LONG, ack())
+    took = time.monotonic() - began
+    full = case.server.held()['VmRSS']
+    client.close()
+    return '400 take %.0f kB and %.1f ms each, and stay in the journal' % (
+        (full - before) / 400, 1000 * took / 400)
+
+
 def beyond_64(case):
     """More connections than a conference takes, of two peers at two ports."""
     clients = [case.member(USERS[k % 2]) for k in range(64)]
@@ -560,8 +584,8 @@ def unread(case):
     for _ in range(5):
         clients = crowd(case)
         before = case.server.held()['VmRSS']
-        clients[3].sendall(message(FLOOR_QUERY, 1, 1, 13, floors(1, 2, 3, 4)) * 4000)
-        case.events += 4000
+        clients[3].sendall(message(FLOOR_QUERY, 1, 1, 13, floors(1, 2, 3, 4)) * 1500)
+        case.events += 1500
         case.wait_for_members(4, 256)
         fulls.append(case.server.held()['VmRSS'])
         for client in clients:
@@ -569,7 +593,7 @@ def unread(case):
         case.wait_for_members(0)
     if fulls[-1] > 1.2 * fulls[0]:
         raise Failed('five outboxes one after another take %s kB' % fulls)
-    return said + '; 4,000 FloorQuerys of 256 requests, five times: %s MB in all' % (
+    return said + '; 1,500 FloorQuerys of 256 requests, five times: %s MB in all' % (
         ', '.join('%.0f' % (full / 1024) for full in fulls))
 
 
@@ -780,6 +804,44 @@ def beyond_addresses(case):
         len(served), refused, others)
 
 
+def beyond_memory(case):
+    """Long messages until memory is refused, under a limit of 600 MB of addresses."""
+    client = case.member()
+    count = 0
+    try:
+        while True:
+            client.sendall(LONG)
+            if hear(client, 48) != ack():
+                break
+            count += 1
+    except OSError:
+        pass
+    client.close()
+    end = time.monotonic() + DEADLINE
+    while not case.status().endswith('broken'):
+        if time.monotonic() > end:
+            raise Failed('after %d messages the status is "%s"' % (count, case.status()))
+        time.sleep(0.01)
+    case.times()
+    case.some_times(100)
+    for user in USERS:
+        ended(case.connect(user))
+    for line, wanted in (('close 1', 'error Broken'), ('revoke 1 1', 'error Broken'),
+                         ('status 2', 'conference 2 members 1 ongoing 0 events')):
+        answer = case.server.ask(line, DEADLINE)
+        if not answer.startswith(wanted):
+            raise Failed('%s is answered by %s' % (line, answer))
+    case.wait_until_back()
+    case.pipe.send('end')
+    case.pipe.recv()
+    case.is_stopped = True
+    report = case.server.stop()
+    if report != ('error Broken 1', 1):
+        raise Failed('the report is %s' % (report,))
+    return ('after %d messages conference 1 is broken, and it alone: conference 2 goes on; the '
+            'report says so' % count)
+
+
 def main():
     if len(sys.argv) < 2:
         raise SystemExit(__doc__)
@@ -811,6 +873,7 @@ CASES = (
     (announced, {}),
     (malformed, {}),
     (largest, {}),
+    (long_messages, {}),
     (beyond_64, {}),
     (two_peers, {}),
     (connect_and_leave, {}),
@@ -825,6 +888,8 @@ CASES = (
     (beyond_descriptors, {'limits': {resource.RLIMIT_NOFILE: 40}}),
     (beyond_addresses, {'limits': {resource.RLIMIT_AS: 1 << 30},
                         'variables': {'MALLOC_ARENA_MAX': '1'}}),
+    (beyond_memory, {'limits': {resource.RLIMIT_AS: 600 << 20},
+                     'variables': {'MALLOC_ARENA_MAX': '1'}}),
 )
 
 
