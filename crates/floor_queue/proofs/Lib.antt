@@ -11,3 +11,5 @@ pub mod Lining
 pub mod Changing
 pub mod Firsts
 pub mod Searching
+pub mod Marking
+pub mod Numbering

@@ -4,4 +4,5 @@
 pub(crate) mod line;
 pub(crate) mod lines;
 pub(crate) mod number;
+pub(crate) mod numbers;
 pub(crate) mod rank;

@@ -1,11 +1,11 @@
 //! The ongoing floor requests of one conference (RFC 8855, sections 10, 11 and 13).
 
-ghost use Rattle.std.specs.Prelude.{true, ◌≡◌, ◌<◌, ◌++◌, ◌∷◌, [], ◌+◌, ◌↔◌, ◌==◌, ℕ, IfOk, OnOk, OnErr, Some, IsSome, IsTrue, length, map, filter, remove, slice_index_or};
-ghost use Rattle.std.specs.List.{list_any};
+ghost use Rattle.std.specs.Prelude.{true, ◌≡◌, ◌<◌, nat_lt, ◌++◌, ◌∷◌, [], ◌+◌, ◌↔◌, ◌==◌, ℕ, IfOk, OnOk, OnErr, Some, IsSome, IsTrue, length, map, filter, remove, slice_index_or};
+ghost use Rattle.std.specs.List.{list_any, list_all};
 ghost use Rattle.std.specs.Option.{option_copied};
 ghost use Rattle.floor_queue.specs.Order.{settle, due_numbers, holders, names, granted_if};
 ghost use Rattle.floor_queue.specs.Queue.{HasFloor, IsAddable, IsQueue, IsSettled, MaySetFloor, after_add, after_clear, after_end, after_set_floor, after_settle, empty_queue, first_floor, involves, is_ascending, numbers_of, position_of, request_at, with_word};
-ghost use Rattle.floor_queue.specs.steps.Lines.{AreLines};
+ghost use Rattle.floor_queue.specs.steps.Lines.{AreLines, AreMarked};
 ghost use Rattle.floor_queue.specs.Requested.{floor_with_word};
 
 use crate::index::lines::Lines;
@@ -49,7 +49,7 @@ pub struct Requests {
 
 impl Model for Requests {
     ghost use Rattle.floor_queue.specs.Queue.{Queue, IsQueue};
-    ghost use Rattle.floor_queue.specs.steps.Lines.{AreLines};
+    ghost use Rattle.floor_queue.specs.steps.Lines.{AreLines, AreMarked};
 
     ghost Value = { Queue };
 
@@ -58,7 +58,8 @@ impl Model for Requests {
 
     ghost invariant = { λ q.
         IsQueue record { floors = q.floors.items; given = q.given; ongoing = q.ongoing.items }
-        × AreLines q.floors.items q.ongoing.items q.lines };
+        × AreLines q.floors.items q.ongoing.items q.lines
+        × AreMarked q.floors.items q.ongoing.items q.lines };
 }
 
 impl Requests {
@@ -253,6 +254,7 @@ impl Requests {
         let ended = take_out(&mut self.ongoing, place);
         let rank = rank_of(&self.floors, &ended);
         self.lines.take(&ended, rank);
+        self.lines.mark(&ended);
         ended
     }
 
@@ -279,6 +281,7 @@ impl Requests {
         let alloc = *self.ongoing.allocator();
         let numbers = due::due_numbers(alloc, &self.floors, &self.lines, &self.ongoing)?;
         grant_all(&self.floors, &mut self.ongoing, &mut self.lines, &numbers);
+        self.lines.unmark();
         Ok(Numbers::from_vec(numbers))
     }
 }
@@ -342,15 +345,19 @@ fn append(
     lines: &mut Lines,
     request: Request,
 ) -> Result<(), AllocError>
+    requires some { IsTrue (nat_lt 0 (length request.floors)) }
     requires lines { AreLines floors.now requests.old.items lines.old }
+    requires marks { AreMarked floors.now requests.old.items lines.old }
 
     ensures next { OnOk result (requests.new.items ≡ requests.old.items ++ request ∷ []) }
     ensures lines { AreLines floors.now requests.new.items lines.new }
+    ensures marks { AreMarked floors.now requests.new.items lines.new }
 
     ensures left { OnErr result (requests.new.items ≡ requests.old.items) }
 {
     requests.reserve(1)?;
     lines.add(&request, rank_of(floors, &request))?;
+    lines.mark(&request);
     let _pushed = requests.push(request);
     Ok(())
 }
@@ -378,9 +385,12 @@ fn store_word(
     word: Word,
 )
     requires ascending { IsTrue (is_ascending requests.old.items) }
+    requires some { IsTrue (list_all (λ r. nat_lt 0 (length r.floors)) requests.old.items) }
     requires lines { AreLines floors.now requests.old.items lines.old }
+    requires marks { AreMarked floors.now requests.old.items lines.old }
     ensures next { requests.new.items ≡ map (with_word number floor word) requests.old.items }
     ensures lines { AreLines floors.now requests.new.items lines.new }
+    ensures marks { AreMarked floors.now requests.new.items lines.new }
 {
     let place = place_of(requests, number);
     if place < requests.len() {
@@ -388,6 +398,7 @@ fn store_word(
         set_word(&mut requests[place], floor, word);
         let request = &requests[place];
         lines.change(request, old, rank_of(floors, request));
+        lines.mark(request);
     }
 }
 

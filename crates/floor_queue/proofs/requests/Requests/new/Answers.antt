@@ -1,4 +1,4 @@
-use Rattle.std.proofs.Common.{◌≤◌, rules}
+use Rattle.std.proofs.Common.{◌≤◌, refl, rules}
 use Rattle.std.specs.Prelude.{All}
 use Rattle.floor_queue.proofs.Kept.{IsQueue-empty}
 use Rattle.floor_queue.proofs.Lining.{AreLines-new}
@@ -9,4 +9,5 @@ invariant_of-result c =
     let rooms : All (λ f. 1 ≤ f.room) c.in_ok-floors.floors.items = search rules in (
       rw c.new-2.ensures.items (IsQueue-empty c.in_ok-floors.floors.items rooms),
       rw (c.new-2.ensures.items, c.in_ok-lines.ensures, c.floors-2.ensures.value, ← c.floors.ensures.value, ← c.in_ok-floors.ensures.items) (AreLines-new c.in_ok-floors.floors.items),
+      rw c.new-2.ensures.items refl,
     )
