@@ -13,3 +13,4 @@ pub mod Firsts
 pub mod Searching
 pub mod Marking
 pub mod Numbering
+pub mod Parting

@@ -16,6 +16,9 @@ append-requires-clause-lines c = rw c.deref-2.ensures.value c.self.invariant.1
 pub append-requires-clause-marks : goal.append-requires-clause-marks
 append-requires-clause-marks c = rw c.deref-2.ensures.value c.self.invariant.2
 
+pub append-requires-clause-parties : goal.append-requires-clause-parties
+append-requires-clause-parties c = c.self.invariant.3
+
 pub invariant_of-self-2 : goal.invariant_of-self-2
 invariant_of-self-2 c =
     let q : Queue = record { floors = c.self.inside.floors.items; given = c.self.inside.given; ongoing = c.self.inside.ongoing.items } in
@@ -25,4 +28,5 @@ invariant_of-self-2 c =
       rw e (IsQueue-add q c.args.new c.self.invariant.0 few addable),
       rw c.deref-2.ensures.value at c.in_ok-append.ensures.lines,
       rw c.deref-2.ensures.value at c.in_ok-append.ensures.marks,
+      c.in_ok-append.ensures.parties,
     )

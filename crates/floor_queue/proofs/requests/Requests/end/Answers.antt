@@ -8,6 +8,7 @@ use Rattle.floor_queue.proofs.Firsts.{some_floors}
 use Rattle.floor_queue.proofs.Kept.{IsQueue-end}
 use Rattle.floor_queue.proofs.Lining.{AreLines-ended, AreLines-marked}
 use Rattle.floor_queue.proofs.Marking.{AreMarked-ended}
+use Rattle.floor_queue.proofs.Parting.{AreParties-ended}
 use Rattle.floor_queue.proofs.Places.{among_found}
 use Rattle.floor_queue.proofs.Placing.{TakesOut, found_within, takes_out}
 use Rattle.floor_queue.proofs.requests.Requests.end.Goals as goal
@@ -24,7 +25,7 @@ take_out-ended-requires c =
     omega (arith, found_within (λ (r : Request). r.number == c.args.request) c.self.inside.ongoing.items ongoing, place, ap length c.deref.ensures.value, c.deref.ensures.len)
 
 -- the requests inside after the one is taken out, and that one
-made : (c : goal.After-mark) → TakesOut c.self.inside.ongoing.items c.take_out-ended.new.requests.items c.args.request c.take_out-ended.result
+made : (c : goal.After-end) → TakesOut c.self.inside.ongoing.items c.take_out-ended.new.requests.items c.args.request c.take_out-ended.result
 made c =
     takes_out c.self.inside.ongoing.items c.take_out-ended.new.requests.items c.args.request c.place_of-place.result c.take_out-ended.result c.self.invariant.0.ascending
     (subst (λ (q : Queue). IsSome (request_at q.ongoing c.args.request)) (sym c.self.view_is) c.requires)
@@ -42,6 +43,7 @@ invariant_of-self c = (
   rw ((made c).others, c.mark.ensures, c.take.ensures)
       (AreMarked-ended c.self.inside.floors.items c.args.request c.self.inside.ongoing.items c.self.inside.lines c.take_out-ended.result c.rank_of-rank.result c.self.invariant.0.ascending (made c).ended
       (among_found c.self.inside.ongoing.items c.args.request c.take_out-ended.result (made c).ended (λ r. nat_lt 0 (length r.floors)) (some_floors record { floors = c.self.inside.floors.items; given = c.self.inside.given; ongoing = c.self.inside.ongoing.items } c.self.invariant.0)) c.self.invariant.1 c.self.invariant.2),
+  rw ((made c).others, c.end.ensures) (AreParties-ended c.self.inside.ongoing.items c.args.request c.self.inside.parties c.self.invariant.3),
 )
 
 pub returns-clause-ended : goal.returns-clause-ended
