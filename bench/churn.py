@@ -2,7 +2,8 @@
 """What connections leave behind: ./churn.py FLOORD [TURNS [AT ONCE]]
 
 Connects to one port, waits for the HelloAck and closes, so many times (1,000), so many at once (1),
-then does nothing for a second, and looks at the server; three times over.
+then does nothing for a second, and looks at the server; three times over. Then stops it, and says
+how long that took.
 """
 import sys
 import time
@@ -39,7 +40,9 @@ def main():
         now = look('after %d connections' % ((turn + 1) * turns))
         print('%-22s %8.2f kB for each' % ('', (now['VmRSS'] - last['VmRSS']) / turns))
         last = now
-    print('%s, status %d' % server.stop())
+    began = time.monotonic()
+    answer, status = server.stop()
+    print('%s, status %d, in %.2f s' % (answer, status, time.monotonic() - began))
 
 
 if __name__ == '__main__':

@@ -648,25 +648,42 @@ def unread_by_60(case):
         (full - before) / 100, 10 * took)
 
 
+def wait_until_cut(case, before):
+    """Waits until threads and descriptors are these again, though no peer closes; the seconds."""
+    began = time.monotonic()
+    while True:
+        held = case.server.held()
+        if all(held[name] <= before[name] for name in ('Threads', 'descriptors')):
+            return time.monotonic() - began
+        if time.monotonic() > began + DEADLINE:
+            raise Failed('blocked writers stay: %s, before %s' % (held, before))
+        time.sleep(0.1)
+
+
 def half_closed(case):
-    """100 peers that end their sending and leave their answers unread."""
+    """Peers that end their sending and leave their answers unread: 128 at once, for a while."""
     members = crowd(case)
     before = case.server.held()
     clients = []
-    for _ in range(100):
-        clients += unread_queries(case, 1)
+    for _ in range(124):
+        clients += unread_queries(case, 1, 150)
         clients[-1].shutdown(socket.SHUT_WR)
         case.wait_for_members(4, 256)
-    time.sleep(1)
     held = case.server.held()
-    for client in clients:
+    if held['Threads'] - before['Threads'] != 2 * 124:
+        raise Failed('124 keep %d threads' % (held['Threads'] - before['Threads']))
+    for user in USERS:
+        ended(case.connect(user))
+    took = wait_until_cut(case, before)
+    client = case.member()
+    case.exchange(client, hello(), ack())
+    client.close()
+    for client in clients + members:
         reset(client)
-    for client in members:
-        reset(client)
-    return ('100 are no members any more, and keep %d threads, %d descriptors and %.1f MB each '
-            'until they close' % (held['Threads'] - before['Threads'],
-                                  held['descriptors'] - before['descriptors'],
-                                  (held['VmRSS'] - before['VmRSS']) / 100 / 1024))
+    return ('124 are no members any more, and keep %d threads, %d descriptors and %.1f MB each; '
+            'beside them and 4 members a newcomer is shut down; they are cut off after %.0f s' % (
+                held['Threads'] - before['Threads'], held['descriptors'] - before['descriptors'],
+                (held['VmRSS'] - before['VmRSS']) / 124 / 1024, took))
 
 
 def closed_while_blocked(case):
@@ -733,6 +750,31 @@ def journal_full(case):
         if answer != 'error JournalFull':
             raise Failed('%s is answered by %s' % (line, answer))
     return '999,999 Hellos are answered, then comes %s; newcomers are shut down' % how
+
+
+def full_while_blocked(case):
+    """All 1,000,000 events, while 10 writers are blocked on peers that never read."""
+    members = crowd(case)
+    idle = case.server.held()
+    blocked = unread_queries(case, 10, 400)
+    filler = case.member()
+    case.wait_for_members(15, 256)
+    left = 1_000_000 - (case.events - 15)
+    while left:
+        count = min(left, 1000)
+        case.exchange(filler, hello() * count, ack() * count, count)
+        left -= count
+    # No leave is an event any more.
+    case.events -= 15
+    case.remains = 'conference 1 members 15 ongoing 256 events 1000000 open'
+    case.wait_for(case.remains)
+    for client in blocked:
+        client.sendall(hello())
+    filler.close()
+    took = wait_until_cut(case, idle)
+    for client in members + blocked:
+        reset(client)
+    return 'those that send once more are cut off after %.0f s, though they never read' % took
 
 
 def beyond_descriptors(case):
@@ -805,7 +847,10 @@ def beyond_addresses(case):
 
 
 def beyond_memory(case):
-    """Long messages until memory is refused, under a limit of 600 MB of addresses."""
+    """Long messages until memory is refused, under a limit of 600 MB of addresses, while two
+    writers are blocked on peers that never read."""
+    peers = crowd(case) + unread_queries(case, 2, 400)
+    case.wait_for_members(6, 256)
     client = case.member()
     count = 0
     try:
@@ -831,15 +876,17 @@ def beyond_memory(case):
         answer = case.server.ask(line, DEADLINE)
         if not answer.startswith(wanted):
             raise Failed('%s is answered by %s' % (line, answer))
-    case.wait_until_back()
+    took = wait_until_cut(case, case.before)
+    for peer in peers:
+        reset(peer)
     case.pipe.send('end')
     case.pipe.recv()
     case.is_stopped = True
     report = case.server.stop()
     if report != ('error Broken 1', 1):
         raise Failed('the report is %s' % (report,))
-    return ('after %d messages conference 1 is broken, and it alone: conference 2 goes on; the '
-            'report says so' % count)
+    return ('after %d messages conference 1 is broken, and it alone: conference 2 goes on; its '
+            'blocked peers are cut off after %.0f s; the report says so' % (count, took))
 
 
 def main():
@@ -885,6 +932,7 @@ CASES = (
     (closed_while_blocked, {}),
     (stopped_while_blocked, {}),
     (journal_full, {}),
+    (full_while_blocked, {}),
     (beyond_descriptors, {'limits': {resource.RLIMIT_NOFILE: 40}}),
     (beyond_addresses, {'limits': {resource.RLIMIT_AS: 1 << 30},
                         'variables': {'MALLOC_ARENA_MAX': '1'}}),

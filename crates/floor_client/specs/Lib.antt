@@ -1,5 +1,6 @@
+-- What a reader has to believe, in the order of reading.
+pub mod Transactions
 pub mod Client
-pub mod Laws
 pub mod Names
 pub mod Rendered
-pub mod Transactions
+pub mod Laws

@@ -17,9 +17,9 @@ use Rattle.floor_hub.specs.declared.step.Answer.{Answer}
 use Rattle.floor_hub.specs.declared.step.Answer.TheVariants.{Done, Attached, Nothing, Served, Refused}
 use Rattle.floor_hub.specs.Hub.{Hub, room_at}
 use Rattle.floor_hub.specs.Rooms.{OneRoom, Opens, QueuesMore, RoomAfter, RoomAfterIn, RoomOf, SameHub, is_want, refusal_in}
-use Rattle.floor_hub.specs.Running.{AreUntaken, AreWhole, Goes, IsRunning, place_of}
+use Rattle.floor_hub.specs.steps.Running.{AreUntaken, AreWhole, Goes, IsRunning, place_of, IsRunOn}
 use Rattle.floor_hub.specs.StandsFor.{ArrivalStands, NumberStands, RoomStands, StandsFor, live_at}
-use Rattle.floor_hub.specs.Steps.{Fails, FailsGone, FailsSame, IsRunOn, Turns}
+use Rattle.floor_hub.specs.Calls.{Fails, FailsGone, FailsSame, Turns}
 use Rattle.floor_hub.specs.Connections.{connection_at}
 use Rattle.floor_hub.proofs.Alone.{last_place}
 use Rattle.std.proofs.lemmas.List.{map-append}

@@ -16,7 +16,7 @@ use Rattle.floor_machine.specs.Change.{next}
 use Rattle.floor_machine.specs.Journal.{IsLawfulFrom, after, after_from}
 use Rattle.floor_machine.specs.Conference.{is_numbered_from}
 use Rattle.floor_machine.proofs.Found.{and_left, and_right}
-use Rattle.floor_machine.proofs.Members.{members-next}
+use Rattle.floor_machine.proofs.Staying.{members-next}
 use Rattle.floor_machine.proofs.Sent.{numbered-next}
 use Rattle.floor_room.specs.declared.refusal.RoomRefusal.{RoomRefusal}
 use Rattle.floor_room.specs.declared.refusal.RoomRefusal.TheVariants.{JournalFull, Refused as ByMachine}
@@ -33,7 +33,7 @@ use Rattle.floor_hub.specs.declared.step.Answer.TheVariants.{Attached, Refused}
 use Rattle.floor_hub.specs.World as world
 use Rattle.floor_hub.specs.World.{World, Part, Arrival, Place, Offered, arrival, if_live, messages_of, offer, place, put, refused, state_of, turn}
 use Rattle.floor_hub.specs.StandsFor.{arrival_in, live_at, RoomStands, CameTo, ArrivalStands, NumberStands, Stands}
-use Rattle.floor_hub.specs.Steps.{AttachFailsIn}
+use Rattle.floor_hub.specs.steps.Serving.{AttachFailsIn}
 use Rattle.floor_hub.specs.Kept.{IsKept, IsKeptPart, KeptIn}
 use Rattle.floor_hub.proofs.Acting.{IsQuiet, broken-refuses, refusal-part, refused-some, sound-by, stands_broken, stands_refused}
 use Rattle.floor_hub.proofs.Alone.{last_place}

@@ -32,7 +32,8 @@ use Rattle.floor_hub.specs.declared.step.Answer.TheVariants.{Nothing, Refused, S
 use Rattle.floor_hub.specs.World as world
 use Rattle.floor_hub.specs.World.{World, Part, Arrival, Place, Offered, aim, arrival, if_live, messages_of, offer, place, put, ledger_of, state_of, turn, turn_at, unserved, with_arrival, with_events}
 use Rattle.floor_hub.specs.StandsFor.{RoomStands, CameTo, ArrivalStands, Stands}
-use Rattle.floor_hub.specs.Steps.{IsServable, ServeFailsIn, ServedIn, ServesIn, answer_of}
+use Rattle.floor_hub.specs.Calls.{answer_of}
+use Rattle.floor_hub.specs.steps.Serving.{IsServable, ServeFailsIn, ServedIn, ServesIn}
 use Rattle.floor_hub.specs.Kept.{IsKept, IsKeptPart, KeptIn}
 use Rattle.floor_hub.proofs.Changes.{changed}
 use Rattle.floor_hub.proofs.Here.{Here, WantsLive, concat-append, gone, here, messages-append}

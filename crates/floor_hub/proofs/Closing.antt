@@ -11,7 +11,7 @@ use Rattle.floor_hub.specs.Kept.{IsKept, IsNumbered}
 use Rattle.floor_hub.specs.Laws.{OpensNumbered}
 use Rattle.floor_hub.specs.World.{World, turn}
 use Rattle.floor_hub.specs.StandsFor.{HaveOutboxes, Stands, StandsFor, Stood}
-use Rattle.floor_hub.specs.Steps.{Turns}
+use Rattle.floor_hub.specs.Calls.{Turns}
 use Rattle.floor_hub.proofs.Keeping.{kept_turn}
 use Rattle.floor_hub.proofs.Numbers.{numbered_turn}
 

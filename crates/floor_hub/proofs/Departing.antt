@@ -23,7 +23,7 @@ use Rattle.floor_hub.specs.declared.step.Answer.TheVariants.{Done, Refused}
 use Rattle.floor_hub.specs.World as world
 use Rattle.floor_hub.specs.World.{World, Part, Arrival, Place, aim, arrival, if_live, offer, place, put, ledger_of, turn, turn_at, with_arrival, with_events}
 use Rattle.floor_hub.specs.StandsFor.{RoomStands, CameTo, ArrivalStands, Stands}
-use Rattle.floor_hub.specs.Steps.{LeaveFailsIn, LeavesIn}
+use Rattle.floor_hub.specs.steps.Serving.{LeaveFailsIn, LeavesIn}
 use Rattle.floor_hub.specs.Kept.{IsKept}
 use Rattle.floor_hub.proofs.Changes.{changed}
 use Rattle.floor_hub.proofs.Here.{Here, gone, here}

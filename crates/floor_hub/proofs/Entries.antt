@@ -13,7 +13,7 @@ use Rattle.floor_hub.specs.declared.transcript.Queued.{Queued}
 use Rattle.floor_hub.specs.Hub.{Hub, room_at}
 use Rattle.floor_hub.specs.Kept.{KeptIn}
 use Rattle.floor_hub.specs.Runs.{called_at, queues_from}
-use Rattle.floor_hub.specs.Running.{IsRunning, QueuedIn, place_of}
+use Rattle.floor_hub.specs.steps.Running.{IsRunning, QueuedIn, place_of}
 use Rattle.floor_hub.specs.StandsFor.{RoomStands}
 use Rattle.floor_hub.specs.World as world
 use Rattle.floor_hub.specs.World.{Part, World, place, state_of}

@@ -26,7 +26,7 @@ use Rattle.floor_machine.specs.Machine.{event_of_act, event_refusal, whole}
 use Rattle.floor_machine.proofs.Runs.{after_from-more, lawful-more}
 use Rattle.floor_machine.proofs.Lawful.{taken_is_lawful}
 use Rattle.floor_machine.specs.Membership.{StaysIn, joins as joins_by}
-use Rattle.floor_machine.proofs.Members.{live-joined, live-next, members-next}
+use Rattle.floor_machine.proofs.Staying.{live-joined, live-next, members-next}
 use Rattle.floor_room.specs.declared.refusal.RoomRefusal.{RoomRefusal}
 use Rattle.floor_room.specs.declared.refusal.RoomRefusal.TheVariants.{Refused as ByMachine}
 use Rattle.floor_room.specs.Ledger.{closed, first_of}

@@ -11,7 +11,8 @@ use Rattle.floor_room.specs.Room.{Room, new_room}
 use Rattle.floor_room.specs.Taking.{Gave, GivesFrom, GivesHeld, after_take, outbox_of}
 use Rattle.floor_hub.specs.declared.refusal.HubRefusal.{HubRefusal}
 use Rattle.floor_hub.specs.declared.connection.Connection.{Connection}
-use Rattle.floor_hub.specs.Connections.{Connections, Puts, SameConnections, connection_at}
+use Rattle.floor_hub.specs.Connections.{Connections, SameConnections, connection_at}
+use Rattle.floor_hub.specs.steps.Slots.{Puts}
 use Rattle.floor_hub.specs.Hub.{Hub, room_at}
 use Rattle.floor_hub.specs.Rooms.{OneRoom, QueuesMore, RoomAfterIn, RoomOf, TakenOf}
 use Rattle.floor_hub.specs.StandsFor.{HasOutbox, HaveOutboxes}

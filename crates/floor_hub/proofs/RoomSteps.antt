@@ -28,7 +28,7 @@ use Rattle.floor_hub.specs.World.{World}
 use Rattle.floor_hub.specs.StandsFor.{StandsFor}
 use Rattle.floor_hub.specs.Rooms.{OneRoom, QueuesMore, RoomAfter, RoomAfterIn, RoomOf, by_broken, is_told, is_want, refusal_in}
 use Rattle.floor_hub.proofs.Here.{here}
-use Rattle.floor_hub.specs.Steps.{AttachFailsIn, LeaveFailsIn, IsServable, LeavesIn, ServeFailsIn, ServedIn, ServesIn}
+use Rattle.floor_hub.specs.steps.Serving.{AttachFailsIn, LeaveFailsIn, IsServable, LeavesIn, ServeFailsIn, ServedIn, ServesIn}
 
 true_false : true ≡ false → ⊥
 true_false e = cc

@@ -23,7 +23,7 @@ use Rattle.floor_machine.specs.Laws.{IsWhole}
 use Rattle.floor_machine.specs.Machine.{event_of_act, event_refusal, whole}
 use Rattle.floor_machine.proofs.Lawful.{taken_is_lawful}
 use Rattle.floor_machine.specs.Membership.{joins}
-use Rattle.floor_machine.proofs.Members.{live-before}
+use Rattle.floor_machine.proofs.Staying.{live-before}
 use Rattle.floor_room.specs.declared.refusal.RoomRefusal.{RoomRefusal}
 use Rattle.floor_room.specs.declared.refusal.RoomRefusal.TheVariants.{JournalFull, Refused as ByMachine}
 use Rattle.floor_room.specs.Ledger.{closed, first_of}

@@ -16,7 +16,7 @@ use Rattle.floor_room.specs.Outbox.{Outbox}
 use Rattle.floor_room.specs.Replay.{bytes_of}
 use Rattle.floor_room.specs.Room.{AreSent, IsRoom, IsSent, Room, parcels_to}
 use Rattle.floor_room.specs.Taking.{held_of, outbox_of}
-use Rattle.floor_hub.specs.Running.{AreUntaken, QueuedIn}
+use Rattle.floor_hub.specs.steps.Running.{AreUntaken, QueuedIn}
 
 -- each outbox has what the journal calls for at its member
 sent_at : (config : Configuration) (es : List Event) (b : Bool) (k : ℕ) (os : List Outbox) (j : ℕ) (o : Outbox) → AreSent config es b k os → slice_get os j ≡ Some o →

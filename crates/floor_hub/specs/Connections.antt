@@ -1,5 +1,5 @@
 -- The live connections of a hub.
-use Rattle.std.specs.Prelude.{◌≡◌, ℕ, List, nat_eq, true, false, Option, Some, None, is_some, slice_index_or}
+use Rattle.std.specs.Prelude.{◌≡◌, ℕ, List, nat_eq, Option, Some, None, slice_index_or}
 use Rattle.std.specs.Map.{lookup}
 use Rattle.floor_hub.specs.declared.connection.Connection.{Connection}
 
@@ -22,16 +22,6 @@ slot_of cs key = slice_index_or cs.slots key None
 -- the live connection with this number
 abbrev pub connection_at : Connections → ℕ → Option Connection
 connection_at cs number = at_key (slot_of cs) (key_of cs number)
-
--- Each number has a slot of its own, and something stands in it.
-pub record IsSlotted (cs : Connections) : Type 0 where
-  pub filled : (number key : ℕ) → key_of cs number ≡ Some key → is_some (slot_of cs key) ≡ true
-  pub apart : (number other key : ℕ) → key_of cs number ≡ Some key → key_of cs other ≡ Some key → number ≡ other
-
--- under this number stands this now, and under each other what stood there
-pub record Puts (old new : Connections) (number : ℕ) (x : Option Connection) : Type 0 where
-  pub here : connection_at new number ≡ x
-  pub others : (other : ℕ) → nat_eq number other ≡ false → connection_at new other ≡ connection_at old other
 
 -- the same connections under the same numbers
 abbrev pub SameConnections : Connections → Connections → Type 0

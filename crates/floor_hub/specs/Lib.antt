@@ -1,12 +1,14 @@
+-- What a reader has to believe, in the order of reading.
 pub mod Connections
 pub mod Names
 pub mod Hub
 pub mod World
 pub mod Kept
 pub mod StandsFor
-pub mod Steps
+pub mod Calls
 pub mod Rooms
 pub mod Runs
-pub mod Running
 pub mod Laws
 pub mod Examples
+-- the steps of the proofs
+pub mod steps

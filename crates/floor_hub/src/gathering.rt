@@ -2,7 +2,7 @@
 
 ghost use Rattle.std.specs.Prelude.{◌≡◌, ◌++◌, IfOk, OnOk};
 ghost use Rattle.floor_room.specs.Replay.{bytes_of};
-ghost use Rattle.floor_hub.specs.Running.{QueuedIn};
+ghost use Rattle.floor_hub.specs.steps.Running.{QueuedIn};
 
 use floor_room::{Parcel, Room};
 use floor_wire::Octets;

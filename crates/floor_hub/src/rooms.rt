@@ -8,7 +8,7 @@ ghost use Rattle.floor_room.specs.Calls.{Left, Took};
 ghost use Rattle.floor_room.specs.Ledger.{IsRefusedBy, conference_of, refusal};
 ghost use Rattle.floor_room.specs.Room.{Room as Kept, broken_room, new_room};
 ghost use Rattle.floor_room.specs.declared.refusal.RoomRefusal.{RoomRefusal};
-ghost use Rattle.floor_hub.specs.Steps.{LeaveFailsIn, IsServable, LeavesIn, ServedIn};
+ghost use Rattle.floor_hub.specs.steps.Serving.{LeaveFailsIn, IsServable, LeavesIn, ServedIn};
 
 use crate::refusal::HubRefusal;
 use crate::step::Served;

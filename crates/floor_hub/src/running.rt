@@ -5,8 +5,8 @@ ghost use Rattle.floor_hub.specs.declared.connection.Place.{Place as Placed};
 ghost use Rattle.floor_hub.specs.declared.step.Answer.TheVariants.{Done, Refused};
 ghost use Rattle.floor_hub.specs.declared.step.Step.TheVariants.{Admin, Attach, Leave, Open, Piece, Serve};
 ghost use Rattle.floor_hub.specs.Runs.{IsRunOf, queues_from};
-ghost use Rattle.floor_hub.specs.Running.{Goes, IsRunning};
-ghost use Rattle.floor_hub.specs.Steps.{IsRunOn, answer_of};
+ghost use Rattle.floor_hub.specs.steps.Running.{Goes, IsRunning, IsRunOn};
+ghost use Rattle.floor_hub.specs.Calls.{answer_of};
 ghost use Rattle.floor_hub.specs.World.{World};
 
 use crate::connection::{ConnNo, Place};

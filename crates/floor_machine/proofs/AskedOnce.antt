@@ -1,5 +1,5 @@
 -- A FloorQuery names each floor once.
-use Rattle.std.proofs.Common.{◌≡◌, ℕ, Bool, true, false, List, [], ◌∷◌, drop, Option, Some, None, refl, sym, subst, ◌∙◌}
+use Rattle.std.proofs.Common.{◌≡◌, ℕ, Bool, true, false, List, [], ◌∷◌, drop, Option, Some, None, subst}
 use Rattle.std.specs.Prelude.{option_map, option_and_then, ◌*◌, ◌==◌, not, map, is_some}
 use Rattle.std.specs.List.{list_any}
 use Rattle.floor_wire.specs.Attributes.{Attributes}

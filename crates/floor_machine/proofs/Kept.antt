@@ -1,6 +1,7 @@
 -- A message that changes no request: the conference after it, and the parcels that it calls for.
 use Rattle.std.proofs.Common.{◌≡◌, ℕ, true, false, List, [], map, Some, refl, sym, ap, subst, ◌∙◌}
 use Rattle.std.proofs.lemmas.List.Elements.{All-nil}
+use Rattle.std.specs.Prelude.{filter}
 use Rattle.floor_config.specs.declared.config.Floor.{Floor}
 use Rattle.floor_queue.specs.Order.{settle}
 use Rattle.floor_queue.specs.Queue.{is_ascending}
@@ -23,7 +24,7 @@ use Rattle.floor_machine.specs.Journal.{parcels_of}
 use Rattle.floor_machine.specs.Outgoing.{response_head}
 use Rattle.floor_machine.specs.Reply.{infos}
 use Rattle.floor_machine.specs.steps.Serving.{IsJudged, changes_requests, ended_of, is_rising, judged_change, judged_tells, members_judged, numbers_in}
-use Rattle.floor_machine.specs.steps.Telling.{answered_to, floor_update, parcels_to_all}
+use Rattle.floor_machine.specs.steps.Telling.{answered_to, floor_update, is_watched_by, parcels_to_all}
 use Rattle.floor_machine.specs.Told.{Changed, reply_to}
 use Rattle.floor_machine.proofs.Bounds.{told-shown}
 use Rattle.floor_machine.proofs.Changing.{rising-numbers}
@@ -97,7 +98,7 @@ shown-message s n bytes j r is keeps settled ascending replied reply =
     let e : Event = Message n bytes in
     let k : IsKept s (members_judged s.members n j) (change s e) = event-kept s n bytes j is keeps in
     let U : List Changed → Type 0 = λ cs. AreUpdatesShown (map update_for cs) in
-    let F : List Floor → Type 0 = λ fs. AreFloorsShown (map (floor_update (infos (next s e))) fs) in
+    let F : List Floor → Type 0 = λ fs. AreFloorsShown (filter (is_watched_by (next s e).members) (map (floor_update (infos (next s e))) fs)) in
     told-shown s e (Some r) refl replied reply
     (subst U (sym (requests-kept s e k.entries settled ascending)) (All-nil (λ (u : Update). IsShown u.tell)))
     (subst F (sym (floors-kept s e k.entries settled)) (All-nil (λ (u : FloorUpdate). IsShown u.tell)))

@@ -1,5 +1,5 @@
 -- What a state is after a member has left, or a request is revoked, before the requests are settled.
-use Rattle.std.proofs.Common.{◌≡◌, ℕ, Bool, true, false, cond, List, [], ◌∷◌, ◌++◌, map, Option, Some, None, Vec, Global, refl, sym, ap, subst, ◌∙◌}
+use Rattle.std.proofs.Common.{◌≡◌, ℕ, Bool, true, false, cond, List, [], ◌∷◌, ◌++◌, map, Option, Some, None, refl, sym, ap, subst, ◌∙◌}
 use Rattle.std.specs.Prelude.{◌==◌, ◌&&◌, not, filter, IfSome, IsSome}
 use Rattle.std.specs.Option.{option_map_or}
 use Rattle.floor_queue.specs.declared.request.Request.{Request}
@@ -56,16 +56,16 @@ all-without user rs = map-same (entry_without user false) (ending_if (λ r. r.be
     by r false = refl
 
 -- a member has left whose user is still present
-pub changed-present : (s : State) (course : Course) (n user : ℕ) (members : Vec Member Global) → user ≡ user_of (conference_of s) n → IsQueue s.requests →
+pub changed-present : (s : State) (course : Course) (n user : ℕ) (members : List Member) → user ≡ user_of (conference_of s) n → IsQueue s.requests →
     IsChanged (conference_of s) (no_change (conference_of s)) (conference_of s) course →
-    members.items ≡ map (leaving n) s.members.items → true ≡ is_present members.items user →
+    members ≡ map (leaving n) s.members → true ≡ is_present members user →
     IsChanged (conference_of s) (change (conference_of s) (Leave n)) (conference_of (record s { members = members })) course
 changed-present s course n user members is_user queue begun left present =
     let rs = s.requests.ongoing in
     let C : Change → Type 0 = λ c. IsChanged (conference_of s) c (conference_of (record s { members = members })) course in
-    let here : is_present (map (leaving n) s.members.items) (user_of (conference_of s) n) ≡ true =
-    ap (is_present (map (leaving n) s.members.items)) (sym is_user) ∙ ap (λ (ms : List Member). is_present ms user) (sym left) ∙ sym present in
-    let none : map entry_of rs ≡ ending (conference_of s) (ends_without (map (leaving n) s.members.items) (user_of (conference_of s) n)) =
+    let here : is_present (map (leaving n) s.members) (user_of (conference_of s) n) ≡ true =
+    ap (is_present (map (leaving n) s.members)) (sym is_user) ∙ ap (λ (ms : List Member). is_present ms user) (sym left) ∙ sym present in
+    let none : map entry_of rs ≡ ending (conference_of s) (ends_without (map (leaving n) s.members) (user_of (conference_of s) n)) =
     sym (none-without (user_of (conference_of s) n) rs)
     ∙ ap (λ (b : Bool). map (entry_without (user_of (conference_of s) n) b) rs) (sym here) in
     subst C (ap (left_change (conference_of s) n) none ∙ sym (change-leave (conference_of s) n)) record {
@@ -81,20 +81,20 @@ changed-present s course n user members is_user queue begun left present =
     }
 
 -- a member has left that was the last of its user, whose requests have ended
-pub changed-absent : (s : State) (course course' : Course) (n user : ℕ) (members : Vec Member Global) → user ≡ user_of (conference_of s) n → IsQueue s.requests →
+pub changed-absent : (s : State) (course course' : Course) (n user : ℕ) (members : List Member) → user ≡ user_of (conference_of s) n → IsQueue s.requests →
     IsChanged (conference_of s) (no_change (conference_of s)) (conference_of s) course →
-    members.items ≡ map (leaving n) s.members.items → false ≡ is_present members.items user →
+    members ≡ map (leaving n) s.members → false ≡ is_present members user →
     course'.ended.items ≡ course.ended.items ++ released_for s.requests user → course'.numbers ≡ course.numbers → course'.before ≡ course.before →
     IsChanged (conference_of s) (change (conference_of s) (Leave n)) (conference_of (record s { members = members; requests = after_release_for s.requests user })) course'
 changed-absent s course course' n user members is_user queue begun left absent noted numbers before =
     let rs = s.requests.ongoing in
     let p : Request → Bool = λ r. r.beneficiary == user in
     let C : Change → Type 0 = λ c. IsChanged (conference_of s) c (conference_of (record s { members = members; requests = after_release_for s.requests user })) course' in
-    let gone : is_present (map (leaving n) s.members.items) user ≡ false = ap (λ (ms : List Member). is_present ms user) (sym left) ∙ sym absent in
-    let all : map (ending_if p released) rs ≡ ending (conference_of s) (ends_without (map (leaving n) s.members.items) (user_of (conference_of s) n)) =
+    let gone : is_present (map (leaving n) s.members) user ≡ false = ap (λ (ms : List Member). is_present ms user) (sym left) ∙ sym absent in
+    let all : map (ending_if p released) rs ≡ ending (conference_of s) (ends_without (map (leaving n) s.members) (user_of (conference_of s) n)) =
     sym (all-without user rs)
     ∙ ap (λ (b : Bool). map (entry_without user b) rs) (sym gone)
-    ∙ ap (λ (u : ℕ). ending (conference_of s) (ends_without (map (leaving n) s.members.items) u)) is_user in
+    ∙ ap (λ (u : ℕ). ending (conference_of s) (ends_without (map (leaving n) s.members) u)) is_user in
     let same : course'.numbers.items ≡ numbers_of rs = ap (λ x. x.items) numbers ∙ begun.numbers ∙ numbers_in-entries rs in
     subst C (ap (left_change (conference_of s) n) all ∙ sym (change-leave (conference_of s) n)) record {
       config = refl;

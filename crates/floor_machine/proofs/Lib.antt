@@ -17,12 +17,14 @@ pub mod Sent
 pub mod Ended
 pub mod Left
 pub mod Noticed
+pub mod Watched
 pub mod Quiet
 pub mod Kept
 pub mod Lawful
 pub mod Runs
 pub mod Bounds
-pub mod Members
+pub mod Staying
+pub mod Live
 pub mod Reachable
 pub mod Together
 pub mod Alone

@@ -1,6 +1,6 @@
 -- The statuses of the changed floors, written once: to each member they are its own.
 use Rattle.std.proofs.Common.{◌≡◌, ℕ, Bool, true, false, cond, List, [], ◌∷◌, ◌++◌, map, Option, refl, ap, ◌∙◌}
-use Rattle.std.specs.Prelude.{◌&&◌, ◌||◌, filter}
+use Rattle.std.specs.Prelude.{◌&&◌, filter}
 use Rattle.std.proofs.lemmas.Bool.{or_left, or_right}
 use Rattle.floor_wire.specs.Header.{addressed}
 use Rattle.floor_message.specs.Written.{tell_bytes}

@@ -208,7 +208,7 @@ pub settled-state : (s : Conference) (e : Event) (c : Change) (t : State) (cours
     q ≡ after_settle t.requests → conference_of (record t { requests = q }) ≡ next s e
 settled-state s e c t course q same changed state settled =
     ap (λ (x : Queue). conference_of (record t { requests = x })) settled
-    ∙ ap (λ (fs : List Floor). made t.config t.requests.given (settle fs t.requests.ongoing) t.members.items t.is_open)
+    ∙ ap (λ (fs : List Floor). made t.config t.requests.given (settle fs t.requests.ongoing) t.members t.is_open)
     (state.floors ∙ ap (λ (config : Configuration). config.floors) changed.config)
     ∙ settled-next s e c (conference_of t) course same changed
 
@@ -216,7 +216,7 @@ settled-state s e c t course q same changed state settled =
 pub parcels-changed : (s : Conference) (e : Event) (t : State) (course : Course) (q : Queue) → is_telling e ≡ true → ((k : ℕ) → reply_to s e k ≡ []) →
     IsChanged s (change s e) (conference_of t) course → IsState t → q ≡ after_settle t.requests →
     parcels_to_all t.config.conference None (updates t.config q.ongoing course.ended.items course.before.items course.numbers.items)
-    (floor_updates course.before.items (infos_of t.config q.ongoing) t.config.floors) t.members.items
+    (floor_updates course.before.items (infos_of t.config q.ongoing) t.config.floors) t.members
     ≡ parcels_of s e
 parcels-changed s e t course q telling unsent changed state settled =
     parcels-served s e (conference_of (record t { requests = q })) course None telling (settled-state s e (change s e) t course q refl changed state settled) state.numbered

@@ -15,7 +15,7 @@ use Rattle.floor_machine.specs.Outgoing.{Outgoing}
 use Rattle.floor_machine.specs.Told.{told}
 use Rattle.floor_machine.proofs.Entries.{ongoing_of-settled}
 use Rattle.floor_machine.proofs.Found.{and_left, and_right}
-use Rattle.floor_machine.proofs.Members.{told-before}
+use Rattle.floor_machine.proofs.Staying.{told-before}
 use Rattle.floor_machine.proofs.Sent.{numbered-next}
 
 after-both : (s : Conference) (es fs : List Event) → after_from s (es ++ fs) ≡ after_from (after_from s es) fs

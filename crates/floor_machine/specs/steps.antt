@@ -3,3 +3,4 @@ pub mod Fitting
 pub mod Telling
 pub mod Serving
 pub mod Events
+pub mod Live

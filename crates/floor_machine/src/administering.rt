@@ -55,7 +55,7 @@ impl State {
         ensures state { OnOk result (IsState self.new) }
         ensures settled { OnOk result (IsSettled self.new.requests) }
     {
-        let alloc = *self.members.allocator();
+        let alloc = self.members.allocator();
         let mut course = self.begin(alloc)?;
         self.change_revoked(&mut course, request)?;
         let _granted = self.requests.settle()?;

@@ -1,14 +1,15 @@
 //! The course of one event: what was shown before it, which floor requests it ended, and what is
 //! shown otherwise after it (RFC 8855, sections 10.1.2 and 12.1).
 
-ghost use Rattle.std.specs.Prelude.{◌≡◌, ◌==◌, ◌++◌, [], IfOk, IfSome, OnOk, Some, find, not, option_map};
+ghost use Rattle.std.specs.Prelude.{◌≡◌, ◌==◌, ◌++◌, [], All, IfOk, IfSome, OnOk, Some, find, not, option_map};
 ghost use Rattle.std.specs.Option.{option_copied};
+ghost use Rattle.floor_config.specs.Configuration.{IsFloor};
 ghost use Rattle.floor_queue.specs.Queue.{IsAddable, IsSettled, new_of, request_at};
 ghost use Rattle.floor_message.specs.Shown.{AreShown, IsShown, IsShownInfo};
 ghost use Rattle.floor_machine.specs.steps.Fitting.{AreAddable, AreFloorsShown, AreUpdatesShown};
 ghost use Rattle.floor_machine.specs.Shown.{entry_of};
 ghost use Rattle.floor_machine.specs.steps.Telling as spec;
-ghost use Rattle.floor_machine.specs.steps.Telling.{entry_of_ended, shown_of};
+ghost use Rattle.floor_machine.specs.steps.Telling.{entry_of_ended, infos_of, shown_of};
 ghost use Rattle.floor_machine.specs.Same as same;
 ghost use Rattle.floor_machine.specs.Reply as reply;
 ghost use Rattle.floor_machine.specs.Told as told;
@@ -16,9 +17,9 @@ ghost use Rattle.floor_machine.specs.Told as told;
 use crate::copying::infos_on;
 use crate::same::{same_info, same_infos};
 use crate::sending::{FloorUpdate, Update};
-use crate::showing::{ended_info, info};
+use crate::showing::{ended_info, info, infos};
 use crate::status::RequestStatus;
-use floor_config::Config;
+use floor_config::{Config, Floor};
 use floor_message::{Info, Infos, Tell};
 use floor_queue::{Request, Requests};
 use std::alloc::{AllocError, Global};
@@ -240,20 +241,21 @@ pub(crate) fn floor_status(alloc: Global, floor: u16, now: &[Info]) -> Result<Te
     })
 }
 
-/// The statuses of the floors whose requests are shown otherwise than before.
-pub(crate) fn floor_updates(
+/// The statuses of those of these floors whose requests are shown otherwise than before.
+fn floor_updates(
     alloc: Global,
-    config: &Config,
+    floors: &[Floor],
     before: &[Info],
     now: &[Info],
 ) -> Result<Vec<FloorUpdate>, AllocError>
-    requires { AreShown now.now }
+    requires floors { All IsFloor floors.now }
+    requires shown { AreShown now.now }
     ensures value { IfOk result (λ updates.
-        updates.items ≡ spec.floor_updates before.now now.now config.now.floors) }
+        updates.items ≡ spec.floor_updates before.now now.now floors.now) }
     ensures shown { IfOk result (λ updates. AreFloorsShown updates.items) }
 {
     let mut updates = Vec::new(alloc);
-    for floor in config.floors() {
+    for floor in floors {
         if differs_on(alloc, floor.id, before, now)? {
             updates.push(FloorUpdate {
                 floor: floor.id,
@@ -262,4 +264,27 @@ pub(crate) fn floor_updates(
         }
     }
     Ok(updates)
+}
+
+/// The statuses of those of these floors whose requests are shown otherwise than before. Where there
+/// is no floor, nothing that is shown is looked at.
+pub(crate) fn floor_updates_of(
+    alloc: Global,
+    config: &Config,
+    requests: &Requests,
+    floors: &[Floor],
+    before: &[Info],
+) -> Result<Vec<FloorUpdate>, AllocError>
+    requires floors { requests.now.floors ≡ config.now.floors }
+    requires settled { IsSettled requests.now }
+    requires known { All IsFloor floors.now }
+    ensures value { IfOk result (λ updates. updates.items
+        ≡ spec.floor_updates before.now (infos_of config.now requests.now.ongoing) floors.now) }
+    ensures shown { IfOk result (λ updates. AreFloorsShown updates.items) }
+{
+    if floors.is_empty() {
+        return Ok(Vec::new(alloc));
+    }
+    let now = infos(alloc, config, requests)?;
+    floor_updates(alloc, floors, before, &now)
 }

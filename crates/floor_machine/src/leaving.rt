@@ -1,10 +1,10 @@
 //! A member leaves, and what ends with it (RFC 8855, section 13.4, for the requests that are given
 //! back).
 
-ghost use Rattle.std.specs.Prelude.{◌≡◌, ◌++◌, OnOk, OnErr, map};
+ghost use Rattle.std.specs.Prelude.{◌≡◌, ◌++◌, OnOk, OnErr};
 ghost use Rattle.floor_queue.specs.Queue.{IsQueue, IsSettled};
 ghost use Rattle.floor_machine.specs.Change as change;
-ghost use Rattle.floor_machine.specs.Conference.{is_present, user_of};
+ghost use Rattle.floor_machine.specs.Conference.{user_of};
 ghost use Rattle.floor_machine.specs.declared.event.Event.TheVariants.{Leave};
 ghost use Rattle.floor_machine.specs.steps.Fitting.{IsToldShown};
 ghost use Rattle.floor_machine.specs.Journal.{parcels_of};
@@ -12,35 +12,9 @@ ghost use Rattle.floor_machine.specs.steps.Serving.{IsBegun, IsChanged, IsState,
 
 use crate::course::Course;
 use crate::ending::release_all_for;
-use crate::member::Member;
 use crate::parcel::Parcel;
 use crate::state::State;
 use std::alloc::AllocError;
-
-/// Whether some live member is a connection of the user.
-fn is_present(members: &[Member], user: u16) -> bool
-    ensures { result ≡ is_present members.now user }
-{
-    members.iter().any(|m| m.user == user && m.is_live)
-}
-
-/// The member is no longer live, if it has the number.
-fn leave_if(member: &mut Member, n: u32)
-    ensures { member.new ≡ change.leaving n member.old }
-{
-    if member.n == n {
-        member.is_live = false;
-    }
-}
-
-/// The member with this number is no longer live.
-fn leave(members: &mut Vec<Member>, n: u32)
-    ensures { members.new.items ≡ map (change.leaving n) members.old.items }
-{
-    for member in members.iter_mut() {
-        leave_if(member, n);
-    }
-}
 
 impl State {
     /// A member leaves, before the requests are settled: where it was the last of its user, the
@@ -55,8 +29,8 @@ impl State {
             (conference_of self.new) course.new) }
         ensures state { OnOk result (IsState self.new) }
     {
-        leave(&mut self.members, n);
-        if is_present(&self.members, user) {
+        self.members.leave(n);
+        if self.members.is_present(user) {
             return Ok(());
         }
         release_all_for(&mut self.requests, &mut course.ended, user)
@@ -75,7 +49,7 @@ impl State {
         ensures state { OnOk result (IsState self.new) }
         ensures settled { OnOk result (IsSettled self.new.requests) }
     {
-        let alloc = *self.members.allocator();
+        let alloc = self.members.allocator();
         let user = self.user_of(n);
         let mut course = self.begin(alloc)?;
         self.change_left(&mut course, n, user)?;

@@ -16,6 +16,7 @@ mod laws;
 mod leaving;
 mod machine;
 mod member;
+mod members;
 mod parcel;
 mod running;
 mod same;
@@ -24,6 +25,7 @@ mod serving;
 mod showing;
 mod state;
 mod status;
+mod watching;
 
 pub use event::{Act, Event, MAX_EVENTS};
 pub use floor_config::{Config, Floor, User};

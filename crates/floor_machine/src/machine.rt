@@ -9,7 +9,6 @@ ghost use Rattle.floor_machine.specs.steps.Events.{HasNumber, event_of};
 
 use crate::checks::is_user;
 use crate::event::{Act, BorrowedEvent, Event};
-use crate::member::Member;
 use crate::parcel::Parcel;
 use crate::state::State;
 use floor_config::Config;
@@ -92,12 +91,6 @@ impl Model for Machine {
     ghost invariant = { λ m. IsMachine m.state m.is_broken };
 }
 
-fn live_members(members: &[Member]) -> usize
-    ensures { result ≡ count_by (λ m. m.is_live) members.now }
-{
-    members.iter().filter(|m| m.is_live).count()
-}
-
 impl Machine {
     /// The machine of a conference that opens.
     pub fn new(alloc: Global, config: Config) -> Result<Machine, AllocError>
@@ -135,7 +128,7 @@ impl Machine {
     pub fn live_members(&self) -> usize
         ensures value { result ≡ count_by (λ m. m.is_live) self.now.conference.members }
     {
-        live_members(&self.state.members)
+        self.state.members.live()
     }
 
     /// How many floor requests are ongoing. Takes no memory.
@@ -156,7 +149,7 @@ impl Machine {
             Some(Refusal::Ended)
         } else if !is_user(&self.state.config, user) {
             Some(Refusal::NoUser)
-        } else if live_members(&self.state.members) >= MAX_LIVE {
+        } else if self.state.members.live() >= MAX_LIVE {
             Some(Refusal::Full)
         } else {
             None
@@ -268,7 +261,7 @@ impl Machine {
         ensures left { IfErr result (Left self.old (Join user) self.new [] []) }
     {
         let n = (self.joins() + 1) as u32;
-        let mut out = Vec::new(*self.state.members.allocator());
+        let mut out = Vec::new(self.state.members.allocator());
         match self.take(BorrowedEvent::Join(user), &mut out) {
             Ok(()) => Ok(n),
             Err(refusal) => Err(refusal),

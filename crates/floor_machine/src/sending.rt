@@ -1,15 +1,19 @@
 //! Telling the members what an event changed (RFC 8855, sections 8 and 12.1).
 
-ghost use Rattle.std.specs.Prelude.{◌≡◌, ◌==◌, ◌&&◌, ◌||◌, ◌∷◌, [], ◌++◌, All, IfOk, OnOk, OnErr, map, filter, if◌then◌else◌};
+ghost use Rattle.std.specs.Prelude.{◌≡◌, ◌==◌, ◌&&◌, ◌||◌, ◌∷◌, [], ◌++◌, All, IfOk, OnOk, OnErr, false, map, filter};
 ghost use Rattle.std.specs.List.{list_any};
+ghost use Rattle.std.specs.Option.{option_map_or};
+ghost use Rattle.floor_machine.specs.Conference.{member_with};
 ghost use Rattle.floor_message.specs.Shown.{IsShown};
 ghost use Rattle.floor_machine.specs.steps.Fitting.{AreFloorsShown, AreUpdatesShown, IsReplyShown};
 ghost use Rattle.floor_machine.specs.Told.{is_status_of};
 ghost use Rattle.floor_machine.specs.Journal.{parcel};
-ghost use Rattle.floor_machine.specs.steps.Telling.{answered, answered_to, floor_notice, floor_notice_to, is_answered, is_due_to, is_noticed, is_watched, is_watched_by, noticed_to, noticed_to_all, parcels_to_all, update_to};
+ghost use Rattle.floor_machine.specs.steps.Telling.{answered, answered_to, floor_notice, floor_notice_to, is_answered, is_due_to, is_noticed, is_watched_by, noticed_to, noticed_to_all, parcels_to_all, update_to};
 
 use crate::member::Member;
+use crate::members::Members;
 use crate::parcel::Parcel;
+use crate::watching::{is_watched, watches};
 use floor_message::{Head, Tell, what_is_shown_fits, write_tell};
 use floor_wire::SharedFrame;
 use std::alloc::{AllocError, Global};
@@ -175,17 +179,6 @@ fn is_due_to(reply: &Option<Reply>, member: &Member, update: &Update) -> bool
         && !is_answered(reply, member.n, update.number)
 }
 
-/// Whether the member watches the floor.
-fn watches(member: &Member, floor: u16) -> bool
-    ensures { result ≡ list_any (λ watched. watched == floor) member.now.watched }
-{
-    member
-        .watched
-        .as_slice()
-        .iter()
-        .any(|watched| *watched == floor)
-}
-
 /// Puts the statuses of the changed requests that the member is told of.
 fn put_updates(
     alloc: Global,
@@ -206,20 +199,6 @@ fn put_updates(
         }
     }
     Ok(())
-}
-
-/// Whether the member is live and watches the changed floor.
-fn is_to_see(member: &Member, update: &FloorUpdate) -> bool
-    ensures { result ≡ (member.now.is_live && is_watched member.now update.now) }
-{
-    member.is_live && watches(member, update.floor)
-}
-
-/// Whether a live member watches the changed floor.
-fn is_watched_by(members: &[Member], update: &FloorUpdate) -> bool
-    ensures { result ≡ is_watched_by members.now update.now }
-{
-    members.iter().any(|member| is_to_see(member, update))
 }
 
 /// Writes the status of a changed floor.
@@ -251,7 +230,7 @@ fn write_floor_notice(
 fn floor_notices(
     alloc: Global,
     conference: u32,
-    members: &[Member],
+    members: &Members,
     updates: &[FloorUpdate],
 ) -> Result<Vec<FloorNotice>, AllocError>
     requires { AreFloorsShown updates.now }
@@ -260,7 +239,7 @@ fn floor_notices(
 {
     let mut notices = Vec::new(alloc);
     for update in updates {
-        if is_watched_by(members, update) {
+        if is_watched(members, update.floor) {
             write_floor_notice(alloc, &mut notices, conference, update)?;
         }
     }
@@ -298,7 +277,7 @@ fn put_floor_notices(
     Ok(())
 }
 
-/// Puts all that is for the member, if it is live.
+/// Puts all that is for the member.
 fn put_member(
     alloc: Global,
     out: &mut Vec<Parcel>,
@@ -310,15 +289,35 @@ fn put_member(
 ) -> Result<(), AllocError>
     requires reply { IsReplyShown reply.now }
     requires requests { AreUpdatesShown updates.now }
-    ensures { OnOk result (out.new.items ≡ out.old.items ++ (if member.now.is_live
-        then noticed_to conference reply.now updates.now notices.now member.now else [])) }
+    ensures { OnOk result (out.new.items ≡ out.old.items
+        ++ noticed_to conference reply.now updates.now notices.now member.now) }
 {
-    if member.is_live {
-        put_reply(alloc, out, member.n, reply)?;
-        put_updates(alloc, out, conference, member, reply, updates)?;
-        put_floor_notices(out, member, notices)?;
+    put_reply(alloc, out, member.n, reply)?;
+    put_updates(alloc, out, conference, member, reply, updates)?;
+    put_floor_notices(out, member, notices)
+}
+
+/// Puts all that is for the member with this number, if it is live.
+fn put_live(
+    alloc: Global,
+    out: &mut Vec<Parcel>,
+    conference: u32,
+    members: &Members,
+    n: u32,
+    reply: &Option<Reply>,
+    updates: &[Update],
+    notices: &[FloorNotice],
+) -> Result<(), AllocError>
+    requires reply { IsReplyShown reply.now }
+    requires requests { AreUpdatesShown updates.now }
+    ensures { OnOk result (out.new.items ≡ out.old.items ++ option_map_or
+        (noticed_to conference reply.now updates.now notices.now)
+        (member_with members.now n) []) }
+{
+    match members.get(n) {
+        Some(member) => { put_member(alloc, out, conference, member, reply, updates, notices) }
+        None => Ok(()),
     }
-    Ok(())
 }
 
 /// Puts all that is for the live members, by ascending number.
@@ -326,7 +325,7 @@ fn put_members(
     alloc: Global,
     out: &mut Vec<Parcel>,
     conference: u32,
-    members: &[Member],
+    members: &Members,
     reply: &Option<Reply>,
     updates: &[Update],
     notices: &[FloorNotice],
@@ -336,8 +335,9 @@ fn put_members(
     ensures { OnOk result (out.new.items ≡ out.old.items
         ++ noticed_to_all conference reply.now updates.now notices.now members.now) }
 {
-    for member in members {
-        put_member(alloc, out, conference, member, reply, updates, notices)?;
+    let live = members.live_numbers();
+    for n in live {
+        put_live(alloc, out, conference, members, *n, reply, updates, notices)?;
     }
     Ok(())
 }
@@ -360,7 +360,7 @@ pub(crate) fn put_all(
     alloc: Global,
     out: &mut Vec<Parcel>,
     conference: u32,
-    members: &[Member],
+    members: &Members,
     reply: &Option<Reply>,
     updates: &[Update],
     floor_updates: &[FloorUpdate],

@@ -1,6 +1,6 @@
 //! How the message of a member is served (RFC 8855, section 13).
 
-ghost use Rattle.std.specs.Prelude.{◌≡◌, ◌+◌, ◌∷◌, [], ◌++◌, false, true, IfOk, OnOk, OnErr, map};
+ghost use Rattle.std.specs.Prelude.{◌≡◌, ◌+◌, ◌∷◌, [], ◌++◌, false, true, IfOk, OnOk, OnErr};
 ghost use Rattle.floor_config.specs.Configuration.{user_ids};
 ghost use Rattle.floor_queue.specs.Queue.{IsAddable, IsQueue, IsSettled, after_add};
 ghost use Rattle.floor_wire.specs.Message.{IsMessage};
@@ -20,7 +20,7 @@ use crate::course::Course;
 use crate::deciding::decide;
 use crate::ending::release_request;
 use crate::judged::Judged;
-use crate::member::Member;
+use crate::members::Members;
 use crate::parcel::Parcel;
 use crate::sending::{Reply, put_all, put_behind};
 use crate::showing::copied;
@@ -49,45 +49,19 @@ fn add_request(requests: &mut Requests, numbers: &mut Vec<u16>, new: New) -> Res
     }
 }
 
-/// The member watches these floors from now on, if it has the number.
-fn watch_if(alloc: Global, member: &mut Member, n: u32, floors: &Numbers) -> Result<(), AllocError>
-    ensures { OnOk result (member.new ≡ change.watching n floors.now member.old) }
-{
-    if member.n == n {
-        member.watched = floors.copy(alloc)?;
-    }
-    Ok(())
-}
-
-/// The member with this number watches these floors from now on.
-fn watch(
-    alloc: Global,
-    members: &mut Vec<Member>,
-    n: u32,
-    floors: &Numbers,
-) -> Result<(), AllocError>
-    ensures { OnOk result (members.new.items
-        ≡ map (change.watching n floors.now) members.old.items) }
-{
-    for member in members.iter_mut() {
-        watch_if(alloc, member, n, floors)?;
-    }
-    Ok(())
-}
-
 /// The members after what the message of one of them asks: a FloorQuery replaces the floors that it
 /// watches.
 fn watch_asked(
     alloc: Global,
-    members: &mut Vec<Member>,
+    members: &mut Members,
     n: u32,
     judged: &Judged,
 ) -> Result<(), AllocError>
-    ensures { OnOk result (members.new.items ≡ members_judged members.old.items n judged.now) }
+    ensures { OnOk result (members.new ≡ members_judged members.old n judged.now) }
 {
     match judged {
         Judged::Accepted(ask) => match ask {
-            Ask::FloorQuery { floors } => watch(alloc, members, n, floors),
+            Ask::FloorQuery { floors } => members.watch(alloc, n, floors),
             Ask::FloorRequest { .. }
             | Ask::FloorRelease { .. }
             | Ask::FloorRequestQuery { .. }
@@ -350,7 +324,7 @@ impl State {
         ensures settled { OnOk result (IsSettled self.new.requests) }
         ensures message { IsMessage frame.now }
     {
-        let alloc = *self.members.allocator();
+        let alloc = self.members.allocator();
         // A frame is one message, which makes the event a lawful one.
         let _bytes = frame.bytes();
         let user = self.user_of(n);

@@ -1,26 +1,25 @@
 //! The state of one conference (RFC 8855, sections 10 to 13).
 
-ghost use Rattle.std.specs.Prelude.{◌≡◌, ◌<◌, ◌+◌, [], ◌++◌, IfOk, OnOk, OnErr, Some, length};
-ghost use Rattle.std.specs.Option.{option_copied};
+ghost use Rattle.std.specs.Prelude.{◌≡◌, ◌<◌, ◌+◌, [], ◌++◌, IfOk, OnOk, OnErr, Some, filter, length};
 ghost use Rattle.floor_config.specs.Configuration.{user_ids};
 ghost use Rattle.floor_queue.specs.Queue.{IsQueue, IsSettled, numbers_of};
 ghost use Rattle.floor_machine.specs.Change as change;
-ghost use Rattle.floor_machine.specs.Conference.{is_live, member_with, opening, user_of};
+ghost use Rattle.floor_machine.specs.Conference.{is_live, opening, user_of};
 ghost use Rattle.floor_machine.specs.declared.event.Event.TheVariants.{Join};
 ghost use Rattle.floor_machine.specs.Journal.{parcels_of};
 ghost use Rattle.floor_machine.specs.steps.Fitting.{AreAddable, AreFloorsShown, AreUpdatesShown, IsReplyShown, IsToldShown};
 ghost use Rattle.floor_machine.specs.steps.Serving.{IsState, conference_of};
 ghost use Rattle.floor_machine.specs.steps.Telling as steps;
-ghost use Rattle.floor_machine.specs.steps.Telling.{infos_of, parcels_to_all};
+ghost use Rattle.floor_machine.specs.steps.Telling.{infos_of, is_watched_by, parcels_to_all};
 
-use crate::course::{Course, floor_updates, updates};
-use crate::member::Member;
+use crate::course::{Course, floor_updates_of, updates};
+use crate::members::Members;
 use crate::parcel::Parcel;
 use crate::sending::{Reply, put_all, put_behind};
 use crate::showing::infos;
+use crate::watching::watched_floors;
 use floor_config::{Config, User};
 use floor_queue::{Request, Requests};
-use floor_wire::Numbers;
 use std::alloc::{AllocError, Global};
 
 /// A conference: what it was configured with, and what happened in it.
@@ -33,7 +32,7 @@ pub(crate) struct State {
     /// The ongoing floor requests.
     pub requests: Requests,
     /// The members, in the order of joining.
-    pub members: Vec<Member>,
+    pub members: Members,
     /// Whether it has not ended.
     pub is_open: bool,
 }
@@ -42,12 +41,6 @@ fn user_ids(alloc: Global, users: &[User]) -> Result<Vec<u16>, AllocError>
     ensures { IfOk result (λ ids. ids.items ≡ user_ids users.now) }
 {
     users.iter().map(|user| user.id).collect(alloc)
-}
-
-fn find_member(members: &[Member], n: u32) -> Option<&Member>
-    ensures { option_copied result ≡ member_with members.now n }
-{
-    members.iter().find(|m| m.n == n && m.is_live)
 }
 
 fn numbers_of(alloc: Global, requests: &[Request]) -> Result<Vec<u16>, AllocError>
@@ -69,7 +62,7 @@ impl State {
             config,
             users,
             requests,
-            members: Vec::new(alloc),
+            members: Members::new(alloc),
             is_open: true,
         })
     }
@@ -78,7 +71,7 @@ impl State {
     pub(crate) fn has_live(&self, n: u32) -> bool
         ensures { result ≡ is_live (conference_of self.now) n }
     {
-        match find_member(&self.members, n) {
+        match self.members.get(n) {
             Some(_member) => true,
             None => false,
         }
@@ -88,7 +81,7 @@ impl State {
     pub(crate) fn user_of(&self, n: u32) -> u16
         ensures { result ≡ user_of (conference_of self.now) n }
     {
-        match find_member(&self.members, n) {
+        match self.members.get(n) {
             Some(member) => member.user,
             None => 0,
         }
@@ -96,10 +89,10 @@ impl State {
 
     /// Adds a live member. After an error nothing has changed.
     pub(crate) fn join(&mut self, user: u16) -> Result<u32, AllocError>
-        requires few { length self.old.members.items < 4294967295 }
+        requires few { length self.old.members < 4294967295 }
         requires state { IsState self.old }
         requires settled { IsSettled self.old.requests }
-        ensures number { IfOk result (λ n. n ≡ length self.old.members.items + 1) }
+        ensures number { IfOk result (λ n. n ≡ length self.old.members + 1) }
         ensures next { OnOk result (conference_of self.new
             ≡ change.next (conference_of self.old) (Join user)) }
         ensures told { OnOk result (parcels_of (conference_of self.old) (Join user) ≡ []) }
@@ -107,17 +100,9 @@ impl State {
         ensures state { IsState self.new }
         ensures settled { IsSettled self.new.requests }
     {
-        let alloc = *self.members.allocator();
         // The ongoing requests ascend, so that each is shown as before, and nobody is told of it.
         let _ongoing = self.requests.ongoing();
-        let n = (self.members.len() + 1) as u32;
-        self.members.push(Member {
-            n,
-            user,
-            watched: Numbers::from_vec(Vec::new(alloc)),
-            is_live: true,
-        })?;
-        Ok(n)
+        self.members.join(user)
     }
 
     /// What is shown before the event.
@@ -158,18 +143,24 @@ impl State {
             course.now.before.items course.now.numbers.items)
             (steps.floor_updates course.now.before.items
             (infos_of self.now.config self.now.requests.ongoing) self.now.config.floors)
-            self.now.members.items) }
+            self.now.members) }
         ensures requests_shown { OnOk result (AreUpdatesShown
             (steps.updates self.now.config self.now.requests.ongoing course.now.ended.items
             course.now.before.items course.now.numbers.items)) }
         ensures floors_shown { OnOk result (AreFloorsShown
-            (steps.floor_updates course.now.before.items
-            (infos_of self.now.config self.now.requests.ongoing) self.now.config.floors)) }
+            (filter (is_watched_by self.now.members) (steps.floor_updates course.now.before.items
+            (infos_of self.now.config self.now.requests.ongoing) self.now.config.floors))) }
         ensures left { OnErr result (out.new.items ≡ out.old.items) }
     {
         let updates = updates(alloc, &self.config, &self.requests, course)?;
-        let now = infos(alloc, &self.config, &self.requests)?;
-        let floor_updates = floor_updates(alloc, &self.config, &course.before, &now)?;
+        let floors = watched_floors(alloc, &self.config, &self.members)?;
+        let floor_updates = floor_updates_of(
+            alloc,
+            &self.config,
+            &self.requests,
+            &floors,
+            &course.before,
+        )?;
         let mut parcels = Vec::new(alloc);
         put_all(
             alloc,

@@ -1,17 +1,18 @@
-pub mod Ask
-pub mod Binding
+-- What a reader has to believe, in the order of reading.
+pub mod Primitive
 pub mod Code
+pub mod Binding
+pub mod Text
+pub mod Picked
 pub mod Fields
+pub mod Ask
+pub mod Tell
+pub mod Written
+pub mod Room
 pub mod Fits
+pub mod Shown
 pub mod Laws
 pub mod MessageExamples
-pub mod Picked
-pub mod Primitive
-pub mod Room
-pub mod Shown
-pub mod Tell
-pub mod Text
-pub mod Written
 -- the steps of the proofs
 pub mod steps
 -- what the contracts cite of floor_wire

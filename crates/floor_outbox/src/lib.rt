@@ -8,6 +8,7 @@
 #![tactic(auto)]
 
 mod line;
+mod mark;
 mod outbox;
 mod rule;
 mod sender;
@@ -16,6 +17,7 @@ mod waker;
 
 pub use floor_machine::Parcel;
 pub use line::pair;
+pub use mark::ClosedMark;
 pub use outbox::{Outbox, rejoin};
 pub use sender::Sender;
 pub use taker::Taker;

@@ -3,9 +3,10 @@
 ghost use Rattle.std.specs.Prelude.{◌≡◌, [], ◌∷◌, ◌++◌, IfNone, IfSome};
 
 use crate::line::Line;
+use crate::mark::ClosedMark;
 use crate::rule::{Pass, Takes};
 use floor_machine::Parcel;
-use std::alloc::Global;
+use std::alloc::{AllocError, Global};
 use std::marker::Model;
 use std::sync::atomic::Ordering;
 use std::sync::{Arc, Wait};
@@ -49,6 +50,13 @@ impl Taker {
     /// Whether the pair's closed mark is set. Takes no memory.
     pub fn closed(&self) -> bool {
         self.line.closed.load(Ordering::SeqCst)
+    }
+
+    /// What reads the closed mark where the taker is lent to somebody else.
+    pub fn mark(&self) -> Result<ClosedMark, AllocError> {
+        Ok(ClosedMark {
+            line: Arc::try_clone(&self.line)?,
+        })
     }
 
     /// Sleeps until something was put, or the closed mark was set, since the last such sleep. It

@@ -41,21 +41,27 @@ none_changed k g (x ∷ xs) h = by (x.number == k) (none_changed k g xs) h
     by true rest l = absurd (omega (arith, l))
     by false rest l = ap (λ (ys : List Request). x ∷ ys) (rest (omega (arith, l)))
 
--- what the change of one request by g leaves
-pub record Changed (floors : List Floor) (rs : List Request) (k : ℕ) (g : Request → Request) (rs' : List Request) (lines' : List FloorLine) : Type 0 where
+-- what the change of one request by g leaves, which is seen afterwards
+pub record Changed (floors : List Floor) (rs : List Request) (k : ℕ) (g : Request → Request) (seen : Request) (rs' : List Request) (lines' : List FloorLine) : Type 0 where
   pub next : rs' ≡ map (changed_at k g) rs
   pub lines : AreLines floors rs' lines'
+  pub before : Request
+  pub found : request_at rs k ≡ Some before
+  pub is_seen : seen ≡ g before
 
 pub changed_here : (floors : List Floor) (rs : List Request) (lines lines' : List FloorLine) (k place : ℕ) (g : Request → Request) (first before new seen : Request) (x y : Rank) →
     is_ascending rs ≡ true → AreLines floors rs lines → ((r : Request) (id : ℕ) → names (g r) id ≡ names r id) → place ≡ position_or_len (λ r. r.number == k) rs → place < length rs →
     first ≡ get_or rs place first → before ≡ get_or rs place before → new ≡ g before → seen ≡ get_or (set rs place new) place seen → x ≡ rank_of floors first → y ≡ rank_of floors seen →
-    lines' ≡ map (moved seen x y) lines → Changed floors rs k g (set rs place new) lines'
+    lines' ≡ map (moved seen x y) lines → Changed floors rs k g seen (set rs place new) lines'
 changed_here floors rs lines lines' k place g first before new seen x y up h same is within is_first is_before is_new is_seen is_x is_y is_lines =
     record {
       next = next;
       lines = subst (λ (rs : List Request). AreLines floors rs lines') (sym next)
           (subst (AreLines floors (map (changed_at k g) rs)) (sym (is_lines ∙ ap (λ (f : FloorLine → FloorLine). map f lines) by_parts))
           (AreLines-changed floors rs k g before lines up found (same before) h));
+      before = before;
+      found = found;
+      is_seen = seens;
     }
   where
     next : set rs place new ≡ map (changed_at k g) rs

@@ -16,7 +16,7 @@ use Rattle.floor_queue.specs.declared.requested_floor.RequestedFloor.{RequestedF
 use Rattle.floor_queue.specs.declared.requested_floor.Word.{Word}
 use Rattle.floor_queue.specs.Requested.{floor_with_word}
 use Rattle.floor_queue.specs.Order.{room_of, names, holders, is_due, granted_if}
-use Rattle.floor_queue.specs.Queue.{Queue, IsQueue, IsAddable, MaySetFloor, is_ascending, new_of, first_floor, first_request, request_at, with_word, after_add, after_set_floor, after_settle, after_end, after_clear, empty_queue}
+use Rattle.floor_queue.specs.Queue.{Queue, IsQueue, IsAddable, MaySetFloor, is_ascending, new_of, first_floor, first_request, request_at, with_word, after_add, after_set_floor, after_settle, after_end, after_clear, empty_queue, involves}
 use Rattle.floor_queue.proofs.Counts.{and_left, and_right, and_both, count_by-map, count_by-filter}
 use Rattle.floor_queue.proofs.Settling.{room-settle}
 
@@ -232,3 +232,16 @@ IsQueue-empty floors rooms =
       addable = All-nil (λ (r : Request). IsAddable floors (new_of r));
       holders_fit = λ id. omega arith;
     }
+
+-- the users of a request stay ------------------------------------------------------------------
+
+pub involves-with_word : (request floor : ℕ) (word : Word) (r : Request) (user : ℕ) → involves (with_word request floor word r) user ≡ involves r user
+involves-with_word request floor word r user = by (r.number == request)
+  where
+    by : (b : Bool) → involves (if b then record r { floors = map (floor_with_word floor word) r.floors } else r) user ≡ involves r user
+    by true = refl
+    by false = refl
+
+pub involves-granted_if : (b : Bool) (r : Request) (user : ℕ) → involves (granted_if b r) user ≡ involves r user
+involves-granted_if true r user = refl
+involves-granted_if false r user = refl

@@ -11,3 +11,7 @@ pub mod Lining
 pub mod Changing
 pub mod Firsts
 pub mod Searching
+pub mod Holding
+pub mod Marking
+pub mod Numbering
+pub mod Parting

@@ -1,7 +1,7 @@
 -- The lines of the floors after each change, and who is due by them.
 use Rattle.std.proofs.Common.{◌≡◌, ℕ, ◌+◌, Bool, true, false, cond, eqb, List, [], ◌∷◌, ◌++◌, refl, sym, ◌∙◌, ap, subst, arith, map}
-use Rattle.std.specs.Prelude.{not, ◌&&◌, ◌==◌, if◌then◌else◌, nat_lt, count_by, find, filter, All, IsSome, ◌||◌, Option, Some, None}
-use Rattle.std.specs.List.{list_all, list_any}
+use Rattle.std.specs.Prelude.{not, ◌&&◌, ◌==◌, if◌then◌else◌, nat_lt, count_by, find, All, IsSome, Option, Some, None}
+use Rattle.std.specs.List.{list_all}
 use Rattle.std.specs.Option.{option_map_or}
 use Rattle.std.proofs.lemmas.Bool.{eqb-true}
 use Rattle.std.proofs.lemmas.Bool.Decides.{nat_tests}
@@ -14,8 +14,8 @@ use Rattle.floor_queue.specs.declared.requested_floor.RequestedFloor.{RequestedF
 use Rattle.floor_queue.specs.Requested.{is_accepted}
 use Rattle.floor_queue.specs.Order.{names, waits, earlier, holders, ahead, is_due, room_of}
 use Rattle.floor_queue.specs.Queue.{Queue, IsQueue, is_ascending, request_at, without}
-use Rattle.floor_queue.specs.steps.Lines.{FloorLine, IsLine, AreLines, added, taken, moved, emptied, empty_line, rank_of, before, is_in_order, moved_rank, with_rank, without_rank, place_in, has_place, is_due_in}
-use Rattle.floor_queue.proofs.Counts.{one, count-cons, and_left, and_right, and_both, list_all_mono, count_none}
+use Rattle.floor_queue.specs.steps.Lines.{FloorLine, IsLine, AreLines, added, taken, marked, moved, emptied, empty_line, unmarked, rank_of, before, is_in_order, moved_rank, with_rank, without_rank, place_in, has_place, is_due_in}
+use Rattle.floor_queue.proofs.Counts.{one, count-cons, and_left, and_right, and_both, list_all_at_named, list_all_mono, count_none}
 use Rattle.floor_queue.proofs.Earlier.{IsAmong}
 use Rattle.floor_queue.proofs.Kept.{map-map_key}
 use Rattle.floor_queue.proofs.Places.{count_pos, among_found, have_rooms, queue_has_rooms}
@@ -38,7 +38,7 @@ unchanged k g n (x ∷ xs) e h = by (x.number == k) (differs n x.number k e (and
     by false f rest = ap (λ (ys : List Request). x ∷ ys) rest
 
 -- how a count goes where one request changes
-count_changed : (q : Request → Bool) (g : Request → Request) (k : ℕ) (rs : List Request) (r : Request) → is_ascending rs ≡ true → request_at rs k ≡ Some r →
+pub count_changed : (q : Request → Bool) (g : Request → Request) (k : ℕ) (rs : List Request) (r : Request) → is_ascending rs ≡ true → request_at rs k ≡ Some r →
     one (q r) + count_by q (map (changed_at k g) rs) ≡ one (q (g r)) + count_by q rs
 count_changed q g k [] r h e = cc
 count_changed q g k (x ∷ xs) r h e =
@@ -53,7 +53,7 @@ count_changed q g k (x ∷ xs) r h e =
     by false rest same n e = omega (arith, rest e, count-cons q x (map (changed_at k g) xs), count-cons q x xs)
 
 -- how a count goes where one request ends
-count_ended : (q : Request → Bool) (k : ℕ) (rs : List Request) (r : Request) → is_ascending rs ≡ true → request_at rs k ≡ Some r → one (q r) + count_by q (without k rs) ≡ count_by q rs
+pub count_ended : (q : Request → Bool) (k : ℕ) (rs : List Request) (r : Request) → is_ascending rs ≡ true → request_at rs k ≡ Some r → one (q r) + count_by q (without k rs) ≡ count_by q rs
 count_ended q k [] r h e = cc
 count_ended q k (x ∷ xs) r h e =
     by (x.number == k) (count_ended q k xs r (and_right _ _ h)) (λ n. filter_all (λ (t : Request). not (t.number == k)) xs
@@ -177,7 +177,7 @@ AreLines-map floors rs rs' lines f same each h =
       each = All-map (IsLine floors rs') f lines (All-weaker (IsLine floors rs) (λ l. IsLine floors rs' (f l)) each lines h.each);
     }
 
-line_floor : (b : Bool) (l : FloorLine) (ks : List Rank) → (if b then record l { ranks = ks } else l).floor ≡ l.floor
+pub line_floor : (b : Bool) (l : FloorLine) (ks : List Rank) → (if b then record l { ranks = ks } else l).floor ≡ l.floor
 line_floor true l ks = refl
 line_floor false l ks = refl
 
@@ -212,6 +212,20 @@ AreLines-new floors =
     floors_of : (fs : List Floor) → map (λ (l : FloorLine). l.floor) (map empty_line fs) ≡ map (λ (f : Floor). f.id) fs
     floors_of [] = refl
     floors_of (f ∷ fs) = ap (λ (ids : List ℕ). f.id ∷ ids) (floors_of fs)
+
+pub AreLines-marked : (floors : List Floor) (rs : List Request) (r : Request) (lines : List FloorLine) → AreLines floors rs lines → AreLines floors rs (map (marked r) lines)
+AreLines-marked floors rs r lines h = AreLines-map floors rs rs lines (marked r) (λ l. floor_of (names r l.floor) l) (λ l i. by (names r l.floor) l i) h
+  where
+    floor_of : (b : Bool) (l : FloorLine) → (if b then record l { is_marked = true } else l).floor ≡ l.floor
+    floor_of true l = refl
+    floor_of false l = refl
+
+    by : (b : Bool) (l : FloorLine) → IsLine floors rs l → IsLine floors rs (if b then record l { is_marked = true } else l)
+    by true l i = record { in_order = i.in_order; counts = i.counts }
+    by false l i = i
+
+pub AreLines-unmarked : (floors : List Floor) (rs : List Request) (lines : List FloorLine) → AreLines floors rs lines → AreLines floors rs (map unmarked lines)
+AreLines-unmarked floors rs lines h = AreLines-map floors rs rs lines unmarked (λ l. refl) (λ l i. record { in_order = i.in_order; counts = i.counts }) h
 
 -- what was added is taken out again
 pub taken-added : (r : Request) (x : Rank) (l : FloorLine) → taken r x (added r x l) ≡ l
@@ -312,18 +326,9 @@ pub has_line : (q : Queue) (lines : List FloorLine) (r : Request) (floor : ℕ) 
     IsSome (find (λ l. l.floor == floor) lines)
 has_line q lines r floor h l among named = by (find (λ l. l.floor == floor) lines) refl
   where
-    roomy : (fs : List RequestedFloor) → list_all (λ f. nat_lt 0 (room_of q.floors f.floor)) fs ≡ true → list_any (λ f. f.floor == floor) fs ≡ true → nat_lt 0 (room_of q.floors floor) ≡ true
-    roomy [] a e = cc
-    roomy (f ∷ fs) a e = by_floor (f.floor == floor) refl (roomy fs (and_right _ _ a)) e
-      where
-        by_floor : (b : Bool) → (f.floor == floor) ≡ b → (list_any (λ f. f.floor == floor) fs ≡ true → nat_lt 0 (room_of q.floors floor) ≡ true) → (b || list_any (λ f. f.floor == floor) fs) ≡ true →
-            nat_lt 0 (room_of q.floors floor) ≡ true
-        by_floor true n rest e = ap (λ id. nat_lt 0 (room_of q.floors id)) (sym (eqb-true f.floor floor n)) ∙ and_left _ _ a
-        by_floor false n rest e = rest e
-
     by : (o : Option FloorLine) → find (λ l. l.floor == floor) lines ≡ o → IsSome o
     by None e =
-        let k : false ≡ true = ap (nat_lt 0) (sym (no_line floor q.floors lines l.floors_same e)) ∙ roomy r.floors (among (have_rooms q.floors) (queue_has_rooms q h)) named in cc
+        let k : false ≡ true = ap (nat_lt 0) (sym (no_line floor q.floors lines l.floors_same e)) ∙ list_all_at_named (λ (f : RequestedFloor). f.floor) (λ id. nat_lt 0 (room_of q.floors id)) floor r.floors (among (have_rooms q.floors) (queue_has_rooms q h)) named in cc
     by (Some l) e = refl
 
 -- whoever waits has a place within the room exactly where those that hold and are ahead leave one
@@ -353,17 +358,3 @@ is_due-lines floors rs lines h r = by (waits r) refl
         (b && list_all (λ f. has_place floors lines (rank_of floors r) f.floor) r.floors) ≡ (b && list_all (λ f. nat_lt (holders rs f.floor + ahead floors rs r f.floor) (room_of floors f.floor)) r.floors)
     by true w = list_all_same (λ f. has_place floors lines (rank_of floors r) f.floor) (λ f. nat_lt (holders rs f.floor + ahead floors rs r f.floor) (room_of floors f.floor)) (λ f. has_place-line floors rs lines r f.floor h w) r.floors
     by false w = refl
-
-filter_same : (p q : Request → Bool) → ((r : Request) → p r ≡ q r) → (rs : List Request) → filter p rs ≡ filter q rs
-filter_same p q h [] = refl
-filter_same p q h (r ∷ rs) = rw (h r, filter_same p q h rs) refl
-
-pub due-lines : (floors : List Floor) (rs : List Request) (lines : List FloorLine) → AreLines floors rs lines → filter (is_due_in floors lines) rs ≡ filter (is_due floors rs) rs
-due-lines floors rs lines h = filter_same (is_due_in floors lines) (is_due floors rs) (is_due-lines floors rs lines h) rs
-
-any_same : (p q : Request → Bool) → ((r : Request) → p r ≡ q r) → (rs : List Request) → list_any p rs ≡ list_any q rs
-any_same p q h [] = refl
-any_same p q h (r ∷ rs) = rw (h r, any_same p q h rs) refl
-
-pub any_due-lines : (floors : List Floor) (rs : List Request) (lines : List FloorLine) → AreLines floors rs lines → list_any (is_due_in floors lines) rs ≡ list_any (is_due floors rs) rs
-any_due-lines floors rs lines h = any_same (is_due_in floors lines) (is_due floors rs) (is_due-lines floors rs lines h) rs

@@ -1,14 +1,16 @@
 //! Which ongoing floor requests are due, and their queue positions, by the lines of their floors.
 
-ghost use Rattle.std.specs.Prelude.{◌≡◌, ◌≤◌, ◌==◌, ◌&&◌, IfOk, IsSome, IsTrue, filter, find};
+ghost use Rattle.std.specs.Prelude.{◌≡◌, ◌≤◌, ◌==◌, ◌&&◌, ◌||◌, ℕ, IfOk, OnOk, IsSome, IsTrue, find};
 ghost use Rattle.std.specs.List.{list_any, list_all};
 ghost use Rattle.floor_queue.specs.Order.{due_numbers, position};
-ghost use Rattle.floor_queue.specs.Queue.{is_ascending, numbers_of};
-ghost use Rattle.floor_queue.specs.steps.Lines.{AreLines, IsLined, has_place, is_due_in, is_number_due, line_has_due};
+ghost use Rattle.floor_queue.specs.Queue.{is_ascending};
+ghost use Rattle.floor_queue.specs.steps.Lines.{AreLines, IsLined, has_place, is_due_in, is_number_due, line_has_due, line_shows, rank_shows};
+ghost use Rattle.floor_queue.specs.steps.Numbers.{ascend, is_in};
 
 use crate::index::line::Line;
 use crate::index::lines::Lines;
 use crate::index::number::find_request;
+use crate::index::numbers::add_number;
 use crate::index::rank::{Rank, rank_of};
 use crate::order::room_of;
 use crate::request::Request;
@@ -82,25 +84,37 @@ fn is_number_due(floors: &[Floor], lines: &Lines, requests: &[Request], number: 
     }
 }
 
+/// Whether the rank is that of a request that is due.
+fn is_rank_due(floors: &[Floor], lines: &Lines, requests: &[Request], rank: Rank) -> bool
+    requires { IsTrue (is_ascending requests.now) }
+    ensures { result
+        ≡ (rank.waits && is_number_due floors.now lines.now requests.now rank.number) }
+{
+    rank.waits && is_number_due(floors, lines, requests, rank.number)
+}
+
 /// Whether one of these ranks is that of a request that is due.
 fn have_due(floors: &[Floor], lines: &Lines, requests: &[Request], ranks: &[Rank]) -> bool
     requires { IsTrue (is_ascending requests.now) }
     ensures { result ≡ list_any
         (λ k. k.waits && is_number_due floors.now lines.now requests.now k.number) ranks.now }
 {
-    ranks.iter().any(|k| k.waits && is_number_due(floors, lines, requests, k.number))
+    ranks
+        .iter()
+        .any(|k| is_rank_due(floors, lines, requests, *k))
 }
 
-/// Whether one of the line's first requests, as many as the floor has room for, is due.
+/// Whether the line is marked, and one of its first requests, as many as the floor has room for, is
+/// due.
 fn line_has_due(floors: &[Floor], lines: &Lines, requests: &[Request], line: &Line) -> bool
     requires { IsTrue (is_ascending requests.now) }
     ensures { result ≡ line_has_due floors.now lines.now requests.now line.now }
 {
     let room = room_of(floors, line.floor());
-    have_due(floors, lines, requests, line.first(room))
+    line.is_marked() && have_due(floors, lines, requests, line.first(room))
 }
 
-/// Whether one of the requests is due. Looks at the first requests of each line alone.
+/// Whether one of the requests is due. Looks at the first requests of each marked line alone.
 pub(crate) fn has_due(floors: &[Floor], lines: &Lines, requests: &[Request]) -> bool
     requires { IsTrue (is_ascending requests.now) }
     ensures { result ≡ list_any (line_has_due floors.now lines.now requests.now) lines.now }
@@ -111,7 +125,8 @@ pub(crate) fn has_due(floors: &[Floor], lines: &Lines, requests: &[Request]) -> 
         .any(|l| line_has_due(floors, lines, requests, l))
 }
 
-/// The numbers of the requests that are due, in their order.
+/// The numbers of the requests that are due, ascending. Looks at the first requests of each marked
+/// line alone.
 pub(crate) fn due_numbers(
     alloc: Global,
     floors: &[Floor],
@@ -121,24 +136,72 @@ pub(crate) fn due_numbers(
     requires { IsLined floors.now requests.now lines.now }
     ensures { IfOk result (λ numbers. numbers.items ≡ due_numbers floors.now requests.now) }
 {
-    if has_due(floors, lines, requests) {
-        return all_due(alloc, floors, lines, requests);
+    let mut numbers = Vec::new(alloc);
+    for line in lines.as_slice() {
+        add_due_of_line(floors, lines, requests, line, &mut numbers)?;
     }
-    Ok(Vec::new(alloc))
+    Ok(numbers)
 }
 
-fn all_due(
-    alloc: Global,
+/// Adds the numbers of those requests that the line shows to be due.
+fn add_due_of_line(
     floors: &[Floor],
     lines: &Lines,
     requests: &[Request],
-) -> Result<Vec<u16>, AllocError>
-    ensures { IfOk result (λ numbers.
-        numbers.items ≡ numbers_of (filter (is_due_in floors.now lines.now) requests.now)) }
+    line: &Line,
+    numbers: &mut Vec<u16>,
+) -> Result<(), AllocError>
+    requires ascending { IsTrue (is_ascending requests.now) }
+    requires ascend { IsTrue (ascend numbers.old.items) }
+    ensures ascend { OnOk result (IsTrue (ascend numbers.new.items)) }
+    ensures members { OnOk result ((k : ℕ) → is_in k numbers.new.items
+        ≡ (is_in k numbers.old.items
+        || line_shows floors.now lines.now requests.now (λ n. n == k) line.now)) }
 {
-    requests
-        .iter()
-        .filter(|r| is_due(floors, lines, r))
-        .map(|r| r.number)
-        .collect(alloc)
+    if line.is_marked() {
+        let room = room_of(floors, line.floor());
+        add_due(floors, lines, requests, line.first(room), numbers)?;
+    }
+    Ok(())
+}
+
+/// Adds the numbers of those of the ranks whose requests are due.
+fn add_due(
+    floors: &[Floor],
+    lines: &Lines,
+    requests: &[Request],
+    ranks: &[Rank],
+    numbers: &mut Vec<u16>,
+) -> Result<(), AllocError>
+    requires ascending { IsTrue (is_ascending requests.now) }
+    requires ascend { IsTrue (ascend numbers.old.items) }
+    ensures ascend { OnOk result (IsTrue (ascend numbers.new.items)) }
+    ensures members { OnOk result ((k : ℕ) → is_in k numbers.new.items
+        ≡ (is_in k numbers.old.items
+        || list_any (rank_shows floors.now lines.now requests.now (λ n. n == k)) ranks.now)) }
+{
+    for rank in ranks {
+        add_if_due(floors, lines, requests, *rank, numbers)?;
+    }
+    Ok(())
+}
+
+fn add_if_due(
+    floors: &[Floor],
+    lines: &Lines,
+    requests: &[Request],
+    rank: Rank,
+    numbers: &mut Vec<u16>,
+) -> Result<(), AllocError>
+    requires ascending { IsTrue (is_ascending requests.now) }
+    requires ascend { IsTrue (ascend numbers.old.items) }
+    ensures ascend { OnOk result (IsTrue (ascend numbers.new.items)) }
+    ensures members { OnOk result ((k : ℕ) → is_in k numbers.new.items
+        ≡ (is_in k numbers.old.items
+        || rank_shows floors.now lines.now requests.now (λ n. n == k) rank)) }
+{
+    if is_rank_due(floors, lines, requests, rank) {
+        add_number(numbers, rank.number)?;
+    }
+    Ok(())
 }

@@ -1,16 +1,18 @@
 //! The ongoing floor requests of one conference (RFC 8855, sections 10, 11 and 13).
 
-ghost use Rattle.std.specs.Prelude.{true, ◌≡◌, ◌<◌, ◌++◌, ◌∷◌, [], ◌+◌, ◌↔◌, ◌==◌, ℕ, IfOk, OnOk, OnErr, Some, IsSome, IsTrue, length, map, filter, remove, slice_index_or};
-ghost use Rattle.std.specs.List.{list_any};
+ghost use Rattle.std.specs.Prelude.{true, ◌≡◌, ◌<◌, nat_lt, ◌++◌, ◌∷◌, [], ◌+◌, ◌↔◌, ◌==◌, ℕ, IfOk, OnOk, OnErr, Some, IsSome, IsTrue, length, map, filter, remove, slice_index_or};
+ghost use Rattle.std.specs.List.{list_any, list_all};
 ghost use Rattle.std.specs.Option.{option_copied};
 ghost use Rattle.floor_queue.specs.Order.{settle, due_numbers, holders, names, granted_if};
 ghost use Rattle.floor_queue.specs.Queue.{HasFloor, IsAddable, IsQueue, IsSettled, MaySetFloor, after_add, after_clear, after_end, after_set_floor, after_settle, empty_queue, first_floor, involves, is_ascending, numbers_of, position_of, request_at, with_word};
-ghost use Rattle.floor_queue.specs.steps.Lines.{AreLines};
+ghost use Rattle.floor_queue.specs.steps.Lines.{AreLines, AreMarked, added};
+ghost use Rattle.floor_queue.specs.steps.Parties.{AreParties, numbers_with, with_parties};
 ghost use Rattle.floor_queue.specs.Requested.{floor_with_word};
 
 use crate::index::lines::Lines;
 use crate::index::number::{find_request, place_of};
-use crate::index::rank::rank_of;
+use crate::index::parties::Parties;
+use crate::index::rank::{Rank, rank_of};
 use crate::request::{New, Request};
 use crate::requested_floor::{FloorStatus, RequestedFloor, RequestedFloors, Word};
 use crate::{addable, due, order};
@@ -45,11 +47,13 @@ pub struct Requests {
     given: u16,
     ongoing: Vec<Request>,
     lines: Lines,
+    parties: Parties,
 }
 
 impl Model for Requests {
     ghost use Rattle.floor_queue.specs.Queue.{Queue, IsQueue};
-    ghost use Rattle.floor_queue.specs.steps.Lines.{AreLines};
+    ghost use Rattle.floor_queue.specs.steps.Lines.{AreLines, AreMarked};
+    ghost use Rattle.floor_queue.specs.steps.Parties.{AreParties};
 
     ghost Value = { Queue };
 
@@ -58,7 +62,9 @@ impl Model for Requests {
 
     ghost invariant = { λ q.
         IsQueue record { floors = q.floors.items; given = q.given; ongoing = q.ongoing.items }
-        × AreLines q.floors.items q.ongoing.items q.lines };
+        × AreLines q.floors.items q.ongoing.items q.lines
+        × AreMarked q.floors.items q.ongoing.items q.lines
+        × AreParties q.ongoing.items q.parties };
 }
 
 impl Requests {
@@ -73,6 +79,7 @@ impl Requests {
             given: 0,
             ongoing: Vec::new(alloc),
             lines,
+            parties: Parties::new(alloc),
         })
     }
 
@@ -187,7 +194,7 @@ impl Requests {
             numbers ≡ numbers_of (filter (λ r. involves r user) self.now.ongoing)) }
     {
         let alloc = *self.ongoing.allocator();
-        let numbers = numbers_of_user(alloc, &self.ongoing, user)?;
+        let numbers = numbers_of_user(alloc, &self.parties, user)?;
         Ok(Numbers::from_vec(numbers))
     }
 
@@ -221,7 +228,13 @@ impl Requests {
             floors: RequestedFloors::from_vec(floors),
             is_granted: false,
         };
-        append(&self.floors, &mut self.ongoing, &mut self.lines, request)?;
+        append(
+            &self.floors,
+            &mut self.ongoing,
+            &mut self.lines,
+            &mut self.parties,
+            request,
+        )?;
         self.given = number;
         Ok(number)
     }
@@ -253,6 +266,8 @@ impl Requests {
         let ended = take_out(&mut self.ongoing, place);
         let rank = rank_of(&self.floors, &ended);
         self.lines.take(&ended, rank);
+        self.lines.mark(&ended);
+        self.parties.end(request);
         ended
     }
 
@@ -264,6 +279,7 @@ impl Requests {
         self.ongoing.clear();
         self.ongoing.shrink_to_fit();
         self.lines.clear();
+        self.parties.clear();
     }
 
     /// Grants each request that is due, and gives their numbers, ascending. After an error nothing
@@ -279,6 +295,7 @@ impl Requests {
         let alloc = *self.ongoing.allocator();
         let numbers = due::due_numbers(alloc, &self.floors, &self.lines, &self.ongoing)?;
         grant_all(&self.floors, &mut self.ongoing, &mut self.lines, &numbers);
+        self.lines.unmark();
         Ok(Numbers::from_vec(numbers))
     }
 }
@@ -294,15 +311,10 @@ fn numbers_of_floor(alloc: Global, requests: &[Request], floor: u16) -> Result<V
         .collect(alloc)
 }
 
-fn numbers_of_user(alloc: Global, requests: &[Request], user: u16) -> Result<Vec<u16>, AllocError>
-    ensures { IfOk result (λ numbers.
-        numbers.items ≡ numbers_of (filter (λ r. involves r user) requests.now)) }
+fn numbers_of_user(alloc: Global, parties: &Parties, user: u16) -> Result<Vec<u16>, AllocError>
+    ensures { IfOk result (λ numbers. numbers.items ≡ numbers_with user parties.now) }
 {
-    requests
-        .iter()
-        .filter(|r| r.involves(user))
-        .map(|r| r.number)
-        .collect(alloc)
+    parties.of(user).iter().map(|p| p.number).collect(alloc)
 }
 
 /// The floors of a request as it is added.
@@ -335,23 +347,54 @@ fn first_floor(floors: &[Floor], floor: u16) -> RequestedFloor
     }
 }
 
-/// Puts the request behind the others, and into the lines of its floors.
+/// Puts the request behind the others, into the lines of its floors and among those of its users.
 fn append(
     floors: &[Floor],
     requests: &mut Vec<Request>,
     lines: &mut Lines,
+    parties: &mut Parties,
     request: Request,
 ) -> Result<(), AllocError>
+    requires some { IsTrue (nat_lt 0 (length request.floors)) }
     requires lines { AreLines floors.now requests.old.items lines.old }
+    requires marks { AreMarked floors.now requests.old.items lines.old }
+    requires parties { AreParties requests.old.items parties.old }
 
     ensures next { OnOk result (requests.new.items ≡ requests.old.items ++ request ∷ []) }
     ensures lines { AreLines floors.now requests.new.items lines.new }
+    ensures marks { AreMarked floors.now requests.new.items lines.new }
+    ensures parties { AreParties requests.new.items parties.new }
 
     ensures left { OnErr result (requests.new.items ≡ requests.old.items) }
 {
     requests.reserve(1)?;
-    lines.add(&request, rank_of(floors, &request))?;
+    let rank = rank_of(floors, &request);
+    add_to_indexes(lines, parties, &request, rank)?;
+    lines.mark(&request);
     let _pushed = requests.push(request);
+    Ok(())
+}
+
+/// After an error nothing has changed.
+fn add_to_indexes(
+    lines: &mut Lines,
+    parties: &mut Parties,
+    request: &Request,
+    rank: Rank,
+) -> Result<(), AllocError>
+    ensures lines { OnOk result (lines.new ≡ map (added request.now rank) lines.old) }
+    ensures parties { OnOk result (parties.new
+        ≡ with_parties request.now.requester request.now.beneficiary request.now.number
+        parties.old) }
+
+    ensures left_lines { OnErr result (lines.new ≡ lines.old) }
+    ensures left_parties { OnErr result (parties.new ≡ parties.old) }
+{
+    lines.add(request, rank)?;
+    if let Err(refused) = parties.add(request.requester, request.beneficiary, request.number) {
+        lines.take(request, rank);
+        return Err(refused);
+    }
     Ok(())
 }
 
@@ -378,9 +421,12 @@ fn store_word(
     word: Word,
 )
     requires ascending { IsTrue (is_ascending requests.old.items) }
+    requires some { IsTrue (list_all (λ r. nat_lt 0 (length r.floors)) requests.old.items) }
     requires lines { AreLines floors.now requests.old.items lines.old }
+    requires marks { AreMarked floors.now requests.old.items lines.old }
     ensures next { requests.new.items ≡ map (with_word number floor word) requests.old.items }
     ensures lines { AreLines floors.now requests.new.items lines.new }
+    ensures marks { AreMarked floors.now requests.new.items lines.new }
 {
     let place = place_of(requests, number);
     if place < requests.len() {
@@ -388,6 +434,7 @@ fn store_word(
         set_word(&mut requests[place], floor, word);
         let request = &requests[place];
         lines.change(request, old, rank_of(floors, request));
+        lines.mark(request);
     }
 }
 

@@ -15,7 +15,7 @@ use Rattle.floor_machine.proofs.Sent.{sent_is_told}
 use Rattle.floor_room.specs.declared.refusal.RoomRefusal.{RoomRefusal}
 use Rattle.floor_room.specs.declared.refusal.RoomRefusal.TheVariants.{JournalFull, Refused}
 use Rattle.floor_room.specs.Calls.{Left, with_event}
-use Rattle.floor_room.specs.Kept.{AreCounted, Keeps}
+use Rattle.floor_room.specs.steps.Kept.{AreCounted, Keeps}
 use Rattle.floor_room.specs.Ledger.{Ledger, Added, IsRefusedBy, Unadded, broken_off, conference_of, with_entry}
 use Rattle.floor_room.specs.Outbox.{Outbox, delivered, empty_outbox, with_held}
 use Rattle.floor_room.specs.Room.{Room, IsRoom, IsSent, AreSent, broken_room, joined, parcels_to}

@@ -13,7 +13,7 @@ use Rattle.floor_machine.proofs.Runs.{after_from-more, lawful-more, members-afte
 use Rattle.floor_room.specs.declared.refusal.RoomRefusal.{RoomRefusal}
 use Rattle.floor_room.specs.declared.refusal.RoomRefusal.TheVariants.{JournalFull, Refused}
 use Rattle.floor_room.specs.declared.status.Phase.{Phase}
-use Rattle.floor_room.specs.Kept.{IsLedger}
+use Rattle.floor_room.specs.steps.Kept.{IsLedger}
 use Rattle.floor_room.specs.Ledger.{Ledger, broken_off, closed, conference_of, first_of, refusal}
 use Rattle.floor_room.specs.Status.{IsStatus, phase_of}
 

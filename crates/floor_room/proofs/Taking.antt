@@ -7,7 +7,7 @@ use Rattle.floor_machine.specs.Parcel.{Parcel}
 use Rattle.floor_machine.specs.Conference.{opening}
 use Rattle.floor_machine.proofs.Runs.{members-after}
 use Rattle.floor_room.specs.declared.outbox.NoMember.{NoMember}
-use Rattle.floor_room.specs.Kept.{AreCounted, Keeps}
+use Rattle.floor_room.specs.steps.Kept.{AreCounted, Keeps}
 use Rattle.floor_room.specs.Outbox.{Outbox, GaveHeld}
 use Rattle.floor_room.specs.Room.{Room, IsSent, AreSent, parcels_to}
 use Rattle.floor_room.specs.Taking.{Gives, GivesFrom, GivesHeld, after_take}

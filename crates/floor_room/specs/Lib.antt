@@ -1,10 +1,12 @@
+-- What a reader has to believe, in the order of reading.
 pub mod Ledger
 pub mod Outbox
 pub mod Room
 pub mod Calls
-pub mod Kept
 pub mod Status
 pub mod Taking
 pub mod Replay
 pub mod Text
 pub mod Names
+-- the steps of the proofs
+pub mod steps

@@ -31,7 +31,7 @@ impl Model for Ledger {
 
     ghost Value = { Ledger };
 
-    ghost use Rattle.floor_room.specs.Kept.{IsLedger};
+    ghost use Rattle.floor_room.specs.steps.Kept.{IsLedger};
 
     ghost view = { λ l. record {
       config = l.config;

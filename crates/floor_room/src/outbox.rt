@@ -1,7 +1,7 @@
 //! What waits for the members.
 
 ghost use Rattle.std.specs.Prelude.{◌≡◌, ◌+◌, ◌++◌, ◌<◌, ◌∷◌, [], OnOk, OnErr, length, option_map, option_to_list, vec_capacity, vec_len};
-ghost use Rattle.floor_room.specs.Kept.{AreCounted};
+ghost use Rattle.floor_room.specs.steps.Kept.{AreCounted};
 ghost use Rattle.floor_room.specs.Room.{joined};
 ghost use Rattle.std.specs.Option.{option_copied};
 ghost use Rattle.floor_room.specs.Taking.{Gives, held_of};

@@ -39,7 +39,7 @@ impl Model for Room {
 
     ghost Value = { Room };
 
-    ghost use Rattle.floor_room.specs.Kept.{Keeps};
+    ghost use Rattle.floor_room.specs.steps.Kept.{Keeps};
 
     ghost view = { λ r. record { ledger = r.ledger; outboxes = r.outboxes.items } };
 

@@ -12,7 +12,7 @@ use Rattle.floor_machine.specs.Change.{IsLawful, next}
 use Rattle.floor_machine.specs.Journal.{IsJournal, IsLawfulFrom, after, parcels_of, parcels_from, sent_to}
 use Rattle.floor_machine.proofs.Runs.{after_from-more, members-after}
 use Rattle.floor_machine.specs.Membership.{joins}
-use Rattle.floor_machine.proofs.Members as members
+use Rattle.floor_machine.proofs.Staying as members
 use Rattle.floor_machine.specs.declared.machine.Refusal.TheVariants.{Broken, Ended, NoMember, NoUser, Full, NoRequest, Memory}
 use Rattle.floor_room.specs.declared.refusal.RoomRefusal.{RoomRefusal}
 use Rattle.floor_room.specs.declared.refusal.RoomRefusal.TheVariants.{JournalFull, Refused}

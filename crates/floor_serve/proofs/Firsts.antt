@@ -210,6 +210,14 @@ finished-err opened seats events unfit stray double low place s h known single e
       );
     }
 
+-- the same, of whom it is said
+pub finished-mismatch : (opened : List ℕ) (seats : List Seat) (events unfit stray double low place conference n : ℕ) (s : Seat) → AllFound opened seats events unfit → IsFirst (KnownAt opened seats) (length seats) stray →
+    IsFirst (SingleAt seats) (length seats) double → low ≡ min stray double → place ≡ min unfit low → place < length seats → slice_get seats place ≡ Some s → conference ≡ s.conference → n ≡ s.n →
+    Finished opened seats (Err (FinishFault.Mismatch conference n))
+finished-mismatch opened seats events unfit stray double low place conference n s h known single e f within there c m =
+    subst (λ (x : ℕ). Finished opened seats (Err (FinishFault.Mismatch x n))) (sym c)
+    (subst (λ (x : ℕ). Finished opened seats (Err (FinishFault.Mismatch s.conference x))) (sym m) (finished-err opened seats events unfit stray double low place s h known single e f within there))
+
 any-append : (c : ℕ) (xs : List ℕ) (x : ℕ) → is_opened xs c ≡ false → (x == c) ≡ false → is_opened (xs ++ x ∷ []) c ≡ false
 any-append c [] x h e = rw e refl
 any-append c (y ∷ xs) x h e = by (y == c) refl h (λ k. any-append c xs x k e)

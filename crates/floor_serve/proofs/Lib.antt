@@ -5,3 +5,5 @@ pub mod Growing
 pub mod Submitting
 pub mod Firsts
 pub mod Leaving
+pub mod Ordered
+pub mod Counts

@@ -40,6 +40,13 @@ pub record Took (old new : Booth) (e : Event) (more : List (Option Sender)) : Ty
   pub lawful : IsLawful (conference_of old.ledger) e
   pub next : new ≡ record { ledger = with_entry old.ledger e; senders = fed (parcels_of (conference_of old.ledger) e) 1 (old.senders ++ more) }
 
+-- In one hold of its lock a booth took the event, with these more senders, and it stands at this place.
+pub record TookAt (e : Event) (more : List (Option Sender)) (place : ℕ) : Type 0 where
+  pub before : Booth
+  pub after : Booth
+  pub took : Took before after e more
+  pub place_is : place ≡ length after.ledger.journal
+
 -- The event stands behind the journal, and some first of what it tells was put.
 pub record Began (old new : Booth) (e : Event) (more : List (Option Sender)) : Type 0 where
   pub lawful : IsLawful (conference_of old.ledger) e

@@ -1,3 +1,5 @@
 -- Definitions that speak of private types, for the proofs alone.
 pub mod Slots
 pub mod First
+pub mod Ascending
+pub mod Parts

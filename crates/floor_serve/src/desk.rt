@@ -1,6 +1,8 @@
 //! One conference as threads share it.
 
 ghost use Rattle.std.specs.Prelude.{◌≡◌, ◌∷◌, ◌++◌, [], IfOk, OnErr};
+ghost use Rattle.floor_machine.specs.declared.event.Event.TheVariants.{Message};
+ghost use Rattle.floor_serve.specs.Booth.{TookAt};
 
 use crate::booth::Booth;
 use crate::gate::Gate;
@@ -82,6 +84,8 @@ impl Desk {
         ensures took { IfOk result (λ receipt. seat.new ≡ record seat.old {
           sent = seat.old.sent ++ record { place = receipt.place; bytes = frame } ∷ [];
         }) }
+        ensures place { IfOk result (λ receipt.
+            TookAt (Message seat.old.n frame) [] receipt.place) }
         ensures left { OnErr result (seat.new ≡ seat.old) }
     {
         // The seat's memory is taken first, so that a message that was taken is recorded.

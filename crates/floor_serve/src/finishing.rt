@@ -1,15 +1,20 @@
 //! The end: what every seat recorded, against the journals of the conferences.
 
-ghost use Rattle.std.specs.Prelude.{◌≡◌, ◌↔◌, ℕ, List, All, IfErr, IfOk, IsTrue, Err, min, OnErr, OnOk, length, false, true};
+ghost use Rattle.std.specs.Prelude.{◌≡◌, ◌↔◌, ℕ, List, All, IfErr, IfOk, IfSome, IsTrue, Err, min, OnErr, OnOk, length, false, true};
 ghost use Rattle.floor_serve.specs.Booth as spec;
 ghost use Rattle.floor_serve.specs.Booth.{IsBooth};
 ghost use Rattle.floor_serve.specs.Finish.{Agrees, AreOneMember, Finished};
+ghost use Rattle.floor_serve.specs.Table.{is_opened};
+ghost use Rattle.floor_serve.specs.steps.Ascending.{Ascend};
 ghost use Rattle.floor_serve.specs.steps.First.{AgreesAt, AllFound, IsFirst, KnownAt, SingleAt};
 ghost use Rattle.floor_serve.specs.steps.Slots.{numbers};
 ghost use Rattle.floor_serve.specs.declared.fault.FinishFault.{FinishFault};
+ghost use Rattle.floor_serve.specs.declared.ordering.Order.{Order};
 
 use crate::booth::Booth;
+use crate::counting::fit_all;
 use crate::fault::FinishFault;
+use crate::ordering::{Order, block_of, order_of};
 use crate::registry::Registry;
 use crate::seat::Seat;
 use crate::table::{Slot, Table, slot_of};
@@ -36,6 +41,9 @@ struct Found {
 /// Compares what every seat recorded with the journals of all conferences: each message once, in
 /// the seat's order, at its receipt's place, and no other of that seat. No two seats may have one
 /// conference and number. Takes no memory.
+///
+/// Where the seats ascend by conference and number and are those of all members, the time grows
+/// with what they and the journals hold. In another order each is compared with each.
 pub fn finish<R: Wait>(rt: &R, registry: &Registry, seats: &[Seat]) -> Result<Report, FinishFault>
     ensures { (opened : List ℕ) × Finished opened seats.now result }
 {
@@ -48,9 +56,10 @@ impl Table {
     pub(crate) fn finish<R: Wait>(&self, rt: &R, seats: &[Seat]) -> Result<Report, FinishFault>
         ensures { Finished self.now seats.now result }
     {
-        let found = look_all(rt, &self.slots, seats)?;
+        let order = order_of(seats);
+        let found = look_all(rt, &self.slots, seats, order)?;
         let stray = first_stray(&self.slots, seats);
-        let double = first_double(seats);
+        let double = first_double(seats, order);
         let unfit = least(found.unfit, least(stray, double));
         match seats.get(unfit) {
             Some(seat) => Err(FinishFault::Mismatch {
@@ -73,7 +82,13 @@ fn least(a: usize, b: usize) -> usize
 }
 
 /// What all conferences have, each in one hold of its lock, up to the first that is broken off.
-fn look_all<R: Wait>(rt: &R, slots: &[Slot], seats: &[Seat]) -> Result<Found, FinishFault>
+fn look_all<R: Wait>(
+    rt: &R,
+    slots: &[Slot],
+    seats: &[Seat],
+    order: Order,
+) -> Result<Found, FinishFault>
+    requires { order ≡ Order.Ascending → Ascend seats.now }
     ensures found { IfOk result (λ found.
         AllFound (numbers slots.now) seats.now found.events found.unfit) }
     ensures broken { IfErr result (λ fault. Finished (numbers slots.now) seats.now (Err fault)) }
@@ -81,7 +96,7 @@ fn look_all<R: Wait>(rt: &R, slots: &[Slot], seats: &[Seat]) -> Result<Found, Fi
     let mut events = 0u128;
     let mut unfit = seats.len();
     for slot in slots {
-        let found = look(rt, slot, seats)?;
+        let found = look(rt, slot, seats, order)?;
         events += found.events;
         unfit = least(unfit, found.unfit);
     }
@@ -89,7 +104,8 @@ fn look_all<R: Wait>(rt: &R, slots: &[Slot], seats: &[Seat]) -> Result<Found, Fi
 }
 
 /// What the conference has in one hold of its lock.
-fn look<R: Wait>(rt: &R, slot: &Slot, seats: &[Seat]) -> Result<Found, FinishFault>
+fn look<R: Wait>(rt: &R, slot: &Slot, seats: &[Seat], order: Order) -> Result<Found, FinishFault>
+    requires { order ≡ Order.Ascending → Ascend seats.now }
     ensures found { IfOk result (λ found. (booth : spec.Booth)
         × IsBooth booth × (booth.ledger.is_broken ≡ false)
         × (found.events ≡ length booth.ledger.journal)
@@ -99,11 +115,17 @@ fn look<R: Wait>(rt: &R, slot: &Slot, seats: &[Seat]) -> Result<Found, FinishFau
         × (fault ≡ FinishFault.Broken slot.now.conference)) }
 {
     let booth = slot.booth.lock(rt);
-    look_at(&booth, slot.conference, seats)
+    look_at(&booth, slot.conference, seats, order)
 }
 
 /// What this conference has.
-fn look_at(booth: &Booth, conference: u32, seats: &[Seat]) -> Result<Found, FinishFault>
+fn look_at(
+    booth: &Booth,
+    conference: u32,
+    seats: &[Seat],
+    order: Order,
+) -> Result<Found, FinishFault>
+    requires { order ≡ Order.Ascending → Ascend seats.now }
     ensures kept { IsBooth booth.now }
     ensures whole { OnOk result (booth.now.ledger.is_broken ≡ false) }
     ensures events { IfOk result (λ found. found.events ≡ length booth.now.ledger.journal) }
@@ -116,11 +138,30 @@ fn look_at(booth: &Booth, conference: u32, seats: &[Seat]) -> Result<Found, Fini
     if booth.is_broken() {
         return Err(FinishFault::Broken { conference });
     }
-    let unfit = first_unfit(booth, conference, seats);
+    let unfit = if all_agree(booth, conference, seats, order) {
+        seats.len()
+    } else {
+        first_unfit(booth, conference, seats)
+    };
     Ok(Found { events, unfit })
 }
 
-/// The place of the first seat of this conference that doesn't fit, or the number of seats.
+/// Whether the seats ascend, and those of this conference are found to fit in one walk.
+fn all_agree(booth: &Booth, conference: u32, seats: &[Seat], order: Order) -> bool
+    requires { order ≡ Order.Ascending → Ascend seats.now }
+    ensures { result ≡ true → (k : ℕ) → AgreesAt booth.now conference seats.now k }
+{
+    match order {
+        Order::Ascending => {
+            let block = block_of(seats, conference);
+            fit_all(booth.journal(), &seats[block.from..block.to])
+        }
+        Order::Any => false,
+    }
+}
+
+/// The place of the first seat of this conference that doesn't fit, or the number of seats: each
+/// is looked for in the whole journal.
 fn first_unfit(booth: &Booth, conference: u32, seats: &[Seat]) -> usize
     ensures { IsFirst (AgreesAt booth.now conference seats.now) (length seats.now) result }
 {
@@ -147,17 +188,44 @@ fn agrees(booth: &Booth, conference: u32, seat: &Seat) -> bool
 fn first_stray(slots: &[Slot], seats: &[Seat]) -> usize
     ensures { IsFirst (KnownAt (numbers slots.now) seats.now) (length seats.now) result }
 {
+    let mut last = None;
     for (at, seat) in seats.iter().enumerate() {
-        match slot_of(slots, seat.conference()) {
-            Some(_) => {}
-            None => return at,
+        if !is_known(slots, last, seat.conference()) {
+            return at;
         }
+        last = Some(seat.conference());
     }
     seats.len()
 }
 
+/// Whether the conference is in the table, as the one that was looked for last is. Seats of one
+/// conference mostly stand side by side.
+fn is_known(slots: &[Slot], last: Option<u32>, conference: u32) -> bool
+    requires { IfSome last (λ c. is_opened (numbers slots.now) c ≡ true) }
+    ensures { result ≡ is_opened (numbers slots.now) conference }
+{
+    match last {
+        Some(known) if known == conference => true,
+        Some(_) | None => match slot_of(slots, conference) {
+            Some(_) => true,
+            None => false,
+        },
+    }
+}
+
 /// The place of the first seat before which one of the same member stands, or the number of seats.
-fn first_double(seats: &[Seat]) -> usize
+fn first_double(seats: &[Seat], order: Order) -> usize
+    requires { order ≡ Order.Ascending → Ascend seats.now }
+    ensures { IsFirst (SingleAt seats.now) (length seats.now) result }
+{
+    match order {
+        Order::Ascending => seats.len(),
+        Order::Any => first_twin(seats),
+    }
+}
+
+/// The same, each seat compared with all before it.
+fn first_twin(seats: &[Seat]) -> usize
     ensures { IsFirst (SingleAt seats.now) (length seats.now) result }
 {
     for (at, seat) in seats.iter().enumerate() {

@@ -9,12 +9,14 @@
 #![tactic(auto)]
 
 mod booth;
+mod counting;
 mod desk;
 mod fault;
 mod finishing;
 mod fitting;
 mod gate;
 mod marked;
+mod ordering;
 mod reading;
 mod registry;
 mod seat;
@@ -27,7 +29,7 @@ pub use booth::Booth;
 pub use desk::Desk;
 pub use fault::{DeskRefusal, FinishFault, OpenRefusal, ReadFault, WriteFault};
 pub use finishing::{Report, finish};
-pub use floor_outbox::{Outbox, Parcel, Sender, Taker};
+pub use floor_outbox::{ClosedMark, Outbox, Parcel, Sender, Taker};
 pub use floor_room::{Act, Config, Event, Frame, Phase, Place, Refusal, RoomRefusal, Status};
 pub use floor_wire::Octets;
 pub use gate::{FreePass, Gate};

@@ -12,6 +12,7 @@ use std::test::*;
 mod booths;
 mod ends;
 mod gates;
+mod many;
 mod registries;
 mod threads;
 mod writers;

@@ -36,7 +36,7 @@ pub fn run<N: Net, S: AsStr, R: Read, W: Write, E: Write>(
 ) -> u8 {
     let arguments = match parse_arguments(alloc, words) {
         Ok(arguments) => arguments,
-        Err(ArgumentFault::BadNumber) => return fail(alloc, errors, RunFault::BadNumber, 2),
+        Err(ArgumentFault::BadNumber) => return fail(errors, RunFault::BadNumber, 2),
         Err(ArgumentFault::Words(error)) => return explain(alloc, &error, output, errors),
     };
     let mut client = Client::new(alloc, arguments.conference, arguments.user);
@@ -49,7 +49,7 @@ pub fn run<N: Net, S: AsStr, R: Read, W: Write, E: Write>(
     };
     match outcome {
         Ok(()) => 0,
-        Err(fault) => fail(alloc, errors, RunFault::Session(fault), 1),
+        Err(fault) => fail(errors, RunFault::Session(fault), 1),
     }
 }
 
@@ -61,10 +61,10 @@ fn explain<W: Write, E: Write>(
     errors: &mut E,
 ) -> u8 {
     if error.kind() == ErrorKind::OutOfMemory {
-        return fail(alloc, errors, RunFault::Session(SessionFault::Memory), 1);
+        return fail(errors, RunFault::Session(SessionFault::Memory), 1);
     }
     let Ok(text) = format!(in alloc; "{error}") else {
-        return fail(alloc, errors, RunFault::Session(SessionFault::Memory), 1);
+        return fail(errors, RunFault::Session(SessionFault::Memory), 1);
     };
     if error.use_stderr() {
         let _ = write_whole(errors, text.as_bytes());
@@ -72,19 +72,12 @@ fn explain<W: Write, E: Write>(
     }
     match write_whole(output, text.as_bytes()) {
         Ok(()) => 0,
-        Err(_) => fail(
-            alloc,
-            errors,
-            RunFault::Session(SessionFault::CannotWrite),
-            1,
-        ),
+        Err(_) => fail(errors, RunFault::Session(SessionFault::CannotWrite), 1),
     }
 }
 
-/// Prints the fault, and gives the status.
-fn fail<E: Write>(alloc: Global, errors: &mut E, fault: RunFault, status: u8) -> u8 {
-    if let Ok(text) = format!(in alloc; "floorc: {fault}\n") {
-        let _ = write_whole(errors, text.as_bytes());
-    }
+/// Prints the fault, and gives the status. Takes no memory, so that want of memory has its name.
+fn fail<E: Write>(errors: &mut E, fault: RunFault, status: u8) -> u8 {
+    let _outcome = writeln!(errors, "floorc: {fault}");
     status
 }

@@ -1,12 +1,28 @@
 //! What a port is bound to: one user of one conference.
 
 use crate::connections::Connections;
+use crate::places::Places;
 use crate::socket::Socket;
 use floor_serve::{Desk, Gate, Registry, Seat};
 use std::alloc::{AllocError, Global};
 use std::sync::atomic::{AtomicBool, AtomicUsize, Ordering};
 use std::sync::{Arc, Wait};
 use std::thread::Parker;
+
+/// Why a connection isn't served.
+#[derive(Clone, Copy, Debug, PartialEq, Eq)]
+pub enum Unserved {
+    /// Its conference has as many connections as it may have.
+    Full,
+    /// Memory was refused, or a thread can't be made.
+    Memory,
+}
+
+impl From<AllocError> for Unserved {
+    fn from(_e: AllocError) -> Unserved {
+        Unserved::Memory
+    }
+}
 
 /// What all ports of a server share.
 #[derive(Drop)]
@@ -21,6 +37,7 @@ pub struct Shared<G> {
 #[derive(Drop)]
 pub struct Binding<G> {
     shared: Arc<Shared<G>, Global>,
+    places: Arc<Places, Global>,
     conference: u32,
     user: u16,
     port: u16,
@@ -33,12 +50,14 @@ impl<G> Binding<G> {
     /// A binding to which nobody has connected.
     pub fn new(
         shared: Arc<Shared<G>, Global>,
+        places: Arc<Places, Global>,
         conference: u32,
         user: u16,
         port: u16,
     ) -> Binding<G> {
         Binding {
             shared,
+            places,
             conference,
             user,
             port,
@@ -78,11 +97,22 @@ impl<G> Binding<G> {
         self.is_ending.load(Ordering::SeqCst)
     }
 
-    /// Takes up a connection, with room for its seat, and gives its key.
-    pub fn begin<R: Wait>(&self, rt: &R, socket: Socket) -> Result<usize, AllocError> {
-        let key = self.shared.connections.begin(rt, self.port, socket)?;
-        self.running.fetch_add(1, Ordering::SeqCst);
-        Ok(key)
+    /// Takes up a connection, with a place in its conference and room for its seat, and gives its
+    /// key.
+    pub fn begin<R: Wait>(&self, rt: &R, socket: Socket) -> Result<usize, Unserved> {
+        if !self.places.take() {
+            return Err(Unserved::Full);
+        }
+        match self.shared.connections.begin(rt, self.port, socket) {
+            Ok(key) => {
+                self.running.fetch_add(1, Ordering::SeqCst);
+                Ok(key)
+            }
+            Err(_) => {
+                self.places.give_back();
+                Err(Unserved::Memory)
+            }
+        }
     }
 
     /// Takes it that a connection has ended: closes its socket, and keeps its seat. It is the last
@@ -90,6 +120,7 @@ impl<G> Binding<G> {
     pub fn end<R: Wait>(&self, rt: &R, key: usize, seat: Option<Seat>) {
         self.shared.connections.release(rt, key);
         self.shared.connections.end(rt, key, seat);
+        self.places.give_back();
         if self.running.fetch_sub(1, Ordering::SeqCst) == 1 {
             self.none_runs.unpark();
         }

@@ -2,8 +2,8 @@
 
 ghost use Rattle.std.specs.Prelude.{◌≡◌};
 
-use crate::binding::Binding;
-use crate::socket::Socket;
+use crate::binding::{Binding, Unserved};
+use crate::socket::{Outgoing, Socket};
 use floor_serve::{Desk, Gate, Marked, Seat, Taker, read_loop, write_loop};
 use std::alloc::{AllocError, Global};
 use std::net::TcpStream;
@@ -11,14 +11,14 @@ use std::sync::{Arc, Wait};
 use std::thread;
 use std::thread::Threads;
 
-/// Starts the thread of a connection, which is nobody's to join: its binding counts it. Where
-/// memory or a thread can't be had, the socket is closed.
+/// Starts the thread of a connection, which is nobody's to join: its binding counts it. Where it
+/// isn't served, the socket is closed.
 pub fn start<G, R>(
     rt: R,
     alloc: Global,
     binding: &Arc<Binding<G>, Global>,
     stream: TcpStream,
-) -> Result<(), AllocError>
+) -> Result<(), Unserved>
 where
     G: Gate + Send + Sync + Drop + 'static,
     R: Threads + Wait + Copy + Drop + Send + 'static,
@@ -31,7 +31,7 @@ where
         Ok(_handle) => Ok(()),
         Err(_) => {
             binding.end(&rt, key, None);
-            Err(AllocError)
+            Err(Unserved::Memory)
         }
     }
 }
@@ -83,7 +83,7 @@ where
     R: Threads + Wait + Copy + Drop + Send + 'static,
     requires { seat.old.conference ≡ desk.now.conference }
 {
-    if let (Ok(source), Ok(sink)) = (socket.share(), socket.share()) {
+    if let (Ok(source), Ok(sink)) = (socket.share(), outgoing(socket, &taker)) {
         if let Ok(writer) = thread::spawn(&rt, move || write_all(&rt, alloc, sink, taker)) {
             let mut source = Marked::new(source);
             let _end = read_loop(&rt, &mut source, desk, seat, gate);
@@ -96,9 +96,18 @@ where
     let _outcome = desk.leave(&rt, seat);
 }
 
-/// Writes what the member is sent, and shuts the socket down at the end.
-fn write_all<R: Wait>(rt: &R, alloc: Global, socket: Socket, mut taker: Taker) {
-    let mut sink = Marked::new(socket);
+/// The sending side of a member's connection.
+fn outgoing(socket: &Socket, taker: &Taker) -> Result<Outgoing, AllocError> {
+    Ok(Outgoing {
+        socket: socket.share()?,
+        mark: taker.mark()?,
+    })
+}
+
+/// Writes what the member is sent, and shuts the socket down at the end: also where the peer takes
+/// nothing any more of what waits behind the closed mark.
+fn write_all<R: Wait>(rt: &R, alloc: Global, outgoing: Outgoing, mut taker: Taker) {
+    let mut sink = Marked::new(outgoing);
     let _written = write_loop(rt, alloc, &mut sink, &mut taker);
-    sink.into_inner().shut_down();
+    sink.into_inner().socket.shut_down();
 }

@@ -52,8 +52,15 @@ impl Connections {
     }
 
     /// Compares the seats of all connections that ever were with the journals of all conferences.
+    /// Takes no memory.
     pub fn finish<R: Wait>(&self, rt: &R, registry: &Registry) -> Result<Report, FinishFault> {
-        finish(rt, registry, self.table.lock(rt).seats.as_slice())
+        let mut table = self.table.lock(rt);
+        // They stand in the order in which the connections ended; in this one they are compared in
+        // one walk.
+        table
+            .seats
+            .sort_unstable_by_key(|seat| (seat.conference(), seat.n()));
+        finish(rt, registry, table.seats.as_slice())
     }
 }
 

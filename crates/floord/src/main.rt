@@ -10,6 +10,7 @@ mod connection;
 mod connections;
 mod fault;
 mod lines;
+mod places;
 mod port;
 mod run;
 mod server;

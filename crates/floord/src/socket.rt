@@ -1,10 +1,16 @@
 //! The socket of a connection.
 
+use floor_serve::ClosedMark;
 use std::alloc::{AllocError, Global};
 use std::io;
-use std::io::{Read, Write};
+use std::io::{ErrorKind, Read, Write};
 use std::net::{Shutdown, TcpStream};
 use std::sync::Arc;
+use std::time::Duration;
+
+/// How long a write waits at most for a peer that takes nothing, until it looks whether the outbox
+/// is closed, in seconds.
+const WRITE_SECONDS: u64 = 30;
 
 /// The socket of a connection, as its threads share it.
 #[derive(Drop)]
@@ -17,6 +23,7 @@ impl Socket {
     pub fn new(alloc: Global, stream: TcpStream) -> Result<Socket, AllocError> {
         // Without it a small answer waits for the next.
         let _outcome = stream.set_nodelay(true);
+        let _outcome = stream.set_write_timeout(Some(Duration::from_secs(WRITE_SECONDS)));
         Ok(Socket {
             stream: Arc::new(alloc, stream)?,
         })
@@ -43,13 +50,32 @@ impl Read for Socket {
     }
 }
 
-impl Write for Socket {
+/// The sending side of a connection. A write that waits for the peer goes on waiting for as long as
+/// the connection's outbox is open; behind its closed mark it fails.
+#[derive(Drop)]
+pub struct Outgoing {
+    pub socket: Socket,
+    pub mark: ClosedMark,
+}
+
+impl Write for Outgoing {
     fn write(&mut self, buf: &[u8]) -> io::Result<usize> {
-        let mut stream = &*self.stream;
-        stream.write(buf)
+        let mut stream = &*self.socket.stream;
+        for _ in 0..u64::MAX {
+            match stream.write(buf) {
+                Err(error) if is_timeout(&error) && !self.mark.is_set() => {}
+                outcome => return outcome,
+            }
+        }
+        Err(io::Error::from(ErrorKind::TimedOut))
     }
 
     fn flush(&mut self) -> io::Result<()> {
         Ok(())
     }
+}
+
+/// Whether the peer took nothing for as long as a write waits.
+fn is_timeout(error: &io::Error) -> bool {
+    matches!(error.kind(), ErrorKind::WouldBlock | ErrorKind::TimedOut)
 }

@@ -6,13 +6,6 @@
 //! words, a refused configuration or a bad line.
 #![tactic(auto)]
 
-mod attached;
-mod conferences;
-mod line;
-mod run;
-mod script;
-#[cfg(test)]
-mod tests;
 mod usage;
 
 use std::env;

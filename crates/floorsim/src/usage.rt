@@ -1,6 +1,6 @@
 //! The program's words, and how it ends.
 
-use crate::run::{RunFault, run_script};
+use floor_script::{RunFault, run_script};
 use std::alloc::Global;
 use std::io::{Read, Write};
 

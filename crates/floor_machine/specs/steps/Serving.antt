@@ -30,14 +30,14 @@ use Rattle.floor_machine.specs.steps.Telling.{entry_of_ended, shown_at}
 -- the conference that a state is
 abbrev pub conference_of : State → Conference
 conference_of s =
-    record { config = s.config; given = s.requests.given; ongoing = s.requests.ongoing; members = s.members.items; is_open = s.is_open }
+    record { config = s.config; given = s.requests.given; ongoing = s.requests.ongoing; members = s.members; is_open = s.is_open }
 
 -- What every state keeps: the users of the binding are those of the configuration; the floors of the requests are its floors; and
 -- the members are numbered from 1 on.
 pub record IsState (s : State) : Type 0 where
   pub users : s.users.items ≡ user_ids s.config.users
   pub floors : s.requests.floors ≡ s.config.floors
-  pub numbered : is_numbered_from 1 s.members.items ≡ true
+  pub numbered : is_numbered_from 1 s.members ≡ true
 
 -- what a machine keeps: unless it is broken, its state is one, and settled
 pub record IsMachine (s : State) (is_broken : Bool) : Type 0 where

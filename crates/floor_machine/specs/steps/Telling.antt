@@ -1,5 +1,5 @@
 -- What the steps of one event find, one after another, and the parcels that are made of it.
-use Rattle.std.specs.Prelude.{ℕ, ◌==◌, ◌&&◌, ◌||◌, not, if◌then◌else◌, Bool, false, List, [], ◌∷◌, ◌++◌, map, filter, find, fold, max, Option, Some, None, option_map}
+use Rattle.std.specs.Prelude.{ℕ, ◌==◌, ◌&&◌, ◌||◌, nat_lt, length, not, if◌then◌else◌, Bool, false, List, [], ◌∷◌, ◌++◌, map, filter, find, fold, max, Option, Some, None, option_map}
 use Rattle.std.specs.List.{list_any, flat_map}
 use Rattle.std.specs.Option.{option_map_or}
 use Rattle.floor_config.specs.Configuration.{Configuration}
@@ -140,6 +140,14 @@ is_watched m update = list_any (λ floor. floor == update.floor) m.watched
 -- a live member watches the floor
 abbrev pub is_watched_by : List Member → FloorUpdate → Bool
 is_watched_by members update = list_any (λ m. m.is_live && is_watched m update) members
+
+-- a live member watches the floor
+abbrev pub is_floor_watched : List Member → Floor → Bool
+is_floor_watched members f = list_any (λ m. m.is_live && list_any (λ floor. floor == f.id) m.watched) members
+
+-- a live member watches some floor
+abbrev pub has_watcher : List Member → Bool
+has_watcher members = list_any (λ m. m.is_live && nat_lt 0 (length m.watched)) members
 
 -- a status of a changed request, to the member
 abbrev pub update_to : ℕ → Member → Update → Outgoing

@@ -5,7 +5,7 @@ use Rattle.std.specs.Option.{option_map_or}
 use Rattle.floor_config.specs.declared.config.Floor.{Floor}
 use Rattle.floor_queue.specs.declared.index.rank.Rank.{Rank}
 use Rattle.floor_queue.specs.declared.request.Request.{Request}
-use Rattle.floor_queue.specs.Order.{names, waits, is_express, room_of}
+use Rattle.floor_queue.specs.Order.{names, waits, is_due, is_express, room_of}
 use Rattle.floor_queue.specs.Queue.{is_ascending, request_at}
 
 -- what the place of a request in its lines goes by
@@ -50,16 +50,17 @@ abbrev pub is_in_order : List Rank → Bool
 is_in_order [] = true
 is_in_order (x ∷ xs) = list_all (λ k. not (before k x)) xs && is_in_order xs
 
--- a floor, and the ranks of the requests that name it
+-- a floor, the ranks of the requests that name it, and whether one of them came, changed or ended since the last settling
 pub record FloorLine : Type 0 where
   pub floor : ℕ
   pub ranks : List Rank
+  pub is_marked : Bool
 
 abbrev pub empty_line : Floor → FloorLine
-empty_line f = record { floor = f.id; ranks = [] }
+empty_line f = record { floor = f.id; ranks = []; is_marked = false }
 
 abbrev pub emptied : FloorLine → FloorLine
-emptied l = record l { ranks = [] }
+emptied l = record l { ranks = []; is_marked = false }
 
 -- the line after r, whose rank is x, was added
 abbrev pub added : Request → Rank → FloorLine → FloorLine
@@ -72,6 +73,26 @@ taken r x l = if names r l.floor then record l { ranks = without_rank x l.ranks 
 -- the line after the rank of r became y, which was x
 abbrev pub moved : Request → Rank → Rank → FloorLine → FloorLine
 moved r x y l = if names r l.floor then record l { ranks = moved_rank x y l.ranks } else l
+
+-- the line after r came, changed or ended
+abbrev pub marked : Request → FloorLine → FloorLine
+marked r l = if names r l.floor then record l { is_marked = true } else l
+
+-- the line after the requests were settled
+abbrev pub unmarked : FloorLine → FloorLine
+unmarked l = record l { is_marked = false }
+
+-- the floor is marked
+abbrev pub has_mark : List FloorLine → ℕ → Bool
+has_mark lines floor = list_any (λ l. l.floor == floor && l.is_marked) lines
+
+-- one of the floors of r is marked
+abbrev pub names_marked : List FloorLine → Request → Bool
+names_marked lines r = list_any (λ f. has_mark lines f.floor) r.floors
+
+-- no request is due of which no floor is marked
+abbrev pub AreMarked : List Floor → List Request → List FloorLine → Type 0
+AreMarked floors rs lines = count_by (λ r. is_due floors rs r && not (names_marked lines r)) rs ≡ 0
 
 -- a line is in order, and has as many ranks under each test as requests that name the floor
 pub record IsLine (floors : List Floor) (rs : List Request) (l : FloorLine) : Type 0 where
@@ -96,13 +117,21 @@ is_due_in floors lines r = waits r && list_all (λ f. has_place floors lines (ra
 abbrev pub is_number_due : List Floor → List FloorLine → List Request → ℕ → Bool
 is_number_due floors lines rs number = option_map_or (is_due_in floors lines) (request_at rs number) false
 
--- one of the line's first requests, as many as the floor has room for, is due
+-- the line is marked, and one of its first requests, as many as the floor has room for, is due
 abbrev pub line_has_due : List Floor → List FloorLine → List Request → FloorLine → Bool
 line_has_due floors lines rs l =
-    list_any (λ k. k.waits && is_number_due floors lines rs k.number) (take (room_of floors l.floor) l.ranks)
+    l.is_marked && list_any (λ k. k.waits && is_number_due floors lines rs k.number) (take (room_of floors l.floor) l.ranks)
 
--- The requests by ascending number, each of which names a floor, and their lines.
+-- the rank is that of a request that waits, is due, and has a number that passes t
+abbrev pub rank_shows : List Floor → List FloorLine → List Request → (ℕ → Bool) → Rank → Bool
+rank_shows floors lines rs t k = k.waits && (is_number_due floors lines rs k.number && t k.number)
+
+-- the line is marked, and shows such a rank among its first ones, as many as the floor has room for
+abbrev pub line_shows : List Floor → List FloorLine → List Request → (ℕ → Bool) → FloorLine → Bool
+line_shows floors lines rs t l = l.is_marked && list_any (rank_shows floors lines rs t) (take (room_of floors l.floor) l.ranks)
+
+-- The requests by ascending number, and their lines.
 pub record IsLined (floors : List Floor) (rs : List Request) (lines : List FloorLine) : Type 0 where
   pub ascending : is_ascending rs ≡ true
-  pub named : list_all (λ r. nat_lt 0 (length r.floors)) rs ≡ true
   pub lined : AreLines floors rs lines
+  pub marks : AreMarked floors rs lines

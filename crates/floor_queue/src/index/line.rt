@@ -1,20 +1,22 @@
 //! The ongoing requests of one floor in one line: those that hold it, then those that wait in their
 //! order, then the rest.
 
-ghost use Rattle.std.specs.Prelude.{◌≡◌, ◌<◌, OnOk, OnErr, IsTrue, vec_len, vec_capacity, [], count_by, take};
-ghost use Rattle.floor_queue.specs.steps.Lines.{added, emptied, is_in_order, moved, moved_rank, place_in, taken, with_rank, without_rank};
+ghost use Rattle.std.specs.Prelude.{◌≡◌, ◌<◌, OnOk, OnErr, IsTrue, vec_len, vec_capacity, [], count_by, false, take};
+ghost use Rattle.floor_queue.specs.steps.Lines.{added, emptied, is_in_order, marked, moved, moved_rank, place_in, taken, unmarked, with_rank, without_rank};
 
 use crate::index::rank::{Rank, before};
 use crate::request::Request;
 use std::alloc::{AllocError, Global};
 use std::marker::Model;
 
-/// The requests of one floor in their order. A line takes memory with its first request, and gives it
-/// back with its last.
+/// The requests of one floor in their order, and the floor's mark: whether one of its requests came,
+/// changed or ended since the queue was last settled. A line takes memory with its first request, and
+/// gives it back with its last.
 #[derive(Debug, Drop)]
 pub(crate) struct Line {
     floor: u16,
     ranks: Vec<Rank>,
+    is_marked: bool,
 }
 
 impl Model for Line {
@@ -23,7 +25,7 @@ impl Model for Line {
 
     ghost Value = { FloorLine };
 
-    ghost view = { λ l. record { floor = l.floor; ranks = l.ranks.items } };
+    ghost view = { λ l. record { floor = l.floor; ranks = l.ranks.items; is_marked = l.is_marked } };
 
     ghost invariant = { λ l. IsTrue (is_in_order l.ranks.items) };
 }
@@ -31,11 +33,12 @@ impl Model for Line {
 impl Line {
     /// No request yet. Takes no memory.
     pub(crate) fn new(alloc: Global, floor: u16) -> Line
-        ensures { result ≡ record { floor = floor; ranks = [] } }
+        ensures { result ≡ record { floor = floor; ranks = []; is_marked = false } }
     {
         Line {
             floor,
             ranks: Vec::new(alloc),
+            is_marked: false,
         }
     }
 
@@ -44,6 +47,13 @@ impl Line {
         ensures { result ≡ self.now.floor }
     {
         self.floor
+    }
+
+    /// Whether the floor is marked.
+    pub(crate) fn is_marked(&self) -> bool
+        ensures { result ≡ self.now.is_marked }
+    {
+        self.is_marked
     }
 
     /// The first of the ranks, so many or all.
@@ -68,7 +78,7 @@ impl Line {
     pub(crate) fn holders(&self) -> usize
         ensures { result ≡ count_by (λ k. k.is_granted) self.now.ranks }
     {
-        self.ranks.iter().filter(|k| k.is_granted).count()
+        holders_in(&self.ranks)
     }
 
     /// Puts the rank in, if the request names the floor. After an error nothing has changed.
@@ -101,13 +111,38 @@ impl Line {
         }
     }
 
-    /// Takes all ranks out.
+    /// Marks the floor, if the request names it.
+    pub(crate) fn mark(&mut self, request: &Request)
+        ensures { self.new ≡ marked request.now self.old }
+    {
+        if request.names(self.floor) {
+            self.is_marked = true;
+        }
+    }
+
+    /// Takes the mark off.
+    pub(crate) fn unmark(&mut self)
+        ensures { self.new ≡ unmarked self.old }
+    {
+        self.is_marked = false;
+    }
+
+    /// Takes all ranks out, and the mark off.
     pub(crate) fn clear(&mut self)
         ensures { self.new ≡ emptied self.old }
     {
+        self.is_marked = false;
         self.ranks.clear();
         self.ranks.shrink_to_fit();
     }
+}
+
+/// How many of the ranks are those of holders, which come first.
+fn holders_in(ranks: &[Rank]) -> usize
+    requires { IsTrue (is_in_order ranks.now) }
+    ensures { result ≡ count_by (λ k. k.is_granted) ranks.now }
+{
+    ranks.partition_point(|k| k.is_granted)
 }
 
 fn place_in(ranks: &[Rank], rank: Rank) -> usize

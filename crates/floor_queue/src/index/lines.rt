@@ -2,7 +2,7 @@
 
 ghost use Rattle.std.specs.Prelude.{◌≡◌, ◌≤◌, ◌==◌, ◌++◌, IfOk, OnOk, OnErr, find, length, map, take, drop};
 ghost use Rattle.std.specs.Option.{option_copied};
-ghost use Rattle.floor_queue.specs.steps.Lines.{added, emptied, empty_line, moved, taken};
+ghost use Rattle.floor_queue.specs.steps.Lines.{added, emptied, empty_line, marked, moved, taken, unmarked};
 
 use crate::index::line::Line;
 use crate::index::rank::Rank;
@@ -84,7 +84,25 @@ impl Lines {
         }
     }
 
-    /// Takes all ranks out.
+    /// Marks each floor that the request names.
+    pub(crate) fn mark(&mut self, request: &Request)
+        ensures { self.new ≡ map (marked request.now) self.old }
+    {
+        for line in self.lines.iter_mut() {
+            line.mark(request);
+        }
+    }
+
+    /// Takes all marks off.
+    pub(crate) fn unmark(&mut self)
+        ensures { self.new ≡ map unmarked self.old }
+    {
+        for line in self.lines.iter_mut() {
+            line.unmark();
+        }
+    }
+
+    /// Takes all ranks out, and all marks off.
     pub(crate) fn clear(&mut self)
         ensures { self.new ≡ map emptied self.old }
     {

@@ -1,5 +1,5 @@
 use Rattle.std.proofs.Common.{refl, subst}
-use Rattle.floor_hub.specs.Steps.{IsServable}
+use Rattle.floor_hub.specs.steps.Serving.{IsServable}
 use Rattle.floor_hub.proofs.rooms.serve_in.Goals as goal
 
 pub returns-then-not-ready : goal.returns-then-not-ready

@@ -1,5 +1,5 @@
 use Rattle.floor_hub.specs.Rooms.{refusal_in}
-use Rattle.floor_hub.specs.Steps.{Fails}
+use Rattle.floor_hub.specs.Calls.{Fails}
 use Rattle.floor_hub.specs.declared.step.Step.TheVariants.{Admin}
 use Rattle.floor_hub.specs.declared.step.Answer.TheVariants.{Done}
 use Rattle.floor_hub.proofs.Advancing.{fails, further, whole_one}

@@ -3,7 +3,7 @@ use Rattle.floor_hub.specs.declared.connection.Place.{Place}
 use Rattle.floor_hub.specs.declared.step.Answer.TheVariants.{Attached}
 use Rattle.floor_hub.specs.declared.step.Step.TheVariants.{Attach}
 use Rattle.floor_hub.specs.Rooms.{by_broken}
-use Rattle.floor_hub.specs.Running.{Goes}
+use Rattle.floor_hub.specs.steps.Running.{Goes}
 use Rattle.floor_hub.proofs.Advancing.{attached, unattached, whole_one}
 use Rattle.floor_hub.proofs.running.attach.Goals as goal
 

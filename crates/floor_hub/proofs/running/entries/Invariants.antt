@@ -1,6 +1,6 @@
 use Rattle.std.proofs.Common.{◌≡◌, length, map, take}
 use Rattle.floor_hub.specs.Runs.{queues_from}
-use Rattle.floor_hub.specs.Running.{IsRunning, place_of}
+use Rattle.floor_hub.specs.steps.Running.{IsRunning, place_of}
 use Rattle.floor_hub.specs.World.{World}
 use Rattle.floor_hub.proofs.running.entries.Given as goal
 

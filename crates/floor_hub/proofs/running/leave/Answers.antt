@@ -1,6 +1,6 @@
 use Rattle.floor_hub.specs.Connections.{connection_at}
 use Rattle.floor_hub.specs.Rooms.{refusal_in}
-use Rattle.floor_hub.specs.Steps.{FailsGone}
+use Rattle.floor_hub.specs.Calls.{FailsGone}
 use Rattle.floor_hub.specs.declared.step.Step.TheVariants.{Leave}
 use Rattle.floor_hub.specs.declared.step.Answer.TheVariants.{Done}
 use Rattle.floor_hub.proofs.Advancing.{fails_gone, further, whole_of}

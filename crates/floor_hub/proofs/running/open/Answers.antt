@@ -1,7 +1,7 @@
 use Rattle.std.proofs.Common.{List, subst}
 use Rattle.floor_config.specs.Configuration.{Configuration}
-use Rattle.floor_hub.specs.Running.{Goes}
-use Rattle.floor_hub.specs.Steps.{FailsSame}
+use Rattle.floor_hub.specs.steps.Running.{Goes}
+use Rattle.floor_hub.specs.Calls.{FailsSame}
 use Rattle.floor_hub.specs.declared.connection.Place.{Place}
 use Rattle.floor_hub.specs.declared.step.Step.TheVariants.{Open}
 use Rattle.floor_hub.specs.declared.step.Answer.TheVariants.{Done}

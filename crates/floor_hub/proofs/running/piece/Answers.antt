@@ -1,4 +1,4 @@
-use Rattle.floor_hub.specs.Steps.{FailsSame}
+use Rattle.floor_hub.specs.Calls.{FailsSame}
 use Rattle.floor_hub.specs.declared.step.Step.TheVariants.{Piece}
 use Rattle.floor_hub.specs.declared.step.Answer.TheVariants.{Done}
 use Rattle.floor_hub.proofs.Advancing.{fails_same, further, whole_same}

@@ -2,7 +2,7 @@ use Rattle.std.proofs.Common.{◌≤◌, ◌+◌, ◌++◌, List, drop, arith, l
 use Rattle.std.proofs.Common.{drop_of_length-le}
 use Rattle.floor_hub.specs.declared.connection.Place.{Place}
 use Rattle.floor_hub.specs.declared.step.Answer.{Answer}
-use Rattle.floor_hub.specs.Running.{IsRunning}
+use Rattle.floor_hub.specs.steps.Running.{IsRunning}
 use Rattle.floor_hub.specs.World.{turn, nothing}
 use Rattle.floor_hub.specs.Runs.{answers, run}
 use Rattle.floor_hub.proofs.GoesOn.{ends, goes_on, item_next, runs_on}

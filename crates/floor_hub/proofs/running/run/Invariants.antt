@@ -1,6 +1,6 @@
 use Rattle.std.proofs.Common.{◌≡◌, ◌++◌, drop}
 use Rattle.floor_hub.specs.Runs.{answers, run}
-use Rattle.floor_hub.specs.Running.{IsRunning}
+use Rattle.floor_hub.specs.steps.Running.{IsRunning}
 use Rattle.floor_hub.specs.World.{World, nothing}
 use Rattle.floor_hub.proofs.running.run.Given as goal
 

@@ -1,6 +1,6 @@
 use Rattle.floor_hub.specs.Connections.{connection_at}
 use Rattle.floor_hub.specs.Rooms.{refusal_in}
-use Rattle.floor_hub.specs.Steps.{Fails, answer_of}
+use Rattle.floor_hub.specs.Calls.{Fails, answer_of}
 use Rattle.floor_hub.specs.declared.step.Served.{Served}
 use Rattle.floor_hub.specs.declared.step.Served.TheVariants.{Nothing, Message}
 use Rattle.floor_hub.specs.declared.step.Step.TheVariants.{Serve}

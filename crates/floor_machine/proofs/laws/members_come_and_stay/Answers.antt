@@ -1,4 +1,4 @@
-use Rattle.floor_machine.proofs.Members.{live-before, live-joined, live-next, members-next}
+use Rattle.floor_machine.proofs.Staying.{live-before, live-joined, live-next, members-next}
 use Rattle.floor_machine.proofs.Together.{sent_to_members, told_once_joined}
 use Rattle.floor_machine.proofs.laws.members_come_and_stay.Goals as goal
 

@@ -1,9 +1,12 @@
-use Rattle.std.proofs.Common.{◌≡◌, ◌++◌, drop}
-use Rattle.floor_machine.specs.steps.Telling.{noticed_to_all}
+use Rattle.std.proofs.Common.{◌≡◌, ◌++◌, [], drop}
+use Rattle.std.specs.List.{flat_map}
+use Rattle.std.specs.Option.{option_map_or}
+use Rattle.floor_machine.specs.Conference.{member_with}
+use Rattle.floor_machine.specs.steps.Telling.{noticed_to}
 use Rattle.floor_machine.proofs.sending.put_members.Given as goal
 
 -- what is put and what is left are all the parcels
-abbrev pub invariant-loop-member : goal.invariant-loop-member
-invariant-loop-member l =
-    l.out.items ++ noticed_to_all l.conference l.reply l.updates l.notices (drop l.member-index l.members)
-    ≡ l.fn.out.items ++ noticed_to_all l.conference l.reply l.updates l.notices l.members
+abbrev pub invariant-loop-n : goal.invariant-loop-n
+invariant-loop-n l =
+    l.out.items ++ flat_map (λ n. option_map_or (noticed_to l.conference l.reply l.updates l.notices) (member_with l.members n) []) (drop l.n-index l.live)
+    ≡ l.fn.out.items ++ flat_map (λ n. option_map_or (noticed_to l.conference l.reply l.updates l.notices) (member_with l.members n) []) l.live

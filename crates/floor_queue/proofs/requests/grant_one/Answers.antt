@@ -6,7 +6,7 @@ use Rattle.floor_queue.specs.Order.{granted_if}
 use Rattle.floor_queue.proofs.Changing.{Changed, changed_here, none_changed}
 use Rattle.floor_queue.proofs.requests.grant_one.Goals as goal
 
-made : (c : goal.After-change) → Changed c.args.floors.now c.args.requests.now.items c.args.number (granted_if true)
+made : (c : goal.After-change) → Changed c.args.floors.now c.args.requests.now.items c.args.number (granted_if true) c.index-request.result.now
     (set c.args.requests.now.items c.place_of-place.result c.grant.new.request) c.change.new.self
 made c =
     let place : c.place_of-place.result ≡ position_or_len (λ (r : Request). r.number == c.args.number) c.args.requests.now.items =

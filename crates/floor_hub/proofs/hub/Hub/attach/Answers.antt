@@ -10,7 +10,7 @@ use Rattle.floor_hub.specs.Connections.{connection_at}
 use Rattle.floor_hub.specs.Hub.{Hub, room_at}
 use Rattle.floor_hub.specs.Rooms.{by_broken, OneRoom}
 use Rattle.floor_hub.specs.StandsFor.{HasOutbox, HaveOutboxes, StandsFor}
-use Rattle.floor_hub.specs.Steps.{Fails, Turns}
+use Rattle.floor_hub.specs.Calls.{Fails, Turns}
 use Rattle.floor_hub.specs.World.{World}
 use Rattle.floor_hub.proofs.Arriving.{attach_result}
 use Rattle.floor_hub.proofs.Closing.{ended, good, stood}

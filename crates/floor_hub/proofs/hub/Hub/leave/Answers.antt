@@ -12,7 +12,7 @@ use Rattle.floor_hub.specs.Connections.{connection_at}
 use Rattle.floor_hub.specs.Hub.{Hub, room_at}
 use Rattle.floor_hub.specs.Rooms.{RoomOf, refusal_in}
 use Rattle.floor_hub.specs.StandsFor.{StandsFor}
-use Rattle.floor_hub.specs.Steps.{FailsGone, Turns}
+use Rattle.floor_hub.specs.Calls.{FailsGone, Turns}
 use Rattle.floor_hub.specs.World.{World, turn}
 use Rattle.floor_hub.proofs.Closing.{ended, good, good_next, stood}
 use Rattle.floor_hub.proofs.Outboxes.{grows-of, keeps-outboxes, were-of}

@@ -11,7 +11,7 @@ use Rattle.floor_hub.specs.Connections.{connection_at}
 use Rattle.floor_hub.specs.Hub.{Hub, room_at}
 use Rattle.floor_hub.specs.Rooms.{by_broken, RoomOf, refusal_in}
 use Rattle.floor_hub.specs.StandsFor.{StandsFor}
-use Rattle.floor_hub.specs.Steps.{Fails, Turns, answer_of}
+use Rattle.floor_hub.specs.Calls.{Fails, Turns, answer_of}
 use Rattle.floor_hub.specs.World.{World}
 use Rattle.floor_hub.proofs.Closing.{ended, good, stood}
 use Rattle.floor_hub.proofs.Outboxes.{grows-of, keeps-outboxes, outbox-room, were-of}

@@ -32,7 +32,7 @@ returns-clause-out c =
     let e : Event = Message n bytes in
     let S : List Floor → Type 0 = λ fs. settle fs s.ongoing ≡ s.ongoing in
     let settled : settle s.config.floors s.ongoing ≡ s.ongoing = subst S c.requires.state.floors c.requires.settled in
-    let is_next : record s { members = c.watch_asked.new.members.items } ≡ next s e =
+    let is_next : record s { members = c.watch_asked.new.members } ≡ next s e =
     ap (λ (members : List Member). record s { members = members }) c.in_ok-watch_asked.ensures ∙ next-message s n bytes j c.requires.judged c.requires.kept settled in
     let r : Reply = record { n = n; head = c.response_head.result; tells = c.in_ok-tells.tells } in
     let tells : r.tells.items ≡ judged_tells (next s e) [] (user_of s n) j =
@@ -44,9 +44,9 @@ returns-clause-out c =
     c.in_ok-put_behind.ensures.out
     ∙ ap (λ (ps : List Parcel). c.args.out.now.items ++ ps)
     (c.in_ok-put_all.ensures
-    ∙ ap (λ (ps : List Parcel). ps ++ parcels_to_all c.conference.result (Some r) [] [] c.deref.result.now) c.new-parcels.ensures.items
-    ∙ ap (λ (k : ℕ). parcels_to_all k (Some r) [] [] c.deref.result.now) c.conference.ensures.value
-    ∙ ap (λ (members : List Member). parcels_to_all s.config.conference (Some r) [] [] members) (c.deref.ensures.value ∙ ap (λ (t : Conference). t.members) is_next)
+    ∙ ap (λ (ps : List Parcel). ps ++ parcels_to_all c.conference.result (Some r) [] [] c.watch_asked.new.members) c.new-parcels.ensures.items
+    ∙ ap (λ (k : ℕ). parcels_to_all k (Some r) [] [] c.watch_asked.new.members) c.conference.ensures.value
+    ∙ ap (λ (members : List Member). parcels_to_all s.config.conference (Some r) [] [] members) (ap (λ (t : Conference). t.members) is_next)
     ∙ parcels-message s n bytes j r c.requires.judged c.requires.kept settled c.ongoing-ongoing.ensures.kept.ascending c.requires.state.numbered replied)
 
 pub returns-clause-shown : goal.returns-clause-shown
@@ -58,7 +58,7 @@ returns-clause-shown c =
     let e : Event = Message n bytes in
     let S : List Floor → Type 0 = λ fs. settle fs s.ongoing ≡ s.ongoing in
     let settled : settle s.config.floors s.ongoing ≡ s.ongoing = subst S c.requires.state.floors c.requires.settled in
-    let is_next : record s { members = c.watch_asked.new.members.items } ≡ next s e =
+    let is_next : record s { members = c.watch_asked.new.members } ≡ next s e =
     ap (λ (members : List Member). record s { members = members }) c.in_ok-watch_asked.ensures ∙ next-message s n bytes j c.requires.judged c.requires.kept settled in
     let r : Reply = record { n = n; head = c.response_head.result; tells = c.in_ok-tells.tells } in
     let tells : r.tells.items ≡ judged_tells (next s e) [] (user_of s n) j =
@@ -75,7 +75,7 @@ returns-clause-state c =
     let e : Event = Message c.args.n c.args.frame.now in
     let S : List Floor → Type 0 = λ fs. settle fs s.ongoing ≡ s.ongoing in
     let N : List Member → Type 0 = λ members. is_numbered_from 1 members ≡ true in
-    let is_next : record s { members = c.watch_asked.new.members.items } ≡ next s e =
+    let is_next : record s { members = c.watch_asked.new.members } ≡ next s e =
     ap (λ (members : List Member). record s { members = members }) c.in_ok-watch_asked.ensures
     ∙ next-message s c.args.n c.args.frame.now c.args.judged.now c.requires.judged c.requires.kept (subst S c.requires.state.floors c.requires.settled) in
     record {

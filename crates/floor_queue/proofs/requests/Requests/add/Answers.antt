@@ -1,10 +1,23 @@
-use Rattle.std.proofs.Common.{◌≡◌, ◌<◌, ◌++◌, ◌∷◌, ◌+◌, [], length, arith, rules, subst, sym}
-use Rattle.floor_queue.specs.Queue.{Queue, IsAddable, first_request}
+use Rattle.std.proofs.Common.{◌≡◌, ◌<◌, ◌++◌, ◌∷◌, ◌+◌, [], length, ap, arith, rules, subst, sym}
+use Rattle.std.proofs.lemmas.Bool.{lt-ltb}
+use Rattle.std.proofs.lemmas.List.{length-map}
+use Rattle.floor_queue.specs.Queue.{Queue, IsAddable, first_floor, first_request}
 use Rattle.floor_queue.proofs.Kept.{IsQueue-add}
 use Rattle.floor_queue.proofs.requests.Requests.add.Goals as goal
 
-pub append-requires : goal.append-requires
-append-requires c = record { lines = rw c.deref-2.ensures.value c.self.invariant.1 }
+pub append-requires-clause-some : goal.append-requires-clause-some
+append-requires-clause-some c =
+    lt-ltb 0 (length c.from_vec.result)
+    (omega (arith, c.requires.floors_least, ap length c.from_vec.ensures, ap length c.in_ok-floors.ensures, length-map c.as_slice.result.now (first_floor c.deref.result.now), ap length c.as_slice.ensures))
+
+pub append-requires-clause-lines : goal.append-requires-clause-lines
+append-requires-clause-lines c = rw c.deref-2.ensures.value c.self.invariant.1
+
+pub append-requires-clause-marks : goal.append-requires-clause-marks
+append-requires-clause-marks c = rw c.deref-2.ensures.value c.self.invariant.2
+
+pub append-requires-clause-parties : goal.append-requires-clause-parties
+append-requires-clause-parties c = c.self.invariant.3
 
 pub invariant_of-self-2 : goal.invariant_of-self-2
 invariant_of-self-2 c =
@@ -14,4 +27,6 @@ invariant_of-self-2 c =
     let e : c.append.new.requests.items ≡ c.self.inside.ongoing.items ++ first_request q.floors (q.given + 1) c.args.new ∷ [] = search rules in (
       rw e (IsQueue-add q c.args.new c.self.invariant.0 few addable),
       rw c.deref-2.ensures.value at c.in_ok-append.ensures.lines,
+      rw c.deref-2.ensures.value at c.in_ok-append.ensures.marks,
+      c.in_ok-append.ensures.parties,
     )

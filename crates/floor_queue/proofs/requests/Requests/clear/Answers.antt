@@ -1,5 +1,7 @@
+use Rattle.std.proofs.Common.{refl}
 use Rattle.floor_queue.proofs.Kept.{IsQueue-clear}
 use Rattle.floor_queue.proofs.Lining.{AreLines-cleared}
+use Rattle.floor_queue.proofs.Parting.{AreParties-none}
 use Rattle.floor_queue.proofs.requests.Requests.clear.Goals as goal
 
 pub invariant_of-self : goal.invariant_of-self
@@ -8,4 +10,6 @@ invariant_of-self c = (
       (IsQueue-clear record { floors = c.self.inside.floors.items; given = c.self.inside.given; ongoing = c.self.inside.ongoing.items } c.self.invariant.0),
   rw (c.shrink_to_fit.ensures.items, c.clear.ensures.items, c.clear-2.ensures)
       (AreLines-cleared c.self.inside.floors.items c.self.inside.ongoing.items c.self.inside.lines c.self.invariant.1),
+  rw (c.shrink_to_fit.ensures.items, c.clear.ensures.items) refl,
+  rw (c.shrink_to_fit.ensures.items, c.clear.ensures.items, c.clear-3.ensures) AreParties-none,
 )

@@ -2,11 +2,13 @@ use Rattle.std.proofs.Common.{◌≡◌, ◌∙◌, ap, refl, ℕ, List}
 use Rattle.std.specs.Prelude.{◌==◌, map}
 use Rattle.std.specs.List.{list_any}
 use Rattle.floor_queue.specs.declared.request.Request.{Request}
-use Rattle.floor_queue.specs.Order.{settle, due_numbers, granted_if}
+use Rattle.floor_queue.specs.Order.{settle, due_numbers, granted_if, is_due}
 use Rattle.floor_queue.specs.Queue.{Queue}
 use Rattle.floor_queue.proofs.Granting.{granted-due}
-use Rattle.floor_queue.proofs.Kept.{IsQueue-settle}
-use Rattle.floor_queue.proofs.Firsts.{is_lined}
+use Rattle.floor_queue.proofs.Kept.{IsQueue-settle, involves-granted_if, keeps_granted_if}
+use Rattle.floor_queue.proofs.Parting.{AreParties-kept}
+use Rattle.floor_queue.proofs.Lining.{AreLines-unmarked}
+use Rattle.floor_queue.proofs.Marking.{AreMarked-settled}
 use Rattle.floor_queue.proofs.Settling.{settle-settle}
 use Rattle.floor_queue.proofs.requests.Requests.settle.Goals as goal
 
@@ -15,8 +17,7 @@ grant_all-requires c = record { ascending = c.self.invariant.0.ascending; lines 
 
 pub due_numbers-requires : goal.due_numbers-requires
 due_numbers-requires c =
-    rw (c.deref.ensures.value, c.deref-2.ensures.value)
-    (is_lined record { floors = c.self.inside.floors.items; given = c.self.inside.given; ongoing = c.self.inside.ongoing.items } c.self.inside.lines c.self.invariant.0 c.self.invariant.1)
+    rw (c.deref.ensures.value, c.deref-2.ensures.value) record { ascending = c.self.invariant.0.ascending; lined = c.self.invariant.1; marks = c.self.invariant.2 }
 
 -- the numbers that are due
 due : (c : goal.After-from_vec) → c.in_ok-numbers.numbers.items ≡ due_numbers c.self.inside.floors.items c.self.inside.ongoing.items
@@ -32,7 +33,12 @@ made c =
 pub invariant_of-self : goal.invariant_of-self
 invariant_of-self c = (
   rw (made c) (IsQueue-settle record { floors = c.self.inside.floors.items; given = c.self.inside.given; ongoing = c.self.inside.ongoing.items } c.self.invariant.0),
-  rw c.deref-3.ensures.value at c.grant_all.ensures.lines,
+  rw c.unmark.ensures (AreLines-unmarked c.self.inside.floors.items c.grant_all.new.requests.items c.grant_all.new.lines (rw c.deref-3.ensures.value at c.grant_all.ensures.lines)),
+  AreMarked-settled c.self.inside.floors.items c.grant_all.new.requests.items c.unmark.new.self (rw (made c) (settle-settle c.self.inside.floors.items c.self.inside.ongoing.items)),
+  rw (made c)
+      (AreParties-kept (λ (r : Request). granted_if (is_due c.self.inside.floors.items c.self.inside.ongoing.items r) r)
+      ((keeps_granted_if (is_due c.self.inside.floors.items c.self.inside.ongoing.items)).number) (λ r. involves-granted_if (is_due c.self.inside.floors.items c.self.inside.ongoing.items r) r)
+      c.self.inside.ongoing.items c.self.inside.parties c.self.invariant.3),
 )
 
 pub returns-clause-granted : goal.returns-clause-granted

@@ -1,5 +1,5 @@
 use Rattle.std.proofs.Common.{sym, subst, vec_capacity}
-use Rattle.floor_room.specs.Kept.{Keeps}
+use Rattle.floor_room.specs.steps.Kept.{Keeps}
 use Rattle.floor_room.specs.Ledger as ledgers
 use Rattle.floor_room.specs.Room as spec
 use Rattle.floor_room.proofs.Adding.{keeps-broken}

@@ -1,6 +1,6 @@
 use Rattle.std.proofs.Common.{ℕ, length, vec_capacity, sym, subst}
 use Rattle.floor_room.specs.Room as spec
-use Rattle.floor_room.specs.Kept.{Keeps}
+use Rattle.floor_room.specs.steps.Kept.{Keeps}
 use Rattle.floor_room.proofs.Taking.{counted-more, keeps-given}
 use Rattle.floor_room.proofs.room.Room.take.Goals as goal
 

@@ -1,0 +1,4 @@
+-- The steps of the proofs. Nobody has to believe them: no public clause rests on them.
+pub mod Slots
+pub mod Serving
+pub mod Running

@@ -1,0 +1,110 @@
+//! Who watches which floors (RFC 8855, section 12.1).
+
+ghost use Rattle.std.specs.Prelude.{◌≡◌, ◌==◌, ◌&&◌, All, IfOk, false, filter, length, nat_lt};
+ghost use Rattle.std.specs.List.{list_any};
+ghost use Rattle.std.specs.Option.{option_map_or};
+ghost use Rattle.floor_config.specs.Configuration.{IsFloor};
+ghost use Rattle.floor_machine.specs.Conference.{member_with};
+ghost use Rattle.floor_machine.specs.steps.Telling.{has_watcher, is_floor_watched};
+
+use crate::member::Member;
+use crate::members::Members;
+use floor_config::{Config, Floor};
+use std::alloc::{AllocError, Global};
+
+/// Whether the member watches the floor.
+pub(crate) fn watches(member: &Member, floor: u16) -> bool
+    ensures { result ≡ list_any (λ watched. watched == floor) member.now.watched }
+{
+    member
+        .watched
+        .as_slice()
+        .iter()
+        .any(|watched| *watched == floor)
+}
+
+/// Whether the live member with this number watches the floor.
+fn is_to_see(members: &Members, n: u32, floor: u16) -> bool
+    ensures { result ≡ option_map_or (λ m. list_any (λ watched. watched == floor) m.watched)
+        (member_with members.now n) false }
+{
+    match members.get(n) {
+        Some(member) => watches(member, floor),
+        None => false,
+    }
+}
+
+/// Whether one of the live members with these numbers watches the floor.
+fn is_seen_by_any(members: &Members, numbers: &[u32], floor: u16) -> bool
+    ensures { result ≡ list_any
+        (λ n. option_map_or (λ m. list_any (λ watched. watched == floor) m.watched)
+        (member_with members.now n) false) numbers.now }
+{
+    numbers.iter().any(|n| is_to_see(members, *n, floor))
+}
+
+/// Whether a live member watches the floor.
+pub(crate) fn is_watched(members: &Members, floor: u16) -> bool
+    ensures { result ≡ list_any
+        (λ m. m.is_live && list_any (λ watched. watched == floor) m.watched) members.now }
+{
+    is_seen_by_any(members, members.live_numbers(), floor)
+}
+
+/// Whether the live member with this number watches some floor.
+fn has_watched(members: &Members, n: u32) -> bool
+    ensures { result ≡ option_map_or (λ m. nat_lt 0 (length m.watched))
+        (member_with members.now n) false }
+{
+    match members.get(n) {
+        Some(member) => 0 < member.watched.as_slice().len(),
+        None => false,
+    }
+}
+
+/// Whether one of the live members with these numbers watches some floor.
+fn have_watched(members: &Members, numbers: &[u32]) -> bool
+    ensures { result ≡ list_any (λ n. option_map_or (λ m. nat_lt 0 (length m.watched))
+        (member_with members.now n) false) numbers.now }
+{
+    numbers.iter().any(|n| has_watched(members, *n))
+}
+
+/// Whether a live member watches some floor.
+fn has_watcher(members: &Members) -> bool
+    ensures { result ≡ has_watcher members.now }
+{
+    have_watched(members, members.live_numbers())
+}
+
+fn pick_watched(
+    alloc: Global,
+    members: &Members,
+    floors: &[Floor],
+) -> Result<Vec<Floor>, AllocError>
+    ensures { IfOk result (λ watched.
+        watched.items ≡ filter (is_floor_watched members.now) floors.now) }
+{
+    floors
+        .iter()
+        .filter(|floor| is_watched(members, floor.id))
+        .copied()
+        .collect(alloc)
+}
+
+/// The floors that a live member watches, in the order of the configuration.
+pub(crate) fn watched_floors(
+    alloc: Global,
+    config: &Config,
+    members: &Members,
+) -> Result<Vec<Floor>, AllocError>
+    ensures value { IfOk result (λ floors.
+        floors.items ≡ filter (is_floor_watched members.now) config.now.floors) }
+    ensures kept { IfOk result (λ floors. All IsFloor floors.items) }
+{
+    let floors = config.floors();
+    if has_watcher(members) {
+        return pick_watched(alloc, members, floors);
+    }
+    Ok(Vec::new(alloc))
+}

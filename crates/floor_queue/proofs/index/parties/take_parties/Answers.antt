@@ -1,0 +1,13 @@
+use Rattle.std.proofs.Common.{◌≡◌, ◌∙◌, ap, rules}
+use Rattle.std.specs.Prelude.{◌==◌, not, filter}
+use Rattle.std.proofs.lemmas.Fn.{filter_same}
+use Rattle.floor_queue.specs.declared.index.parties.Party.{Party}
+use Rattle.floor_queue.specs.steps.Parties.{by_user}
+use Rattle.floor_queue.proofs.Parting.{by_user-filter}
+use Rattle.floor_queue.proofs.index.parties.take_parties.Goals as goal
+
+pub returns : goal.returns
+returns c =
+    let items : c.retain.new.self.items ≡ filter (λ (p : Party). not (p.number == c.args.number)) c.args.parties.now.items =
+    filter_same _ (λ (p : Party). not (p.number == c.args.number)) _ (λ x b q k. search rules) _ _ c.retain.ensures.filtered in
+    record { by_user = ap by_user items ∙ by_user-filter (λ (p : Party). not (p.number == c.args.number)) c.args.parties.now.items c.requires; items = items }

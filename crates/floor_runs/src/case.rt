@@ -1,0 +1,136 @@
+//! A case: a script, and the lines that it has to print.
+//!
+//! - `# words` says why, and is a comment of the script.
+//! - `> line` is a line of the script. In it `\s`, `\t` and `\r` are a space, a tab and a carriage
+//!   return, and a `\` at its end leaves its line feed out.
+//! - `< line` is a line that the script prints. Spaces between words of bytes are for reading.
+//! - `>  words` and `<  words`, with two spaces, go on with the line above. An empty line says
+//!   nothing.
+//!
+//! Bytes may stand as a shorthand. A case whose last line is an error ends with status 2, and every
+//! other with status 0.
+
+use crate::fault::{Difference, Fault};
+use crate::shorthands::spelled;
+use floor_script::run;
+use std::alloc::Global;
+
+/// A script, and what it has to print.
+#[derive(Drop)]
+pub struct Case {
+    pub script: String,
+    pub printed: String,
+}
+
+impl Case {
+    /// The case of a script that begins with a configuration or, where that is empty, with none.
+    pub fn new(alloc: Global, configuration: &str) -> Result<Case, Fault> {
+        let mut script = String::new(alloc);
+        if !configuration.is_empty() {
+            script.push_str(configuration)?;
+            script.push_str("\n---\n")?;
+        }
+        Ok(Case {
+            script,
+            printed: String::new(alloc),
+        })
+    }
+
+    /// Appends the lines of a text.
+    pub fn extend(&mut self, alloc: Global, text: &str) -> Result<(), Fault> {
+        for line in text.split('\n') {
+            self.push_line(alloc, line)?;
+        }
+        Ok(())
+    }
+
+    fn push_line(&mut self, alloc: Global, line: &str) -> Result<(), Fault> {
+        match line.split_once(' ').unwrap_or((line, "")) {
+            ("", "") => Ok(()),
+            ("#", _) => push_script(alloc, &mut self.script, line),
+            (">", line) => push_script(alloc, &mut self.script, spelled(alloc, line)?.as_str()),
+            ("<", line) => push_printed(&mut self.printed, spelled(alloc, line)?.as_str()),
+            _ => Err(Fault::Layout("no line of a case")),
+        }
+    }
+
+    /// The status that the script has to end with.
+    fn status(&self) -> u8 {
+        match self.printed.as_str().lines().last() {
+            Some(line) if line.starts_with("error ") => 2,
+            _ => 0,
+        }
+    }
+
+    /// Runs the script, which prints what the case says, line by line, and ends with its status.
+    pub fn check(&self, alloc: Global, name: &str) -> Result<(), Fault> {
+        let mut written = Vec::new(alloc);
+        let status = run(alloc, &mut self.script.as_bytes(), &mut written);
+        let printed = std::str::from_utf8(&written).unwrap_or("no UTF-8\n");
+        let wanted = self.printed.as_str();
+        if printed != wanted {
+            return Err(differing(alloc, name, wanted, printed)?);
+        }
+        if status != self.status() {
+            return Err(Fault::Layout("another status"));
+        }
+        Ok(())
+    }
+}
+
+/// Where two texts differ first.
+fn differing(alloc: Global, name: &str, wanted: &str, printed: &str) -> Result<Fault, Fault> {
+    let mut line = 1usize;
+    for (wanted, printed) in wanted.lines().zip(printed.lines()) {
+        if wanted != printed {
+            break;
+        }
+        line = line.saturating_add(1);
+    }
+    Ok(Fault::Differs(Difference {
+        case: String::from_str(alloc, name)?,
+        line,
+        wanted: String::from_str(alloc, line_of(wanted, line))?,
+        printed: String::from_str(alloc, line_of(printed, line))?,
+    }))
+}
+
+/// The line with a number, counted from 1, or nothing.
+fn line_of(text: &str, number: usize) -> &str {
+    text.lines().nth(number.saturating_sub(1)).unwrap_or("")
+}
+
+/// Appends a line of the script, or what goes on with the one above.
+fn push_script(alloc: Global, script: &mut String, line: &str) -> Result<(), Fault> {
+    if line.starts_with(' ') {
+        let _line_feed = script.pop();
+    }
+    let (line, end) = match line.strip_suffix('\\') {
+        None => (line, "\n"),
+        Some(front) => (front, ""),
+    };
+    let line = line.replace(alloc, "\\s", " ")?;
+    let line = line.as_str().replace(alloc, "\\t", "\t")?;
+    let line = line.as_str().replace(alloc, "\\r", "\r")?;
+    script.push_str(line.as_str())?;
+    script.push_str(end)?;
+    Ok(())
+}
+
+/// Appends a printed line, or what goes on with the one above. Bytes, which stand behind a
+/// connection's number, are joined.
+fn push_printed(printed: &mut String, line: &str) -> Result<(), Fault> {
+    let goes_on = line.starts_with(' ');
+    if goes_on {
+        let _line_feed = printed.pop();
+    }
+    let is_parcel = goes_on || line.starts_with(|c: char| c.is_ascii_digit());
+    for (place, word) in line.split(' ').enumerate() {
+        if (place == 1 && !goes_on) || (1 < place && !is_parcel) {
+            printed.push(' ')?;
+        }
+        printed.push_str(word)?;
+    }
+    printed.push('\n')?;
+    Ok(())
+}

@@ -1,0 +1,27 @@
+//! Runs the cases of files, and tells where a script prints something else than its case says.
+//!
+//! Its words are files and folders; a folder stands for the files in it, by name. Each file is
+//! printed with the number of its cases. Status 1 where a case differs or a file can't be run, which
+//! standard error tells.
+#![tactic(auto)]
+
+mod case;
+mod cases;
+mod fault;
+mod files;
+mod shorthands;
+#[cfg(test)]
+mod tests;
+
+use std::process::ExitCode;
+
+fn main(rt: HostRuntime) -> ExitCode {
+    let words: Vec<String> = match std::env::args(&rt) {
+        Err(_) => return ExitCode::from(1),
+        Ok(words) => match words.skip(1).collect(rt.alloc()) {
+            Err(_) => return ExitCode::from(1),
+            Ok(words) => words,
+        },
+    };
+    ExitCode::from(files::run_words(&rt, words.as_slice(), &mut rt.stdout(), &mut rt.stderr()))
+}

@@ -1,0 +1,185 @@
+//! The conferences of a script, and what its lines are answered.
+
+use crate::attached::Attached;
+use crate::line::Command;
+use crate::running::{RunFault, TURNS};
+use floor_hub::{Act, Config, Hub, HubRefusal, Parcel, Refusal, RoomRefusal, Served};
+use std::alloc::{AllocError, Global};
+use std::io::Write;
+
+/// The conferences of a script. Nothing waits for a live connection between two lines.
+#[derive(Drop)]
+pub struct Conferences {
+    alloc: Global,
+    hub: Hub,
+    attached: Attached,
+}
+
+impl Conferences {
+    pub fn new(alloc: Global) -> Conferences {
+        Conferences {
+            alloc,
+            hub: Hub::new(alloc),
+            attached: Attached::new(alloc),
+        }
+    }
+
+    /// Opens a conference whose number no other has.
+    pub fn open(&mut self, config: Config) -> Result<(), AllocError> {
+        match self.hub.open(self.alloc, config) {
+            Err(HubRefusal::Memory) => Err(AllocError),
+            Ok(()) | Err(_) => Ok(()),
+        }
+    }
+
+    /// Does what a line asks for, and prints its answer and what the live connections are sent.
+    pub fn answer<W: Write>(&mut self, command: Command, output: &mut W) -> Result<(), RunFault> {
+        let conference = self.conference_of(&command);
+        match self.carry_out(command, output)? {
+            Ok(()) => {}
+            Err(refusal) => {
+                if is_memory(refusal) {
+                    return Err(RunFault::Memory);
+                }
+                writeln!(output, "refused {}", refusal.name())?;
+            }
+        }
+        match conference {
+            None => Ok(()),
+            Some(conference) => self.print_waiting(conference, output),
+        }
+    }
+
+    /// The conference that a line is about: no other one's connections are sent anything.
+    fn conference_of(&self, command: &Command) -> Option<u32> {
+        match command {
+            Command::Attach { conference, .. }
+            | Command::Revoke { conference, .. }
+            | Command::Close { conference } => Some(*conference),
+            Command::Piece { connection, .. }
+            | Command::Serve { connection }
+            | Command::Send { connection, .. }
+            | Command::Leave { connection } => self.attached.conference_of(*connection),
+        }
+    }
+
+    fn carry_out<W: Write>(
+        &mut self,
+        command: Command,
+        output: &mut W,
+    ) -> Result<Result<(), HubRefusal>, RunFault> {
+        match command {
+            Command::Attach { conference, user } => self.attach(conference, user, output),
+            Command::Piece { connection, bytes } => Ok(self.hub.piece(connection, &bytes)),
+            Command::Serve { connection } => self.serve(connection, output),
+            Command::Send { connection, bytes } => Ok(self.send(connection, &bytes)),
+            Command::Leave { connection } => Ok(self.leave(connection)),
+            Command::Revoke {
+                conference,
+                request,
+            } => Ok(self.hub.admin(conference, Act::Revoke(request))),
+            Command::Close { conference } => Ok(self.hub.admin(conference, Act::Close)),
+        }
+    }
+
+    fn attach<W: Write>(
+        &mut self,
+        conference: u32,
+        user: u16,
+        output: &mut W,
+    ) -> Result<Result<(), HubRefusal>, RunFault> {
+        match self.hub.attach(self.alloc, conference, user) {
+            Ok(connection) => {
+                self.attached.add(conference, connection)?;
+                writeln!(output, "attached {connection}")?;
+                Ok(Ok(()))
+            }
+            Err(refusal) => Ok(Err(refusal)),
+        }
+    }
+
+    fn serve<W: Write>(
+        &mut self,
+        connection: u64,
+        output: &mut W,
+    ) -> Result<Result<(), HubRefusal>, RunFault> {
+        match self.hub.serve(connection) {
+            Ok(Served::Message) => Ok(Ok(())),
+            Ok(Served::Nothing) => {
+                writeln!(output, "nothing")?;
+                Ok(Ok(()))
+            }
+            Err(refusal) => Ok(Err(refusal)),
+        }
+    }
+
+    fn send(&mut self, connection: u64, bytes: &[u8]) -> Result<(), HubRefusal> {
+        self.hub.piece(connection, bytes)?;
+        for _ in 0..TURNS {
+            match self.hub.serve(connection)? {
+                Served::Message => {}
+                Served::Nothing => break,
+            }
+        }
+        Ok(())
+    }
+
+    fn leave(&mut self, connection: u64) -> Result<(), HubRefusal> {
+        self.hub.leave(connection)?;
+        match self.attached.conference_of(connection) {
+            Some(conference) => self.attached.remove(conference, connection),
+            None => {}
+        }
+        Ok(())
+    }
+
+    /// Prints the parcels that wait in a conference, those of each connection together, by
+    /// ascending number.
+    fn print_waiting<W: Write>(&mut self, conference: u32, output: &mut W) -> Result<(), RunFault> {
+        for connection in self.attached.live_in(conference) {
+            print_parcels(self.alloc, &mut self.hub, *connection, output)?;
+        }
+        Ok(())
+    }
+}
+
+/// Whether memory was refused.
+fn is_memory(refusal: HubRefusal) -> bool {
+    matches!(
+        refusal,
+        HubRefusal::Memory | HubRefusal::ByRoom(RoomRefusal::Refused(Refusal::Memory))
+    )
+}
+
+/// Takes and prints the parcels that wait for a connection.
+fn print_parcels<W: Write>(
+    alloc: Global,
+    hub: &mut Hub,
+    connection: u64,
+    output: &mut W,
+) -> Result<(), RunFault> {
+    for _ in 0..TURNS {
+        match hub.take(connection) {
+            Ok(Some(parcel)) => print_parcel(alloc, connection, &parcel, output)?,
+            Ok(None) | Err(_) => break,
+        }
+    }
+    Ok(())
+}
+
+fn print_parcel<W: Write>(
+    alloc: Global,
+    connection: u64,
+    parcel: &Parcel,
+    output: &mut W,
+) -> Result<(), RunFault> {
+    let header = hex::encode(alloc, parcel.header())?;
+    let payload = hex::encode(alloc, parcel.payload())?;
+    writeln!(
+        output,
+        "{connection} {}{}",
+        header.as_str(),
+        payload.as_str()
+    )?;
+    Ok(())
+}

@@ -1,0 +1,15 @@
+//! Scripts of connections and messages over any number of conferences, and the lines that they
+//! print: what each connection is sent.
+//!
+//! A text holds configurations, a line `---` and the script, or the script alone. It is run over one
+//! hub. Reading and printing go through the caller's reader and writer.
+#![tactic(auto)]
+
+mod attached;
+mod conferences;
+mod line;
+mod running;
+mod script;
+
+pub use line::{Command, LineFault, parse_line};
+pub use running::{RunFault, run, run_script};
