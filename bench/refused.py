@@ -66,12 +66,8 @@ def answer(listener):
         client.settimeout(SECONDS)
         try:
             for wanted, told in ((12, hello_ack(1, 1, 10)), (12, FLOOR_STATUS_OF_NONE)):
-                heard = b''
-                while len(heard) < wanted:
-                    piece = client.recv(wanted - len(heard))
-                    if not piece:
-                        return
-                    heard += piece
+                if len(hear(client, wanted)) < wanted:
+                    return
                 client.sendall(told)
             client.recv(1)
         except OSError:

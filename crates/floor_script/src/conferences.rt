@@ -70,9 +70,11 @@ impl Conferences {
     ) -> Result<Result<(), HubRefusal>, RunFault> {
         match command {
             Command::Attach { conference, user } => self.attach(conference, user, output),
-            Command::Piece { connection, bytes } => Ok(self.hub.piece(connection, &bytes)),
+            Command::Piece { connection, bytes } => Ok(
+                self.hub.piece(connection, bytes.as_slice()),
+            ),
             Command::Serve { connection } => self.serve(connection, output),
-            Command::Send { connection, bytes } => Ok(self.send(connection, &bytes)),
+            Command::Send { connection, bytes } => Ok(self.send(connection, bytes.as_slice())),
             Command::Leave { connection } => Ok(self.leave(connection)),
             Command::Revoke {
                 conference,

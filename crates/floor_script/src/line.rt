@@ -1,7 +1,11 @@
 //! One line of a script.
 
+ghost use Rattle.std.specs.Prelude.{◌≡◌, ◌^◌, map};
+ghost use Rattle.floor_script.specs.Line.{bytes_of, command_of, number_of, of_words, three_words, three_words_or_more, two_words, Reads};
+
+use floor_hub::Octets;
 use floor_words::{HexadecimalFault, read_hexadecimal, read_u16, read_u32, read_u64, words};
-use std::alloc::{AllocError, AllocFailed, Global};
+use std::alloc::{AllocError, Global};
 
 /// What a line asks for.
 #[derive(Debug, Drop)]
@@ -9,11 +13,11 @@ pub enum Command {
     /// A connection of a user joins a conference.
     Attach { conference: u32, user: u16 },
     /// Bytes come in on a connection.
-    Piece { connection: u64, bytes: Vec<u8> },
+    Piece { connection: u64, bytes: Octets },
     /// The next message of a connection is served.
     Serve { connection: u64 },
     /// Bytes come in on a connection, and the messages that are whole are served.
-    Send { connection: u64, bytes: Vec<u8> },
+    Send { connection: u64, bytes: Octets },
     /// A connection leaves its conference.
     Leave { connection: u64 },
     /// The administrator revokes a floor request.
@@ -36,8 +40,13 @@ pub enum LineFault {
 }
 
 impl LineFault {
-    /// The name that is printed.
-    pub fn name(&self) -> &'static str {
+    ghost use Rattle.std.specs.Prelude.{◌≡◌};
+    ghost use Rattle.floor_script.specs.Names.{name_of_line_fault};
+
+    /// The name that is printed. Takes no memory.
+    pub fn name(&self) -> &'static str
+        ensures value { result.now ≡ name_of_line_fault self.now }
+    {
         match self {
             LineFault::UnknownCommand => "UnknownCommand",
             LineFault::BadNumber => "BadNumber",
@@ -48,18 +57,22 @@ impl LineFault {
 }
 
 impl From<AllocError> for LineFault {
+    ghost use Rattle.std.specs.Prelude.{◌≡◌};
+    ghost use Rattle.floor_script.specs.declared.line.LineFault.TheVariants.{Memory};
+
+    ghost from_gives = { λ _ e. e ≡ Memory };
+
     fn from(_e: AllocError) -> LineFault {
         LineFault::Memory
     }
 }
 
-impl<T: Drop> From<AllocFailed<T>> for LineFault {
-    fn from(_e: AllocFailed<T>) -> LineFault {
-        LineFault::Memory
-    }
-}
-
 impl From<HexadecimalFault> for LineFault {
+    ghost use Rattle.std.specs.Prelude.{◌≡◌};
+    ghost use Rattle.floor_script.specs.Line.{of_hexadecimal_fault};
+
+    ghost from_gives = { λ fault e. e ≡ of_hexadecimal_fault fault };
+
     fn from(fault: HexadecimalFault) -> LineFault {
         match fault {
             HexadecimalFault::BadHex => LineFault::BadHex,
@@ -69,34 +82,117 @@ impl From<HexadecimalFault> for LineFault {
 }
 
 /// The command of a line that is neither empty nor a comment.
-pub fn parse_line(alloc: Global, line: &str) -> Result<Command, LineFault> {
+///
+/// Words are parted by spaces. Numbers are one to ten decimal digits; the words of hexadecimal are
+/// joined, and spell bytes. Where several parts of a line are bad, the fault of the first is told.
+pub fn parse_line(alloc: Global, line: &str) -> Result<Command, LineFault>
+    ensures value { Reads (command_of line.now) result }
+{
     let words = words(alloc, line)?;
-    match words.as_slice() {
-        ["attach", conference, user] => Ok(Command::Attach {
-            conference: read_u32(conference).ok_or(LineFault::BadNumber)?,
-            user: read_u16(user).ok_or(LineFault::BadNumber)?,
-        }),
-        ["piece", connection, hex @ ..] if !hex.is_empty() => Ok(Command::Piece {
-            connection: read_u64(connection).ok_or(LineFault::BadNumber)?,
-            bytes: read_hexadecimal(alloc, hex)?,
-        }),
-        ["serve", connection] => Ok(Command::Serve {
-            connection: read_u64(connection).ok_or(LineFault::BadNumber)?,
-        }),
-        ["send", connection, hex @ ..] if !hex.is_empty() => Ok(Command::Send {
-            connection: read_u64(connection).ok_or(LineFault::BadNumber)?,
-            bytes: read_hexadecimal(alloc, hex)?,
-        }),
-        ["leave", connection] => Ok(Command::Leave {
-            connection: read_u64(connection).ok_or(LineFault::BadNumber)?,
-        }),
-        ["revoke", conference, request] => Ok(Command::Revoke {
-            conference: read_u32(conference).ok_or(LineFault::BadNumber)?,
-            request: read_u16(request).ok_or(LineFault::BadNumber)?,
-        }),
-        ["close", conference] => Ok(Command::Close {
-            conference: read_u32(conference).ok_or(LineFault::BadNumber)?,
-        }),
+    of_words(alloc, &words)
+}
+
+fn of_words(alloc: Global, words: &[&str]) -> Result<Command, LineFault>
+    ensures { Reads (of_words (map (λ w. w.now) words.now)) result }
+{
+    match words {
+        [name, word] => of_two_words(name, word),
+        [name, word, rest @ ..] => of_three_or_more(alloc, name, word, rest),
         _ => Err(LineFault::UnknownCommand),
     }
+}
+
+fn of_two_words(name: &str, word: &str) -> Result<Command, LineFault>
+    ensures { result ≡ two_words name.now word.now }
+{
+    if name == "serve" {
+        let connection = connection_of(word)?;
+        return Ok(Command::Serve { connection });
+    }
+    if name == "leave" {
+        let connection = connection_of(word)?;
+        return Ok(Command::Leave { connection });
+    }
+    if name == "close" {
+        let conference = conference_of(word)?;
+        return Ok(Command::Close { conference });
+    }
+    Err(LineFault::UnknownCommand)
+}
+
+fn of_three_or_more(
+    alloc: Global,
+    name: &str,
+    word: &str,
+    rest: &[&str],
+) -> Result<Command, LineFault>
+    ensures { Reads (three_words_or_more name.now word.now (map (λ w. w.now) rest.now)) result }
+{
+    if name == "piece" {
+        let connection = connection_of(word)?;
+        let bytes = bytes_of(alloc, rest)?;
+        return Ok(Command::Piece { connection, bytes });
+    }
+    if name == "send" {
+        let connection = connection_of(word)?;
+        let bytes = bytes_of(alloc, rest)?;
+        return Ok(Command::Send { connection, bytes });
+    }
+    match rest {
+        [third] => of_three_words(name, word, third),
+        _ => Err(LineFault::UnknownCommand),
+    }
+}
+
+fn of_three_words(name: &str, conference: &str, word: &str) -> Result<Command, LineFault>
+    ensures { result ≡ three_words name.now conference.now word.now }
+{
+    if name == "attach" {
+        let conference = conference_of(conference)?;
+        let user = user_or_request_of(word)?;
+        return Ok(Command::Attach { conference, user });
+    }
+    if name == "revoke" {
+        let conference = conference_of(conference)?;
+        let request = user_or_request_of(word)?;
+        return Ok(Command::Revoke {
+            conference,
+            request,
+        });
+    }
+    Err(LineFault::UnknownCommand)
+}
+
+fn connection_of(word: &str) -> Result<u64, LineFault>
+    ensures { result ≡ number_of (10 ^ 10) word.now }
+{
+    match read_u64(word) {
+        Some(connection) => Ok(connection),
+        None => Err(LineFault::BadNumber),
+    }
+}
+
+fn conference_of(word: &str) -> Result<u32, LineFault>
+    ensures { result ≡ number_of (2 ^ 32) word.now }
+{
+    match read_u32(word) {
+        Some(conference) => Ok(conference),
+        None => Err(LineFault::BadNumber),
+    }
+}
+
+fn user_or_request_of(word: &str) -> Result<u16, LineFault>
+    ensures { result ≡ number_of (2 ^ 16) word.now }
+{
+    match read_u16(word) {
+        Some(number) => Ok(number),
+        None => Err(LineFault::BadNumber),
+    }
+}
+
+fn bytes_of(alloc: Global, hex: &[&str]) -> Result<Octets, LineFault>
+    ensures { Reads (bytes_of (map (λ w. w.now) hex.now)) result }
+{
+    let bytes = read_hexadecimal(alloc, hex)?;
+    Ok(Octets::from_vec(bytes))
 }

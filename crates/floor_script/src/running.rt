@@ -25,8 +25,14 @@ pub enum RunFault {
 }
 
 impl RunFault {
-    /// The name that standard error tells, where the output doesn't tell the fault.
-    pub fn name(&self) -> Option<&'static str> {
+    ghost use Rattle.std.specs.Prelude.{◌≡◌};
+    ghost use Rattle.std.specs.Option.{option_map};
+    ghost use Rattle.floor_script.specs.Names.{name_of_run_fault, status_of};
+
+    /// The name that standard error tells, where the output doesn't tell the fault. Takes no memory.
+    pub fn name(&self) -> Option<&'static str>
+        ensures value { option_map (λ name. name.now) result ≡ name_of_run_fault self.now }
+    {
         match self {
             RunFault::CannotRead => Some("CannotRead"),
             RunFault::CannotWrite => Some("CannotWrite"),
@@ -35,8 +41,10 @@ impl RunFault {
         }
     }
 
-    /// The exit status.
-    pub fn status(&self) -> u8 {
+    /// The exit status: 2 where the configuration or a line was refused, else 1.
+    pub fn status(&self) -> u8
+        ensures value { result ≡ status_of self.now }
+    {
         match self {
             RunFault::CannotRead | RunFault::CannotWrite | RunFault::Memory => 1,
             RunFault::Refused => 2,

@@ -1,0 +1,84 @@
+-- What a line of a script asks for.
+use Rattle.std.specs.Prelude.{◌≡◌, ◌⊎◌, ◌^◌, ℕ, Option, Some, None, Result, Ok, Err, List, [], ◌∷◌, codes, if◌then◌else◌}
+use Rattle.std.specs.Str.{bytes_eq}
+use Rattle.floor_words.specs.Words.{number, spelled, words}
+use Rattle.floor_words.specs.declared.hexadecimal.HexadecimalFault.{HexadecimalFault}
+use Rattle.floor_words.specs.declared.hexadecimal.HexadecimalFault.TheVariants as hexadecimal
+use Rattle.floor_script.specs.declared.line.Command.{Command}
+use Rattle.floor_script.specs.declared.line.Command.TheVariants.{Attach, Piece, Serve, Send, Leave, Revoke, Close}
+use Rattle.floor_script.specs.declared.line.LineFault.{LineFault}
+use Rattle.floor_script.specs.declared.line.LineFault.TheVariants.{UnknownCommand, BadNumber, BadHex, Memory}
+
+-- a number below the limit
+abbrev pub number_or_fault : Option ℕ → Result ℕ LineFault
+number_or_fault (Some n) = Ok n
+number_or_fault None = Err BadNumber
+
+abbrev pub number_of : ℕ → List ℕ → Result ℕ LineFault
+number_of limit word = number_or_fault (number limit word)
+
+-- the bytes that the joined words spell
+abbrev pub bytes_or_fault : Option (List ℕ) → Result (List ℕ) LineFault
+bytes_or_fault (Some bytes) = Ok bytes
+bytes_or_fault None = Err BadHex
+
+abbrev pub bytes_of : List (List ℕ) → Result (List ℕ) LineFault
+bytes_of hex = bytes_or_fault (spelled hex)
+
+-- a fault of hexadecimal as the line's
+abbrev pub of_hexadecimal_fault : HexadecimalFault → LineFault
+of_hexadecimal_fault hexadecimal.BadHex = BadHex
+of_hexadecimal_fault hexadecimal.Memory = Memory
+
+-- what a part of a line makes, where it is good
+abbrev pub of_part : {A : Type 0} → (A → Command) → Result A LineFault → Result Command LineFault
+of_part make (Ok part) = Ok (make part)
+of_part make (Err fault) = Err fault
+
+-- what two parts of a line make: the fault of the first counts
+abbrev pub of_parts : {A B : Type 0} → (A → B → Command) → Result A LineFault → Result B LineFault → Result Command LineFault
+of_parts make (Ok part) other = of_part (make part) other
+of_parts make (Err fault) other = Err fault
+
+-- `serve <connection>`, `leave <connection>`, `close <conference>`
+abbrev pub two_words : List ℕ → List ℕ → Result Command LineFault
+two_words name word =
+    if bytes_eq name (codes "serve") then of_part Serve (number_of (10 ^ 10) word)
+    else if bytes_eq name (codes "leave") then of_part Leave (number_of (10 ^ 10) word)
+    else if bytes_eq name (codes "close") then of_part Close (number_of (2 ^ 32) word)
+    else Err UnknownCommand
+
+-- `attach <conference> <user>`, `revoke <conference> <request>`
+abbrev pub three_words : List ℕ → List ℕ → List ℕ → Result Command LineFault
+three_words name conference word =
+    if bytes_eq name (codes "attach") then of_parts Attach (number_of (2 ^ 32) conference) (number_of (2 ^ 16) word)
+    else if bytes_eq name (codes "revoke") then of_parts Revoke (number_of (2 ^ 32) conference) (number_of (2 ^ 16) word)
+    else Err UnknownCommand
+
+-- the line of three words, where there are no more
+abbrev pub three_words_alone : List ℕ → List ℕ → List (List ℕ) → Result Command LineFault
+three_words_alone name conference [] = Err UnknownCommand
+three_words_alone name conference (word ∷ []) = three_words name conference word
+three_words_alone name conference (_ ∷ _ ∷ _) = Err UnknownCommand
+
+-- `piece <connection> <hex ..>`, `send <connection> <hex ..>`, or a line of three words
+abbrev pub three_words_or_more : List ℕ → List ℕ → List (List ℕ) → Result Command LineFault
+three_words_or_more name word rest =
+    if bytes_eq name (codes "piece") then of_parts Piece (number_of (10 ^ 10) word) (bytes_of rest)
+    else if bytes_eq name (codes "send") then of_parts Send (number_of (10 ^ 10) word) (bytes_of rest)
+    else three_words_alone name word rest
+
+-- what words ask for
+abbrev pub of_words : List (List ℕ) → Result Command LineFault
+of_words [] = Err UnknownCommand
+of_words (_ ∷ []) = Err UnknownCommand
+of_words (name ∷ word ∷ []) = two_words name word
+of_words (name ∷ word ∷ third ∷ more) = three_words_or_more name word (third ∷ more)
+
+-- what a line asks for
+abbrev pub command_of : List ℕ → Result Command LineFault
+command_of line = of_words (words line)
+
+-- what is read is what is meant, or memory was refused
+abbrev pub Reads : {A : Type 0} → Result A LineFault → Result A LineFault → Type 0
+Reads meant result = (result ≡ meant) ⊎ (result ≡ Err Memory)
