@@ -72,7 +72,7 @@ impl Case {
             return Err(differing(alloc, name, wanted, printed)?);
         }
         if status != self.status() {
-            return Err(Fault::Layout("another status"));
+            return Err(Fault::Wrong("another status"));
         }
         Ok(())
     }

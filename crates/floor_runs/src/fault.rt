@@ -12,6 +12,8 @@ pub enum Fault {
     Files(io::ErrorKind),
     /// A text isn't laid out as cases are.
     Layout(&'static str),
+    /// A call gives something else than it has to.
+    Wrong(&'static str),
     /// A script prints something else than its case says.
     Differs(Difference),
 }

@@ -2,6 +2,7 @@
 
 use crate::cases::run_cases;
 use crate::fault::Fault;
+use crate::made::run_made;
 use std::fs;
 use std::io::Write;
 use std::path::Path;
@@ -30,6 +31,15 @@ where
     W: Write,
     E: Write,
 {
+    if word == "made" {
+        return match run_made(rt.alloc(), output) {
+            Ok(()) => true,
+            Err(fault) => {
+                tell(errors, word, &fault);
+                false
+            }
+        };
+    }
     let paths = match paths_of(rt, word) {
         Ok(paths) => paths,
         Err(fault) => {

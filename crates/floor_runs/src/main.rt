@@ -1,6 +1,7 @@
 //! Runs the cases of files, and tells where a script prints something else than its case says.
 //!
-//! Its words are files and folders; a folder stands for the files in it, by name. Each file is
+//! Its words are files and folders; a folder stands for the files in it, by name. The word `made`
+//! stands for the cases that are made by code. Each file, and each kind of those that are made, is
 //! printed with the number of its cases. Status 1 where a case differs or a file can't be run, which
 //! standard error tells.
 #![tactic(auto)]
@@ -9,9 +10,8 @@ mod case;
 mod cases;
 mod fault;
 mod files;
+mod made;
 mod shorthands;
-#[cfg(test)]
-mod tests;
 
 use std::process::ExitCode;
 

@@ -73,9 +73,7 @@ fn moved_up(alloc: Global) -> Result<String, Fault> {
     Ok(text)
 }
 
-#[test]
-fn a_conference_has_256_ongoing_requests(rt: HostRuntime) -> Result<(), Fault> {
-    let alloc = rt.alloc();
+fn check_256_requests(alloc: Global) -> Result<(), Fault> {
     let mut case = Case::new(alloc, SEVENTEEN_USERS)?;
     case.extend(alloc, full_conference(alloc)?.as_str())?;
     case.extend(alloc, BEYOND_256)?;
@@ -157,9 +155,7 @@ const STILL_NO_NUMBER: &str = "
 < 2 E(0005, 000b, 0e)
 ";
 
-#[test]
-fn a_conference_gives_65535_numbers(rt: HostRuntime) -> Result<(), Fault> {
-    let alloc = rt.alloc();
+fn check_65535_numbers(alloc: Global) -> Result<(), Fault> {
     let mut case = Case::new(alloc, SEVENTEEN_USERS)?;
     case.extend(
         alloc,
@@ -197,10 +193,16 @@ const BESIDE_64: &str = "
 < refused Ended
 ";
 
-#[test]
-fn a_conference_has_64_live_connections(rt: HostRuntime) -> Result<(), Fault> {
-    let alloc = rt.alloc();
+fn check_64_connections(alloc: Global) -> Result<(), Fault> {
     let mut case = full_of_connections(alloc)?;
     case.extend(alloc, BESIDE_64)?;
     case.check(alloc, "64 live connections")
+}
+
+/// The three limits of a conference, each reached and gone beyond.
+pub fn run(alloc: Global) -> Result<usize, Fault> {
+    check_256_requests(alloc)?;
+    check_65535_numbers(alloc)?;
+    check_64_connections(alloc)?;
+    Ok(3)
 }

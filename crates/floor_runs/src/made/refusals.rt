@@ -1,5 +1,6 @@
 //! Refusals by the hub's calls that no line of a script meets.
 
+use crate::fault::Fault;
 use floor_config::Config;
 use floor_hub::{Hub, HubRefusal};
 use std::alloc::Global;
@@ -32,22 +33,22 @@ fn send(hub: &mut Hub, connection: u64) -> Result<(), HubRefusal> {
     hub.piece(connection, &[0x20])
 }
 
-#[test]
-fn opening_again_and_taking_after_a_leave_are_refused(rt: HostRuntime) {
-    let alloc = rt.alloc();
+/// Opening again, and what is asked of a connection that left, is refused.
+pub fn run(alloc: Global) -> Result<usize, Fault> {
     let mut hub = Hub::new(alloc);
-    assert!(rt; open(alloc, &mut hub) == Ok(()), "opened");
-    assert!(rt;
-        open(alloc, &mut hub) == Err(HubRefusal::Used),
-        "opened twice"
-    );
+    let opened = [open(alloc, &mut hub), open(alloc, &mut hub)];
     let connection = attach(alloc, &mut hub);
-    assert!(rt; take(&mut hub, connection) == Ok(false), "nothing waits");
-    assert!(rt; leave(&mut hub, connection) == Ok(()), "left");
-    let gone = Err(HubRefusal::NoConnection);
-    assert!(rt; take(&mut hub, connection) == gone, "taken after a leave");
-    assert!(rt;
-        send(&mut hub, connection) == Err(HubRefusal::NoConnection),
-        "a piece after it"
-    );
+    let taken = take(&mut hub, connection);
+    let left = leave(&mut hub, connection);
+    let gone = [
+        take(&mut hub, connection).err(),
+        send(&mut hub, connection).err(),
+    ];
+    if opened != [Ok(()), Err(HubRefusal::Used)] || taken != Ok(false) || left != Ok(()) {
+        return Err(Fault::Wrong("opening, taking or leaving"));
+    }
+    if gone != [Some(HubRefusal::NoConnection); 2] {
+        return Err(Fault::Wrong("a connection that left"));
+    }
+    Ok(5)
 }

@@ -2,7 +2,8 @@
 
 use crate::fault::Fault;
 use floor_config::read_configs;
-use floor_hub::{Act, Octets, Step, Transcript, run};
+use floor_hub as hub;
+use floor_hub::{Act, Step, Transcript};
 use floor_script::{Command, parse_line};
 use std::alloc::Global;
 
@@ -52,17 +53,15 @@ const QUEUED: &str = "\
 fn push_steps(alloc: Global, steps: &mut Vec<Step>, line: &str) -> Result<(), Fault> {
     match parse_line(alloc, line) {
         Ok(Command::Attach { conference, user }) => steps.push(Step::Attach { conference, user })?,
-        Ok(Command::Piece { connection, bytes }) => {
-            steps.push(Step::Piece {
-                number: connection,
-                bytes: Octets::from_vec(bytes),
-            })?;
-        }
+        Ok(Command::Piece { connection, bytes }) => steps.push(Step::Piece {
+            number: connection,
+            bytes,
+        })?,
         Ok(Command::Serve { connection }) => steps.push(Step::Serve(connection))?,
         Ok(Command::Send { connection, bytes }) => {
             steps.push(Step::Piece {
                 number: connection,
-                bytes: Octets::from_vec(bytes),
+                bytes,
             })?;
             steps.push(Step::Serve(connection))?;
         }
@@ -104,18 +103,25 @@ fn queued_to_conference_1(alloc: Global, transcript: &Transcript) -> Result<Stri
     Ok(text)
 }
 
-#[test]
-fn interleavings_with_the_same_events_queue_the_same_bytes(rt: HostRuntime) -> Result<(), Fault> {
-    let alloc = rt.alloc();
-    for script in [ALONE, BESIDE_ANOTHER] {
-        let steps = steps_of(alloc, script)?;
-        let Ok(transcript) = run(alloc, &steps) else {
-            return Err(Fault::Layout("want of memory"));
-        };
-        let queued = queued_to_conference_1(alloc, &transcript)?;
-        assert!(rt; queued.as_str() == QUEUED, "{script}");
-        let answered = transcript.answers.as_slice().len() == steps.len();
-        assert!(rt; answered, "an answer for each step");
+/// Both interleavings queue the same bytes to the connections of conference 1.
+pub fn run(alloc: Global) -> Result<usize, Fault> {
+    check(alloc, ALONE)?;
+    check(alloc, BESIDE_ANOTHER)?;
+    Ok(2)
+}
+
+/// A run of a script answers each step, and queues the bytes.
+fn check(alloc: Global, script: &str) -> Result<(), Fault> {
+    let steps = steps_of(alloc, script)?;
+    let Ok(transcript) = hub::run(alloc, &steps) else {
+        return Err(Fault::Memory);
+    };
+    if transcript.answers.as_slice().len() != steps.len() {
+        return Err(Fault::Wrong("no answer for each step"));
+    }
+    let queued = queued_to_conference_1(alloc, &transcript)?;
+    if queued.as_str() != QUEUED {
+        return Err(Fault::Wrong("what an interleaving queues"));
     }
     Ok(())
 }

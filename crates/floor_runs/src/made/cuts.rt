@@ -2,15 +2,15 @@
 
 use crate::case::Case;
 use crate::fault::Fault;
+use std::alloc::Global;
 
 /// The message of the example that asks for floor 1, byte by byte.
 const REQUEST: [&str; 16] = [
     "20", "01", "00", "01", "00", "00", "00", "01", "00", "02", "00", "0a", "04", "04", "00", "01",
 ];
 
-#[test]
-fn a_message_may_be_cut_at_each_byte(rt: HostRuntime) -> Result<(), Fault> {
-    let alloc = rt.alloc();
+/// A case for each place at which the message may be cut.
+pub fn run(alloc: Global) -> Result<usize, Fault> {
     for cut in 1..REQUEST.len() {
         let (front, rest) = REQUEST.as_slice().split_at(cut);
         let front = front.concat(alloc)?;
@@ -32,5 +32,5 @@ fn a_message_may_be_cut_at_each_byte(rt: HostRuntime) -> Result<(), Fault> {
         case.extend(alloc, text.as_str())?;
         case.check(alloc, text.as_str())?;
     }
-    Ok(())
+    Ok(REQUEST.len() - 1)
 }

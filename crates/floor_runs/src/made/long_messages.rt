@@ -4,9 +4,7 @@ use crate::case::Case;
 use crate::fault::Fault;
 use std::alloc::Global;
 
-#[test]
-fn the_longest_message_is_read(rt: HostRuntime) -> Result<(), Fault> {
-    let alloc = rt.alloc();
+fn check_longest(alloc: Global) -> Result<(), Fault> {
     let payload = "28040000".repeat(alloc, 65_535)?;
     let text = format!(in alloc;
         "> attach 1 10\n\
@@ -33,9 +31,7 @@ fn nested_groups(alloc: Global) -> Result<String, Fault> {
     Ok(words)
 }
 
-#[test]
-fn deep_groups_and_all_unknown_types_are_read(rt: HostRuntime) -> Result<(), Fault> {
-    let alloc = rt.alloc();
+fn check_deepest(alloc: Global) -> Result<(), Fault> {
     let groups = nested_groups(alloc)?;
     let mut unknown = String::from_str(alloc, "01040000")?;
     let mut details = String::from_str(alloc, "00")?;
@@ -56,4 +52,11 @@ fn deep_groups_and_all_unknown_types_are_read(rt: HostRuntime) -> Result<(), Fau
     let mut case = Case::new(alloc, "")?;
     case.extend(alloc, text.as_str())?;
     case.check(alloc, "deep groups")
+}
+
+/// The longest message, and the deepest beside one with all types that are unknown.
+pub fn run(alloc: Global) -> Result<usize, Fault> {
+    check_longest(alloc)?;
+    check_deepest(alloc)?;
+    Ok(2)
 }

@@ -1,6 +1,8 @@
 //! Readers and writers that fail.
 
-use floor_script::run;
+use crate::fault::Fault;
+use floor_script as script;
+use std::alloc::Global;
 use std::io;
 use std::io::{Read, Write};
 
@@ -35,22 +37,22 @@ impl Write for FailingWriter {
     }
 }
 
-#[test]
-fn a_fault_of_reading_or_writing_is_status_1(rt: HostRuntime) {
-    let mut written: Vec<u8> = Vec::new(rt.alloc());
+/// A reader that fails, one whose bytes are no UTF-8, and a writer that fails: each ends the run
+/// with status 1, and nothing is printed.
+pub fn run(alloc: Global) -> Result<usize, Fault> {
+    let mut written: Vec<u8> = Vec::new(alloc);
     let mut reader = FailingReader {
         bytes: b"attach 1 10\n",
     };
     let mut not_utf8: &[u8] = b"attach 1 10\n\xff\n";
     let mut script = "attach 1 10\n".as_bytes();
     let statuses = [
-        run(rt.alloc(), &mut reader, &mut written),
-        run(rt.alloc(), &mut not_utf8, &mut written),
-        run(rt.alloc(), &mut script, &mut FailingWriter),
+        script::run(alloc, &mut reader, &mut written),
+        script::run(alloc, &mut not_utf8, &mut written),
+        script::run(alloc, &mut script, &mut FailingWriter),
     ];
-    assert!(rt;
-        statuses == [1, 1, 1],
-        "a failing reader, no UTF-8, a failing writer"
-    );
-    assert!(rt; written.is_empty(), "nothing is printed");
+    if statuses != [1, 1, 1] || !written.is_empty() {
+        return Err(Fault::Wrong("a run whose reader or writer fails"));
+    }
+    Ok(statuses.len())
 }
