@@ -114,7 +114,7 @@ pub fn run(alloc: Global) -> Result<usize, Fault> {
 fn check(alloc: Global, script: &str) -> Result<(), Fault> {
     let steps = steps_of(alloc, script)?;
     let Ok(transcript) = hub::run(alloc, &steps) else {
-        return Err(Fault::Memory);
+        return Err(Fault::Wrong("a run that ends early"));
     };
     if transcript.answers.as_slice().len() != steps.len() {
         return Err(Fault::Wrong("no answer for each step"));

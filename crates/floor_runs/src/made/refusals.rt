@@ -5,13 +5,6 @@ use floor_config::Config;
 use floor_hub::{Hub, HubRefusal};
 use std::alloc::Global;
 
-fn open(alloc: Global, hub: &mut Hub) -> Result<(), HubRefusal> {
-    match Config::demonstration(alloc) {
-        Ok(config) => hub.open(alloc, config),
-        Err(_) => Err(HubRefusal::Memory),
-    }
-}
-
 /// The number of a connection of user 10, or 0.
 fn attach(alloc: Global, hub: &mut Hub) -> u64 {
     hub.attach(alloc, 1, 10).unwrap_or(0)
@@ -36,7 +29,9 @@ fn send(hub: &mut Hub, connection: u64) -> Result<(), HubRefusal> {
 /// Opening again, and what is asked of a connection that left, is refused.
 pub fn run(alloc: Global) -> Result<usize, Fault> {
     let mut hub = Hub::new(alloc);
-    let opened = [open(alloc, &mut hub), open(alloc, &mut hub)];
+    let first = Config::demonstration(alloc)?;
+    let second = Config::demonstration(alloc)?;
+    let opened = [hub.open(alloc, first), hub.open(alloc, second)];
     let connection = attach(alloc, &mut hub);
     let taken = take(&mut hub, connection);
     let left = leave(&mut hub, connection);
