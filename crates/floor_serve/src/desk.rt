@@ -1,8 +1,9 @@
 //! One conference as threads share it.
 
-ghost use Rattle.std.specs.Prelude.{◌≡◌, ◌∷◌, ◌++◌, [], IfOk, OnErr};
-ghost use Rattle.floor_machine.specs.declared.event.Event.TheVariants.{Message};
-ghost use Rattle.floor_serve.specs.Booth.{TookAt};
+ghost use Rattle.std.specs.Prelude.{◌≡◌, ◌∷◌, ◌++◌, [], IfOk, OnErr, OnOk};
+ghost use Rattle.floor_machine.specs.declared.event.Event.TheVariants.{Leave, Message};
+ghost use Rattle.floor_machine.specs.Machine.{event_of_act};
+ghost use Rattle.floor_serve.specs.Booth.{JoinedInOneHold, TookAt, TookInOneHold};
 
 use crate::booth::Booth;
 use crate::gate::Gate;
@@ -60,6 +61,7 @@ impl Desk {
         ensures seat { IfOk result (λ joined. joined.0.conference ≡ self.now.conference) }
         ensures sent { IfOk result (λ joined. joined.0.sent ≡ []) }
         ensures taken { IfOk result (λ joined. joined.1.taken ≡ []) }
+        ensures took { IfOk result (λ joined. JoinedInOneHold user joined.0.n joined.1.pair) }
     {
         let mut booth = self.booth.lock(rt);
         let joined = booth.join(rt, user);
@@ -112,6 +114,7 @@ impl Desk {
     pub fn leave<R: Wait>(&self, rt: &R, seat: &mut Seat) -> Result<(), RoomRefusal>
         requires { seat.old.conference ≡ self.now.conference }
         ensures kept { seat.new ≡ seat.old }
+        ensures took { OnOk result (TookInOneHold (Leave seat.old.n)) }
     {
         let mut booth = self.booth.lock(rt);
         let left = booth.leave(rt, seat.n());
@@ -126,7 +129,9 @@ impl Desk {
 
     /// Does what the administrator does. A Close lets every writer end. Refused as
     /// [`Booth::admin`].
-    pub fn admin<R: Wait>(&self, rt: &R, act: Act) -> Result<(), RoomRefusal> {
+    pub fn admin<R: Wait>(&self, rt: &R, act: Act) -> Result<(), RoomRefusal>
+        ensures took { OnOk result (TookInOneHold (event_of_act act)) }
+    {
         let mut booth = self.booth.lock(rt);
         let done = booth.admin(rt, act);
         let wakers = booth.wakers();
