@@ -2,4 +2,3 @@
 
 mod conversing;
 mod lines;
-mod shared;

@@ -1,45 +1,31 @@
+//! Texts and values that make configurations, and their fields.
+
 mod faults;
 mod order;
 
+use crate::cases::{assert_told, differing, number, part, push_shown};
 use floor_config::*;
+use floor_words::read_u16;
 use std::alloc::{AllocError, Global};
 use std::fmt::Write;
-use std::test::Fail;
 
 /// A configuration with every key.
 const EVERY_KEY: &str =
     "[[conference]]\nid = 1\nlimit = 4\n[[conference.user]]\nid = 10\nname = \"Ann\"\nuri = \"sip:ann@example.com\"\nproxy = true\nport = 7010\n[[conference.floor]]\nid = 1\nroom = 1\nchair = 10\n";
 
-/// The fault of a text, or none.
-fn fault_of(alloc: Global, text: &str) -> Option<ConfigFault> {
-    match read_configs(alloc, text) {
-        Ok(_) => None,
-        Err(fault) => Some(fault),
-    }
-}
-
-/// The fields of configurations: `conference limit (id name uri proxy port) [id room chair]`, with
-/// `-` for what is absent.
-fn fields_of(alloc: Global, configs: &[Config]) -> Result<String, AllocError> {
-    let mut fields = String::new(alloc);
-    for config in configs {
-        push_fields(&mut fields, config)?;
-    }
-    Ok(fields)
-}
-
+/// Appends the fields of a configuration: `conference limit (id name uri proxy port) [id room
+/// chair];`, with `-` for what is absent.
 fn push_fields(fields: &mut String, config: &Config) -> Result<(), AllocError> {
-    write!(fields, "{} {}", config.conference(), config.limit())?;
+    write!(fields, " {} {}", config.conference(), config.limit())?;
     for user in config.users() {
         push_user(fields, user)?;
     }
     for floor in config.floors() {
         write!(fields, " [{} {}", floor.id, floor.room)?;
-        push_number(fields, floor.chair)?;
-        write!(fields, "]")?;
+        push_shown(fields, floor.chair)?;
+        fields.push(']')?;
     }
-    write!(fields, "; ")?;
-    Ok(())
+    fields.push(';')
 }
 
 fn push_user(fields: &mut String, user: &User) -> Result<(), AllocError> {
@@ -47,70 +33,37 @@ fn push_user(fields: &mut String, user: &User) -> Result<(), AllocError> {
     push_text(fields, &user.name)?;
     push_text(fields, &user.uri)?;
     write!(fields, " {}", user.proxy)?;
-    push_number(fields, user.port)?;
-    write!(fields, ")")?;
-    Ok(())
+    push_shown(fields, user.port)?;
+    fields.push(')')
 }
 
 fn push_text(fields: &mut String, text: &Option<Text>) -> Result<(), AllocError> {
     match text {
-        None => write!(fields, " -")?,
-        Some(text) => write!(fields, " {}", text.as_str())?,
+        None => push_shown(fields, None::<&str>),
+        Some(text) => push_shown(fields, Some(text.as_str())),
     }
-    Ok(())
-}
-
-fn push_number(fields: &mut String, number: Option<u16>) -> Result<(), AllocError> {
-    match number {
-        None => write!(fields, " -")?,
-        Some(number) => write!(fields, " {number}")?,
-    }
-    Ok(())
-}
-
-/// A case of a table.
-#[derive(Clone, Copy)]
-struct Case<'a> {
-    name: &'a str,
-    text: &'a str,
-    wanted: &'a str,
-}
-
-/// The case of a part of a table: its name behind `== `, the lines of its text, and behind `=>` what
-/// is read of it.
-fn case_of(part: &str) -> Option<Case<'_>> {
-    let (name, rest) = part.split_once('\n')?;
-    let (text, wanted) = rest.split_once("\n=>")?;
-    Some(Case {
-        name: name.strip_prefix("== ").unwrap_or(name),
-        text,
-        wanted: wanted.trim(),
-    })
 }
 
 /// What is read of a text: the fields of its configurations, or the name of its fault.
 fn told_of(alloc: Global, text: &str) -> Result<String, AllocError> {
+    let mut told = String::new(alloc);
     match read_configs(alloc, text) {
-        Ok(configs) => fields_of(alloc, &configs),
-        Err(fault) => fault.to_string(alloc),
+        Ok(configs) => {
+            for config in &configs {
+                push_fields(&mut told, config)?;
+            }
+        }
+        Err(fault) => write!(told, " {fault}")?,
     }
+    Ok(told)
 }
 
-/// The cases of a table of whose text something else is read, a line for each.
-fn differing(alloc: Global, table: &str) -> Result<String, AllocError> {
-    let mut lines = String::new(alloc);
-    for part in table.split("\n== ") {
-        match case_of(part) {
-            Some(case) => {
-                let told = told_of(alloc, case.text)?;
-                if told.as_str().trim() != case.wanted {
-                    write!(lines, "{}: {told}\n", case.name)?;
-                }
-            }
-            None => write!(lines, "no case: {part}\n")?,
-        }
+/// What is read of a case's text, which stands behind the line of its name.
+fn told_of_case(alloc: Global, case: &str) -> Result<String, AllocError> {
+    match case.split_once('\n') {
+        Some((_name, text)) => told_of(alloc, text),
+        None => String::from_str(alloc, "no text"),
     }
-    Ok(lines)
 }
 
 /// Texts and the fields that they give.
@@ -204,266 +157,110 @@ conference = [{id = 2, user = [{id = 10, port = 7010}]}, {id = 1, user = [{id = 
 => 2 4 (10 - - false 7010); 1 4 (10 - - false 7011) [1 1 -];"#;
 
 #[test]
-fn a_text_gives_its_fields(rt: HostRuntime) -> Result<(), Fail> {
-    assert_eq!(rt; differing(rt.alloc(), READ)?.as_str(), "");
-    assert_eq!(rt; READ.split("\n== ").count(), 25);
-    Ok(())
+fn a_text_gives_its_fields(rt: HostRuntime) {
+    let told = differing(rt.alloc(), READ, "\n== ", "\n=>", told_of_case);
+    assert_told(&rt, told, "25 cases");
 }
 
-/// The users with these ids, the first of whom has this name, URI and port.
-fn users_of(
-    alloc: Global,
-    ids: &[u16],
-    name: &str,
-    uri: &str,
-    port: u16,
-) -> Result<Users, AllocError> {
+/// Each line: the name of a case, the limit, the ids of the users, the name, the URI and the port of
+/// the first of them, the room and the chair of floor 1, and the id of another floor. Behind `=>`
+/// what `Config::build` makes of them.
+const BUILT: &str = "\
+values within their ranges | 4 | 10 11 | n | | 7010 | 1 | 10 | 2 => 1 4 (10 n - false 7010) (11 - - false -) [1 1 10] [2 1 -];
+the least values and empty texts | 1 | 10 11 | | | 1 | 1 | - | 2 => 1 1 (10 - - false 1) (11 - - false -) [1 1 -] [2 1 -];
+the greatest values | 16 | 10 11 | nnnnnnnnnnnnnnnnnnnnnnnnnnnnnn | uuuuuuuuuuuuuuuuuuuuuuuuuuuuuuuuuuuuuuuuuuuuuuuuuuuuuuuuuuuuuu | 65535 | 255 | 11 | 65535 => 1 16 (10 nnnnnnnnnnnnnnnnnnnnnnnnnnnnnn uuuuuuuuuuuuuuuuuuuuuuuuuuuuuuuuuuuuuuuuuuuuuuuuuuuuuuuuuuuuuu false 65535) (11 - - false -) [1 255 11] [65535 1 -];
+a limit of 0 | 0 | 10 11 10 | n | | 0 | 0 | 9 | 1 => OutOfRange
+a limit of 17 | 17 | 10 11 | n | | 7010 | 1 | - | 2 => OutOfRange
+a name of 31 bytes | 4 | 10 11 | nnnnnnnnnnnnnnnnnnnnnnnnnnnnnnn | | 7010 | 1 | - | 2 => OutOfRange
+a URI of 63 bytes | 4 | 10 11 | n | uuuuuuuuuuuuuuuuuuuuuuuuuuuuuuuuuuuuuuuuuuuuuuuuuuuuuuuuuuuuuuu | 7010 | 1 | - | 2 => OutOfRange
+port 0 | 4 | 10 11 | n | | 0 | 1 | - | 2 => OutOfRange
+two users with one id before a room | 4 | 10 11 10 | n | | 7010 | 0 | 9 | 1 => DoubleUser
+a room of 0 before two floors with one id | 4 | 10 11 | n | | 7010 | 0 | 9 | 1 => OutOfRange
+a room of 256 | 4 | 10 11 | n | | 7010 | 256 | - | 2 => OutOfRange
+two floors with one id before a chair | 4 | 10 11 | n | | 7010 | 1 | 9 | 1 => DoubleFloor
+a chair that is no user | 4 | 10 11 | n | | 7010 | 1 | 9 | 2 => UnknownChair";
+
+#[test]
+fn values_make_a_configuration_or_a_fault(rt: HostRuntime) {
+    let told = differing(rt.alloc(), BUILT, "\n", " =>", built);
+    assert_told(&rt, told, "13 cases");
+}
+
+/// What `Config::build` answers of a case: the fields, or the name of the fault.
+fn built(alloc: Global, case: &str) -> Result<String, AllocError> {
+    let first = Floor {
+        id: 1,
+        room: number(part(case, 6)),
+        chair: read_u16(part(case, 7)),
+    };
+    let second = Floor {
+        id: number(part(case, 8)),
+        room: 1,
+        chair: None,
+    };
+    let floors = Floors::from_vec(vec![in alloc; first, second]?);
+    let limit = number(part(case, 1));
+    let mut told = String::new(alloc);
+    match Config::build(alloc, 1, limit, users_of(alloc, case)?, floors) {
+        Ok(config) => push_fields(&mut told, &config)?,
+        Err(fault) => write!(told, " {fault}")?,
+    }
+    Ok(told)
+}
+
+/// The users of a case, the first of whom has a name, a URI and a port.
+fn users_of(alloc: Global, case: &str) -> Result<Users, AllocError> {
     let mut users = Vec::new(alloc);
-    for (index, id) in ids.iter().enumerate() {
+    for id in part(case, 2).split(' ') {
         let mut user = User {
-            id: *id,
+            id: number(id),
             name: None,
             uri: None,
             proxy: false,
             port: None,
         };
-        if index == 0 {
-            user.name = Some(Text::from_string(String::from_str(alloc, name)?));
-            user.uri = Some(Text::from_string(String::from_str(alloc, uri)?));
-            user.port = Some(port);
+        if users.is_empty() {
+            user.name = Some(Text::from_string(String::from_str(alloc, part(case, 3))?));
+            user.uri = Some(Text::from_string(String::from_str(alloc, part(case, 4))?));
+            user.port = Some(number(part(case, 5)));
         }
         users.push(user)?;
     }
     Ok(Users::from_vec(users))
 }
 
-/// What `Config::build` answers of the users, and of a floor 1 and another floor: the fields, or
-/// the name of the fault.
-fn told_of_build(
-    alloc: Global,
-    limit: u16,
-    users: Users,
-    room: u16,
-    chair: Option<u16>,
-    floor: u16,
-) -> Result<String, AllocError> {
-    let first = Floor { id: 1, room, chair };
-    let second = Floor {
-        id: floor,
-        room: 1,
-        chair: None,
-    };
-    let floors = Floors::from_vec(vec![in alloc; first, second]?);
-    let mut told = String::new(alloc);
-    match Config::build(alloc, 1, limit, users, floors) {
-        Ok(config) => push_fields(&mut told, &config)?,
-        Err(fault) => write!(told, "{fault}")?,
-    }
-    Ok(told)
-}
-
-#[test]
-fn values_make_a_configuration_or_a_fault(rt: HostRuntime) {
-    let alloc = rt.alloc();
-    let ids: &[u16] = &[10, 11];
-    let same: &[u16] = &[10, 11, 10];
-    let fields = "1 4 (10 n - false 7010) (11 - - false -) [1 1 10] [2 1 -]; ";
-    let least = "1 1 (10 - - false 1) (11 - - false -) [1 1 -] [2 1 -]; ";
-    let most =
-        "1 16 (10 nnnnnnnnnnnnnnnnnnnnnnnnnnnnnn uuuuuuuuuuuuuuuuuuuuuuuuuuuuuuuuuuuuuuuuuuuuuuuuuuuuuuuuuuuuuu false 65535) (11 - - false -) [1 255 11] [65535 1 -]; ";
-    let cases = [
-        (
-            "values within their ranges",
-            4,
-            ids,
-            "n",
-            "",
-            7010,
-            1,
-            Some(10),
-            2,
-            fields,
-        ),
-        (
-            "the least values and empty texts",
-            1,
-            ids,
-            "",
-            "",
-            1,
-            1,
-            None,
-            2,
-            least,
-        ),
-        (
-            "the greatest values",
-            16,
-            ids,
-            "nnnnnnnnnnnnnnnnnnnnnnnnnnnnnn",
-            "uuuuuuuuuuuuuuuuuuuuuuuuuuuuuuuuuuuuuuuuuuuuuuuuuuuuuuuuuuuuuu",
-            65535,
-            255,
-            Some(11),
-            65535,
-            most,
-        ),
-        (
-            "a limit of 0",
-            0,
-            same,
-            "n",
-            "",
-            0,
-            0,
-            Some(9),
-            1,
-            "OutOfRange",
-        ),
-        (
-            "a limit of 17",
-            17,
-            ids,
-            "n",
-            "",
-            7010,
-            1,
-            None,
-            2,
-            "OutOfRange",
-        ),
-        (
-            "a name of 31 bytes",
-            4,
-            ids,
-            "nnnnnnnnnnnnnnnnnnnnnnnnnnnnnnn",
-            "",
-            7010,
-            1,
-            None,
-            2,
-            "OutOfRange",
-        ),
-        (
-            "a URI of 63 bytes",
-            4,
-            ids,
-            "n",
-            "uuuuuuuuuuuuuuuuuuuuuuuuuuuuuuuuuuuuuuuuuuuuuuuuuuuuuuuuuuuuuun",
-            7010,
-            1,
-            None,
-            2,
-            "OutOfRange",
-        ),
-        ("port 0", 4, ids, "n", "", 0, 1, None, 2, "OutOfRange"),
-        (
-            "two users with one id before a room",
-            4,
-            same,
-            "n",
-            "",
-            7010,
-            0,
-            Some(9),
-            1,
-            "DoubleUser",
-        ),
-        (
-            "a room of 0 before two floors with one id",
-            4,
-            ids,
-            "n",
-            "",
-            7010,
-            0,
-            Some(9),
-            1,
-            "OutOfRange",
-        ),
-        (
-            "a room of 256",
-            4,
-            ids,
-            "n",
-            "",
-            7010,
-            256,
-            None,
-            2,
-            "OutOfRange",
-        ),
-        (
-            "two floors with one id before a chair",
-            4,
-            ids,
-            "n",
-            "",
-            7010,
-            1,
-            Some(9),
-            1,
-            "DoubleFloor",
-        ),
-        (
-            "a chair that is no user",
-            4,
-            ids,
-            "n",
-            "",
-            7010,
-            1,
-            Some(9),
-            2,
-            "UnknownChair",
-        ),
-    ];
-    for (name, limit, users, text, uri, port, room, chair, floor, wanted) in cases {
-        match users_of(alloc, users, text, uri, port) {
-            Ok(users) => match told_of_build(alloc, limit, users, room, chair, floor) {
-                Ok(told) => assert_eq!(rt; told.as_str(), wanted, "{name}"),
-                Err(_) => assert!(rt; false, "{name}: no memory"),
-            },
-            Err(_) => assert!(rt; false, "{name}: no memory"),
-        }
-    }
-}
-
 #[test]
 fn a_copy_has_the_fields_of_its_source(rt: HostRuntime) {
-    match copies(rt.alloc()) {
-        Ok((copy, users)) => {
-            assert_eq!(rt;
-                copy.as_str(),
-                "1 4 (10 Ann sip:ann@example.com true 7010) [1 1 10]; "
-            );
-            assert_eq!(rt; users.as_str(), " (10 Ann sip:ann@example.com true 7010)");
-        }
-        Err(fault) => assert!(rt; false, "{fault}"),
-    }
+    assert_told(
+        &rt,
+        copied(rt.alloc()),
+        " 1 4 (10 Ann sip:ann@example.com true 7010) [1 1 10]; (10 Ann sip:ann@example.com true 7010)",
+    );
 }
 
 /// The fields of a copied configuration, and those of its copied users.
-fn copies(alloc: Global) -> Result<(String, String), ConfigFault> {
+fn copied(alloc: Global) -> Result<String, AllocError> {
     let mut fields = String::new(alloc);
-    let mut users = String::new(alloc);
-    for config in read_configs(alloc, EVERY_KEY)?.iter() {
-        let copy = config.copy(alloc)?;
-        push_fields(&mut fields, &copy)?;
-        for user in copy.users() {
-            push_user(&mut users, &user.copy(alloc)?)?;
+    if let Ok(configs) = read_configs(alloc, EVERY_KEY) {
+        for config in &configs {
+            push_copied(alloc, &mut fields, &config.copy(alloc)?)?;
         }
     }
-    Ok((fields, users))
+    Ok(fields)
+}
+
+fn push_copied(alloc: Global, fields: &mut String, copy: &Config) -> Result<(), AllocError> {
+    push_fields(fields, copy)?;
+    for user in copy.users() {
+        push_user(fields, &user.copy(alloc)?)?;
+    }
+    Ok(())
 }
 
 #[test]
 fn the_demonstration_has_three_bare_users_and_a_floor(rt: HostRuntime) {
-    let wanted = "1 4 (10 - - false -) (11 - - false -) (12 - - false -) [1 1 -]; ";
-    match demonstration_fields(rt.alloc()) {
-        Ok(fields) => assert_eq!(rt; fields.as_str(), wanted),
-        Err(_) => assert!(rt; false, "no memory"),
-    }
+    let wanted = " 1 4 (10 - - false -) (11 - - false -) (12 - - false -) [1 1 -];";
+    assert_told(&rt, demonstration_fields(rt.alloc()), wanted);
 }
 
 fn demonstration_fields(alloc: Global) -> Result<String, AllocError> {
@@ -474,22 +271,27 @@ fn demonstration_fields(alloc: Global) -> Result<String, AllocError> {
 
 #[test]
 fn a_fault_is_printed_by_its_name(rt: HostRuntime) {
-    let cases = [
-        (ConfigFault::Syntax, "Syntax"),
-        (ConfigFault::MissingKey, "MissingKey"),
-        (ConfigFault::WrongType, "WrongType"),
-        (ConfigFault::OutOfRange, "OutOfRange"),
-        (ConfigFault::DoubleUser, "DoubleUser"),
-        (ConfigFault::DoubleFloor, "DoubleFloor"),
-        (ConfigFault::UnknownChair, "UnknownChair"),
-        (ConfigFault::DoubleConference, "DoubleConference"),
-        (ConfigFault::DoublePort, "DoublePort"),
-        (ConfigFault::Memory, "Memory"),
-    ];
-    for (fault, wanted) in cases {
-        match fault.to_string(rt.alloc()) {
-            Ok(name) => assert_eq!(rt; name.as_str(), wanted),
-            Err(_) => assert!(rt; false, "{wanted}: no memory"),
-        }
+    let wanted = " Syntax MissingKey WrongType OutOfRange DoubleUser DoubleFloor UnknownChair \
+        DoubleConference DoublePort Memory";
+    assert_told(&rt, faults_printed(rt.alloc()), wanted);
+}
+
+/// Each fault as it is printed, with a blank before it.
+fn faults_printed(alloc: Global) -> Result<String, AllocError> {
+    let mut printed = String::new(alloc);
+    for fault in [
+        ConfigFault::Syntax,
+        ConfigFault::MissingKey,
+        ConfigFault::WrongType,
+        ConfigFault::OutOfRange,
+        ConfigFault::DoubleUser,
+        ConfigFault::DoubleFloor,
+        ConfigFault::UnknownChair,
+        ConfigFault::DoubleConference,
+        ConfigFault::DoublePort,
+        ConfigFault::Memory,
+    ] {
+        push_shown(&mut printed, Some(fault))?;
     }
+    Ok(printed)
 }

@@ -6,11 +6,15 @@
 #![tactic(auto)]
 
 #[cfg(test)]
+mod cases;
+#[cfg(test)]
 mod client;
 #[cfg(test)]
 mod config;
 #[cfg(test)]
 mod console;
+#[cfg(test)]
+mod hexadecimal;
 #[cfg(test)]
 mod machine;
 #[cfg(test)]

@@ -1,7 +1,6 @@
 //! What no clause says: the bytes of worked messages, and each call once with memory.
 
 mod asks;
-mod cases;
 mod greatest;
 mod limits;
 mod payloads;

@@ -1,10 +1,10 @@
 //! Words, numbers, hexadecimal and lines, as tables of one text each.
 
+use crate::cases::{assert_told, differing, push_shown};
 use floor_words::{
     HexadecimalFault, cut_line, read_hexadecimal, read_u16, read_u32, read_u64, words,
 };
 use std::alloc::{AllocError, Global};
-use std::test::Fail;
 
 /// A line, and its words with a comma between each two.
 const WORDS: &str = "attach 1 10=attach,1,10
@@ -17,19 +17,14 @@ a\tb=a\tb
 # no comment here=#,no,comment,here";
 
 #[test]
-fn spaces_alone_part_words(rt: HostRuntime) -> Result<(), Fail> {
-    let alloc = rt.alloc();
-    for row in WORDS.lines() {
-        let (line, wanted) = row.split_once('=').ok_or("a row has a sign")?;
-        let found = words(alloc, line)?;
-        assert_eq!(rt; joined(alloc, &found)?.as_str(), wanted, "{line}");
-    }
-    Ok(())
+fn spaces_alone_part_words(rt: HostRuntime) {
+    let told = differing(rt.alloc(), WORDS, "\n", "=", joined);
+    assert_told(&rt, told, "8 cases");
 }
 
-fn joined(alloc: Global, words: &[&str]) -> Result<String, AllocError> {
+fn joined(alloc: Global, line: &str) -> Result<String, AllocError> {
     let mut text = String::new(alloc);
-    for word in words {
+    for word in &words(alloc, line)? {
         if !text.is_empty() {
             text.push(',')?;
         }
@@ -39,44 +34,37 @@ fn joined(alloc: Global, words: &[&str]) -> Result<String, AllocError> {
 }
 
 /// A word, and the numbers of 16 and 32 bits and of ten digits that it writes.
-const NUMBERS: &str = "0=0 0 0
-007=7 7 7
-65535=65535 65535 65535
-0000065535=65535 65535 65535
-00000065535=- - -
-65536=- 65536 65536
-4294967295=- 4294967295 4294967295
-4294967296=- - 4294967296
-9999999999=- - 9999999999
-10000000000=- - -
-18446744073709551616=- - -
-=- - -
-+1=- - -
--1=- - -
-1a=- - -
-0x1=- - -
-1 =- - -
-\u{663}=- - -";
+const NUMBERS: &str = "0= 0 0 0
+007= 7 7 7
+65535= 65535 65535 65535
+0000065535= 65535 65535 65535
+00000065535= - - -
+65536= - 65536 65536
+4294967295= - 4294967295 4294967295
+4294967296= - - 4294967296
+9999999999= - - 9999999999
+10000000000= - - -
+18446744073709551616= - - -
+= - - -
++1= - - -
+-1= - - -
+1a= - - -
+0x1= - - -
+1 = - - -
+\u{663}= - - -";
 
 #[test]
-fn numbers_are_one_to_ten_digits(rt: HostRuntime) -> Result<(), Fail> {
-    let alloc = rt.alloc();
-    for row in NUMBERS.lines() {
-        let (word, wanted) = row.split_once('=').ok_or("a row has a sign")?;
-        let narrow = shown(alloc, read_u16(word).map(u64::from))?;
-        let middle = shown(alloc, read_u32(word).map(u64::from))?;
-        let wide = shown(alloc, read_u64(word))?;
-        let found = format!(in alloc; "{narrow} {middle} {wide}")?;
-        assert_eq!(rt; found.as_str(), wanted, "{word}");
-    }
-    Ok(())
+fn numbers_are_one_to_ten_digits(rt: HostRuntime) {
+    let told = differing(rt.alloc(), NUMBERS, "\n", "=", numbers);
+    assert_told(&rt, told, "18 cases");
 }
 
-fn shown(alloc: Global, number: Option<u64>) -> Result<String, AllocError> {
-    match number {
-        None => String::from_str(alloc, "-"),
-        Some(number) => format!(in alloc; "{number}"),
-    }
+fn numbers(alloc: Global, word: &str) -> Result<String, AllocError> {
+    let mut text = String::new(alloc);
+    push_shown(&mut text, read_u16(word))?;
+    push_shown(&mut text, read_u32(word))?;
+    push_shown(&mut text, read_u64(word))?;
+    Ok(text)
 }
 
 /// Words of hexadecimal, and the bytes that they spell, or the fault.
@@ -90,24 +78,28 @@ fF=ff
 0x20=BadHex";
 
 #[test]
-fn words_of_hexadecimal_are_joined(rt: HostRuntime) -> Result<(), Fail> {
-    let alloc = rt.alloc();
-    for row in SPELLED.lines() {
-        let (line, wanted) = row.split_once('=').ok_or("a row has a sign")?;
-        let found = match read_hexadecimal(alloc, &words(alloc, line)?) {
-            Ok(bytes) => hex::encode(alloc, bytes.as_slice())?,
-            Err(fault) => String::from_str(alloc, fault.name())?,
-        };
-        assert_eq!(rt; found.as_str(), wanted, "{line}");
+fn words_of_hexadecimal_are_joined(rt: HostRuntime) {
+    let told = differing(rt.alloc(), SPELLED, "\n", "=", spelled);
+    assert_told(&rt, told, "8 cases");
+    assert!(rt; HexadecimalFault::Memory.name() == "Memory");
+}
+
+fn spelled(alloc: Global, line: &str) -> Result<String, AllocError> {
+    match read_hexadecimal(alloc, &words(alloc, line)?) {
+        Ok(bytes) => hex::encode(alloc, bytes.as_slice()),
+        Err(fault) => String::from_str(alloc, fault.name()),
     }
-    assert_eq!(rt; HexadecimalFault::Memory.name(), "Memory");
-    Ok(())
 }
 
 #[test]
-fn a_line_ends_with_a_line_feed(rt: HostRuntime) -> Result<(), Fail> {
-    let alloc = rt.alloc();
-    let mut rest = "one\r\n\ntwo\r\r\n\r\n a\rb \nlast\r";
+fn a_line_ends_with_a_line_feed(rt: HostRuntime) {
+    let told = lines(rt.alloc(), "one\r\n\ntwo\r\r\n\r\n a\rb \nlast\r");
+    assert_told(&rt, told, "one||two\r|| a\rb |last\r|");
+}
+
+/// The lines of a text, with a bar behind each.
+fn lines(alloc: Global, text: &str) -> Result<String, AllocError> {
+    let mut rest = text;
     let mut found = String::new(alloc);
     for _ in 0..9 {
         match cut_line(rest) {
@@ -119,6 +111,5 @@ fn a_line_ends_with_a_line_feed(rt: HostRuntime) -> Result<(), Fail> {
             }
         }
     }
-    assert_eq!(rt; found.as_str(), "one||two\r|| a\rb |last\r|");
-    Ok(())
+    Ok(found)
 }

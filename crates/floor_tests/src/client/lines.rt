@@ -1,14 +1,15 @@
 //! Each kind of message as a line, with each part there and absent.
 
-use super::shared::{bytes, frame};
-use floor_client::{Ask, Client, Frame, render};
-use std::alloc::Global;
-use std::test::Fail;
+use super::conversing::heard;
+use crate::cases::{assert_told, differing};
+use crate::hexadecimal::{bytes, message};
+use floor_client::{Client, Frame};
+use std::alloc::{AllocError, Global};
 
 /// Notices to user 10 of conference 1: the primitive and the payload, `=`, and the line, without
 /// the word `notice` before it.
-const LINES: &str = r#"
-04 1e1c0001 24080001 0a040300 22080001 0a040300 1c04000a 08044000=FloorRequestStatus request 1 overall Granted:0 floor 1:Granted:0 for 10 priority 2
+const LINES: &str =
+    r#"04 1e1c0001 24080001 0a040300 22080001 0a040300 1c04000a 08044000=FloorRequestStatus request 1 overall Granted:0 floor 1:Granted:0 for 10 priority 2
 04 1e040007=FloorRequestStatus request 7
 04 1e0cffff 24080001 0a0402ff=FloorRequestStatus request 65535 overall Accepted:255
 04 1e0c0001 24080001 0a040100=FloorRequestStatus request 1 overall Pending:0
@@ -64,50 +65,31 @@ const LINES: &str = r#"
 0d 0c020000=bad
 0b =bad
 01 04040001=bad
-0e =bad
-"#;
-
-/// The notice of a primitive with this payload.
-fn notice(alloc: Global, primitive: &str, payload: &str) -> Result<Frame, Fail> {
-    let payload = bytes(alloc, payload)?;
-    let units = (payload.len() / 4).min(255) as u8;
-    let mut message = bytes(alloc, "20")?;
-    message.extend_from_slice(&bytes(alloc, primitive)?)?;
-    message.extend_from_slice(&[0, units, 0, 0, 0, 1, 0, 0, 0, 10])?;
-    message.extend_from_slice(&payload)?;
-    let frame = Frame::of(alloc, &message)?.ok_or("no message")?;
-    Ok(frame)
-}
+0e =bad"#;
 
 #[test]
-fn a_message_is_a_line(rt: HostRuntime) -> Result<(), Fail> {
-    let alloc = rt.alloc();
+fn a_message_is_a_line(rt: HostRuntime) {
+    assert_told(&rt, told_of_lines(rt.alloc()), "57 cases");
+}
+
+fn told_of_lines(alloc: Global) -> Result<String, AllocError> {
     let mut client = Client::new(alloc, 1, 10);
-    let mut lines = 0u32;
-    for row in LINES.lines() {
-        let Some((primitive, row)) = row.split_once(' ') else {
-            continue;
-        };
-        let Some((payload, wanted)) = row.split_once('=') else {
-            continue;
-        };
-        let heard = client.heard(&notice(alloc, primitive, payload)?)?;
-        let line = render(alloc, &heard)?;
-        let found = line.as_str();
-        let found = found.strip_prefix("notice ").unwrap_or(found);
-        assert_eq!(rt; found, wanted, "{payload}");
-        lines = lines.saturating_add(1);
-    }
-    assert_eq!(rt; lines, 57);
-    Ok(())
+    differing(alloc, LINES, "\n", "=", |alloc, case| {
+        line_of(alloc, &mut client, case)
+    })
 }
 
-#[test]
-fn a_response_has_its_number(rt: HostRuntime) -> Result<(), Fail> {
-    let alloc = rt.alloc();
-    let mut client = Client::new(alloc, 4_294_967_295, 65_535);
-    client.ask(Ask::Hello)?;
-    let heard = client.heard(&frame(alloc, "200d0001 ffffffff 0001 ffff 0c030e00")?)?;
-    assert_eq!(rt; render(alloc, &heard)?.as_str(), "reply 1 Error 14");
-    Ok(())
+/// The line of the notice of a primitive with a payload.
+fn line_of(alloc: Global, client: &mut Client, case: &str) -> Result<String, AllocError> {
+    let (primitive, payload) = case.split_once(' ').unwrap_or((case, ""));
+    let primitive = bytes(alloc, primitive)?.first().copied().unwrap_or(0);
+    let message = message(alloc, primitive, 0, &bytes(alloc, payload)?)?;
+    match Frame::of(alloc, &message)? {
+        None => String::from_str(alloc, "no message"),
+        Some(frame) => without_notice(alloc, &heard(alloc, client, &frame)?),
+    }
+}
+
+fn without_notice(alloc: Global, line: &str) -> Result<String, AllocError> {
+    String::from_str(alloc, line.strip_prefix("notice ").unwrap_or(line))
 }

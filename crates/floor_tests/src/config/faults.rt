@@ -1,7 +1,7 @@
 //! The fault of each key.
 
-use super::differing;
-use std::test::Fail;
+use super::told_of_case;
+use crate::cases::{assert_told, differing};
 
 /// Texts and their faults, key by key.
 const FAULTS: &str = r#"== an empty text
@@ -209,8 +209,7 @@ conference = [{id = 1, user = [{id = 10, port = 7010}]}, {id = 2, user = [{id = 
 => DoublePort"#;
 
 #[test]
-fn a_fault_of_each_key_is_told(rt: HostRuntime) -> Result<(), Fail> {
-    assert_eq!(rt; differing(rt.alloc(), FAULTS)?.as_str(), "");
-    assert_eq!(rt; FAULTS.split("\n== ").count(), 64);
-    Ok(())
+fn a_fault_of_each_key_is_told(rt: HostRuntime) {
+    let told = differing(rt.alloc(), FAULTS, "\n== ", "\n=>", told_of_case);
+    assert_told(&rt, told, "64 cases");
 }

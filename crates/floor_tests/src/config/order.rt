@@ -1,10 +1,10 @@
 //! The order of faults, and counts.
 
-use super::{differing, fault_of};
-use floor_config::{ConfigFault, read_configs};
+use super::told_of_case;
+use crate::cases::{assert_told, differing, number, part};
+use floor_config::{Config, read_configs};
 use std::alloc::{AllocError, Global};
 use std::fmt::Write;
-use std::test::Fail;
 
 /// Texts with two faults, and the one that comes first.
 const ORDER: &str = r#"== kinds of conferences before their keys
@@ -90,98 +90,93 @@ conference = [{id = 1, user = [{id = 10, port = 7010}]}, {id = 1, user = [{id = 
 => DoubleConference"#;
 
 #[test]
-fn of_two_faults_the_first_in_order_is_told(rt: HostRuntime) -> Result<(), Fail> {
-    assert_eq!(rt; differing(rt.alloc(), ORDER)?.as_str(), "");
-    assert_eq!(rt; ORDER.split("\n== ").count(), 27);
-    Ok(())
+fn of_two_faults_the_first_in_order_is_told(rt: HostRuntime) {
+    let told = differing(rt.alloc(), ORDER, "\n== ", "\n=>", told_of_case);
+    assert_told(&rt, told, "27 cases");
 }
 
-/// A conference with so many items of ascending ids from 0 at a key, and one item more.
-fn text_of_many(alloc: Global, key: &str, count: u32, last: &str) -> Result<String, AllocError> {
-    let mut text = String::new(alloc);
-    write!(text, "conference = [{{id = 1, {key} = [")?;
-    for id in 0..count {
-        write!(text, "{{id = {id}}}, ")?;
-    }
-    write!(text, "{last}]}}]")?;
-    Ok(text)
-}
+/// Each line: the name of a case, a key, how many items of ascending ids from 0 a conference has at
+/// it, and one item more. Behind `=>` the fault.
+const MANY: &str = "\
+256 users | user | 255 | {id = 999} => none
+257 users | user | 256 | {id = 999} => OutOfRange
+257 users, the last without an id | user | 256 | {} => OutOfRange
+257 users, the last of them a number | user | 256 | 1 => WrongType
+256 users, the last without an id | user | 255 | {} => MissingKey
+256 users, the last with the id of the first | user | 255 | {id = 0} => DoubleUser
+32 floors | floor | 31 | {id = 999} => none
+33 floors | floor | 32 | {id = 999} => OutOfRange
+33 floors, the last without an id | floor | 32 | {} => OutOfRange
+33 floors, the last of them a number | floor | 32 | 1 => WrongType
+32 floors, the last with the id of the first | floor | 31 | {id = 0} => DoubleFloor";
 
 #[test]
 fn a_conference_has_at_most_256_users_and_32_floors(rt: HostRuntime) {
-    let cases = [
-        ("256 users", "user", 255, "{id = 999}", None),
-        (
-            "257 users",
-            "user",
-            256,
-            "{id = 999}",
-            Some(ConfigFault::OutOfRange),
-        ),
-        (
-            "257 users, the last without an id",
-            "user",
-            256,
-            "{}",
-            Some(ConfigFault::OutOfRange),
-        ),
-        (
-            "257 users, the last of them a number",
-            "user",
-            256,
-            "1",
-            Some(ConfigFault::WrongType),
-        ),
-        (
-            "256 users, the last without an id",
-            "user",
-            255,
-            "{}",
-            Some(ConfigFault::MissingKey),
-        ),
-        (
-            "256 users, the last with the id of the first",
-            "user",
-            255,
-            "{id = 0}",
-            Some(ConfigFault::DoubleUser),
-        ),
-        ("32 floors", "floor", 31, "{id = 999}", None),
-        (
-            "33 floors",
-            "floor",
-            32,
-            "{id = 999}",
-            Some(ConfigFault::OutOfRange),
-        ),
-        (
-            "33 floors, the last without an id",
-            "floor",
-            32,
-            "{}",
-            Some(ConfigFault::OutOfRange),
-        ),
-        (
-            "33 floors, the last of them a number",
-            "floor",
-            32,
-            "1",
-            Some(ConfigFault::WrongType),
-        ),
-        (
-            "32 floors, the last with the id of the first",
-            "floor",
-            31,
-            "{id = 0}",
-            Some(ConfigFault::DoubleFloor),
-        ),
-    ];
-    for (name, key, count, last, wanted) in cases {
-        match text_of_many(rt.alloc(), key, count, last) {
-            Ok(text) => assert_eq!(rt; fault_of(rt.alloc(), text.as_str()), wanted, "{name}"),
-            Err(_) => assert!(rt; false, "{name}: no memory"),
-        }
+    let told = differing(rt.alloc(), MANY, "\n", " => ", fault_of_many);
+    assert_told(&rt, told, "11 cases");
+}
+
+/// The fault of a case's conference.
+fn fault_of_many(alloc: Global, case: &str) -> Result<String, AllocError> {
+    let mut text = String::new(alloc);
+    write!(text, "conference = [{{id = 1, {} = [", part(case, 1))?;
+    for id in 0..number(part(case, 2)) {
+        write!(text, "{{id = {id}}}, ")?;
     }
+    write!(text, "{}]}}]", part(case, 3))?;
+    fault_of(alloc, &text)
+}
+
+/// The fault of a text, or `none`.
+fn fault_of(alloc: Global, text: &str) -> Result<String, AllocError> {
+    match read_configs(alloc, text) {
+        Ok(_) => String::from_str(alloc, "none"),
+        Err(fault) => fault.to_string(alloc),
+    }
+}
+
+/// Each line: the name of a case, how many conferences of how many users each with a port of its own a
+/// text has, and what stands behind them. Behind `=>` what is read.
+const PORTS: &str = "\
+272 ports | 16 | 17 | => 16 conferences, 17 users in a copy of the last
+128 users | 1 | 128 | => 1 conferences, 128 users in a copy of the last
+a bracket behind 4,096 bytes and more | 16 | 17 | [ => Syntax, and more than 4096 bytes";
+
+#[test]
+fn a_text_may_have_sixteen_conferences_and_many_ports(rt: HostRuntime) {
+    let told = differing(rt.alloc(), PORTS, "\n", " => ", told_of_ports);
+    assert_told(&rt, told, "3 cases");
+}
+
+fn told_of_ports(alloc: Global, case: &str) -> Result<String, AllocError> {
+    let text = text_of_ports(alloc, case)?;
+    match read_configs(alloc, &text) {
+        Ok(configs) => {
+            let users = users_copied(alloc, configs.last())?;
+            let conferences = configs.len();
+            format!(in alloc; "{conferences} conferences, {users} users in a copy of the last")
+        }
+        Err(fault) if text.len() > 4096 => format!(in alloc; "{fault}, and more than 4096 bytes"),
+        Err(fault) => fault.to_string(alloc),
+    }
+}
+
+/// How many users a copy of a configuration has.
+fn users_copied(alloc: Global, config: Option<&Config>) -> Result<usize, AllocError> {
+    match config {
+        Some(config) => Ok(config.copy(alloc)?.users().len()),
+        None => Ok(0),
+    }
+}
+
+fn text_of_ports(alloc: Global, case: &str) -> Result<String, AllocError> {
+    let mut text = String::new(alloc);
+    let mut ports = 0;
+    for conference in 0..number(part(case, 1)) {
+        push_conference(&mut text, conference, number(part(case, 2)), &mut ports)?;
+    }
+    text.push_str(part(case, 3))?;
+    Ok(text)
 }
 
 /// Adds a conference of so many users, each with a port of its own.
@@ -194,42 +189,8 @@ fn push_conference(
     write!(text, "[[conference]]\nid = {conference}\n")?;
     for user in 0..users {
         *ports = ports.wrapping_add(1);
-        write!(
-            text,
-            "[[conference.user]]\nid = {user}\nport = {}\n",
-            *ports
-        )?;
+        let port = *ports;
+        write!(text, "[[conference.user]]\nid = {user}\nport = {port}\n")?;
     }
-    Ok(())
-}
-
-/// So many conferences of so many users each, and a text behind them.
-fn text_of_ports(
-    alloc: Global,
-    conferences: u16,
-    users: u16,
-    end: &str,
-) -> Result<String, AllocError> {
-    let mut text = String::new(alloc);
-    let mut ports = 0;
-    for conference in 0..conferences {
-        push_conference(&mut text, conference, users, &mut ports)?;
-    }
-    text.push_str(end)?;
-    Ok(text)
-}
-
-#[test]
-fn a_text_may_have_sixteen_conferences_and_many_ports(rt: HostRuntime) -> Result<(), Fail> {
-    let alloc = rt.alloc();
-    let ports = text_of_ports(alloc, 16, 17, "")?;
-    assert_eq!(rt; read_configs(alloc, &ports)?.len(), 16, "272 ports");
-    let users = text_of_ports(alloc, 1, 128, "")?;
-    for config in &read_configs(alloc, &users)? {
-        assert_eq!(rt; config.copy(alloc)?.users().len(), 128, "128 users");
-    }
-    let broken = text_of_ports(alloc, 16, 17, "[")?;
-    assert!(rt; broken.len() > 4096);
-    assert_eq!(rt; fault_of(alloc, &broken), Some(ConfigFault::Syntax));
     Ok(())
 }

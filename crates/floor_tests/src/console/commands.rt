@@ -1,8 +1,8 @@
 //! What each line asks for, as one table.
 
+use crate::cases::{assert_told, differing};
 use floor_console::{Command, ConsoleFault, parse_line};
 use std::alloc::{AllocError, Global};
-use std::test::Fail;
 
 /// A line, and its command or what is wrong with it.
 const LINES: &str = "=Empty
@@ -82,21 +82,17 @@ halt=UnknownCommand
 \u{a0}stop=UnknownCommand";
 
 #[test]
-fn each_line_asks_for_one_command(rt: HostRuntime) -> Result<(), Fail> {
-    let alloc = rt.alloc();
-    let mut count = 0u32;
-    for row in LINES.split('\n') {
-        let (line, wanted) = row.split_once('=').ok_or("a row has a sign")?;
-        let found = match parse_line(alloc, line) {
-            Ok(command) => shown(alloc, &command)?,
-            Err(fault) => String::from_str(alloc, fault.name())?,
-        };
-        assert_eq!(rt; found.as_str(), wanted, "{line}");
-        count = count.saturating_add(1);
+fn each_line_asks_for_one_command(rt: HostRuntime) {
+    let told = differing(rt.alloc(), LINES, "\n", "=", parsed);
+    assert_told(&rt, told, "75 cases");
+    assert!(rt; ConsoleFault::Memory.name() == "Memory");
+}
+
+fn parsed(alloc: Global, line: &str) -> Result<String, AllocError> {
+    match parse_line(alloc, line) {
+        Ok(command) => shown(alloc, &command),
+        Err(fault) => String::from_str(alloc, fault.name()),
     }
-    assert_eq!(rt; count, 75);
-    assert_eq!(rt; ConsoleFault::Memory.name(), "Memory");
-    Ok(())
 }
 
 fn shown(alloc: Global, command: &Command) -> Result<String, AllocError> {

@@ -1,10 +1,11 @@
 //! A board that holds one room.
 
+use crate::cases::{assert_told, barred, differing};
+use crate::hexadecimal::frame;
 use floor_config::Config;
 use floor_console::{Board, BoardRefusal, Status, StopRefusal, Stopped, Text, run_line};
-use floor_room::{Act, Frame, Room, journal_text};
-use std::alloc::Global;
-use std::test::Fail;
+use floor_room::{Act, Room, journal_text};
+use std::alloc::{AllocError, Global};
 
 /// The conference 1, which is all that there is.
 #[derive(Drop)]
@@ -77,56 +78,56 @@ impl Board for OneRoom {
 }
 
 /// The conference after floor 1 was asked for twice and given back once.
-fn board(rt: &HostRuntime) -> Result<OneRoom, Fail> {
-    let alloc = rt.alloc();
+fn board(alloc: Global) -> Result<OneRoom, AllocError> {
     let mut room = Room::new(alloc, Config::demonstration(alloc)?)?;
-    let _first = room.join(10);
-    let _second = room.join(11);
-    for (n, message) in [
-        (1, "20010001000000010002000a04040001"),
-        (2, "20010001000000010001000b04040001"),
-        (1, "20020001000000010003000a06040001"),
-    ] {
-        let bytes = hex::decode(alloc, message)?;
-        let frame = Frame::of(alloc, bytes.as_slice())?.ok_or("a message")?;
-        let _place = room.serve(n, frame);
-    }
+    serve_three(alloc, &mut room)?;
     Ok(OneRoom { alloc, room })
 }
 
-/// A line, and the lines that answer it, with a comma between each two.
-const EXCHANGE: &str = "status 1=conference 1 members 2 ongoing 1 events 5 open
-journal 1=1 join 10,2 join 11,3 message 1 20010001000000010002000a04040001,4 message 2 20010001000000010001000b04040001,5 message 1 20020001000000010003000a06040001,end 5
-revoke 1 9=error NoRequest
-close 7=error NoConference
-revoke 7 1=error NoConference
-status 7=error NoConference
-journal 7=error NoConference
-close x=error BadNumber
-halt=error UnknownCommand
-open a.toml=error CannotRead
-revoke 1 2=ok revoked 1 2
-status 1=conference 1 members 2 ongoing 0 events 6 open
-close 1=ok closed 1
-close 1=error Ended
-revoke 1 2=error Ended
-status 1=conference 1 members 2 ongoing 0 events 7 ended
-stop=ok stopped seats 2 events 7";
+fn serve_three(alloc: Global, room: &mut Room) -> Result<(), AllocError> {
+    let _first = room.join(10);
+    let _second = room.join(11);
+    serve(alloc, room, 1, "20010001 00000001 0002000a 04040001")?;
+    serve(alloc, room, 2, "20010001 00000001 0001000b 04040001")?;
+    serve(alloc, room, 1, "20020001 00000001 0003000a 06040001")
+}
+
+fn serve(alloc: Global, room: &mut Room, n: u32, message: &str) -> Result<(), AllocError> {
+    if let Some(frame) = frame(alloc, message)? {
+        let _place = room.serve(n, frame);
+    }
+    Ok(())
+}
+
+/// A line, and the lines that answer it, with a bar behind each.
+const EXCHANGE: &str = "\
+status 1=conference 1 members 2 ongoing 1 events 5 open|
+journal 1=1 join 10|2 join 11|3 message 1 20010001000000010002000a04040001|4 message 2 20010001000000010001000b04040001|5 message 1 20020001000000010003000a06040001|end 5|
+revoke 1 9=error NoRequest|
+close 7=error NoConference|
+revoke 7 1=error NoConference|
+status 7=error NoConference|
+journal 7=error NoConference|
+close x=error BadNumber|
+halt=error UnknownCommand|
+open a.toml=error CannotRead|
+revoke 1 2=ok revoked 1 2|
+status 1=conference 1 members 2 ongoing 0 events 6 open|
+close 1=ok closed 1|
+close 1=error Ended|
+revoke 1 2=error Ended|
+status 1=conference 1 members 2 ongoing 0 events 7 ended|
+stop=ok stopped seats 2 events 7|
+=";
 
 #[test]
-fn a_board_of_one_room_answers(rt: HostRuntime) -> Result<(), Fail> {
-    let alloc = rt.alloc();
-    let mut board = board(&rt)?;
-    for row in EXCHANGE.lines() {
-        let (line, wanted) = row.split_once('=').ok_or("a row has a sign")?;
-        let found = run_line(alloc, &mut board, line)?;
-        let mut text = String::new(alloc);
-        for part in wanted.split(',') {
-            text.push_str(part)?;
-            text.push('\n')?;
-        }
-        assert_eq!(rt; found.as_str(), text.as_str(), "{line}");
-    }
-    assert_eq!(rt; run_line(alloc, &mut board, "")?.as_str(), "");
-    Ok(())
+fn a_board_of_one_room_answers(rt: HostRuntime) {
+    assert_told(&rt, exchanged(rt.alloc()), "18 cases");
+}
+
+fn exchanged(alloc: Global) -> Result<String, AllocError> {
+    let mut board = board(alloc)?;
+    differing(alloc, EXCHANGE, "\n", "=", |alloc, line| {
+        barred(alloc, &run_line(alloc, &mut board, line)?)
+    })
 }

@@ -1,49 +1,54 @@
 //! Messages and changes at their greatest size.
 
 use super::runs::join;
+use crate::cases::{assert_told, differing, number, part};
+use crate::hexadecimal::{message, payload, spelled};
 use floor_config::{Floors, Users};
 use floor_machine::{Config, Floor, Machine, Parcel, User};
 use floor_wire::Frame;
 use std::alloc::{AllocError, Global};
-use std::test::Fail;
+use std::fmt::Write;
 
-fn user(id: u16) -> User {
+fn user(id: u16, proxy: bool) -> User {
     User {
         id,
         name: None,
         uri: None,
-        proxy: false,
+        proxy,
         port: None,
     }
 }
 
-/// Conference 1 with so many floors, which users 10 and 11 have joined.
-fn machine(alloc: Global, floors: u16) -> Result<Machine, Fail> {
-    let users = vec![in alloc; user(10), user(11)]?;
+/// Conference 1 with so many floors of this room, in which a user may have as many requests as
+/// `limit` says at a floor. User 10, who may ask for others, and user 11 have joined.
+fn machine(
+    alloc: Global,
+    floors: u16,
+    room: u16,
+    limit: u16,
+) -> Result<Option<Machine>, AllocError> {
+    let users = Users::from_vec(vec![in alloc; user(10, true), user(11, false)]?);
     let mut all = Vec::new(alloc);
     for id in 1..=floors {
         all.push(Floor {
             id,
-            room: 1,
+            room,
             chair: None,
         })?;
     }
-    let config = Config::build(alloc, 1, 16, Users::from_vec(users), Floors::from_vec(all))?;
-    let mut machine = Machine::new(alloc, config)?;
-    for user in [10, 11] {
-        join(&mut machine, user)?;
+    match Config::build(alloc, 1, limit, users, Floors::from_vec(all)) {
+        Ok(config) => joined(Machine::new(alloc, config)?),
+        Err(_) => Ok(None),
     }
-    Ok(machine)
 }
 
-/// FLOOR-ID attributes of the floors.
-fn floor_ids(alloc: Global, floors: &[u16]) -> Result<Vec<u8>, AllocError> {
-    let mut out = Vec::new(alloc);
-    for floor in floors {
-        out.extend_from_slice(&[4, 4])?;
-        out.extend_from_slice(&floor.to_be_bytes())?;
+/// The machine, where users 10 and 11 may join.
+fn joined(mut machine: Machine) -> Result<Option<Machine>, AllocError> {
+    if join(&mut machine, 10).is_ok() && join(&mut machine, 11).is_ok() {
+        Ok(Some(machine))
+    } else {
+        Ok(None)
     }
-    Ok(out)
 }
 
 /// What a message of member 1 tells.
@@ -52,136 +57,99 @@ fn told(
     machine: &mut Machine,
     primitive: u8,
     attributes: &[u8],
-) -> Result<Vec<Parcel>, Fail> {
-    let units = u16::try_from(attributes.len() / 4)?;
-    let mut bytes = Vec::from_slice(alloc, &[0x20, primitive])?;
-    bytes.extend_from_slice(&units.to_be_bytes())?;
-    bytes.extend_from_slice(&[0, 0, 0, 1, 0, 1, 0, 10])?;
-    bytes.extend_from_slice(attributes)?;
-    let frame = Frame::of(alloc, &bytes)?.ok_or("no message")?;
+) -> Result<Vec<Parcel>, AllocError> {
     let mut out = Vec::new(alloc);
-    machine.message(1, &frame, &mut out)?;
+    let bytes = message(alloc, primitive, 1, attributes)?;
+    if let Some(frame) = Frame::of(alloc, &bytes)? {
+        // A message that is refused tells nothing.
+        let _taken = machine.message(1, &frame, &mut out);
+    }
     Ok(out)
 }
 
-#[test]
-fn a_request_may_name_33_floors_and_is_refused(rt: HostRuntime) -> Result<(), Fail> {
-    let alloc = rt.alloc();
-    let mut machine = machine(alloc, 32)?;
-    let mut floors = Vec::new(alloc);
-    for floor in 1..=33 {
-        floors.push(floor)?;
-    }
-    let attributes = floor_ids(alloc, &floors)?;
-    let out = told(alloc, &mut machine, 1, &attributes)?;
-    assert_eq!(rt; out.len(), 1);
-    // Error code 6: floor 33 doesn't exist.
-    assert_eq!(rt; out[0].payload(), [0x0c, 3, 6, 0].as_slice());
-    assert_eq!(rt; machine.ongoing_requests(), 0);
-    Ok(())
-}
+/// Each case: its name, the floors of the conference, a primitive and a payload. Behind `=>` how many
+/// messages are told, the ongoing requests, and the payloads that are told.
+const MESSAGES: &str = "\
+33 floors, of which 33 doesn't exist, which is error code 6 | 32 | 1 | \
+    04040001 04040002 04040003 04040004 04040005 04040006 04040007 04040008 04040009 0404000a \
+    0404000b 0404000c 0404000d 0404000e 0404000f 04040010 04040011 04040012 04040013 04040014 \
+    04040015 04040016 04040017 04040018 04040019 0404001a 0404001b 0404001c 0404001d 0404001e \
+    0404001f 04040020 04040021 \
+    => 1, 0: 0c030600
+a PARTICIPANT-PROVIDED-INFO of 102 bytes, of which 62 are told | 1 | 1 | \
+    04040001 1068, 102 x 61 \
+    => 1, 1: 1e5c0001 24080001 0a040300 22080001 0a040300 1c04000a 08044000 10406161 \
+    61616161 61616161 61616161 61616161 61616161 61616161 61616161 61616161 61616161 61616161 \
+    61616161 61616161 61616161 61616161 61616161
+a query of 9 floors, which is answered by 9 statuses | 9 | 7 | \
+    04040009 04040008 04040007 04040006 04040005 04040004 04040003 04040002 04040001 \
+    => 9, 0: 04040009 04040008 04040007 04040006 04040005 04040004 04040003 04040002 04040001
+a message of 32 KiB | 1 | 7 | 8189 x 04040001 \
+    => 1, 0: 04040001";
 
 #[test]
-fn a_long_text_is_told_cut_to_62_bytes(rt: HostRuntime) -> Result<(), Fail> {
-    let alloc = rt.alloc();
-    let mut machine = machine(alloc, 1)?;
-    let mut attributes = floor_ids(alloc, &[1])?;
-    // A PARTICIPANT-PROVIDED-INFO of 102 bytes.
-    attributes.extend_from_slice(&[0x10, 104])?;
-    for _ in 0..102 {
-        attributes.push(b'a')?;
-    }
-    let out = told(alloc, &mut machine, 1, &attributes)?;
-    assert_eq!(rt; out.len(), 1);
-    let mut text = Vec::from_slice(alloc, &[0x10, 64])?;
-    for _ in 0..62 {
-        text.push(b'a')?;
-    }
-    assert!(rt; out[0].payload().ends_with(&text));
-    Ok(())
+fn messages_of_many_attributes_are_served(rt: HostRuntime) {
+    let told = differing(rt.alloc(), MESSAGES, "\n", " => ", told_of_message);
+    assert_told(&rt, told, "4 cases");
 }
 
-#[test]
-fn a_query_of_9_floors_is_answered_by_9_statuses(rt: HostRuntime) -> Result<(), Fail> {
-    let alloc = rt.alloc();
-    let mut machine = machine(alloc, 9)?;
-    let attributes = floor_ids(alloc, &[9, 8, 7, 6, 5, 4, 3, 2, 1])?;
-    let out = told(alloc, &mut machine, 7, &attributes)?;
-    assert_eq!(rt; out.len(), 9);
-    let mut payloads = Vec::new(alloc);
+fn told_of_message(alloc: Global, case: &str) -> Result<String, AllocError> {
+    match machine(alloc, number(part(case, 1)), 1, 16)? {
+        Some(mut machine) => told_by(alloc, &mut machine, case),
+        None => String::from_str(alloc, "no machine"),
+    }
+}
+
+fn told_by(alloc: Global, machine: &mut Machine, case: &str) -> Result<String, AllocError> {
+    let attributes = payload(alloc, part(case, 3))?;
+    let primitive = number(part(case, 2)).min(255) as u8;
+    let out = told(alloc, machine, primitive, &attributes)?;
+    let mut text = format!(in alloc; "{}, {}:", out.len(), machine.ongoing_requests())?;
     for parcel in &out {
-        payloads.extend_from_slice(parcel.payload())?;
+        text.push_str(&spelled(alloc, parcel.payload())?)?;
     }
-    assert_eq!(rt; payloads, attributes);
-    Ok(())
+    Ok(text)
 }
 
 #[test]
-fn a_message_of_32_kib_is_served(rt: HostRuntime) -> Result<(), Fail> {
-    let alloc = rt.alloc();
-    let mut machine = machine(alloc, 1)?;
-    let mut attributes = Vec::new(alloc);
-    for _ in 0..8189 {
-        attributes.extend_from_slice(&[4, 4, 0, 1])?;
-    }
-    let out = told(alloc, &mut machine, 7, &attributes)?;
-    assert_eq!(rt; out.len(), 1);
-    assert_eq!(rt; out[0].payload(), [4, 4, 0, 1].as_slice());
-    Ok(())
+fn a_leave_ends_256_requests_and_tells_a_member_288_messages(rt: HostRuntime) {
+    let wanted = "256 asked, 256 ongoing, left true, 0 ongoing, 1 live, 288 told, all to 1 true";
+    assert_told(&rt, told_of_crowd(rt.alloc()), wanted);
 }
 
-/// Conference 1 with 32 floors, which user 10, who may ask for others, and user 11 have joined.
-fn crowd(alloc: Global) -> Result<Machine, Fail> {
-    let mut asker = user(10);
-    asker.proxy = true;
-    let users = vec![in alloc; asker, user(11)]?;
-    let mut floors = Vec::new(alloc);
-    for id in 1..=32 {
-        floors.push(Floor {
-            id,
-            room: 8,
-            chair: None,
-        })?;
+fn told_of_crowd(alloc: Global) -> Result<String, AllocError> {
+    match machine(alloc, 32, 8, 8)? {
+        Some(mut machine) => crowded(alloc, &mut machine),
+        None => String::from_str(alloc, "no machine"),
     }
-    let config = Config::build(
-        alloc,
-        1,
-        8,
-        Users::from_vec(users),
-        Floors::from_vec(floors),
-    )?;
-    let mut machine = Machine::new(alloc, config)?;
-    for user in [10, 11] {
-        join(&mut machine, user)?;
-    }
-    Ok(machine)
 }
 
-#[test]
-fn a_leave_ends_256_requests_and_tells_a_member_288_messages(rt: HostRuntime) -> Result<(), Fail> {
-    let alloc = rt.alloc();
-    let mut machine = crowd(alloc)?;
+fn crowded(alloc: Global, machine: &mut Machine) -> Result<String, AllocError> {
+    let mut asked = 0u32;
     let mut floors = Vec::new(alloc);
-    for floor in 1..=32 {
-        floors.push(floor)?;
+    for floor in 1..=32u8 {
+        floors.extend_from_slice(&[4, 4, 0, floor])?;
+        // User 10 asks for user 11, and both are told.
         for _ in 0..8 {
-            // User 10 asks for user 11.
-            let mut attributes = Vec::from_slice(alloc, &[2, 4, 0, 11])?;
-            attributes.extend_from_slice(&floor_ids(alloc, &[floor])?)?;
-            let out = told(alloc, &mut machine, 1, &attributes)?;
-            assert_eq!(rt; out.len(), 2);
+            let attributes = [2, 4, 0, 11, 4, 4, 0, floor];
+            if told(alloc, machine, 1, &attributes)?.len() == 2 {
+                asked = asked.saturating_add(1);
+            }
         }
     }
-    assert_eq!(rt; machine.ongoing_requests(), 256);
-    let all = floor_ids(alloc, &floors)?;
-    let _watches = told(alloc, &mut machine, 7, &all)?;
+    let mut text = format!(in alloc; "{asked} asked, {} ongoing", machine.ongoing_requests())?;
+    let _watches = told(alloc, machine, 7, &floors)?;
+    push_leave(alloc, &mut text, machine)?;
+    Ok(text)
+}
+
+/// Appends what the leave of member 2 tells: a status of each request and of each floor, all to the
+/// member that asked and watches. Who left is told nothing.
+fn push_leave(alloc: Global, text: &mut String, machine: &mut Machine) -> Result<(), AllocError> {
     let mut out = Vec::new(alloc);
-    machine.leave(2, &mut out)?;
-    assert_eq!(rt; machine.ongoing_requests(), 0);
-    assert_eq!(rt; machine.live_members(), 1);
-    // A status of each request and of each floor, all to the member that asked and watches: who left
-    // is told nothing.
-    assert_eq!(rt; out.len(), 256 + 32);
-    assert!(rt; out.iter().all(|parcel| parcel.n() == 1));
-    Ok(())
+    write!(text, ", left {}", machine.leave(2, &mut out).is_ok())?;
+    write!(text, ", {} ongoing", machine.ongoing_requests())?;
+    write!(text, ", {} live", machine.live_members())?;
+    let to_one = out.iter().all(|parcel| parcel.n() == 1);
+    write!(text, ", {} told, all to 1 {to_one}", out.len())
 }

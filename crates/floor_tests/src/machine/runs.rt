@@ -1,33 +1,13 @@
 //! Runs of the demonstration configuration: who is told which bytes.
 
+use crate::cases::{assert_told, differing, number};
+use crate::hexadecimal::{frame, spelled};
 use floor_config::Config;
-use floor_machine::{Event, Machine, Parcel, Refusal, Stopped};
-use floor_wire::Frame;
+use floor_machine::{Event, Machine, Parcel, Refusal};
 use std::alloc::{AllocError, Global};
-use std::process::Abort;
-use std::test::Fail;
+use std::fmt::Write;
 
-/// The bytes that pairs of hexadecimal digits say. All other characters are passed over.
-fn bytes(alloc: Global, text: &str) -> Result<Vec<u8>, AllocError> {
-    let mut out = Vec::new(alloc);
-    let mut high = None;
-    for character in text.as_bytes() {
-        let digit = match *character {
-            b'0'..=b'9' => *character - b'0',
-            b'a'..=b'f' => *character - b'a' + 10,
-            _ => continue,
-        };
-        match high {
-            None => high = Some(digit.wrapping_mul(16)),
-            Some(first) => {
-                out.push(first | digit)?;
-                high = None;
-            }
-        }
-    }
-    Ok(out)
-}
-
+/// Joins a user to a machine that has few members.
 pub(super) fn join(machine: &mut Machine, user: u16) -> Result<u32, Refusal> {
     if machine.joins() < 100 {
         machine.join(user)
@@ -36,200 +16,196 @@ pub(super) fn join(machine: &mut Machine, user: u16) -> Result<u32, Refusal> {
     }
 }
 
-/// The parcels of the messages of members, in their order, where users 10, 11 and 12 joined.
-fn told(alloc: Global, messages: &[(u32, &str)]) -> Result<Vec<Parcel>, Fail> {
-    let config = Config::demonstration(alloc)?;
-    let mut machine = Machine::new(alloc, config)?;
+/// Each case: its name, the messages of members, where users 10, 11 and 12 joined, and behind `=>`
+/// the messages to members, all in their order.
+const RUNS: &str = "\
+a Hello twice
+1 200b0000 00000001 0001000a
+1 200b0000 00000001 0001000a
+=>
+1 200c0009 00000001 0001000a 160f0102 03040506 0708090a 0b0c0d00 14140204 06080a0c 0e101214 16181a1c 1e202224
+1 200c0009 00000001 0001000a 160f0102 03040506 0708090a 0b0c0d00 14140204 06080a0c 0e101214 16181a1c 1e202224
+
+a request for a free floor
+1 20010001 00000001 0002000a 04040001
+=>
+1 20040007 00000001 0002000a 1e1c0001 24080001 0a040300 22080001 0a040300 1c04000a 08044000
+
+a release that passes the floor on
+1 20010001 00000001 0002000a 04040001
+2 20010001 00000001 0001000b 04040001
+1 20020001 00000001 0003000a 06040001
+=>
+1 20040007 00000001 0002000a 1e1c0001 24080001 0a040300 22080001 0a040300 1c04000a 08044000
+2 20040007 00000001 0001000b 1e1c0002 24080002 0a040201 22080001 0a040201 1c04000b 08044000
+1 20040007 00000001 0003000a 1e1c0001 24080001 0a040600 22080001 0a040600 1c04000a 08044000
+2 20040007 00000001 0000000b 1e1c0002 24080002 0a040300 22080001 0a040300 1c04000b 08044000
+
+a release of what never was
+1 20020001 00000001 0003000a 06040001
+=>
+1 200d0001 00000001 0003000a 0c030700
+
+a release of another's
+1 20010001 00000001 0002000a 04040001
+2 20020001 00000001 0003000b 06040001
+=>
+1 20040007 00000001 0002000a 1e1c0001 24080001 0a040300 22080001 0a040300 1c04000a 08044000
+2 200d0001 00000001 0003000b 0c030500
+
+a watched floor that is asked for
+1 20070001 00000001 0001000a 04040001
+2 20010001 00000001 0001000b 04040001
+=>
+1 20080001 00000001 0001000a 04040001
+1 20080008 00000001 0000000a 04040001 1e1c0001 24080001 0a040300 22080001 0a040300 1c04000b 08044000
+2 20040007 00000001 0001000b 1e1c0001 24080001 0a040300 22080001 0a040300 1c04000b 08044000
+
+a query of a request
+1 20010001 00000001 0002000a 04040001
+2 20030001 00000001 0004000b 06040001
+=>
+1 20040007 00000001 0002000a 1e1c0001 24080001 0a040300 22080001 0a040300 1c04000a 08044000
+2 20040007 00000001 0004000b 1e1c0001 24080001 0a040300 22080001 0a040300 1c04000a 08044000
+
+a request on behalf of another, without the mark
+1 20010002 00000001 0001000a 04040001 0204000b
+=>
+1 200d0001 00000001 0001000a 0c030500
+
+a request for an unknown floor
+1 20010001 00000001 0001000a 04040009
+=>
+1 200d0001 00000001 0001000a 0c030600";
+
+#[test]
+fn each_message_tells_whom_it_concerns(rt: HostRuntime) {
+    let told = differing(rt.alloc(), RUNS, "\n\n", "\n=>", told_of_run);
+    assert_told(&rt, told, "9 cases");
+}
+
+fn told_of_run(alloc: Global, case: &str) -> Result<String, AllocError> {
+    let mut machine = Machine::new(alloc, Config::demonstration(alloc)?)?;
+    run(alloc, &mut machine, case)
+}
+
+/// What is told where users 10, 11 and 12 join and the messages of a case are taken.
+fn run(alloc: Global, machine: &mut Machine, case: &str) -> Result<String, AllocError> {
     for user in [10, 11, 12] {
-        if join(&mut machine, user).is_err() {
-            return Err(Fail::from("a join is refused"));
+        if join(machine, user).is_err() {
+            return String::from_str(alloc, "a join is refused");
         }
     }
     let mut out = Vec::new(alloc);
-    for (n, text) in messages {
-        let message = bytes(alloc, text)?;
-        let frame = Frame::of(alloc, &message)?.ok_or("no message")?;
-        if machine.message(*n, &frame, &mut out).is_err() {
-            return Err(Fail::from("a message is refused"));
+    for line in case.lines().skip(1) {
+        if !is_taken(alloc, machine, line, &mut out)? {
+            return String::from_str(alloc, "a message is refused");
         }
     }
-    Ok(out)
+    told_to(alloc, &out)
 }
 
-const HELLO: &str = "200b0000 00000001 0001 000a";
-
-const HELLO_ACK: &str = "200c0009 00000001 0001 000a 160f0102 03040506 0708090a 0b0c0d00 14140204 \
-    06080a0c 0e101214 16181a1c 1e202224";
-
-const REQUEST: &str = "20010001 00000001 0002 000a 04040001";
-
-const REQUEST_GRANTED: &str = "20040007 00000001 0002 000a 1e1c0001 24080001 0a040300 22080001 \
-    0a040300 1c04000a 08044000";
-
-const SECOND_REQUEST: &str = "20010001 00000001 0001 000b 04040001";
-
-const SECOND_WAITS: &str = "20040007 00000001 0001 000b 1e1c0002 24080002 0a040201 22080001 \
-    0a040201 1c04000b 08044000";
-
-const RELEASE: &str = "20020001 00000001 0003 000a 06040001";
-
-const RELEASED: &str = "20040007 00000001 0003 000a 1e1c0001 24080001 0a040600 22080001 0a040600 \
-    1c04000a 08044000";
-
-const SECOND_GRANTED: &str = "20040007 00000001 0000 000b 1e1c0002 24080002 0a040300 22080001 \
-    0a040300 1c04000b 08044000";
-
-#[test]
-fn each_message_tells_whom_it_concerns(rt: HostRuntime) -> Result<(), Fail> {
-    let alloc = rt.alloc();
-    let cases: [(&str, &[(u32, &str)], &[(u32, &str)]); 9] = [
-        (
-            "a Hello twice",
-            &[(1, HELLO), (1, HELLO)],
-            &[(1, HELLO_ACK), (1, HELLO_ACK)],
-        ),
-        (
-            "a request for a free floor",
-            &[(1, REQUEST)],
-            &[(1, REQUEST_GRANTED)],
-        ),
-        (
-            "a release that passes the floor on",
-            &[(1, REQUEST), (2, SECOND_REQUEST), (1, RELEASE)],
-            &[
-                (1, REQUEST_GRANTED),
-                (2, SECOND_WAITS),
-                (1, RELEASED),
-                (2, SECOND_GRANTED),
-            ],
-        ),
-        (
-            "a release of what never was",
-            &[(1, RELEASE)],
-            &[(1, "200d0001 00000001 0003 000a 0c030700")],
-        ),
-        (
-            "a release of another's",
-            &[(1, REQUEST), (2, "20020001 00000001 0003 000b 06040001")],
-            &[
-                (1, REQUEST_GRANTED),
-                (2, "200d0001 00000001 0003 000b 0c030500"),
-            ],
-        ),
-        (
-            "a watched floor that is asked for",
-            &[
-                (1, "20070001 00000001 0001 000a 04040001"),
-                (2, SECOND_REQUEST),
-            ],
-            &[
-                (1, "20080001 00000001 0001 000a 04040001"),
-                (
-                    1,
-                    "20080008 00000001 0000 000a 04040001 1e1c0001 24080001 0a040300 22080001 \
-                    0a040300 1c04000b 08044000",
-                ),
-                (
-                    2,
-                    "20040007 00000001 0001 000b 1e1c0001 24080001 0a040300 22080001 0a040300 \
-                    1c04000b 08044000",
-                ),
-            ],
-        ),
-        (
-            "a query of a request",
-            &[(1, REQUEST), (2, "20030001 00000001 0004 000b 06040001")],
-            &[
-                (1, REQUEST_GRANTED),
-                (
-                    2,
-                    "20040007 00000001 0004 000b 1e1c0001 24080001 0a040300 22080001 0a040300 \
-                    1c04000a 08044000",
-                ),
-            ],
-        ),
-        (
-            "a request on behalf of another, without the mark",
-            &[(1, "20010002 00000001 0001 000a 04040001 0204000b")],
-            &[(1, "200d0001 00000001 0001 000a 0c030500")],
-        ),
-        (
-            "a request for an unknown floor",
-            &[(1, "20010001 00000001 0001 000a 04040009")],
-            &[(1, "200d0001 00000001 0001 000a 0c030600")],
-        ),
-    ];
-    for (name, messages, expected) in cases {
-        let out = told(alloc, messages)?;
-        assert_told(&rt, alloc, name, &out, expected)?;
-    }
-    Ok(())
-}
-
-const REVOKED: &str = "20040007 00000001 0000 000a 1e1c0001 24080001 0a040700 22080001 0a040700 \
-    1c04000a 08044000";
-
-fn message(alloc: Global, n: u32, text: &str) -> Result<Event, Fail> {
-    let bytes = bytes(alloc, text)?;
-    let frame = Frame::of(alloc, &bytes)?.ok_or("no message")?;
-    Ok(Event::Message { n, frame })
-}
-
-fn run(machine: &mut Machine, events: &[Event], out: &mut Vec<Parcel>) -> Result<(), Stopped> {
-    if machine.joins() < 100 && events.len() < 100 {
-        machine.run(events, out)
-    } else {
-        Err(Stopped {
-            done: 0,
-            refusal: Refusal::Full,
-        })
-    }
-}
-
-#[test]
-fn a_list_of_events_is_run_up_to_the_first_that_is_refused(rt: HostRuntime) -> Result<(), Fail> {
-    let alloc = rt.alloc();
-    let mut events = Vec::new(alloc);
-    events.push(Event::Join { user: 10 })?;
-    events.push(Event::Join { user: 11 })?;
-    events.push(message(alloc, 1, REQUEST)?)?;
-    events.push(message(alloc, 2, SECOND_REQUEST)?)?;
-    events.push(Event::Revoke { request: 1 })?;
-    events.push(Event::Leave { n: 2 })?;
-    events.push(Event::Close)?;
-    events.push(Event::Join { user: 10 })?;
-    let config = Config::demonstration(alloc)?;
-    let mut machine = Machine::new(alloc, config)?;
-    let mut out = Vec::new(alloc);
-    let stopped = run(&mut machine, &events, &mut out);
-    let ended = Stopped {
-        done: 7,
-        refusal: Refusal::Ended,
-    };
-    assert_eq!(rt; stopped, Err(ended));
-    let expected = [
-        (1, REQUEST_GRANTED),
-        (2, SECOND_WAITS),
-        (1, REVOKED),
-        (2, SECOND_GRANTED),
-    ];
-    assert_told(&rt, alloc, "a run", &out, &expected)
-}
-
-fn assert_told(
-    rt: &impl Abort,
+/// Whether the message of a line is taken.
+fn is_taken(
     alloc: Global,
-    name: &str,
-    out: &[Parcel],
-    expected: &[(u32, &str)],
-) -> Result<(), Fail> {
-    assert_eq!(rt; out.len(), expected.len(), "{name}");
-    for (parcel, (n, text)) in out.iter().zip(expected) {
-        assert_eq!(rt; parcel.n(), *n, "{name}");
-        let mut sent = Vec::from_slice(alloc, parcel.header())?;
-        sent.extend_from_slice(parcel.payload())?;
-        assert_eq!(rt; sent, bytes(alloc, text)?, "{name}");
-        assert_eq!(rt; parcel.len(), sent.len(), "{name}");
+    machine: &mut Machine,
+    line: &str,
+    out: &mut Vec<Parcel>,
+) -> Result<bool, AllocError> {
+    match message(alloc, line)? {
+        Some(Event::Message { n, frame }) => Ok(machine.message(n, &frame, out).is_ok()),
+        _ => Ok(false),
     }
-    Ok(())
+}
+
+/// The message of a line: the member's number, and the bytes.
+fn message(alloc: Global, line: &str) -> Result<Option<Event>, AllocError> {
+    let (member, bytes) = line.split_once(' ').unwrap_or((line, ""));
+    let n = u32::from(number(member));
+    match frame(alloc, bytes)? {
+        Some(frame) => Ok(Some(Event::Message { n, frame })),
+        None => Ok(None),
+    }
+}
+
+/// The members that are told something, and the bytes, a line for each message.
+fn told_to(alloc: Global, out: &[Parcel]) -> Result<String, AllocError> {
+    let mut told = String::new(alloc);
+    for parcel in out {
+        write!(told, "\n{}", parcel.n())?;
+        told.push_str(&spelled(alloc, parcel.header())?)?;
+        told.push_str(&spelled(alloc, parcel.payload())?)?;
+        if parcel.len() != parcel.header().len().wrapping_add(parcel.payload().len()) {
+            told.push_str(" of another length")?;
+        }
+    }
+    Ok(told)
+}
+
+/// The events that a list is made of, and behind `=>` how many are run, the refusal of the next one,
+/// and the messages to members.
+const EVENTS: &str = "\
+join 10
+join 11
+message 1 20010001 00000001 0002000a 04040001
+message 2 20010001 00000001 0001000b 04040001
+revoke 1
+leave 2
+close
+join 10
+=>7 Ended
+1 20040007 00000001 0002000a 1e1c0001 24080001 0a040300 22080001 0a040300 1c04000a 08044000
+2 20040007 00000001 0001000b 1e1c0002 24080002 0a040201 22080001 0a040201 1c04000b 08044000
+1 20040007 00000001 0000000a 1e1c0001 24080001 0a040700 22080001 0a040700 1c04000a 08044000
+2 20040007 00000001 0000000b 1e1c0002 24080002 0a040300 22080001 0a040300 1c04000b 08044000";
+
+#[test]
+fn a_list_of_events_is_run_up_to_the_first_that_is_refused(rt: HostRuntime) {
+    let told = differing(rt.alloc(), EVENTS, "\n\n", "\n=>", told_of_events);
+    assert_told(&rt, told, "1 cases");
+}
+
+fn told_of_events(alloc: Global, case: &str) -> Result<String, AllocError> {
+    let mut events = Vec::new(alloc);
+    for line in case.lines() {
+        if let Some(event) = event(alloc, line)? {
+            events.push(event)?;
+        }
+    }
+    told_of_list(alloc, &events)
+}
+
+/// The event of a line.
+fn event(alloc: Global, line: &str) -> Result<Option<Event>, AllocError> {
+    let (kind, rest) = line.split_once(' ').unwrap_or((line, ""));
+    match kind {
+        "join" => Ok(Some(Event::Join { user: number(rest) })),
+        "leave" => Ok(Some(Event::Leave {
+            n: u32::from(number(rest)),
+        })),
+        "revoke" => Ok(Some(Event::Revoke {
+            request: number(rest),
+        })),
+        "close" => Ok(Some(Event::Close)),
+        _ => message(alloc, rest),
+    }
+}
+
+fn told_of_list(alloc: Global, events: &[Event]) -> Result<String, AllocError> {
+    let mut machine = Machine::new(alloc, Config::demonstration(alloc)?)?;
+    run_list(alloc, &mut machine, events)
+}
+
+/// How many events are run, the refusal of the next one, and what is told.
+fn run_list(alloc: Global, machine: &mut Machine, events: &[Event]) -> Result<String, AllocError> {
+    let mut out = Vec::new(alloc);
+    if machine.joins() >= 100 || events.len() >= 100 {
+        return String::from_str(alloc, "too many");
+    }
+    let mut told = match machine.run(events, &mut out) {
+        Ok(()) => String::from_str(alloc, "all")?,
+        Err(stopped) => format!(in alloc; "{} {}", stopped.done, stopped.refusal.name())?,
+    };
+    told.push_str(&told_to(alloc, &out)?)?;
+    Ok(told)
 }

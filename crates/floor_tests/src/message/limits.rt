@@ -1,224 +1,194 @@
 //! Which messages can be written: each limit, and what is one beyond it.
 
+use crate::cases::{assert_told, differing, number, part};
+use crate::hexadecimal::payload;
 use floor_message::{
     Ask, FloorStatuses, Info, Infos, Tell, Verdict, Verdicts, Who, ask_fits, tell_fits,
 };
 use floor_wire::{Numbers, Octets};
+use floor_words::read_u16;
 use std::alloc::{AllocError, Global};
-use std::test::Fail;
 
-/// Whether a FloorRequest for the floors below a number fits.
-fn request_fits(
-    alloc: Global,
-    floors: u16,
-    priority: u8,
-    info: Option<Octets>,
-) -> Result<bool, AllocError> {
-    let mut numbers = Vec::new(alloc);
-    for floor in 0..floors {
-        numbers.push(floor)?;
+/// Each line: its name and the ask: a FloorRequest for the floors below a number, with a priority and
+/// a text in pieces; a FloorQuery for floors; a ChairAction with a verdict on each floor below a
+/// number, and on another. Behind `=>` whether it fits.
+const ASKS: &str = "\
+no floor | FloorRequest | 0 | 2 => false
+priority 4 | FloorRequest | 1 | 4 => true
+priority 5 | FloorRequest | 1 | 5 => false
+60,001 floors | FloorRequest | 60001 | 0 => false
+an empty text | FloorRequest | 1 | 2 | 0 x 61 => false
+a letter | FloorRequest | 1 | 2 | 1 x 61 => true
+62 bytes | FloorRequest | 1 | 2 | 60 x 61, c3a9 => true
+63 bytes | FloorRequest | 1 | 2 | 61 x 61, c3a9 => false
+half a character | FloorRequest | 1 | 2 | 61 c3 => false
+a floor twice | FloorQuery | 2 1 2 => false
+three floors | FloorQuery | 2 1 3 => true
+no verdict | ChairAction | 0 | - => false
+31 verdicts | ChairAction | 30 | 99 => true
+32 verdicts | ChairAction | 31 | 99 => false
+a verdict on a floor twice | ChairAction | 2 | 0 => false";
+
+#[test]
+fn an_ask_fits_up_to_its_limits(rt: HostRuntime) {
+    let told = differing(rt.alloc(), ASKS, "\n", " => ", does_ask_fit);
+    assert_told(&rt, told, "15 cases");
+}
+
+fn does_ask_fit(alloc: Global, case: &str) -> Result<String, AllocError> {
+    let ask = match part(case, 1) {
+        "FloorRequest" => floor_request(alloc, case)?,
+        "FloorQuery" => floor_query(alloc, part(case, 2))?,
+        _ => chair_action(alloc, case)?,
+    };
+    format!(in alloc; "{}", ask_fits(&ask))
+}
+
+fn floor_request(alloc: Global, case: &str) -> Result<Ask, AllocError> {
+    let mut floors = Vec::new(alloc);
+    for floor in 0..number(part(case, 2)) {
+        floors.push(floor)?;
     }
-    Ok(ask_fits(&Ask::FloorRequest {
+    let info = match part(case, 4) {
+        "" => None,
+        pieces => Some(Octets::from_vec(payload(alloc, pieces)?)),
+    };
+    Ok(Ask::FloorRequest {
         beneficiary: None,
-        floors: Numbers::from_vec(numbers),
-        priority,
+        floors: Numbers::from_vec(floors),
+        priority: byte(part(case, 3)),
         info,
-    }))
+    })
 }
 
-/// So many letters, and these bytes behind them.
-fn text(alloc: Global, letters: usize, end: &[u8]) -> Result<Option<Octets>, AllocError> {
-    let mut text = Vec::new(alloc);
-    for _ in 0..letters {
-        text.push(b'a')?;
+/// The number of at most 255 that a word writes.
+fn byte(word: &str) -> u8 {
+    number(word).min(255) as u8
+}
+
+fn floor_query(alloc: Global, words: &str) -> Result<Ask, AllocError> {
+    let mut floors = Vec::new(alloc);
+    for word in words.split(' ') {
+        floors.push(number(word))?;
     }
-    text.extend_from_slice(end)?;
-    Ok(Some(Octets::from_vec(text)))
+    Ok(Ask::FloorQuery {
+        floors: Numbers::from_vec(floors),
+    })
 }
 
-#[test]
-fn a_floor_request_fits_up_to_its_limits(rt: HostRuntime) -> Result<(), Fail> {
-    let alloc = rt.alloc();
-    assert!(rt; !request_fits(alloc, 0, 2, None)?, "no floor");
-    assert!(rt; request_fits(alloc, 1, 4, None)?, "priority 4");
-    assert!(rt; !request_fits(alloc, 1, 5, None)?, "priority 5");
-    assert!(rt; !request_fits(alloc, 60_001, 0, None)?, "60,001 floors");
-    assert!(rt;
-        !request_fits(alloc, 1, 2, text(alloc, 0, b"")?)?,
-        "an empty text"
-    );
-    assert!(rt;
-        request_fits(alloc, 1, 2, text(alloc, 1, b"")?)?,
-        "a letter"
-    );
-    assert!(rt;
-        request_fits(alloc, 1, 2, text(alloc, 60, b"\xc3\xa9")?)?,
-        "62 bytes"
-    );
-    assert!(rt;
-        !request_fits(alloc, 1, 2, text(alloc, 61, b"\xc3\xa9")?)?,
-        "63 bytes"
-    );
-    assert!(rt;
-        !request_fits(alloc, 1, 2, text(alloc, 1, b"\xc3")?)?,
-        "half a character"
-    );
-    Ok(())
-}
-
-#[test]
-fn a_floor_query_names_each_floor_once(rt: HostRuntime) -> Result<(), Fail> {
-    let twice = Ask::FloorQuery {
-        floors: Numbers::from_vec(Vec::from_slice(rt.alloc(), &[2, 1, 2])?),
-    };
-    assert!(rt; !ask_fits(&twice));
-    let once = Ask::FloorQuery {
-        floors: Numbers::from_vec(Vec::from_slice(rt.alloc(), &[2, 1, 3])?),
-    };
-    assert!(rt; ask_fits(&once));
-    Ok(())
-}
-
-/// Whether a ChairAction fits with an accepting verdict on each floor below a number, and one on
-/// another floor.
-fn action_fits(alloc: Global, floors: u16, other: u16) -> Result<bool, AllocError> {
+fn chair_action(alloc: Global, case: &str) -> Result<Ask, AllocError> {
     let mut verdicts = Vec::new(alloc);
-    for floor in 0..floors {
+    for floor in 0..number(part(case, 2)) {
         verdicts.push((floor, Verdict::Accepted))?;
     }
-    verdicts.push((other, Verdict::Denied))?;
-    Ok(ask_fits(&Ask::ChairAction {
+    if let Some(other) = read_u16(part(case, 3)) {
+        verdicts.push((other, Verdict::Denied))?;
+    }
+    Ok(Ask::ChairAction {
         request: 1,
         verdicts: Verdicts::from_vec(verdicts),
-    }))
+    })
 }
 
+/// Each line: its name and the tell: a UserStatus with a name of so many bytes; a FloorRequestStatus
+/// with a priority and so many floors; an Error with so many details; a HelloAck with so many
+/// primitives, so many attributes and one attribute more; a FloorStatus with so many requests of a
+/// priority, or of none. Behind `=>` whether it fits.
+const TELLS: &str = "\
+a group of 252 bytes | UserStatus | 246 => true
+a group of 256 bytes | UserStatus | 247 => false
+priority 4 | FloorRequestStatus | 4 | 1 => true
+priority 5 | FloorRequestStatus | 5 | 1 => false
+30 floors | FloorRequestStatus | 0 | 30 => true
+31 floors | FloorRequestStatus | 0 | 31 => false
+252 details | Error | 252 => true
+253 details | Error | 253 => false
+253 primitives and attributes | HelloAck | 253 | 252 | 1 => true
+254 primitives | HelloAck | 254 | 0 | 1 => false
+254 attributes | HelloAck | 1 | 253 | 1 => false
+attribute type 127 | HelloAck | 1 | 0 | 127 => true
+attribute type 128 | HelloAck | 1 | 0 | 128 => false
+65,535 units, two for each request | FloorStatus | 32767 | 4 => true
+65,537 units, two for each request | FloorStatus | 32768 | 4 => false
+65,535 units, one for each request | FloorStatus | 65534 | - => true
+65,536 units, one for each request | FloorStatus | 65535 | - => false";
+
 #[test]
-fn a_chair_action_has_1_to_31_verdicts_on_different_floors(rt: HostRuntime) -> Result<(), Fail> {
-    let none = Ask::ChairAction {
-        request: 1,
-        verdicts: Verdicts::from_vec(Vec::new(rt.alloc())),
+fn a_tell_fits_up_to_its_limits(rt: HostRuntime) {
+    let told = differing(rt.alloc(), TELLS, "\n", " => ", does_tell_fit);
+    assert_told(&rt, told, "17 cases");
+}
+
+fn does_tell_fit(alloc: Global, case: &str) -> Result<String, AllocError> {
+    let tell = match part(case, 1) {
+        "UserStatus" => user_status(alloc, number(part(case, 2)))?,
+        "FloorRequestStatus" => {
+            let priority = Some(byte(part(case, 2)));
+            let info = info(alloc, priority, number(part(case, 3)))?;
+            Tell::FloorRequestStatus { info }
+        }
+        "Error" => Tell::Error {
+            code: 4,
+            details: Octets::from_vec(ones(alloc, number(part(case, 2)))?),
+        },
+        "HelloAck" => hello_ack(alloc, case)?,
+        _ => floor_status(alloc, case)?,
     };
-    assert!(rt; !ask_fits(&none), "no verdict");
-    assert!(rt; action_fits(rt.alloc(), 30, 99)?, "31 verdicts");
-    assert!(rt; !action_fits(rt.alloc(), 31, 99)?, "32 verdicts");
-    assert!(rt; !action_fits(rt.alloc(), 2, 0)?, "a floor twice");
-    Ok(())
+    format!(in alloc; "{}", tell_fits(&tell))
 }
 
 /// So many bytes of 1.
-fn ones(alloc: Global, len: usize) -> Result<Octets, AllocError> {
-    let mut bytes = Vec::new(alloc);
-    for _ in 0..len {
-        bytes.push(1)?;
-    }
-    Ok(Octets::from_vec(bytes))
+fn ones(alloc: Global, len: u16) -> Result<Vec<u8>, AllocError> {
+    vec![in alloc; 1; usize::from(len)]
 }
 
-/// Whether a user fits whose name is so long.
-fn user_fits(alloc: Global, len: usize) -> Result<bool, AllocError> {
-    Ok(tell_fits(&Tell::UserStatus {
-        who: Some(Who {
-            user: 1,
-            name: Some(ones(alloc, len)?),
-            uri: None,
-        }),
+fn user_status(alloc: Global, len: u16) -> Result<Tell, AllocError> {
+    let who = Who {
+        user: 1,
+        name: Some(Octets::from_vec(ones(alloc, len)?)),
+        uri: None,
+    };
+    Ok(Tell::UserStatus {
+        who: Some(who),
         infos: Infos::from_vec(Vec::new(alloc)),
-    }))
+    })
 }
 
 /// A request for floor 1, named so many times.
-fn info(alloc: Global, priority: u8, floors: usize) -> Result<Info, AllocError> {
-    let mut named = Vec::new(alloc);
-    for _ in 0..floors {
-        named.push((1, Some((2, 0))))?;
-    }
+fn info(alloc: Global, priority: Option<u8>, floors: u16) -> Result<Info, AllocError> {
+    let named = vec![in alloc; (1, Some((2, 0))); usize::from(floors)]?;
     Ok(Info {
         request: 1,
         overall: None,
         floors: FloorStatuses::from_vec(named),
         beneficiary: None,
         requester: None,
-        priority: Some(priority),
+        priority,
         info: None,
     })
 }
 
-/// Whether a FloorRequestStatus fits with so many floors.
-fn status_fits(alloc: Global, priority: u8, floors: usize) -> Result<bool, AllocError> {
-    Ok(tell_fits(&Tell::FloorRequestStatus {
-        info: info(alloc, priority, floors)?,
-    }))
-}
-
-#[test]
-fn a_group_is_told_with_up_to_252_bytes(rt: HostRuntime) -> Result<(), Fail> {
-    assert!(rt; user_fits(rt.alloc(), 246)?, "a group of 252 bytes");
-    assert!(rt; !user_fits(rt.alloc(), 247)?, "a group of 256 bytes");
-    assert!(rt; status_fits(rt.alloc(), 4, 1)?, "priority 4");
-    assert!(rt; !status_fits(rt.alloc(), 5, 1)?, "priority 5");
-    assert!(rt; status_fits(rt.alloc(), 0, 30)?, "30 floors");
-    assert!(rt; !status_fits(rt.alloc(), 0, 31)?, "31 floors");
-    Ok(())
-}
-
-/// Whether an Error fits with so many details.
-fn error_fits(alloc: Global, len: usize) -> Result<bool, AllocError> {
-    Ok(tell_fits(&Tell::Error {
-        code: 4,
-        details: ones(alloc, len)?,
-    }))
-}
-
-/// Whether a HelloAck fits with so many primitives, so many attributes, and one attribute more.
-fn hello_ack_fits(
-    alloc: Global,
-    primitives: usize,
-    attributes: usize,
-    last: u8,
-) -> Result<bool, AllocError> {
-    let mut kinds = Vec::new(alloc);
-    for _ in 0..attributes {
-        kinds.push(1)?;
-    }
-    kinds.push(last)?;
-    Ok(tell_fits(&Tell::HelloAck {
-        primitives: ones(alloc, primitives)?,
+fn hello_ack(alloc: Global, case: &str) -> Result<Tell, AllocError> {
+    let mut kinds = ones(alloc, number(part(case, 3)))?;
+    kinds.push(byte(part(case, 4)))?;
+    let primitives = ones(alloc, number(part(case, 2)))?;
+    Ok(Tell::HelloAck {
+        primitives: Octets::from_vec(primitives),
         attributes: Octets::from_vec(kinds),
-    }))
+    })
 }
 
-#[test]
-fn octets_are_told_up_to_their_limits(rt: HostRuntime) -> Result<(), Fail> {
-    let alloc = rt.alloc();
-    assert!(rt; error_fits(alloc, 252)?, "252 details");
-    assert!(rt; !error_fits(alloc, 253)?, "253 details");
-    assert!(rt;
-        hello_ack_fits(alloc, 253, 252, 1)?,
-        "253 primitives and attributes"
-    );
-    assert!(rt; !hello_ack_fits(alloc, 254, 0, 1)?, "254 primitives");
-    assert!(rt; !hello_ack_fits(alloc, 1, 253, 1)?, "254 attributes");
-    assert!(rt; hello_ack_fits(alloc, 1, 0, 127)?, "attribute type 127");
-    assert!(rt; !hello_ack_fits(alloc, 1, 0, 128)?, "attribute type 128");
-    Ok(())
-}
-
-/// Whether a FloorStatus fits with so many requests of 8 bytes.
-fn statuses_fit(alloc: Global, count: u32) -> Result<bool, AllocError> {
+fn floor_status(alloc: Global, case: &str) -> Result<Tell, AllocError> {
+    let priority = match read_u16(part(case, 3)) {
+        Some(priority) => Some(priority.min(255) as u8),
+        None => None,
+    };
     let mut infos = Vec::new(alloc);
-    for _ in 0..count {
-        infos.push(info(alloc, 4, 0)?)?;
+    for _ in 0..number(part(case, 2)) {
+        infos.push(info(alloc, priority, 0)?)?;
     }
-    Ok(tell_fits(&Tell::FloorStatus {
+    Ok(Tell::FloorStatus {
         floor: Some(1),
         infos: Infos::from_vec(infos),
-    }))
-}
-
-#[test]
-fn a_payload_is_told_with_up_to_65535_units(rt: HostRuntime) -> Result<(), Fail> {
-    assert!(rt; statuses_fit(rt.alloc(), 32767)?, "65,535 units");
-    assert!(rt; !statuses_fit(rt.alloc(), 32768)?, "65,537 units");
-    Ok(())
+    })
 }

@@ -1,39 +1,11 @@
-//! Bytes from hexadecimal, messages of them, and answers as a text to compare.
+//! Answers as a text to compare.
 
-use floor_message::{Ask, AskFault, Binding, read_ask};
-use floor_wire::Frame;
+use crate::hexadecimal::payload;
+use floor_message::{Ask, AskFault, Binding, Frame, Head, ask_fits, read_ask, write_ask};
 use std::alloc::{AllocError, Global};
-use std::test::Fail;
 
 /// The users of the conference that all tests speak of.
 const USERS: [u16; 3] = [10, 11, 12];
-
-/// The bytes that pairs of hexadecimal digits say. All other characters are passed over.
-pub fn bytes(alloc: Global, text: &str) -> Result<Vec<u8>, AllocError> {
-    let mut out = Vec::new(alloc);
-    let mut high = None;
-    for character in text.as_bytes() {
-        let digit = match *character {
-            b'0'..=b'9' => *character - b'0',
-            b'a'..=b'f' => *character - b'a' + 10,
-            _ => continue,
-        };
-        match high {
-            None => high = Some(digit.wrapping_mul(16)),
-            Some(first) => {
-                out.push(first | digit)?;
-                high = None;
-            }
-        }
-    }
-    Ok(out)
-}
-
-/// The message of these bytes.
-pub fn frame(alloc: Global, bytes: &[u8]) -> Result<Frame, Fail> {
-    let frame = Frame::of(alloc, bytes)?.ok_or("no message")?;
-    Ok(frame)
-}
 
 /// What the message asks of conference 1, on the connection of user 10.
 pub fn asked(alloc: Global, frame: &Frame) -> Result<Option<Ask>, AskFault> {
@@ -50,18 +22,50 @@ pub fn asked(alloc: Global, frame: &Frame) -> Result<Option<Ask>, AskFault> {
 pub fn shown(alloc: Global, answer: &Result<Option<Ask>, AskFault>) -> Result<String, AllocError> {
     match answer {
         Ok(Some(ask)) => format!(in alloc; "{ask:?}"),
-        Ok(None) => format!(in alloc; "no answer"),
+        Ok(None) => String::from_str(alloc, "no answer"),
         Err(AskFault::Error { code, details }) => {
             format!(in alloc; "{code:?} {:?}", details.as_slice())
         }
-        Err(AskFault::Memory) => format!(in alloc; "no memory"),
+        Err(AskFault::Memory) => String::from_str(alloc, "no memory"),
     }
 }
 
-/// The answer to the message of this hexadecimal, as a text.
-pub fn answer_to(alloc: Global, text: &str) -> Result<String, Fail> {
-    let message = bytes(alloc, text)?;
-    let answer = asked(alloc, &frame(alloc, &message)?);
-    let found = shown(alloc, &answer)?;
-    Ok(found)
+/// The bytes of a case's message, which stands behind `>`.
+pub fn bytes_of(alloc: Global, case: &str) -> Result<Vec<u8>, AllocError> {
+    let (_name, message) = case.split_once('>').unwrap_or((case, ""));
+    payload(alloc, message)
+}
+
+/// The answer to a case's message, as a text.
+pub fn answer(alloc: Global, case: &str) -> Result<String, AllocError> {
+    answer_to_bytes(alloc, &bytes_of(alloc, case)?)
+}
+
+/// The answer to the message of these bytes, as a text.
+pub fn answer_to_bytes(alloc: Global, bytes: &[u8]) -> Result<String, AllocError> {
+    match Frame::of(alloc, bytes)? {
+        None => String::from_str(alloc, "no message"),
+        Some(frame) => shown(alloc, &asked(alloc, &frame)),
+    }
+}
+
+/// The ask as user 10 writes it to conference 1, where it fits.
+pub fn written(alloc: Global, transaction: u16, ask: &Ask) -> Result<Option<Frame>, AllocError> {
+    let head = Head {
+        conference: 1,
+        transaction,
+        user: 10,
+    };
+    if ask_fits(ask) {
+        Ok(Some(write_ask(alloc, &head, ask)?))
+    } else {
+        Ok(None)
+    }
+}
+
+/// Whether the message asks what this ask does.
+pub fn is_read_back(alloc: Global, frame: &Frame, ask: &Ask) -> Result<bool, AllocError> {
+    let found = shown(alloc, &asked(alloc, frame))?;
+    let own = format!(in alloc; "{ask:?}")?;
+    Ok(found.as_str() == own.as_str())
 }

@@ -1,28 +1,24 @@
 //! Written asks: their bytes, and that they are read back.
 
-use super::shown::{asked, bytes, shown};
-use floor_message::{Ask, Head, Verdict, Verdicts, ask_fits, write_ask};
+use super::shown::{is_read_back, written};
+use crate::cases::assert_told;
+use crate::hexadecimal::spelled;
+use floor_message::{Ask, Verdict, Verdicts};
 use floor_wire::{Numbers, Octets};
 use std::alloc::{AllocError, Global};
-use std::process::Abort;
-use std::test::Fail;
 
-/// The ask fits, is written as these bytes, and is read back.
-fn assert_written(rt: &impl Abort, alloc: Global, ask: &Ask, text: &str) -> Result<(), Fail> {
-    assert!(rt; ask_fits(ask), "{text}");
-    let head = Head {
-        conference: 1,
-        transaction: 2,
-        user: 10,
-    };
-    let wanted = bytes(alloc, text)?;
-    let written = write_ask(alloc, &head, ask)?;
-    assert_eq!(rt; written.bytes(), wanted.as_slice(), "{text}");
-    let answer = asked(alloc, &written);
-    let found = shown(alloc, &answer)?;
-    let own = format!(in alloc; "{ask:?}")?;
-    assert_eq!(rt; found.as_str(), own.as_str(), "{text}");
-    Ok(())
+/// Appends the ask as it is written, and a bar where it is read back.
+fn push_written(alloc: Global, told: &mut String, ask: &Ask) -> Result<(), AllocError> {
+    match written(alloc, 2, ask)? {
+        None => told.push_str(" it doesn't fit"),
+        Some(frame) => {
+            told.push_str(&spelled(alloc, frame.bytes())?)?;
+            if is_read_back(alloc, &frame, ask)? {
+                told.push('|')?;
+            }
+            Ok(())
+        }
+    }
 }
 
 fn numbers(alloc: Global, numbers: &[u16]) -> Result<Numbers, AllocError> {
@@ -30,53 +26,71 @@ fn numbers(alloc: Global, numbers: &[u16]) -> Result<Numbers, AllocError> {
 }
 
 #[test]
-fn a_written_floor_request_is_read_back(rt: HostRuntime) -> Result<(), Fail> {
-    let alloc = rt.alloc();
+fn a_written_floor_request_is_read_back(rt: HostRuntime) {
+    let wanted =
+        " 20010002 00000001 0002000a 04040001 08044000| 20010006 00000001 0002000a 04040002 \
+        04040001 0204000b 10056869 21000000 08048000|";
+    assert_told(&rt, floor_requests(rt.alloc()), wanted);
+}
+
+/// A FloorRequest with a floor alone, and one with every attribute.
+fn floor_requests(alloc: Global) -> Result<String, AllocError> {
+    let mut told = String::new(alloc);
     let plain = Ask::FloorRequest {
         beneficiary: None,
         floors: numbers(alloc, &[1])?,
         priority: 2,
         info: None,
     };
-    let text = "20010002 00000001 0002 000a 04040001 08044000";
-    assert_written(&rt, alloc, &plain, text)?;
+    push_written(alloc, &mut told, &plain)?;
     let full = Ask::FloorRequest {
         beneficiary: Some(11),
         floors: numbers(alloc, &[2, 1])?,
         priority: 4,
         info: Some(Octets::from_vec(Vec::from_slice(alloc, b"hi!")?)),
     };
-    let text = "20010006 00000001 0002 000a 04040002 04040001 0204000b 1005 686921 000000 08048000";
-    assert_written(&rt, alloc, &full, text)
+    push_written(alloc, &mut told, &full)?;
+    Ok(told)
 }
 
 #[test]
-fn a_written_question_is_read_back(rt: HostRuntime) -> Result<(), Fail> {
-    let alloc = rt.alloc();
-    let ask = Ask::FloorRelease { request: 7 };
-    assert_written(&rt, alloc, &ask, "20020001 00000001 0002 000a 06040007")?;
-    let ask = Ask::FloorRequestQuery { request: 65535 };
-    assert_written(&rt, alloc, &ask, "20030001 00000001 0002 000a 0604ffff")?;
-    let ask = Ask::UserQuery {
-        beneficiary: Some(13),
-    };
-    assert_written(&rt, alloc, &ask, "20050001 00000001 0002 000a 0204000d")?;
-    let ask = Ask::UserQuery { beneficiary: None };
-    assert_written(&rt, alloc, &ask, "20050000 00000001 0002 000a")?;
-    let ask = Ask::FloorQuery {
-        floors: numbers(alloc, &[2, 1])?,
-    };
-    assert_written(
-        &rt,
-        alloc,
-        &ask,
-        "20070002 00000001 0002 000a 04040002 04040001",
-    )?;
-    assert_written(&rt, alloc, &Ask::Hello, "200b0000 00000001 0002 000a")
+fn a_written_question_is_read_back(rt: HostRuntime) {
+    let wanted =
+        " 20020001 00000001 0002000a 06040007| 20030001 00000001 0002000a 0604ffff| 20050001 \
+        00000001 0002000a 0204000d| 20050000 00000001 0002000a| 200b0000 00000001 0002000a| \
+        20070002 00000001 0002000a 04040002 04040001|";
+    assert_told(&rt, questions(rt.alloc()), wanted);
+}
+
+fn questions(alloc: Global) -> Result<String, AllocError> {
+    let mut told = String::new(alloc);
+    let plain = [
+        Ask::FloorRelease { request: 7 },
+        Ask::FloorRequestQuery { request: 65535 },
+        Ask::UserQuery {
+            beneficiary: Some(13),
+        },
+        Ask::UserQuery { beneficiary: None },
+        Ask::Hello,
+    ];
+    for ask in &plain {
+        push_written(alloc, &mut told, ask)?;
+    }
+    let floors = numbers(alloc, &[2, 1])?;
+    push_written(alloc, &mut told, &Ask::FloorQuery { floors })?;
+    Ok(told)
 }
 
 #[test]
-fn a_written_chair_action_is_read_back(rt: HostRuntime) -> Result<(), Fail> {
+fn a_written_chair_action_is_read_back(rt: HostRuntime) {
+    let wanted =
+        " 20090009 00000001 0002000a 1e240001 22080001 0a040200 22080002 0a040300 22080003 \
+        0a040400 22080004 0a040700|";
+    assert_told(&rt, chair_action(rt.alloc()), wanted);
+}
+
+/// A ChairAction with each verdict.
+fn chair_action(alloc: Global) -> Result<String, AllocError> {
     let verdicts = [
         (1, Verdict::Accepted),
         (2, Verdict::Granted),
@@ -85,9 +99,9 @@ fn a_written_chair_action_is_read_back(rt: HostRuntime) -> Result<(), Fail> {
     ];
     let ask = Ask::ChairAction {
         request: 1,
-        verdicts: Verdicts::from_vec(Vec::from_slice(rt.alloc(), &verdicts)?),
+        verdicts: Verdicts::from_vec(Vec::from_slice(alloc, &verdicts)?),
     };
-    let text = "20090009 00000001 0002 000a 1e240001 22080001 0a040200 22080002 0a040300 \
-                22080003 0a040400 22080004 0a040700";
-    assert_written(&rt, rt.alloc(), &ask, text)
+    let mut told = String::new(alloc);
+    push_written(alloc, &mut told, &ask)?;
+    Ok(told)
 }

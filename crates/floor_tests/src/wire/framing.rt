@@ -1,161 +1,215 @@
-use super::shown::bytes;
+//! Messages in a stream, their headers, and messages of the greatest length.
+
+use crate::cases::{assert_told, differing, part};
+use crate::hexadecimal::{bytes, frame, spelled};
 use floor_wire::{
-    Attr, Attrs, Body, Frame, Framer, SharedFrame, WireFault, fits_message, read_attrs, write_attrs,
+    Attr, Attrs, Body, Frame, Framer, Header, SharedFrame, fits_message, read_attrs, write_attrs,
 };
-use std::test::Fail;
+use std::alloc::{AllocError, Global};
+use std::fmt::Write;
 
-const HELLO: &str = "200b0000 00000001 0001 000a";
+const HELLO: &str = "200b0000 00000001 0001000a";
 
-const FLOOR_REQUEST: &str = "20010001 00000001 0002 000a 04040001";
+const FLOOR_REQUEST: &str = "20010001 00000001 0002000a 04040001";
 
-const OTHER_VERSION: &str = "5f630002 fffffffe 1234 8765 01020304 05060708";
+const OTHER_VERSION: &str = "5f630002 fffffffe 12348765 01020304 05060708";
 
 #[test]
-fn a_framer_gives_a_message_and_keeps_the_byte_behind_it(rt: HostRuntime) -> Result<(), Fail> {
-    let hello = bytes(rt.alloc(), HELLO)?;
-    let mut framer = Framer::new(rt.alloc());
-    assert!(rt; !framer.ready());
-    framer.push(&hello)?;
-    framer.push(&[0x20])?;
-    assert!(rt; framer.ready());
-    let frame = framer.next()?.ok_or("no message")?;
-    assert_eq!(rt; frame.bytes(), hello.as_slice());
-    assert!(rt; framer.next()?.is_none());
-    assert_eq!(rt; framer.rest_len(), 1);
-    Ok(())
+fn a_framer_gives_a_message_and_keeps_the_byte_behind_it(rt: HostRuntime) {
+    let wanted = "false true 200b0000 00000001 0001000a| 1";
+    assert_told(&rt, told_of_framer(rt.alloc()), wanted);
 }
 
-#[test]
-fn a_frame_is_exactly_one_message(rt: HostRuntime) -> Result<(), Fail> {
-    let cases = [
-        ("Hello", HELLO, true),
-        ("another version", OTHER_VERSION, true),
-        ("no byte", "", false),
-        (
-            "a header that lacks a byte",
-            "200b0000 00000001 0001 00",
-            false,
-        ),
-        ("a byte too many", "200b0000 00000001 0001 000a 20", false),
-        (
-            "a payload that lacks a byte",
-            "20010001 00000001 0002 000a 040400",
-            false,
-        ),
-    ];
-    for (name, text, is_message) in cases {
-        let whole = bytes(rt.alloc(), text)?;
-        match Frame::of(rt.alloc(), &whole)? {
-            None => assert!(rt; !is_message, "{name}"),
-            Some(frame) => {
-                assert!(rt; is_message, "{name}");
-                assert_eq!(rt; frame.bytes(), whole.as_slice(), "{name}");
-            }
-        }
+/// Whether a framer is ready before a Hello and a byte, and behind them, what it gives, and how many
+/// bytes it keeps.
+fn told_of_framer(alloc: Global) -> Result<String, AllocError> {
+    let mut framer = Framer::new(alloc);
+    let mut told = format!(in alloc; "{}", framer.ready())?;
+    framer.push(&bytes(alloc, HELLO)?)?;
+    framer.push(&[0x20])?;
+    write!(told, " {}", framer.ready())?;
+    push_next(alloc, &mut told, &mut framer)?;
+    push_next(alloc, &mut told, &mut framer)?;
+    write!(told, " {}", framer.rest_len())?;
+    Ok(told)
+}
+
+/// Appends the next message, and a bar behind it, where there is one.
+fn push_next(alloc: Global, told: &mut String, framer: &mut Framer) -> Result<(), AllocError> {
+    if let Some(frame) = framer.next()? {
+        told.push_str(&spelled(alloc, frame.bytes())?)?;
+        told.push('|')?;
     }
     Ok(())
 }
 
+/// Each line: its name, bytes, and the message that they are.
+const FRAMES: &str = "\
+Hello | 200b0000 00000001 0001 000a => 200b0000 00000001 0001000a
+another version | 5f630002 fffffffe 1234 8765 01020304 05060708 => 5f630002 fffffffe 12348765 01020304 05060708
+no byte | => none
+a header that lacks a byte | 200b0000 00000001 0001 00 => none
+a byte too many | 200b0000 00000001 0001 000a 20 => none
+a payload that lacks a byte | 20010001 00000001 0002 000a 040400 => none";
+
 #[test]
-fn a_header_has_the_fields_of_its_bits(rt: HostRuntime) -> Result<(), Fail> {
-    let whole = bytes(rt.alloc(), OTHER_VERSION)?;
-    let frame = Frame::of(rt.alloc(), &whole)?.ok_or("no message")?;
-    let header = frame.header();
-    assert_eq!(rt; header.version(), 2);
-    assert!(rt; header.transaction_responder());
-    assert!(rt; header.fragmentation());
-    assert_eq!(rt; header.reserved(), 7);
-    assert_eq!(rt; header.primitive(), 99);
-    assert_eq!(rt; header.payload_length(), 2);
-    assert_eq!(rt; header.conference(), 4_294_967_294);
-    assert_eq!(rt; header.transaction(), 0x1234);
-    assert_eq!(rt; header.user(), 0x8765);
-    Ok(())
+fn a_frame_is_exactly_one_message(rt: HostRuntime) {
+    let told = differing(rt.alloc(), FRAMES, "\n", " =>", framed);
+    assert_told(&rt, told, "6 cases");
+}
+
+fn framed(alloc: Global, case: &str) -> Result<String, AllocError> {
+    match frame(alloc, part(case, 1))? {
+        None => String::from_str(alloc, " none"),
+        Some(frame) => spelled(alloc, frame.bytes()),
+    }
 }
 
 #[test]
-fn a_written_message_has_its_header_and_attributes(rt: HostRuntime) -> Result<(), Fail> {
-    let wanted = bytes(rt.alloc(), FLOOR_REQUEST)?;
+fn a_header_has_the_fields_of_its_bits(rt: HostRuntime) {
+    let wanted = "version 2, R true, F true, reserved 7, primitive 99, length 2, \
+        conference 4294967294, transaction 4660, user 34661";
+    assert_told(&rt, other_version(rt.alloc()), wanted);
+}
+
+/// The fields of the header of a message of another version.
+fn other_version(alloc: Global) -> Result<String, AllocError> {
+    match frame(alloc, OTHER_VERSION)? {
+        None => String::from_str(alloc, "no message"),
+        Some(frame) => fields_of(alloc, frame.header()),
+    }
+}
+
+fn fields_of(alloc: Global, header: Header) -> Result<String, AllocError> {
+    let (first, second) = (header.transaction_responder(), header.fragmentation());
+    let (version, reserved) = (header.version(), header.reserved());
+    let (primitive, length) = (header.primitive(), header.payload_length());
+    let (conference, transaction) = (header.conference(), header.transaction());
+    let user = header.user();
+    format!(in alloc;
+        "version {version}, R {first}, F {second}, reserved {reserved}, primitive {primitive}, \
+        length {length}, conference {conference}, transaction {transaction}, user {user}"
+    )
+}
+
+#[test]
+fn a_written_message_has_its_header_and_attributes(rt: HostRuntime) {
+    let wanted = " 20010001 00000001 0002000a 04040001";
+    assert_told(&rt, written(rt.alloc()), wanted);
+}
+
+/// A FloorRequest of an attribute with M, as it is written.
+fn written(alloc: Global) -> Result<String, AllocError> {
     let floor = Attr {
         kind: 2,
         must: true,
         body: Body::Num(1),
     };
-    let frame = Frame::of_attributes(rt.alloc(), 1, 1, 2, 10, &[floor])?;
-    assert_eq!(rt; frame.bytes(), wanted.as_slice());
-    Ok(())
+    let frame = Frame::of_attributes(alloc, 1, 1, 2, 10, &[floor])?;
+    spelled(alloc, frame.bytes())
 }
 
 #[test]
-fn a_message_is_addressed_to_another_user(rt: HostRuntime) -> Result<(), Fail> {
-    let message = bytes(rt.alloc(), "20010001 00000001 0002 000a 04040001")?;
-    let frame = Frame::of(rt.alloc(), &message)?.ok_or("no message")?;
-    let header = bytes(rt.alloc(), "20010001 00000001 0002 fffe")?;
-    let payload = bytes(rt.alloc(), "04040001")?;
-    let addressed = SharedFrame::of(frame).addressed(0xfffe)?;
-    assert_eq!(rt; addressed.header(), header.as_slice());
-    assert_eq!(rt; addressed.payload(), payload.as_slice());
-    assert_eq!(rt; addressed.len(), 16);
-    Ok(())
+fn a_message_is_addressed_to_another_user(rt: HostRuntime) {
+    let wanted = " 20010001 00000001 0002fffe / 04040001 / 16";
+    assert_told(&rt, addressed(rt.alloc()), wanted);
 }
 
-#[test]
-fn every_cut_of_three_messages_gives_the_same_messages(rt: HostRuntime) -> Result<(), Fail> {
-    let texts = [HELLO, OTHER_VERSION, FLOOR_REQUEST];
-    let mut stream = Vec::new(rt.alloc());
-    for text in texts {
-        let message = bytes(rt.alloc(), text)?;
-        stream.extend_from_slice(&message)?;
+/// The FloorRequest, addressed to user 0xfffe.
+fn addressed(alloc: Global) -> Result<String, AllocError> {
+    match frame(alloc, FLOOR_REQUEST)? {
+        None => String::from_str(alloc, "no message"),
+        Some(frame) => parts_of(alloc, &SharedFrame::of(frame).addressed(0xfffe)?),
     }
+}
+
+/// The header, the payload and the length of a message.
+fn parts_of(alloc: Global, message: &SharedFrame) -> Result<String, AllocError> {
+    let mut told = spelled(alloc, message.header())?;
+    told.push_str(" /")?;
+    told.push_str(&spelled(alloc, message.payload())?)?;
+    write!(told, " / {}", message.len())?;
+    Ok(told)
+}
+
+/// Three messages that are taken whole, and no byte behind them.
+const THREE: &str = " 200b0000 00000001 0001000a| 5f630002 fffffffe 12348765 01020304 05060708\
+    | 20010001 00000001 0002000a 04040001| 0";
+
+#[test]
+fn every_cut_of_three_messages_gives_the_same_messages(rt: HostRuntime) {
+    assert_told(&rt, differing_cuts(rt.alloc()), "1225 cuts");
+}
+
+/// The places of two cuts at which other messages are taken than are wanted, and how many cuts there
+/// are.
+fn differing_cuts(alloc: Global) -> Result<String, AllocError> {
+    let mut stream = bytes(alloc, HELLO)?;
+    stream.extend_from_slice(&bytes(alloc, OTHER_VERSION)?)?;
+    stream.extend_from_slice(&bytes(alloc, FLOOR_REQUEST)?)?;
+    let mut told = String::new(alloc);
+    let mut count = 0u32;
     for first in 0..=stream.len() {
-        for second in first..=stream.len() {
-            let mut framer = Framer::new(rt.alloc());
-            let mut taken = Vec::new(rt.alloc());
-            for piece in [&stream[..first], &stream[first..second], &stream[second..]] {
-                framer.push(piece)?;
-                for _ in 0..4 {
-                    if let Some(frame) = framer.next()? {
-                        taken.push(frame)?;
-                    }
-                }
+        let (front, rest) = stream.as_slice().split_at(first);
+        for second in 0..=rest.len() {
+            let (middle, end) = rest.split_at(second);
+            if taken(alloc, [front, middle, end])?.as_str() != THREE {
+                write!(told, "cut at {first} and {second} behind it, ")?;
             }
-            assert_eq!(rt; taken.len(), texts.len(), "cut at {first} and {second}");
-            for (frame, text) in taken.iter().zip(texts) {
-                let message = bytes(rt.alloc(), text)?;
-                assert_eq!(rt;
-                    frame.bytes(),
-                    message.as_slice(),
-                    "cut at {first} and {second}"
-                );
-            }
-            assert_eq!(rt; framer.rest_len(), 0, "cut at {first} and {second}");
+            count = count.saturating_add(1);
         }
     }
-    Ok(())
+    write!(told, "{count} cuts")?;
+    Ok(told)
+}
+
+/// The messages that are taken behind each piece, and how many bytes are left.
+fn taken(alloc: Global, pieces: [&[u8]; 3]) -> Result<String, AllocError> {
+    let mut framer = Framer::new(alloc);
+    let mut told = String::new(alloc);
+    for piece in pieces {
+        framer.push(piece)?;
+        for _ in 0..4 {
+            push_next(alloc, &mut told, &mut framer)?;
+        }
+    }
+    write!(told, " {}", framer.rest_len())?;
+    Ok(told)
 }
 
 #[test]
-fn ten_thousand_waiting_messages_are_taken_one_by_one(rt: HostRuntime) -> Result<(), Fail> {
-    let hello = bytes(rt.alloc(), HELLO)?;
-    let mut stream = Vec::new(rt.alloc());
+fn ten_thousand_waiting_messages_are_taken_one_by_one(rt: HostRuntime) {
+    assert_told(&rt, many_taken(rt.alloc()), "10000 taken, then none true");
+}
+
+/// How many of ten thousand Hellos are taken, and whether none is taken then.
+fn many_taken(alloc: Global) -> Result<String, AllocError> {
+    let hello = bytes(alloc, HELLO)?;
+    let mut stream = Vec::new(alloc);
     for _ in 0..10_000 {
         stream.extend_from_slice(&hello)?;
     }
-    let mut framer = Framer::new(rt.alloc());
+    let mut framer = Framer::new(alloc);
     framer.push(&stream)?;
-    for taken in 0..10_000 {
-        let frame = framer.next()?.ok_or("no message")?;
-        assert_eq!(rt; frame.bytes(), hello.as_slice(), "after {taken}");
+    let mut count = 0u32;
+    for _ in 0..10_000 {
+        if is_next(&mut framer, &hello)? {
+            count = count.saturating_add(1);
+        }
     }
-    assert!(rt; framer.next()?.is_none());
-    Ok(())
+    let is_none = framer.next()?.is_none();
+    format!(in alloc; "{count} taken, then none {is_none}")
 }
 
-#[test]
-fn a_message_of_the_greatest_length_is_written_framed_and_read(
-    rt: HostRuntime,
-) -> Result<(), Fail> {
-    let alloc = rt.alloc();
+fn is_next(framer: &mut Framer, message: &[u8]) -> Result<bool, AllocError> {
+    match framer.next()? {
+        Some(frame) => Ok(frame.bytes() == message),
+        None => Ok(false),
+    }
+}
+
+/// 65,534 numbers and a group, which fill the longest message.
+fn longest(alloc: Global) -> Result<Vec<Attr>, AllocError> {
     let mut attrs = Vec::new(alloc);
     for number in 0..65_534u16 {
         attrs.push(Attr {
@@ -170,25 +224,72 @@ fn a_message_of_the_greatest_length_is_written_framed_and_read(
         must: false,
         body: Body::Group(10, none),
     })?;
+    Ok(attrs)
+}
+
+#[test]
+fn a_message_of_the_greatest_length_is_written_framed_and_read(
+    rt: HostRuntime,
+) -> Result<(), AllocError> {
+    let attrs = longest(rt.alloc())?;
     assert!(rt; fits_message(&attrs));
-    let mut written = write_attrs(alloc, &attrs)?;
-    assert_eq!(rt; written.len(), 262_140);
-    assert_eq!(rt; read_attrs(alloc, &written)?.as_slice().len(), 65_535);
-
-    let frame = Frame::of_attributes(alloc, 7, 1, 2, 10, &attrs)?;
-    assert_eq!(rt; frame.header().payload_length(), 65_535);
-    assert!(rt; Frame::of(alloc, frame.bytes())?.is_some());
-    let mut framer = Framer::new(alloc);
-    framer.push(frame.copy(alloc)?.bytes())?;
-    assert!(rt; framer.ready());
-    let taken = framer.next()?.ok_or("no message")?;
-    assert_eq!(rt; taken.bytes(), frame.bytes());
-    assert_eq!(rt; SharedFrame::of(taken).addressed(11)?.len(), 262_152);
-
-    written.extend_from_slice(&[0x1c, 5, 0, 1])?;
-    match read_attrs(alloc, &written) {
-        Ok(_) => assert!(rt; false, "a group of Length 5"),
-        Err(fault) => assert_eq!(rt; fault, WireFault::BadLength(262_140)),
-    }
+    let written = write_attrs(rt.alloc(), &attrs)?;
+    let wanted = "262140 bytes, 65535 attributes, BadLength(262140) with a group of Length 5";
+    assert_told(&rt, read_again(rt.alloc(), written), wanted);
+    let frame = Frame::of_attributes(rt.alloc(), 7, 1, 2, 10, &attrs)?;
+    let wanted = "length 65535, a message true, ready true, taken true, 262152 bytes";
+    assert_told(&rt, framed_again(rt.alloc(), &frame), wanted);
     Ok(())
+}
+
+/// How many bytes there are, how many attributes are read of them, and what is read of them and a
+/// group of Length 5.
+fn read_again(alloc: Global, mut written: Vec<u8>) -> Result<String, AllocError> {
+    let mut told = format!(in alloc; "{} bytes, ", written.len())?;
+    push_read(&mut told, alloc, &written)?;
+    written.extend_from_slice(&[0x1c, 5, 0, 1])?;
+    told.push_str(", ")?;
+    push_read(&mut told, alloc, &written)?;
+    told.push_str(" with a group of Length 5")?;
+    Ok(told)
+}
+
+fn push_read(told: &mut String, alloc: Global, bytes: &[u8]) -> Result<(), AllocError> {
+    match read_attrs(alloc, bytes) {
+        Ok(attrs) => write!(told, "{} attributes", attrs.as_slice().len()),
+        Err(fault) => write!(told, "{fault:?}"),
+    }
+}
+
+/// The length in the header, whether the bytes are a message, whether a framer is ready with a copy
+/// of it and gives it, and how long the message to user 11 is.
+fn framed_again(alloc: Global, frame: &Frame) -> Result<String, AllocError> {
+    let mut told = format!(in alloc; "length {}", frame.header().payload_length())?;
+    let is_message = Frame::of(alloc, frame.bytes())?.is_some();
+    write!(told, ", a message {is_message}")?;
+    let mut framer = Framer::new(alloc);
+    push_copy(alloc, &mut framer, frame)?;
+    write!(told, ", ready {}", framer.ready())?;
+    push_taken(&mut told, &mut framer, frame)?;
+    Ok(told)
+}
+
+fn push_copy(alloc: Global, framer: &mut Framer, frame: &Frame) -> Result<(), AllocError> {
+    framer.push(frame.copy(alloc)?.bytes())
+}
+
+/// Appends whether a framer gives this message, and how long it is when it is sent to user 11.
+fn push_taken(told: &mut String, framer: &mut Framer, frame: &Frame) -> Result<(), AllocError> {
+    match framer.next()? {
+        None => told.push_str(", none"),
+        Some(taken) => {
+            write!(told, ", taken {}", taken.bytes() == frame.bytes())?;
+            push_length(told, &SharedFrame::of(taken))
+        }
+    }
+}
+
+fn push_length(told: &mut String, message: &SharedFrame) -> Result<(), AllocError> {
+    let length = message.addressed(11)?.len();
+    write!(told, ", {length} bytes")
 }
