@@ -30,3 +30,6 @@ pub mod Together
 pub mod Alone
 pub mod AskedOnce
 pub mod Few
+pub mod Places
+pub mod Noting
+pub mod Renewed
