@@ -33,3 +33,4 @@ pub mod Few
 pub mod Places
 pub mod Noting
 pub mod Renewed
+pub mod Walk

@@ -115,7 +115,7 @@ fit-taken place n before after taken h =
     All-same IsShownInfo after (take place before ++ drop n before) taken
     (All-append IsShownInfo (take place before) (drop n before) (All-take IsShownInfo place before h) (All-drop IsShownInfo n before h))
 
-found-number : (ended : List Ended) (n : ℕ) (d : Ended) → find (λ d. d.request.number == n) ended ≡ Some d → d.request.number ≡ n
+pub found-number : (ended : List Ended) (n : ℕ) (d : Ended) → find (λ d. d.request.number == n) ended ≡ Some d → d.request.number ≡ n
 found-number [] n d h = cc
 found-number (e ∷ ended) n d h = by (e.request.number == n) refl h (found-number ended n d)
   where
