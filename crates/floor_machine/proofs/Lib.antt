@@ -34,3 +34,4 @@ pub mod Places
 pub mod Noting
 pub mod Renewed
 pub mod Walk
+pub mod Courses

@@ -208,6 +208,16 @@ at-added : (rs : List Request) (r : Request) (n : ℕ) → (r.number == n) ≡ f
 at-added [] r n h = ap (λ (b : Bool). cond b (Some r) None) h
 at-added (q ∷ rs) r n h = ap (λ (o : Option Request). cond (q.number == n) (Some q) o) (at-added rs r n h)
 
+-- the one that was added is found by its number, where no other has it
+pub found-added : (rs : List Request) (r : Request) → request_at rs r.number ≡ None → request_at (rs ++ r ∷ []) r.number ≡ Some r
+found-added [] r h = ap (λ (b : Bool). cond b (Some r) None) (same_number r.number)
+found-added (q ∷ rs) r h = by (q.number == r.number) h (found-added rs r)
+  where
+    by : (b : Bool) → cond b (Some q) (request_at rs r.number) ≡ None → (request_at rs r.number ≡ None → request_at (rs ++ r ∷ []) r.number ≡ Some r) →
+        cond b (Some q) (request_at (rs ++ r ∷ []) r.number) ≡ Some r
+    by true h rest = cc
+    by false h rest = rest h
+
 -- a request was added, and is marked
 pub noted-added : (rs : List Request) (r : Request) (marks more : List Mark) → more ≡ marks ++ mark_of r ∷ [] → KeepsNoted rs marks (rs ++ r ∷ []) more
 noted-added rs r marks more put =
@@ -309,14 +319,14 @@ noted-decided rs k verdicts marks some more h before after = by (request_at rs k
     by (Some r) e = found r e
 
 -- settles one request
-abbrev settle_one : List Floor → List Request → Request → Request
+abbrev pub settle_one : List Floor → List Request → Request → Request
 settle_one floors all r = granted_if (is_due floors all r) r
 
 number-granted : (b : Bool) (r : Request) → (granted_if b r).number ≡ r.number
 number-granted true r = refl
 number-granted false r = refl
 
-at-settled : (floors : List Floor) (all rs : List Request) (n : ℕ) → request_at (map (settle_one floors all) rs) n ≡ option_map (settle_one floors all) (request_at rs n)
+pub at-settled : (floors : List Floor) (all rs : List Request) (n : ℕ) → request_at (map (settle_one floors all) rs) n ≡ option_map (settle_one floors all) (request_at rs n)
 at-settled floors all [] n = refl
 at-settled floors all (r ∷ rs) n =
     ap (λ (k : ℕ). cond (k == n) (Some (settle_one floors all r)) (request_at (map (settle_one floors all) rs) n)) (number-granted (is_due floors all r) r)

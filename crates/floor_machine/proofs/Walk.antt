@@ -27,7 +27,7 @@ use Rattle.floor_machine.proofs.Places.{IsKeyed, here-number, renewed-number}
 use Rattle.floor_machine.proofs.Renewed.{found-number, request-info}
 
 -- what is made of the items of numbers is made of the list of the items
-listed-map : {A B : Type 0} (f : A → B) (at : ℕ → Option A) (ns : List ℕ) → flat_map (λ n. listed (option_map f (at n))) ns ≡ map f (flat_map (λ n. listed (at n)) ns)
+pub listed-map : {A B : Type 0} (f : A → B) (at : ℕ → Option A) (ns : List ℕ) → flat_map (λ n. listed (option_map f (at n))) ns ≡ map f (flat_map (λ n. listed (at n)) ns)
 listed-map f at [] = refl
 listed-map {A = A} {B = B} f at (n ∷ ns) = by (at n) ∙ ap (λ (ys : List B). map f (listed (at n)) ++ ys) (listed-map f at ns) ∙ sym (map-append f (listed (at n)) (flat_map (λ n. listed (at n)) ns))
   where
@@ -35,7 +35,7 @@ listed-map {A = A} {B = B} f at (n ∷ ns) = by (at n) ∙ ap (λ (ys : List B).
     by None = refl
     by (Some x) = refl
 
-flat_map-alike : {A B : Type 0} (f g : A → List B) → ((x : A) → f x ≡ g x) → (xs : List A) → flat_map f xs ≡ flat_map g xs
+pub flat_map-alike : {A B : Type 0} (f g : A → List B) → ((x : A) → f x ≡ g x) → (xs : List A) → flat_map f xs ≡ flat_map g xs
 flat_map-alike f g same [] = refl
 flat_map-alike {B = B} f g same (x ∷ xs) =
     ap (λ (ys : List B). ys ++ flat_map f xs) (same x) ∙ ap (λ (ys : List B). g x ++ ys) (flat_map-alike f g same xs)

@@ -49,6 +49,8 @@ fn add_request(
         requests.new.ongoing marks.new.items) }
     ensures floors { requests.new.floors ≡ requests.old.floors }
 {
+    // No ongoing request has the next number.
+    let _ongoing = requests.ongoing();
     match requests.add(new) {
         Ok(number) => {
             numbers.push(number)?;

@@ -141,6 +141,8 @@ impl State {
             course.old.ended.items course.old.before.items course.old.numbers.items) }
         ensures shown { IfOk result (λ changes. AreUpdatesShown changes.updates.items) }
     {
+        // The requests ascend, so that each is found by its number.
+        let _ongoing = self.requests.ongoing();
         let granted = self.requests.settle()?;
         mark_granted(&mut course.marks, &self.requests, granted.as_slice())?;
         mem::swap(&mut self.shown, &mut course.before);
