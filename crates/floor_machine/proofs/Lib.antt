@@ -33,5 +33,6 @@ pub mod Few
 pub mod Places
 pub mod Noting
 pub mod Renewed
+pub mod Moved
 pub mod Walk
 pub mod Courses

@@ -1,7 +1,7 @@
 -- The walk over the numbers of an event, by which what is shown of each request is renewed.
 use Rattle.std.proofs.Common.{◌≡◌, ℕ, suc, zero, ◌+◌, ◌<◌, ◌≤◌, Bool, true, false, cond, List, [], ◌∷◌, ◌++◌, length, get_or, take, drop, map, Option, Some, None, refl, sym, ap, subst, ◌∙◌, arith, add-one, append-nil}
-use Rattle.std.specs.Prelude.{◌==◌, nat_lt, find, option_map}
-use Rattle.std.specs.List.{flat_map, list_all}
+use Rattle.std.specs.Prelude.{◌==◌, nat_lt, not, find, option_map}
+use Rattle.std.specs.List.{flat_map, list_all, list_any}
 use Rattle.std.specs.Option.{option_map_or}
 use Rattle.std.proofs.lemmas.Bool.{eqb-true}
 use Rattle.std.proofs.lemmas.Grind.{flat_map-append}
@@ -17,11 +17,14 @@ use Rattle.floor_machine.specs.declared.course.Shown.{Shown}
 use Rattle.floor_machine.specs.declared.renewing.Changes.{Changes}
 use Rattle.floor_machine.specs.declared.sending.Update.{Update}
 use Rattle.floor_machine.specs.Shown.{Entry, entry_of, info, info_of}
+use Rattle.floor_machine.specs.Reply.{infos_on}
+use Rattle.floor_machine.specs.Same.{same_infos}
 use Rattle.floor_machine.specs.steps.Marks.{is_marked}
 use Rattle.floor_machine.specs.steps.Renewing.{IsCourse, IsRenewed, differs, floors_moved, info_here, info_with, left_at, moved, now_at, request_here, update_from}
 use Rattle.floor_machine.specs.steps.Serving.{is_rising}
-use Rattle.floor_machine.specs.steps.Telling.{entry_at, entry_of_ended, infos_of, listed, shown_at, shown_of, update_at, update_if, update_of, updates}
+use Rattle.floor_machine.specs.steps.Telling.{AreChanged, entry_at, entry_of_ended, infos_of, listed, shown_at, shown_of, update_at, update_if, update_of, updates}
 use Rattle.floor_machine.proofs.Found.{and_left, and_right}
+use Rattle.floor_machine.proofs.Moved.{moved-all}
 use Rattle.floor_machine.proofs.Noting.{found-unmarked, info-unmarked}
 use Rattle.floor_machine.proofs.Places.{IsKeyed, here-number, renewed-number}
 use Rattle.floor_machine.proofs.Renewed.{found-number, request-info}
@@ -250,3 +253,25 @@ floors-more config ongoing ended before ns k d fs fs' old within so_far there pu
     ∙ ap (λ (o : Option Info). fs ++ floors_moved o (now_at config ended ongoing (get_or ns k d))) there
     ∙ ap (λ (gs : List ℕ). gs ++ floors_moved (info_with before (get_or ns k d)) (now_at config ended ongoing (get_or ns k d))) so_far
     ∙ sym (more (λ n. floors_moved (info_with before n) (now_at config ended ongoing n)) ns k d within)
+
+now-keyed : (config : Configuration) (ended : List Ended) (ongoing : List Request) → IsKeyed (λ (i : Info). i.request) (now_at config ended ongoing)
+now-keyed config ended ongoing = λ n i h. by n i (left_at ended ongoing n) refl h
+  where
+    by : (n : ℕ) (i : Info) (o : Option Request) → left_at ended ongoing n ≡ o → option_map (info config ongoing) o ≡ Some i → i.request ≡ n
+    by n i None e h = cc
+    by n i (Some r) e h =
+        let same : info config ongoing r ≡ i = cc in
+        ap (λ (x : Info). x.request) (sym same) ∙ request-info config ongoing (entry_of r) ∙ left-keyed ended ongoing n r e
+
+-- the floors that the walk has noted are those that changed
+pub floors-changed : (config : Configuration) (course : Course) (ongoing : List Request) (before : List Info) (k : ℕ) (changed : List ℕ) → IsCourse config ongoing before course →
+    length course.numbers.items ≤ k → changed ≡ moved config ongoing course.ended.items before (take k course.numbers.items) → AreChanged before (infos_of config ongoing) changed
+floors-changed config course ongoing before k changed known all noted = λ floor.
+    let ns : List ℕ = course.numbers.items in
+    let ended : List Ended = course.ended.items in
+    let old : List Info = flat_map (λ n. listed (info_with before n)) ns in
+    let now : List Info = flat_map (λ n. listed (now_at config ended ongoing n)) ns in
+    ap (λ (fs : List ℕ). list_any (λ f. f == floor) fs) (noted ∙ ap (moved config ongoing ended before) (take_all k ns all))
+    ∙ moved-all floor (info_with before) (now_at config ended ongoing) ns (info-keyed before) (now-keyed config ended ongoing) known.rising
+    ∙ ap (λ (is : List Info). not (same_infos (infos_on floor is) (infos_on floor now))) (sym (shown-numbers config known.requests before ns known.before known.old))
+    ∙ ap (λ (is : List Info). not (same_infos (infos_on floor before) (infos_on floor is))) (now-numbers config ended ongoing ns known.left)

@@ -1,7 +1,7 @@
 //! The course of one event: what was shown before it, which floor requests it ended, and what is
 //! shown otherwise after it (RFC 8855, sections 10.1.2 and 12.1).
 
-ghost use Rattle.std.specs.Prelude.{◌≡◌, ◌==◌, [], All, IfOk, IfSome, Some, filter, find, map, option_map};
+ghost use Rattle.std.specs.Prelude.{◌≡◌, ◌==◌, [], All, IfOk, IfSome, Some, find, option_map};
 ghost use Rattle.std.specs.List.{list_any};
 ghost use Rattle.std.specs.Option.{option_copied};
 ghost use Rattle.floor_config.specs.Configuration.{IsFloor};
@@ -219,8 +219,8 @@ pub(crate) fn floor_updates(
 ) -> Result<Vec<FloorUpdate>, AllocError>
     requires floors { All IsFloor floors.now }
     requires shown { AreShown now.now }
-    ensures value { IfOk result (λ updates. updates.items ≡ map (spec.floor_update now.now)
-        (filter (λ f. list_any (λ floor. floor == f.id) changed.now) floors.now)) }
+    ensures value { IfOk result (λ updates.
+        updates.items ≡ spec.floors_changed now.now changed.now floors.now) }
     ensures shown { IfOk result (λ updates. AreFloorsShown updates.items) }
 {
     let mut updates = Vec::new(alloc);

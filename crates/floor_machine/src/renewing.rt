@@ -10,7 +10,7 @@ ghost use Rattle.floor_machine.specs.steps.Fitting.{AreAddable, AreUpdatesShown}
 ghost use Rattle.floor_machine.specs.steps.Marks.{is_marked};
 ghost use Rattle.floor_machine.specs.steps.Renewing as spec;
 ghost use Rattle.floor_machine.specs.steps.Renewing.{IsCourse, IsRenewed, info_here, left_at, now_at, request_here};
-ghost use Rattle.floor_machine.specs.steps.Telling.{entry_of_ended, infos_of, listed, shown_at, shown_of, updates};
+ghost use Rattle.floor_machine.specs.steps.Telling.{AreChanged, entry_of_ended, infos_of, listed, shown_at, shown_of, updates};
 
 use crate::copying::copied_info;
 use crate::course::{Course, Ended, find_ended, shown_ended, shown_request, update_of};
@@ -333,9 +333,8 @@ pub(crate) fn renew(
     ensures updates { IfOk result (λ changes. changes.updates.items
         ≡ updates config.now requests.now.ongoing course.now.ended.items infos.old.items
         course.now.numbers.items) }
-    ensures floors { IfOk result (λ changes. changes.floors.items
-        ≡ spec.moved config.now requests.now.ongoing course.now.ended.items infos.old.items
-        course.now.numbers.items) }
+    ensures floors { IfOk result (λ changes. AreChanged infos.old.items
+        (infos_of config.now requests.now.ongoing) changes.floors.items) }
     ensures fit { OnOk result (All IsShownInfo infos.new.items) }
     ensures shown { IfOk result (λ changes. AreUpdatesShown changes.updates.items) }
 {

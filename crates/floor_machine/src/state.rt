@@ -10,9 +10,9 @@ ghost use Rattle.floor_machine.specs.Conference.{is_live, opening, user_of};
 ghost use Rattle.floor_machine.specs.declared.event.Event.TheVariants.{Join};
 ghost use Rattle.floor_machine.specs.Journal.{parcels_of};
 ghost use Rattle.floor_machine.specs.steps.Fitting.{AreAddable, AreFloorsShown, AreUpdatesShown, IsReplyShown, IsToldShown};
-ghost use Rattle.floor_machine.specs.steps.Renewing.{IsCourse, moved};
+ghost use Rattle.floor_machine.specs.steps.Renewing.{IsCourse};
 ghost use Rattle.floor_machine.specs.steps.Serving.{IsState, conference_of};
-ghost use Rattle.floor_machine.specs.steps.Telling.{AreInfos, floors_changed, is_watched_by, parcels_to_all, updates};
+ghost use Rattle.floor_machine.specs.steps.Telling.{AreChanged, AreInfos, floors_changed, infos_of, is_watched_by, parcels_to_all, updates};
 
 use crate::course::{Course, floor_updates};
 use crate::marking::mark_granted;
@@ -136,9 +136,9 @@ impl State {
         ensures updates { IfOk result (λ changes. changes.updates.items
             ≡ updates self.old.config (settle self.old.requests.floors self.old.requests.ongoing)
             course.old.ended.items course.old.before.items course.old.numbers.items) }
-        ensures floors { IfOk result (λ changes. changes.floors.items
-            ≡ moved self.old.config (settle self.old.requests.floors self.old.requests.ongoing)
-            course.old.ended.items course.old.before.items course.old.numbers.items) }
+        ensures floors { IfOk result (λ changes. AreChanged course.old.before.items
+            (infos_of self.old.config
+            (settle self.old.requests.floors self.old.requests.ongoing)) changes.floors.items) }
         ensures shown { IfOk result (λ changes. AreUpdatesShown changes.updates.items) }
     {
         // The requests ascend, so that each is found by its number.
@@ -163,10 +163,10 @@ impl State {
         requires reply { IsReplyShown reply.now }
         ensures told { OnOk result (out.new.items ≡ out.old.items
             ++ parcels_to_all self.now.config.conference reply.now changes.now.updates.items
-            (floors_changed self.now.config self.now.shown.items changes.now.floors.items)
+            (floors_changed self.now.shown.items changes.now.floors.items self.now.config.floors)
             self.now.members) }
         ensures floors_shown { OnOk result (AreFloorsShown (filter (is_watched_by self.now.members)
-            (floors_changed self.now.config self.now.shown.items changes.now.floors.items))) }
+            (floors_changed self.now.shown.items changes.now.floors.items self.now.config.floors))) }
         ensures left { OnErr result (out.new.items ≡ out.old.items) }
     {
         // At most 256 requests are ongoing.

@@ -121,9 +121,18 @@ is_floor_changed before now floor = not (same_infos (infos_on floor.id before) (
 abbrev pub floor_updates : List Info → List Info → List Floor → List FloorUpdate
 floor_updates before now floors = map (floor_update now) (filter (is_floor_changed before now) floors)
 
+-- a floor is one of these exactly where the requests that name it are shown otherwise than before
+abbrev pub AreChanged : List Info → List Info → List ℕ → Type 0
+AreChanged before now changed =
+    (floor : ℕ) → list_any (λ f. f == floor) changed ≡ not (same_infos (infos_on floor before) (infos_on floor now))
+
+-- the floor is one of these
+abbrev pub is_one_of : List ℕ → Floor → Bool
+is_one_of changed f = list_any (λ floor. floor == f.id) changed
+
 -- the statuses of the floors that are among the changed ones
-abbrev pub floors_changed : Configuration → List Info → List ℕ → List FloorUpdate
-floors_changed config now changed = map (floor_update now) (filter (λ f. list_any (λ floor. floor == f.id) changed) config.floors)
+abbrev pub floors_changed : List Info → List ℕ → List Floor → List FloorUpdate
+floors_changed now changed floors = map (floor_update now) (filter (is_one_of changed) floors)
 
 -- the first message has the head, and those behind it the same without the transaction
 abbrev pub answered : Head → List Tell → List Outgoing

@@ -13,7 +13,7 @@ use Rattle.floor_machine.specs.Shown.{info}
 use Rattle.floor_machine.specs.steps.Marks.{is_marked}
 use Rattle.floor_machine.specs.steps.Renewing.{IsRenewed, info_here, info_with, left_at, now_at, request_here}
 use Rattle.floor_machine.specs.steps.Telling.{listed, shown_at}
-use Rattle.floor_machine.proofs.Walk.{IsAt, begun-at, ended-at, floors-more, info-there, next-at, place-within, request-there, unmarked-there, updates-more}
+use Rattle.floor_machine.proofs.Walk.{IsAt, begun-at, ended-at, floors-changed, floors-more, info-there, next-at, place-within, request-there, unmarked-there, updates-more}
 use Rattle.floor_machine.proofs.renewing.renew.Goals as goal
 
 pub loop-number-init : goal.loop-number-init
@@ -109,3 +109,8 @@ returns-clause-infos c =
     ended-at c.args.config.now c.args.course.now.ended.items c.args.requests.now.ongoing c.args.infos.now.items ns c.loop-number.number-index c.loop-number.place c.loop-number.infos.items
     (omega (arith, ap (λ (zs : List ℕ). length zs) c.deref-number-items.ensures.value)) c.requires.course.left
     (record { infos = c.loop-number.invariant.infos; place = c.loop-number.invariant.place })
+
+pub returns-clause-floors : goal.returns-clause-floors
+returns-clause-floors c =
+    floors-changed c.args.config.now c.args.course.now c.args.requests.now.ongoing c.args.infos.now.items c.loop-number.number-index c.loop-number.changes.floors.items c.requires.course
+    (omega (arith, ap (λ (zs : List ℕ). length zs) c.deref-number-items.ensures.value)) c.loop-number.invariant.floors
