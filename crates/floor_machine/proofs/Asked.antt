@@ -35,6 +35,10 @@ pub on_ok_both : {T E P Q R : Type 0} (r : Result T E) → (P → Q → R) → O
 on_ok_both (Ok x) f p q = f p q
 on_ok_both (Err e) f p q = tt
 
+pub on_ok_three : {T E P Q R S : Type 0} (r : Result T E) → (P → Q → R → S) → OnOk r P → OnOk r Q → OnOk r R → OnOk r S
+on_ok_three (Ok x) f p q k = f p q k
+on_ok_three (Err e) f p q k = tt
+
 pub on_ok_all : {T E P : Type 0} (r : Result T E) → P → OnOk r P
 on_ok_all (Ok x) p = p
 on_ok_all (Err e) p = tt

@@ -8,6 +8,7 @@ pub mod Telling
 pub mod Changing
 pub mod Verdicts
 pub mod Served
+pub mod Settled
 pub mod Addable
 pub mod Allowed
 pub mod Asked
