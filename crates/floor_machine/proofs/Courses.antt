@@ -1,5 +1,5 @@
 -- What the course of an event knows, before the requests are settled and after.
-use Rattle.std.proofs.Common.{◌≡◌, ℕ, Bool, true, false, cond, List, [], ◌∷◌, ◌++◌, map, Option, Some, None, refl, sym, ap, subst, ◌∙◌}
+use Rattle.std.proofs.Common.{◌≡◌, ℕ, true, cond, List, [], ◌∷◌, ◌++◌, map, Option, Some, None, refl, sym, ap, subst, ◌∙◌}
 use Rattle.std.specs.Prelude.{◌==◌, find, is_none, option_map}
 use Rattle.std.specs.List.{flat_map}
 use Rattle.std.specs.Option.{option_map_or}
@@ -11,7 +11,6 @@ use Rattle.floor_queue.specs.Queue.{is_ascending, request_at}
 use Rattle.floor_message.specs.declared.tell.Info.{Info}
 use Rattle.floor_machine.specs.declared.course.Course.{Course}
 use Rattle.floor_machine.specs.declared.course.Ended.{Ended}
-use Rattle.floor_machine.specs.declared.marking.Mark.{Mark}
 use Rattle.floor_machine.specs.declared.status.RequestStatus.{RequestStatus}
 use Rattle.floor_machine.specs.Change.{Change}
 use Rattle.floor_machine.specs.Conference.{Conference}
@@ -19,8 +18,8 @@ use Rattle.floor_machine.specs.Shown.{Entry, entry_of, ongoing_of}
 use Rattle.floor_machine.specs.steps.Marks.{AreNoted, marks_waiting}
 use Rattle.floor_machine.specs.steps.Renewing.{IsCourse, left_at}
 use Rattle.floor_machine.specs.steps.Serving.{IsChanged, ended_of, is_rising, numbers_in}
-use Rattle.floor_machine.specs.steps.Telling.{entry_at, entry_of_ended, infos_of, listed}
-use Rattle.floor_machine.proofs.Entries.{by_number, entry_with}
+use Rattle.floor_machine.specs.steps.Telling.{entry_at, entry_of_ended, listed}
+use Rattle.floor_machine.proofs.Entries.{by_number}
 use Rattle.floor_machine.proofs.Noting.{at-settled, noted-settled, settle_one}
 use Rattle.floor_machine.proofs.Telling.{finds}
 use Rattle.floor_machine.proofs.Walk.{flat_map-alike, listed-map}

@@ -2,7 +2,6 @@
 use Rattle.std.proofs.Common.{◌≡◌, ℕ, zero, suc, ◌^◌, ◌<◌, ◌≤◌, Bool, true, false, cond, List, [], ◌∷◌, ◌++◌, length, get_or, take, map, Option, Some, None, refl, sym, subst, ap, arith}
 use Rattle.std.specs.Prelude.{◌==◌, ◌||◌, All, filter, find, IfOk, IfSome, OnOk, IsTrue, Result, Ok, Err, option_and_then}
 use Rattle.std.specs.List.{list_any}
-use Rattle.std.specs.Option.{option_map_or}
 use Rattle.std.proofs.lemmas.Bool.{eqb-true}
 use Rattle.std.proofs.lemmas.List.{length-map}
 use Rattle.std.proofs.lemmas.List.Elements.{All-nil, All-cons, All-append, All-filter, All-map}
@@ -14,14 +13,12 @@ use Rattle.floor_queue.specs.declared.requested_floor.RequestedFloor.{RequestedF
 use Rattle.floor_queue.specs.Queue.{Queue, IsAddable, IsQueue, is_floor, new_of, request_at}
 use Rattle.floor_message.specs.Shown.{AreShown, IsDescribed, IsNamed, IsShown, IsShownInfo}
 use Rattle.floor_message.specs.declared.tell.Info.{Info}
-use Rattle.floor_machine.specs.declared.course.Shown.{Shown}
 use Rattle.floor_machine.specs.declared.sending.FloorUpdate.{FloorUpdate}
 use Rattle.floor_machine.specs.Conference.{user_with}
 use Rattle.floor_machine.specs.Shown.{Entry, info_of, named, described, floor_shown}
 use Rattle.floor_machine.specs.Reply.{infos_on}
 use Rattle.floor_machine.specs.steps.Telling.{floor_update, floors_changed, is_one_of}
-use Rattle.floor_machine.specs.Told.{is_changed}
-use Rattle.floor_machine.specs.steps.Fitting.{AreFloorsShown, AreUpdatesShown, HasNumbers}
+use Rattle.floor_machine.specs.steps.Fitting.{AreFloorsShown, HasNumbers}
 
 -- what holds of all holds of the one that is found
 pub find_all : {A : Type 0} (P : A → Type 0) (p : A → Bool) (xs : List A) → All P xs → IfSome (find p xs) P

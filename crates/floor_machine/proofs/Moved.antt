@@ -1,13 +1,13 @@
 -- A floor is among those of the changed requests exactly where the requests that name it are shown otherwise than before.
-use Rattle.std.proofs.Common.{◌≡◌, ℕ, Bool, true, false, cond, List, [], ◌∷◌, ◌++◌, map, Option, Some, None, refl, sym, ap, subst, ◌∙◌, arith}
-use Rattle.std.specs.Prelude.{◌==◌, ◌&&◌, ◌||◌, not, nat_lt, filter}
+use Rattle.std.proofs.Common.{◌≡◌, ℕ, Bool, true, false, cond, List, [], ◌∷◌, ◌++◌, map, Option, Some, None, refl, sym, ap, ◌∙◌, arith}
+use Rattle.std.specs.Prelude.{◌==◌, ◌&&◌, ◌||◌, not, nat_lt}
 use Rattle.std.specs.List.{flat_map, list_all, list_any}
 use Rattle.std.proofs.lemmas.Bool.Decides.{nat_tests}
 use Rattle.std.proofs.lemmas.List.Elements.{filter-append}
 use Rattle.floor_message.specs.declared.tell.Info.{Info}
 use Rattle.floor_machine.specs.Reply.{infos_on}
 use Rattle.floor_machine.specs.Same.{same_info, same_infos}
-use Rattle.floor_machine.specs.steps.Renewing.{floors_before, floors_moved, floors_shown}
+use Rattle.floor_machine.specs.steps.Renewing.{floors_moved, floors_shown}
 use Rattle.floor_machine.specs.steps.Serving.{is_rising}
 use Rattle.floor_machine.specs.steps.Telling.{listed}
 use Rattle.floor_machine.proofs.Found.{and_left, and_right}

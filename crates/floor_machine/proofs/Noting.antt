@@ -1,6 +1,6 @@
 -- What the marks of an event note of the requests that it left alone.
 use Rattle.std.proofs.Common.{◌≡◌, ℕ, ◌+◌, Bool, true, false, cond, List, [], ◌∷◌, ◌++◌, map, Option, Some, None, refl, sym, ap, subst, ◌∙◌, arith, append_assoc, append-nil}
-use Rattle.std.specs.Prelude.{◌==◌, ◌&&◌, ◌||◌, not, nat_lt, count_by, filter, find, option_map, All}
+use Rattle.std.specs.Prelude.{◌==◌, ◌&&◌, ◌||◌, not, nat_lt, count_by, filter, option_map, All}
 use Rattle.std.specs.List.{flat_map, list_all, list_any}
 use Rattle.std.specs.Option.{option_map_or}
 use Rattle.std.proofs.lemmas.Bool.{eqb-true}
@@ -295,9 +295,9 @@ noted-decided rs k verdicts marks some more h before after = by (request_at rs k
         ∙ ap (λ (o : Option Request). some ++ option_map_or (λ r. mark_of r ∷ []) o []) e
         ∙ ap (λ (ms : List Mark). ms ++ []) (before ∙ ap (λ (o : Option Request). marks ++ option_map_or (λ r. mark_of r ∷ []) o []) e) in
         λ floors all noted.
-            let P : List Request → Type 0 = λ qs. AreNoted floors all qs more in
-            let N : List Mark → Type 0 = λ ms. AreNoted floors all rs ms in
-            subst P (sym same) (subst N (sym (nothing ∙ append-nil (marks ++ []) ∙ append-nil marks)) noted)
+        let P : List Request → Type 0 = λ qs. AreNoted floors all qs more in
+        let N : List Mark → Type 0 = λ ms. AreNoted floors all rs ms in
+        subst P (sym same) (subst N (sym (nothing ∙ append-nil (marks ++ []) ∙ append-nil marks)) noted)
 
     found : (r : Request) → request_at rs k ≡ Some r → KeepsNoted rs marks (map (decided_at k verdicts) rs) more
     found r e =

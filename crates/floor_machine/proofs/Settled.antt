@@ -1,5 +1,5 @@
 -- What is told once the requests are settled and what is shown of them is renewed.
-use Rattle.std.proofs.Common.{◌≡◌, ℕ, Bool, List, map, sym, ap, subst, ◌∙◌}
+use Rattle.std.proofs.Common.{◌≡◌, ℕ, List, map, ap, subst, ◌∙◌}
 use Rattle.std.specs.Prelude.{Option, filter}
 use Rattle.std.proofs.lemmas.List.Elements.{filter_agree}
 use Rattle.floor_config.specs.declared.config.Floor.{Floor}
@@ -12,9 +12,7 @@ use Rattle.floor_machine.specs.declared.sending.FloorUpdate.{FloorUpdate}
 use Rattle.floor_machine.specs.declared.sending.Reply.{Reply}
 use Rattle.floor_machine.specs.declared.sending.Update.{Update}
 use Rattle.floor_machine.specs.declared.state.State.{State}
-use Rattle.floor_machine.specs.Parcel.{Parcel}
 use Rattle.floor_machine.specs.steps.Fitting.{AreFloorsShown}
-use Rattle.floor_machine.specs.steps.Serving.{conference_of}
 use Rattle.floor_machine.specs.steps.Telling.{AreChanged, AreInfos, floor_update, floor_updates, floors_changed, infos_of, is_floor_changed, is_one_of, is_watched_by, parcels_to_all, updates}
 
 -- What settling made of t: u, of which all is shown, and what changed.

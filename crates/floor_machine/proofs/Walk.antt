@@ -1,5 +1,5 @@
 -- The walk over the numbers of an event, by which what is shown of each request is renewed.
-use Rattle.std.proofs.Common.{◌≡◌, ℕ, suc, zero, ◌+◌, ◌<◌, ◌≤◌, Bool, true, false, cond, List, [], ◌∷◌, ◌++◌, length, get_or, take, drop, map, Option, Some, None, refl, sym, ap, subst, ◌∙◌, arith, add-one, append-nil}
+use Rattle.std.proofs.Common.{◌≡◌, ℕ, suc, zero, ◌+◌, ◌<◌, ◌≤◌, Bool, true, false, cond, List, [], ◌∷◌, ◌++◌, length, get_or, take, drop, map, Option, Some, None, refl, sym, ap, ◌∙◌, arith, add-one, append-nil}
 use Rattle.std.specs.Prelude.{◌==◌, nat_lt, not, find, option_map}
 use Rattle.std.specs.List.{flat_map, list_all, list_any}
 use Rattle.std.specs.Option.{option_map_or}
@@ -8,19 +8,16 @@ use Rattle.std.proofs.lemmas.Grind.{flat_map-append}
 use Rattle.std.proofs.lemmas.List.{drop_more, drop_all, length-append, length-map, map-append, take-append-drop, take_all, take_more}
 use Rattle.floor_config.specs.Configuration.{Configuration}
 use Rattle.floor_queue.specs.declared.request.Request.{Request}
-use Rattle.floor_queue.specs.Order.{names}
 use Rattle.floor_queue.specs.Queue.{request_at}
 use Rattle.floor_message.specs.declared.tell.Info.{Info}
 use Rattle.floor_machine.specs.declared.course.Course.{Course}
 use Rattle.floor_machine.specs.declared.course.Ended.{Ended}
-use Rattle.floor_machine.specs.declared.course.Shown.{Shown}
-use Rattle.floor_machine.specs.declared.renewing.Changes.{Changes}
 use Rattle.floor_machine.specs.declared.sending.Update.{Update}
 use Rattle.floor_machine.specs.Shown.{Entry, entry_of, info, info_of}
 use Rattle.floor_machine.specs.Reply.{infos_on}
 use Rattle.floor_machine.specs.Same.{same_infos}
 use Rattle.floor_machine.specs.steps.Marks.{is_marked}
-use Rattle.floor_machine.specs.steps.Renewing.{IsCourse, IsRenewed, differs, floors_moved, info_here, info_with, left_at, moved, now_at, request_here, update_from}
+use Rattle.floor_machine.specs.steps.Renewing.{IsCourse, differs, floors_moved, info_here, info_with, left_at, moved, now_at, request_here, update_from}
 use Rattle.floor_machine.specs.steps.Serving.{is_rising}
 use Rattle.floor_machine.specs.steps.Telling.{AreChanged, entry_at, entry_of_ended, infos_of, listed, shown_at, shown_of, update_at, update_if, update_of, updates}
 use Rattle.floor_machine.proofs.Found.{and_left, and_right}

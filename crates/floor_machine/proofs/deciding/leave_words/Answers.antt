@@ -1,4 +1,4 @@
-use Rattle.std.proofs.Common.{◌≡◌, ◌++◌, List, sym, ap, subst, ◌∙◌}
+use Rattle.std.proofs.Common.{◌++◌, List, sym, ap, subst, ◌∙◌}
 use Rattle.floor_queue.specs.Queue.{Queue}
 use Rattle.floor_machine.specs.declared.marking.Mark.{Mark}
 use Rattle.floor_machine.specs.steps.Marks.{KeepsNoted, marks_at}

@@ -1,4 +1,4 @@
-use Rattle.std.proofs.Common.{List, sym, subst}
+use Rattle.std.proofs.Common.{sym, subst}
 use Rattle.floor_queue.specs.Queue.{Queue}
 use Rattle.floor_machine.specs.steps.Marks.{KeepsNoted}
 use Rattle.floor_machine.proofs.Noting.{noted-ended}

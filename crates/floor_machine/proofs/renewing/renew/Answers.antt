@@ -5,7 +5,6 @@ use Rattle.std.proofs.lemmas.List.Elements.{All-nil, All-same}
 use Rattle.floor_queue.specs.declared.request.Request.{Request}
 use Rattle.floor_queue.specs.Queue.{request_at}
 use Rattle.floor_message.specs.Shown.{IsShown}
-use Rattle.floor_message.specs.declared.tell.Info.{Info}
 use Rattle.floor_machine.specs.declared.course.Ended.{Ended}
 use Rattle.floor_machine.specs.declared.renewing.Changes.{Changes}
 use Rattle.floor_machine.specs.declared.sending.Update.{Update}
@@ -61,7 +60,7 @@ renew_at-requires-clause-unmarked c =
     let place = c.loop-number.place in
     let W : List ℕ → Type 0 = λ xs. k < length xs in
     let P : List ℕ → Type 0 = λ xs. (r : Request) → left_at ended ongoing (get_or xs k 0) ≡ Some r → is_marked c.args.course.now.marks.items r ≡ false →
-        info_here infos place (get_or xs k 0) ≡ Some (info config ongoing r) in
+    info_here infos place (get_or xs k 0) ≡ Some (info config ongoing r) in
     let at : IsAt config ended ongoing before ns k place infos = record { infos = c.loop-number.invariant.infos; place = c.loop-number.invariant.place } in
     subst P (sym c.deref-number-items.ensures.value) (λ r left free.
     info-there config ended ongoing before ns k 0 place infos known.rising (subst W c.deref-number-items.ensures.value c.loop-number-test.true) at

@@ -1,4 +1,4 @@
-use Rattle.std.proofs.Common.{◌≡◌, ◌+◌, List, length, sym, ap, Some, ◌∙◌}
+use Rattle.std.proofs.Common.{◌+◌, List, length, sym, ap, ◌∙◌}
 use Rattle.std.specs.Prelude.{◌==◌, find}
 use Rattle.floor_queue.specs.Queue.{IsAddable, new_of}
 use Rattle.floor_machine.specs.declared.course.Ended.{Ended}

@@ -1,9 +1,9 @@
-use Rattle.std.proofs.Common.{◌≡◌, ℕ, ◌+◌, List, ◌∷◌, ◌++◌, [], Bool, true, false, length, take, drop, ap, sym, subst, ◌∙◌}
+use Rattle.std.proofs.Common.{◌≡◌, ℕ, ◌+◌, List, ◌∷◌, ◌++◌, [], length, take, drop, ap, sym, ◌∙◌}
 use Rattle.floor_message.specs.declared.tell.Info.{Info}
 use Rattle.floor_machine.specs.declared.course.Shown.{Shown}
 use Rattle.floor_machine.specs.declared.sending.Update.{Update}
-use Rattle.floor_machine.specs.Shown.{entry_of, info}
-use Rattle.floor_machine.specs.steps.Renewing.{IsRenewed, differs, floors_before, floors_shown, info_here}
+use Rattle.floor_machine.specs.Shown.{entry_of}
+use Rattle.floor_machine.specs.steps.Renewing.{differs, floors_before, floors_shown, info_here}
 use Rattle.floor_machine.specs.steps.Telling.{listed, shown_of, update_of}
 use Rattle.floor_machine.proofs.Renewed.{fit-put, renewed-differing, renewed-standing, standing-same}
 use Rattle.floor_machine.proofs.renewing.renew_marked.Goals as goal

@@ -1,5 +1,5 @@
-use Rattle.std.proofs.Common.{◌≡◌, List, None, ◌++◌, ap, refl, subst, sym, ◌∙◌}
-use Rattle.floor_queue.specs.Queue.{Queue, after_settle}
+use Rattle.std.proofs.Common.{List, None, ◌++◌, ap, refl, subst, ◌∙◌}
+use Rattle.floor_queue.specs.Queue.{after_settle}
 use Rattle.floor_machine.specs.declared.course.Course.{Course}
 use Rattle.floor_machine.specs.declared.event.Event.{Event}
 use Rattle.floor_machine.specs.declared.event.Event.TheVariants.{Leave}
@@ -8,7 +8,7 @@ use Rattle.floor_machine.specs.declared.state.State.{State}
 use Rattle.floor_machine.specs.Parcel.{Parcel}
 use Rattle.floor_machine.specs.Change.{change}
 use Rattle.floor_machine.specs.steps.Fitting.{AreUpdatesShown}
-use Rattle.floor_machine.specs.steps.Serving.{IsChanged, conference_of}
+use Rattle.floor_machine.specs.steps.Serving.{conference_of}
 use Rattle.floor_machine.proofs.Addable.{left_addable, queue_addable}
 use Rattle.floor_machine.proofs.Asked.{begun, on_ok, on_ok_all}
 use Rattle.floor_machine.proofs.Bounds.{changed-shown}

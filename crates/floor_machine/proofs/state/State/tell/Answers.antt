@@ -1,4 +1,4 @@
-use Rattle.std.proofs.Common.{◌≡◌, ◌++◌, List, ap, rules, ◌∙◌}
+use Rattle.std.proofs.Common.{rules}
 use Rattle.floor_machine.proofs.Watched.{parcels-watched, updates-watched}
 use Rattle.floor_machine.proofs.state.State.tell.Goals as goal
 
