@@ -1,8 +1,11 @@
 -- What a state is after an accepted message.
-use Rattle.std.proofs.Common.{◌≡◌, ℕ, ◌+◌, Bool, true, false, cond, List, [], ◌∷◌, ◌++◌, map, Option, Some, None, Result, Ok, Err, refl, sym, ap, ◌∙◌, append-nil}
-use Rattle.std.specs.Prelude.{OnOk, IfSome, IsSome, IsSomeAnd}
-use Rattle.std.specs.List.{list_any}
+use Rattle.std.proofs.Common.{◌≡◌, ℕ, ◌+◌, ◌≤◌, Bool, true, false, cond, List, [], ◌∷◌, ◌++◌, map, Option, Some, None, Result, Ok, Err, refl, sym, ap, ◌∙◌, arith, append-nil}
+use Rattle.std.specs.Prelude.{◌==◌, All, OnOk, IfSome, IsSome, IsSomeAnd}
+use Rattle.std.specs.List.{flat_map, list_any}
 use Rattle.std.specs.Option.{option_map_or}
+use Rattle.std.proofs.lemmas.Bool.Decides.{nat_tests}
+use Rattle.std.proofs.lemmas.Grind.{flat_map-append}
+use Rattle.std.proofs.lemmas.List.Elements.{All-head, All-tail}
 use Rattle.floor_config.specs.declared.config.Floor.{Floor}
 use Rattle.floor_queue.specs.declared.request.Request.{Request}
 use Rattle.floor_queue.specs.Queue.{IsQueue, request_at, numbers_of, is_ascending, first_request, after_add, after_end}
@@ -16,8 +19,11 @@ use Rattle.floor_machine.specs.Shown.{entry_of}
 use Rattle.floor_machine.specs.Conference.{Conference, user_of}
 use Rattle.floor_machine.specs.Change.{Change, no_change, asked_change, ending, ends_at, released, dismissed, is_final, decided_at}
 use Rattle.floor_machine.specs.Reply.{infos}
-use Rattle.floor_machine.specs.steps.Telling.{entry_of_ended}
+use Rattle.floor_machine.specs.steps.Telling.{entry_of_ended, listed}
+use Rattle.floor_machine.specs.steps.Marks.{AreNoted}
 use Rattle.floor_machine.specs.steps.Serving.{IsChanged, IsState, MayDecide, after_decide, conference_of, ended_by, is_rising, new_of_ask}
+use Rattle.floor_machine.proofs.Found.{request_at_place}
+use Rattle.floor_machine.proofs.Noting.{noted-none}
 use Rattle.floor_machine.proofs.Entries.{ongoing_of-entries, ended_of-entries, numbers_in-entries}
 use Rattle.floor_machine.proofs.Changing.{rising-numbers, rising-next, entries-added, none-ended-added, numbers-added, ongoing_of-ending, ended_of-ending, numbers_in-ending, ongoing_of-decided, ended_of-decided, numbers_in-decided}
 
@@ -29,9 +35,30 @@ pub on_ok_both : {T E P Q R : Type 0} (r : Result T E) → (P → Q → R) → O
 on_ok_both (Ok x) f p q = f p q
 on_ok_both (Err e) f p q = tt
 
+pub on_ok_three : {T E P Q R S : Type 0} (r : Result T E) → (P → Q → R → S) → OnOk r P → OnOk r Q → OnOk r R → OnOk r S
+on_ok_three (Ok x) f p q k = f p q k
+on_ok_three (Err e) f p q k = tt
+
 pub on_ok_all : {T E P : Type 0} (r : Result T E) → P → OnOk r P
 on_ok_all (Ok x) p = p
 on_ok_all (Err e) p = tt
+
+-- requests that are found by their numbers stand by them
+old-numbers : (at : ℕ → Option Request) (rs : List Request) → All (λ q. at q.number ≡ Some q) rs → flat_map (λ n. listed (at n)) (numbers_of rs) ≡ rs
+old-numbers at [] h = refl
+old-numbers at (r ∷ rs) h =
+    ap (λ (o : Option Request). listed o ++ flat_map (λ n. listed (at n)) (numbers_of rs)) (All-head (λ q. at q.number ≡ Some q) r rs h)
+    ∙ ap (λ (qs : List Request). r ∷ qs) (old-numbers at rs (All-tail (λ q. at q.number ≡ Some q) r rs h))
+
+-- no request has the next number
+pub none-next : (given : ℕ) (rs : List Request) → All (λ r. (1 ≤ r.number) × (r.number ≤ given)) rs → request_at rs (given + 1) ≡ None
+none-next given [] h = refl
+none-next given (r ∷ rs) h =
+    rw (lower r.number given (All-head (λ (q : Request). (1 ≤ q.number) × (q.number ≤ given)) r rs h).1)
+    (none-next given rs (All-tail (λ (q : Request). (1 ≤ q.number) × (q.number ≤ given)) r rs h))
+  where
+    lower : (n given : ℕ) → n ≤ given → (n == given + 1) ≡ false
+    lower n given h = grind (arith, nat_tests)
 
 -- nothing is changed as an event begins
 pub begun : (s : Conference) (course : Course) → is_ascending s.ongoing ≡ true →
@@ -46,6 +73,8 @@ begun s course h before numbers ended = record {
   numbers = numbers ∙ sym (numbers_in-entries s.ongoing);
   rising = ap is_rising numbers ∙ rising-numbers s.ongoing ∙ h;
   before = before;
+  old = ap (flat_map (λ n. listed (request_at s.ongoing n))) numbers ∙ old-numbers (request_at s.ongoing) s.ongoing (λ i d within. request_at_place s.ongoing i d h within);
+  noted = noted-none s.config.floors s.ongoing course.marks.items;
 }
 
 -- the request that a FloorRequest makes
@@ -56,9 +85,10 @@ made s user beneficiary floors priority info known = first_request known (s.requ
 pub changed-request : (s : State) (course course' : Course) (n user : ℕ) (beneficiary : Option ℕ) (floors : List ℕ) (priority : ℕ) (info : Option (List ℕ)) →
     IsState s → IsQueue s.requests → IsChanged (conference_of s) (no_change (conference_of s)) (conference_of s) course → user ≡ user_of (conference_of s) n →
     course'.numbers.items ≡ course.numbers.items ++ (s.requests.given + 1) ∷ [] → course'.before ≡ course.before → course'.ended ≡ course.ended →
+    AreNoted s.config.floors s.requests.ongoing (after_add s.requests (new_of_ask user beneficiary floors priority info)).ongoing course'.marks.items →
     IsChanged (conference_of s) (asked_change (conference_of s) n (FloorRequest beneficiary floors priority info))
     (conference_of (record s { requests = after_add s.requests (new_of_ask user beneficiary floors priority info) })) course'
-changed-request s course course' n user beneficiary floors priority info state queue begun is_user numbers before ended =
+changed-request s course course' n user beneficiary floors priority info state queue begun is_user numbers before ended noted =
     let rs = s.requests.ongoing in
     let mine = made s user beneficiary floors priority info s.requests.floors in
     let spec = made s (user_of (conference_of s) n) beneficiary floors priority info s.config.floors in
@@ -75,6 +105,13 @@ changed-request s course course' n user beneficiary floors priority info state q
       numbers = numbers ∙ ap (λ (ns : List ℕ). ns ++ (s.requests.given + 1) ∷ []) (begun.numbers ∙ numbers_in-entries rs) ∙ sym (numbers-added rs spec);
       rising = ap is_rising (numbers ∙ ap (λ (ns : List ℕ). ns ++ (s.requests.given + 1) ∷ []) (begun.numbers ∙ numbers_in-entries rs)) ∙ rising-next rs s.requests.given queue.ascending queue.numbers;
       before = ap (λ x. x.items) before ∙ begun.before;
+      old =
+          ap (flat_map (λ n. listed (request_at rs n))) numbers
+          ∙ flat_map-append (λ n. listed (request_at rs n)) course.numbers.items ((s.requests.given + 1) ∷ [])
+          ∙ ap (λ (qs : List Request). qs ++ (listed (request_at rs (s.requests.given + 1)) ++ [])) begun.old
+          ∙ ap (λ (o : Option Request). rs ++ (listed o ++ [])) (none-next s.requests.given rs queue.numbers)
+          ∙ append-nil rs;
+      noted = noted;
     }
 
 -- nothing has ended as an event begins
@@ -91,8 +128,9 @@ pub changed-end : (s : State) (how : Request → RequestStatus) (course course' 
     IsSome (request_at s.requests.ongoing request) →
     IfSome (request_at s.requests.ongoing request) (λ r. course'.ended.items ≡ course.ended.items ++ record { request = r; ending = how r } ∷ []) →
     course'.numbers ≡ course.numbers → course'.before ≡ course.before →
+    AreNoted s.config.floors s.requests.ongoing (after_end s.requests request).ongoing course'.marks.items →
     IsChanged (conference_of s) (record (no_change (conference_of s)) { entries = ending (conference_of s) (ends_at request how) }) (conference_of (record s { requests = after_end s.requests request })) course'
-changed-end s how course course' request queue begun ongoing noted numbers before =
+changed-end s how course course' request queue begun ongoing told numbers before noted =
     let rs = s.requests.ongoing in
     let same : course'.numbers.items ≡ numbers_of rs = ap (λ x. x.items) numbers ∙ begun.numbers ∙ numbers_in-entries rs in
     record {
@@ -101,10 +139,12 @@ changed-end s how course course' request queue begun ongoing noted numbers befor
       members = refl;
       is_open = refl;
       ongoing = sym (ongoing_of-ending request how rs);
-      ended = by (request_at rs request) ongoing noted ∙ sym (ended_of-ending request how rs queue.ascending);
+      ended = by (request_at rs request) ongoing told ∙ sym (ended_of-ending request how rs queue.ascending);
       numbers = same ∙ sym (numbers_in-ending request how rs);
       rising = ap is_rising same ∙ rising-numbers rs ∙ queue.ascending;
       before = ap (λ x. x.items) before ∙ begun.before;
+      old = ap (λ (ns : List ℕ). flat_map (λ n. listed (request_at rs n)) ns) (ap (λ x. x.items) numbers) ∙ begun.old;
+      noted = noted;
     }
   where
     by : (o : Option Request) → IsSome o → IfSome o (λ r. course'.ended.items ≡ course.ended.items ++ record { request = r; ending = how r } ∷ []) →
@@ -118,6 +158,7 @@ pub changed-release : (s : State) (course course' : Course) (n request : ℕ) �
     IsSome (request_at s.requests.ongoing request) →
     IfSome (request_at s.requests.ongoing request) (λ r. course'.ended.items ≡ course.ended.items ++ record { request = r; ending = released r } ∷ []) →
     course'.numbers ≡ course.numbers → course'.before ≡ course.before →
+    AreNoted s.config.floors s.requests.ongoing (after_end s.requests request).ongoing course'.marks.items →
     IsChanged (conference_of s) (asked_change (conference_of s) n (FloorRelease request)) (conference_of (record s { requests = after_end s.requests request })) course'
 changed-release s course course' n request = changed-end s released course course' request
 
@@ -129,9 +170,10 @@ words_change s request verdicts = record (no_change s) { entries = map (λ r. en
 changed-words : (s : State) (course course' : Course) (request : ℕ) (verdicts : List (ℕ × Verdict)) →
     IsQueue s.requests → IsChanged (conference_of s) (no_change (conference_of s)) (conference_of s) course →
     course'.ended.items ≡ course.ended.items ++ [] → course'.numbers ≡ course.numbers → course'.before ≡ course.before →
+    AreNoted s.config.floors s.requests.ongoing (map (decided_at request verdicts) s.requests.ongoing) course'.marks.items →
     IsChanged (conference_of s) (words_change (conference_of s) request verdicts)
     (conference_of (record s { requests = record s.requests { ongoing = map (decided_at request verdicts) s.requests.ongoing } })) course'
-changed-words s course course' request verdicts queue begun ended numbers before =
+changed-words s course course' request verdicts queue begun ended numbers before noted =
     let rs = s.requests.ongoing in
     let same : course'.numbers.items ≡ numbers_of rs = ap (λ x. x.items) numbers ∙ begun.numbers ∙ numbers_in-entries rs in
     record {
@@ -144,6 +186,8 @@ changed-words s course course' request verdicts queue begun ended numbers before
       numbers = same ∙ sym (numbers_in-decided request verdicts rs);
       rising = ap is_rising same ∙ rising-numbers rs ∙ queue.ascending;
       before = ap (λ x. x.items) before ∙ begun.before;
+      old = ap (λ (ns : List ℕ). flat_map (λ n. listed (request_at rs n)) ns) (ap (λ x. x.items) numbers) ∙ begun.old;
+      noted = noted;
     }
 
 -- the requests after the verdicts, of which one ends the request or none does
@@ -156,21 +200,23 @@ pub changed-decide : (s : State) (course course' : Course) (n request : ℕ) (ve
     IsQueue s.requests → IsChanged (conference_of s) (no_change (conference_of s)) (conference_of s) course →
     MayDecide s.requests.ongoing request verdicts →
     course'.ended.items ≡ course.ended.items ++ ended_by s.requests request verdicts → course'.numbers ≡ course.numbers → course'.before ≡ course.before →
+    AreNoted s.config.floors s.requests.ongoing (after_decide s.requests request verdicts).ongoing course'.marks.items →
     IsChanged (conference_of s) (asked_change (conference_of s) n (ChairAction request verdicts)) (conference_of (record s { requests = after_decide s.requests request verdicts })) course'
-changed-decide s course course' n request verdicts queue begun may ended numbers before = by (list_any (λ v. is_final v.1) verdicts) ended
+changed-decide s course course' n request verdicts queue begun may ended numbers before noted = by (list_any (λ v. is_final v.1) verdicts) ended noted
   where
     found : (P : Request → Type 0) (o : Option Request) → IsSomeAnd o P → IsSome o
     found P None h = absurd h
     found P (Some r) h = refl
 
-    noted : (o : Option Request) → course'.ended.items ≡ course.ended.items ++ option_map_or (λ r. record { request = r; ending = dismissed r } ∷ []) o [] →
+    told : (o : Option Request) → course'.ended.items ≡ course.ended.items ++ option_map_or (λ r. record { request = r; ending = dismissed r } ∷ []) o [] →
         IfSome o (λ r. course'.ended.items ≡ course.ended.items ++ record { request = r; ending = dismissed r } ∷ [])
-    noted None h = tt
-    noted (Some r) h = h
+    told None h = tt
+    told (Some r) h = h
 
     by : (b : Bool) → course'.ended.items ≡ course.ended.items ++ cond b (option_map_or (λ r. record { request = r; ending = dismissed r } ∷ []) (request_at s.requests.ongoing request) []) [] →
+        AreNoted s.config.floors s.requests.ongoing (cond b (after_end s.requests request) (record s.requests { ongoing = map (decided_at request verdicts) s.requests.ongoing })).ongoing course'.marks.items →
         IsChanged (conference_of s) (decide_change b (conference_of s) request verdicts)
         (conference_of (record s { requests = cond b (after_end s.requests request) (record s.requests { ongoing = map (decided_at request verdicts) s.requests.ongoing }) })) course'
-    by true h =
-        changed-end s dismissed course course' request queue begun (found _ (request_at s.requests.ongoing request) may) (noted (request_at s.requests.ongoing request) h) numbers before
-    by false h = changed-words s course course' request verdicts queue begun h numbers before
+    by true h noted =
+        changed-end s dismissed course course' request queue begun (found _ (request_at s.requests.ongoing request) may) (told (request_at s.requests.ongoing request) h) numbers before noted
+    by false h noted = changed-words s course course' request verdicts queue begun h numbers before noted

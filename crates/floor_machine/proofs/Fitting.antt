@@ -2,7 +2,6 @@
 use Rattle.std.proofs.Common.{◌≡◌, ℕ, zero, suc, ◌^◌, ◌<◌, ◌≤◌, Bool, true, false, cond, List, [], ◌∷◌, ◌++◌, length, get_or, take, map, Option, Some, None, refl, sym, subst, ap, arith}
 use Rattle.std.specs.Prelude.{◌==◌, ◌||◌, All, filter, find, IfOk, IfSome, OnOk, IsTrue, Result, Ok, Err, option_and_then}
 use Rattle.std.specs.List.{list_any}
-use Rattle.std.specs.Option.{option_map_or}
 use Rattle.std.proofs.lemmas.Bool.{eqb-true}
 use Rattle.std.proofs.lemmas.List.{length-map}
 use Rattle.std.proofs.lemmas.List.Elements.{All-nil, All-cons, All-append, All-filter, All-map}
@@ -14,14 +13,12 @@ use Rattle.floor_queue.specs.declared.requested_floor.RequestedFloor.{RequestedF
 use Rattle.floor_queue.specs.Queue.{Queue, IsAddable, IsQueue, is_floor, new_of, request_at}
 use Rattle.floor_message.specs.Shown.{AreShown, IsDescribed, IsNamed, IsShown, IsShownInfo}
 use Rattle.floor_message.specs.declared.tell.Info.{Info}
-use Rattle.floor_machine.specs.declared.course.Shown.{Shown}
 use Rattle.floor_machine.specs.declared.sending.FloorUpdate.{FloorUpdate}
 use Rattle.floor_machine.specs.Conference.{user_with}
 use Rattle.floor_machine.specs.Shown.{Entry, info_of, named, described, floor_shown}
 use Rattle.floor_machine.specs.Reply.{infos_on}
-use Rattle.floor_machine.specs.steps.Telling.{floor_update, floor_updates, is_floor_changed, update_if, update_of}
-use Rattle.floor_machine.specs.Told.{is_changed}
-use Rattle.floor_machine.specs.steps.Fitting.{AreFloorsShown, AreUpdatesShown, HasNumbers}
+use Rattle.floor_machine.specs.steps.Telling.{floor_update, floors_changed, is_one_of}
+use Rattle.floor_machine.specs.steps.Fitting.{AreFloorsShown, HasNumbers}
 
 -- what holds of all holds of the one that is found
 pub find_all : {A : Type 0} (P : A → Type 0) (p : A → Bool) (xs : List A) → All P xs → IfSome (find p xs) P
@@ -149,11 +146,11 @@ infos_on_fit floor infos h =
     }
 
 -- the statuses of floors of the conference
-floor_updates_fit : (before now : List Info) (floors : List Floor) → All IsFloor floors → AreShown now → AreFloorsShown (floor_updates before now floors)
-floor_updates_fit before now floors h shown =
-    All-map (λ u. IsShown u.tell) (floor_update now) (filter (is_floor_changed before now) floors)
-    (λ k d l. let own = All-filter (is_floor_changed before now) IsFloor floors h k d l in
-    (omega (arith, own.id), infos_on_fit (get_or (filter (is_floor_changed before now) floors) k d).id now shown))
+floors_changed_fit : (now : List Info) (changed : List ℕ) (floors : List Floor) → All IsFloor floors → AreShown now → AreFloorsShown (floors_changed now changed floors)
+floors_changed_fit now changed floors h shown =
+    All-map (λ u. IsShown u.tell) (floor_update now) (filter (is_one_of changed) floors)
+    (λ k d l. let own = All-filter (is_one_of changed) IsFloor floors h k d l in
+    (omega (arith, own.id), infos_on_fit (get_or (filter (is_one_of changed) floors) k d).id now shown))
 
 take_all : {A : Type 0} (P : A → Type 0) (i : ℕ) (xs : List A) → All P xs → All P (take i xs)
 take_all P zero xs h = All-nil P
@@ -161,20 +158,11 @@ take_all P (suc i) [] h = All-nil P
 take_all P (suc i) (x ∷ xs) h = All-cons P x (take i xs) (h 0 x (omega arith)) (take_all P i xs (λ k d l. h (suc k) d (omega arith)))
 
 -- the statuses of the first of them
-pub floor_updates_made : (before now : List Info) (floors xs : List Floor) (i : ℕ) (updates : List FloorUpdate) → updates ≡ floor_updates before now (take i xs) → xs ≡ floors →
+pub floors_changed_made : (now : List Info) (changed : List ℕ) (floors xs : List Floor) (i : ℕ) (updates : List FloorUpdate) → updates ≡ floors_changed now changed (take i xs) → xs ≡ floors →
     All IsFloor floors → AreShown now → AreFloorsShown updates
-floor_updates_made before now floors xs i updates same all h shown =
+floors_changed_made now changed floors xs i updates same all h shown =
     let F : List Floor → Type 0 = λ fs. All IsFloor fs in
-    subst AreFloorsShown (sym same) (floor_updates_fit before now (take i xs) (take_all IsFloor i xs (subst F (sym all) h)) shown)
-
--- the status of a changed request
-pub update_fits : (before : List Info) (o : Option Shown) → IfSome o (λ s. IsShownInfo s.info) → AreUpdatesShown (option_map_or (update_if before) o [])
-update_fits before None h = All-nil (λ u. IsShown u.tell)
-update_fits before (Some shown) h = by (is_changed before shown.info)
-  where
-    by : (b : Bool) → AreUpdatesShown (cond b (update_of shown ∷ []) [])
-    by true = All-cons (λ u. IsShown u.tell) (update_of shown) [] h (All-nil (λ u. IsShown u.tell))
-    by false = All-nil (λ u. IsShown u.tell)
+    subst AreFloorsShown (sym same) (floors_changed_fit now changed (take i xs) (take_all IsFloor i xs (subst F (sym all) h)) shown)
 
 -- what holds of all and of one more holds of all and it
 pub all_more : {A : Type 0} (P : A → Type 0) (xs : List A) (x : A) → All P xs → P x → All P (xs ++ x ∷ [])

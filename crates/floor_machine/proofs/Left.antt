@@ -1,6 +1,7 @@
 -- What a state is after a member has left, or a request is revoked, before the requests are settled.
 use Rattle.std.proofs.Common.{◌≡◌, ℕ, Bool, true, false, cond, List, [], ◌∷◌, ◌++◌, map, Option, Some, None, refl, sym, ap, subst, ◌∙◌}
 use Rattle.std.specs.Prelude.{◌==◌, ◌&&◌, not, filter, IfSome, IsSome}
+use Rattle.std.specs.List.{flat_map}
 use Rattle.std.specs.Option.{option_map_or}
 use Rattle.floor_queue.specs.declared.request.Request.{Request}
 use Rattle.floor_queue.specs.Queue.{IsQueue, request_at, numbers_of, after_end}
@@ -12,7 +13,8 @@ use Rattle.floor_machine.specs.declared.state.State.{State}
 use Rattle.floor_machine.specs.Shown.{Entry, entry_of}
 use Rattle.floor_machine.specs.Conference.{Conference, user_of, is_present}
 use Rattle.floor_machine.specs.Change.{Change, no_change, change, ending, ends_at, ends_without, leaving, released, dismissed}
-use Rattle.floor_machine.specs.steps.Telling.{entry_of_ended}
+use Rattle.floor_machine.specs.steps.Telling.{entry_of_ended, listed}
+use Rattle.floor_machine.specs.steps.Marks.{AreNoted}
 use Rattle.floor_machine.specs.steps.Serving.{IsChanged, conference_of, after_release_for, is_rising, released_for}
 use Rattle.floor_machine.proofs.Entries.{numbers_in-entries}
 use Rattle.floor_machine.proofs.Changing.{rising-numbers, ongoing_of-ending, ended_of-ending, numbers_in-ending}
@@ -78,6 +80,8 @@ changed-present s course n user members is_user queue begun left present =
       numbers = begun.numbers;
       rising = begun.rising;
       before = begun.before;
+      old = begun.old;
+      noted = begun.noted;
     }
 
 -- a member has left that was the last of its user, whose requests have ended
@@ -85,8 +89,9 @@ pub changed-absent : (s : State) (course course' : Course) (n user : ℕ) (membe
     IsChanged (conference_of s) (no_change (conference_of s)) (conference_of s) course →
     members ≡ map (leaving n) s.members → false ≡ is_present members user →
     course'.ended.items ≡ course.ended.items ++ released_for s.requests user → course'.numbers ≡ course.numbers → course'.before ≡ course.before →
+    AreNoted s.config.floors s.requests.ongoing (after_release_for s.requests user).ongoing course'.marks.items →
     IsChanged (conference_of s) (change (conference_of s) (Leave n)) (conference_of (record s { members = members; requests = after_release_for s.requests user })) course'
-changed-absent s course course' n user members is_user queue begun left absent noted numbers before =
+changed-absent s course course' n user members is_user queue begun left absent told numbers before noted =
     let rs = s.requests.ongoing in
     let p : Request → Bool = λ r. r.beneficiary == user in
     let C : Change → Type 0 = λ c. IsChanged (conference_of s) c (conference_of (record s { members = members; requests = after_release_for s.requests user })) course' in
@@ -103,12 +108,14 @@ changed-absent s course course' n user members is_user queue begun left absent n
       is_open = refl;
       ongoing = sym (ongoing_of-ends p released rs);
       ended =
-          ap (map entry_of_ended) (noted ∙ ap (λ (es : List Ended). es ++ released_for s.requests user) (none-ended (conference_of s) course begun))
+          ap (map entry_of_ended) (told ∙ ap (λ (es : List Ended). es ++ released_for s.requests user) (none-ended (conference_of s) course begun))
           ∙ entries (filter p rs)
           ∙ sym (ended_of-ends p released rs);
       numbers = same ∙ sym (numbers_in-ends p released rs);
       rising = ap is_rising same ∙ rising-numbers rs ∙ queue.ascending;
       before = ap (λ x. x.items) before ∙ begun.before;
+      old = ap (λ (ns : List ℕ). flat_map (λ n. listed (request_at rs n)) ns) (ap (λ x. x.items) numbers) ∙ begun.old;
+      noted = noted;
     }
   where
     entries : (qs : List Request) → map entry_of_ended (map (λ r. record { request = r; ending = released r }) qs) ≡ map (ended_entry released) qs
@@ -125,8 +132,9 @@ pub changed-revoke : (s : State) (course course' : Course) (request : ℕ) →
     IsSome (request_at s.requests.ongoing request) →
     IfSome (request_at s.requests.ongoing request) (λ r. course'.ended.items ≡ course.ended.items ++ record { request = r; ending = dismissed r } ∷ []) →
     course'.numbers ≡ course.numbers → course'.before ≡ course.before →
+    AreNoted s.config.floors s.requests.ongoing (after_end s.requests request).ongoing course'.marks.items →
     IsChanged (conference_of s) (change (conference_of s) (Revoke request)) (conference_of (record s { requests = after_end s.requests request })) course'
-changed-revoke s course course' request queue begun ongoing noted numbers before =
+changed-revoke s course course' request queue begun ongoing told numbers before noted =
     let rs = s.requests.ongoing in
     let C : Change → Type 0 = λ c. IsChanged (conference_of s) c (conference_of (record s { requests = after_end s.requests request })) course' in
     let same : course'.numbers.items ≡ numbers_of rs = ap (λ x. x.items) numbers ∙ begun.numbers ∙ numbers_in-entries rs in
@@ -136,10 +144,12 @@ changed-revoke s course course' request queue begun ongoing noted numbers before
       members = refl;
       is_open = refl;
       ongoing = sym (ongoing_of-ending request dismissed rs);
-      ended = by (request_at rs request) ongoing noted ∙ sym (ended_of-ending request dismissed rs queue.ascending);
+      ended = by (request_at rs request) ongoing told ∙ sym (ended_of-ending request dismissed rs queue.ascending);
       numbers = same ∙ sym (numbers_in-ending request dismissed rs);
       rising = ap is_rising same ∙ rising-numbers rs ∙ queue.ascending;
       before = ap (λ x. x.items) before ∙ begun.before;
+      old = ap (λ (ns : List ℕ). flat_map (λ n. listed (request_at rs n)) ns) (ap (λ x. x.items) numbers) ∙ begun.old;
+      noted = noted;
     }
   where
     by : (o : Option Request) → IsSome o → IfSome o (λ r. course'.ended.items ≡ course.ended.items ++ record { request = r; ending = dismissed r } ∷ []) →

@@ -8,6 +8,7 @@ pub mod Telling
 pub mod Changing
 pub mod Verdicts
 pub mod Served
+pub mod Settled
 pub mod Addable
 pub mod Allowed
 pub mod Asked
@@ -30,3 +31,9 @@ pub mod Together
 pub mod Alone
 pub mod AskedOnce
 pub mod Few
+pub mod Places
+pub mod Noting
+pub mod Renewed
+pub mod Moved
+pub mod Walk
+pub mod Courses

@@ -1,7 +1,7 @@
 -- The statuses of the floors that live members watch are all that is told of floors.
-use Rattle.std.proofs.Common.{◌≡◌, ℕ, suc, Bool, true, false, cond, List, [], ◌∷◌, ◌++◌, map, length, Option, Some, None, refl, sym, ap, arith, ◌∙◌}
+use Rattle.std.proofs.Common.{◌≡◌, ℕ, suc, Bool, true, false, cond, List, [], ◌∷◌, ◌++◌, map, length, Option, Some, refl, sym, ap, arith, ◌∙◌}
 use Rattle.std.specs.Prelude.{◌==◌, ◌&&◌, ◌||◌, nat_lt, filter, All}
-use Rattle.std.specs.List.{list_any, flat_map}
+use Rattle.std.specs.List.{list_any}
 use Rattle.std.proofs.lemmas.Bool.{or_left, or_right}
 use Rattle.std.proofs.lemmas.Bool.Decides.{nat_tests}
 use Rattle.std.proofs.lemmas.List.Elements.{All-nil, All-cons, All-head, All-tail}
@@ -14,7 +14,7 @@ use Rattle.floor_machine.specs.declared.sending.FloorUpdate.{FloorUpdate}
 use Rattle.floor_machine.specs.declared.sending.Reply.{Reply}
 use Rattle.floor_machine.specs.declared.sending.Update.{Update}
 use Rattle.floor_machine.specs.Journal.{parcel}
-use Rattle.floor_machine.specs.steps.Telling.{answered_to, floor_update, floor_update_to, floor_updates, has_watcher, is_due_to, is_floor_changed, is_floor_watched, is_watched, is_watched_by, parcels_to, parcels_to_all, update_to}
+use Rattle.floor_machine.specs.steps.Telling.{answered_to, floor_update, floor_update_to, floors_changed, has_watcher, is_due_to, is_floor_watched, is_one_of, is_watched, is_watched_by, parcels_to, parcels_to_all, update_to}
 
 -- the updates that pass a test are those of the floors whose update passes it
 filter-made : {A B : Type 0} (q : B → Bool) (g : A → B) (c : A → Bool) (xs : List A) → filter q (map g (filter c xs)) ≡ map g (filter c (filter (λ x. q (g x)) xs))
@@ -37,9 +37,9 @@ filter-made {A = A} {B = B} q g c (x ∷ xs) = by (c x) refl (q (g x)) refl (fil
     by false e d k h = neither (q (g x)) e h
 
 -- the statuses that live members watch are those of the floors that they watch
-pub updates-watched : (before now : List Info) (members : List Member) (floors : List Floor) →
-    floor_updates before now (filter (is_floor_watched members) floors) ≡ filter (is_watched_by members) (floor_updates before now floors)
-updates-watched before now members floors = sym (filter-made (is_watched_by members) (floor_update now) (is_floor_changed before now) floors)
+pub updates-watched : (now : List Info) (changed : List ℕ) (members : List Member) (floors : List Floor) →
+    floors_changed now changed (filter (is_floor_watched members) floors) ≡ filter (is_watched_by members) (floors_changed now changed floors)
+updates-watched now changed members floors = sym (filter-made (is_watched_by members) (floor_update now) (is_one_of changed) floors)
 
 -- a member misses none where those that it watches pass
 picked : (p q : FloorUpdate → Bool) → ((u : FloorUpdate) → p u ≡ true → q u ≡ true) → (us : List FloorUpdate) → filter p (filter q us) ≡ filter p us
@@ -77,12 +77,12 @@ passed-some conference reply requests q us (m ∷ members) all =
     (passed-some conference reply requests q us members (λ u seen. all u (or_right (m.is_live && is_watched m u) (is_watched_by members u) seen)))
 
 -- the parcels of all are the same where the status of a floor that nobody watches isn't made
-pub parcels-watched : (conference : ℕ) (reply : Option Reply) (requests : List Update) (before now : List Info) (floors : List Floor) (members : List Member) →
-    parcels_to_all conference reply requests (floor_updates before now (filter (is_floor_watched members) floors)) members
-    ≡ parcels_to_all conference reply requests (floor_updates before now floors) members
-parcels-watched conference reply requests before now floors members =
-    ap (λ (us : List FloorUpdate). parcels_to_all conference reply requests us members) (updates-watched before now members floors)
-    ∙ passed-some conference reply requests (is_watched_by members) (floor_updates before now floors) members (λ u seen. seen)
+pub parcels-watched : (conference : ℕ) (reply : Option Reply) (requests : List Update) (now : List Info) (changed : List ℕ) (floors : List Floor) (members : List Member) →
+    parcels_to_all conference reply requests (floors_changed now changed (filter (is_floor_watched members) floors)) members
+    ≡ parcels_to_all conference reply requests (floors_changed now changed floors) members
+parcels-watched conference reply requests now changed floors members =
+    ap (λ (us : List FloorUpdate). parcels_to_all conference reply requests us members) (updates-watched now changed members floors)
+    ∙ passed-some conference reply requests (is_watched_by members) (floors_changed now changed floors) members (λ u seen. seen)
 
 -- what a live member watches is watched
 pub watched-found : (members : List Member) (n : ℕ) (m : Member) → member_with members n ≡ Some m → (u : FloorUpdate) → is_watched m u ≡ true → is_watched_by members u ≡ true

@@ -1,6 +1,8 @@
 -- The steps by which the machine serves an event. Nobody has to believe them: no public clause rests on them.
 pub mod Fitting
 pub mod Telling
+pub mod Marks
+pub mod Renewing
 pub mod Serving
 pub mod Events
 pub mod Live

@@ -7,8 +7,9 @@ ghost use Rattle.floor_machine.specs.declared.event.Event.TheVariants.{Revoke, C
 ghost use Rattle.floor_machine.specs.steps.Fitting.{IsToldShown};
 ghost use Rattle.floor_machine.specs.Journal.{parcels_of};
 ghost use Rattle.floor_machine.specs.steps.Serving.{IsBegun, IsChanged, IsState, conference_of};
+ghost use Rattle.floor_machine.specs.steps.Telling.{AreInfos};
 
-use crate::course::Course;
+use crate::course::{Course, begin};
 use crate::ending::dismiss_request;
 use crate::parcel::Parcel;
 use crate::state::State;
@@ -37,7 +38,12 @@ impl State {
             (conference_of self.new) course.new) }
         ensures state { OnOk result (IsState self.new) }
     {
-        dismiss_request(&mut self.requests, &mut course.ended, request)
+        dismiss_request(
+            &mut self.requests,
+            &mut course.ended,
+            &mut course.marks,
+            request,
+        )
     }
 
     /// The request is taken away or denied, and what that ends and grants is told. After an error
@@ -46,6 +52,8 @@ impl State {
         requires ongoing { IsSome (request_at self.old.requests.ongoing request) }
         requires state { IsState self.old }
         requires settled { IsSettled self.old.requests }
+        requires shows { AreInfos self.old.config
+            self.old.requests.ongoing self.old.shown.items }
         ensures next { OnOk result (conference_of self.new
             ≡ change.next (conference_of self.old) (Revoke request)) }
         ensures out { OnOk result (out.new.items ≡ out.old.items
@@ -54,12 +62,14 @@ impl State {
         ensures left { OnErr result (out.new.items ≡ out.old.items) }
         ensures state { OnOk result (IsState self.new) }
         ensures settled { OnOk result (IsSettled self.new.requests) }
+        ensures shows { OnOk result (AreInfos self.new.config
+            self.new.requests.ongoing self.new.shown.items) }
     {
         let alloc = self.members.allocator();
-        let mut course = self.begin(alloc)?;
+        let mut course = begin(alloc, &self.requests, &mut self.shown)?;
         self.change_revoked(&mut course, request)?;
-        let _granted = self.requests.settle()?;
-        self.tell(alloc, &course, &None, out)
+        let changes = self.settle(alloc, &mut course)?;
+        self.tell(alloc, &changes, &None, out)
     }
 
     /// The conference ends: no request is ongoing any more, and nobody is told. Takes no memory.
@@ -70,8 +80,12 @@ impl State {
         ensures shown { IsToldShown (conference_of self.old) Close }
         ensures state { IsState self.new }
         ensures settled { IsSettled self.new.requests }
+        ensures shows { AreInfos self.new.config
+            self.new.requests.ongoing self.new.shown.items }
     {
         self.requests.clear();
+        self.shown.clear();
+        self.shown.shrink_to_fit();
         self.is_open = false;
     }
 }

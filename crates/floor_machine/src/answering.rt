@@ -8,10 +8,11 @@ ghost use Rattle.floor_machine.specs.Reply as spec;
 ghost use Rattle.floor_machine.specs.Shown as shown;
 ghost use Rattle.floor_machine.specs.steps.Serving as serving;
 ghost use Rattle.floor_machine.specs.steps.Serving.{conference_of};
+ghost use Rattle.floor_machine.specs.steps.Telling.{AreInfos};
 
 use crate::course::{Ended, floor_status, shown_at};
 use crate::judged::Judged;
-use crate::showing::{described, infos, infos_of_user};
+use crate::showing::{described, infos_of_user};
 use crate::state::State;
 use floor_config::Config;
 use floor_message::{Ask, Info, Infos, Tell, Who};
@@ -129,8 +130,8 @@ impl State {
 
     /// The statuses of floors, or one that names none where none is asked about.
     fn floor_tells(&self, alloc: Global, floors: &[u16]) -> Result<Vec<Tell>, AllocError>
-        requires floors { self.now.requests.floors ≡ self.now.config.floors }
-        requires settled { IsSettled self.now.requests }
+        requires shows { AreInfos self.now.config
+            self.now.requests.ongoing self.now.shown.items }
         ensures value { IfOk result (λ tells. tells.items
             ≡ spec.floor_answers (conference_of self.now) floors.now) }
         ensures shown { IfOk result (λ tells. All IsShown tells.items) }
@@ -139,8 +140,9 @@ impl State {
             let infos = Infos::from_vec(Vec::new(alloc));
             return one(alloc, Tell::FloorStatus { floor: None, infos });
         }
-        let now = infos(alloc, &self.config, &self.requests)?;
-        floor_statuses(alloc, &now, floors)
+        // At most 256 requests are ongoing.
+        let _ongoing = self.requests.ongoing();
+        floor_statuses(alloc, &self.shown, floors)
     }
 
     /// What an accepted message is answered by, after the event.
@@ -154,6 +156,8 @@ impl State {
         requires floors { self.now.requests.floors ≡ self.now.config.floors }
         requires settled { IsSettled self.now.requests }
         requires ended { AreAddable self.now.config.floors ended.now }
+        requires shows { AreInfos self.now.config
+            self.now.requests.ongoing self.now.shown.items }
         ensures value { IfOk result (λ tells. tells.items
             ≡ serving.accepted_tells (conference_of self.now) ended.now user ask.now) }
         ensures shown { IfOk result (λ tells. All IsShown tells.items) }
@@ -181,6 +185,8 @@ impl State {
         requires settled { IsSettled self.now.requests }
         requires ended { AreAddable self.now.config.floors ended.now }
         requires details { DetailsFit judged.now }
+        requires shows { AreInfos self.now.config
+            self.now.requests.ongoing self.now.shown.items }
         ensures value { IfOk result (λ tells. tells.items
             ≡ serving.judged_tells (conference_of self.now) ended.now user judged.now) }
         ensures shown { IfOk result (λ tells. All IsShown tells.items) }

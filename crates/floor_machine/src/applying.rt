@@ -9,6 +9,7 @@ ghost use Rattle.floor_machine.specs.Journal.{parcels_of};
 ghost use Rattle.floor_machine.specs.steps.Events.{IsSilent};
 ghost use Rattle.floor_machine.specs.steps.Events.{HasNumber, event_of};
 ghost use Rattle.floor_machine.specs.steps.Serving.{IsState, conference_of};
+ghost use Rattle.floor_machine.specs.steps.Telling.{AreInfos};
 
 use crate::event::{Act, BorrowedEvent};
 use crate::parcel::Parcel;
@@ -27,6 +28,8 @@ impl State {
         requires few { HasNumber (conference_of self.old) (event_of event) }
         requires state { IsState self.old }
         requires settled { IsSettled self.old.requests }
+        requires shows { AreInfos self.old.config
+            self.old.requests.ongoing self.old.shown.items }
         ensures next { OnOk result (conference_of self.new
             ≡ change.next (conference_of self.old) (event_of event.entry)) }
         ensures out { OnOk result (out.new.items ≡ out.old.items
@@ -36,6 +39,8 @@ impl State {
         ensures left { OnErr result (out.new.items ≡ out.old.items) }
         ensures state { OnOk result (IsState self.new) }
         ensures settled { OnOk result (IsSettled self.new.requests) }
+        ensures shows { OnOk result (AreInfos self.new.config
+            self.new.requests.ongoing self.new.shown.items) }
     {
         what_is_shown_fits();
         match event {

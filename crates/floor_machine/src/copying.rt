@@ -30,7 +30,7 @@ fn copied_who(alloc: Global, who: &Option<Who>) -> Result<Option<Who>, AllocErro
 }
 
 /// An equal info.
-fn copied_info(alloc: Global, info: &Info) -> Result<Info, AllocError>
+pub(crate) fn copied_info(alloc: Global, info: &Info) -> Result<Info, AllocError>
     ensures { IfOk result (λ copy. copy ≡ info.now) }
 {
     let floors = Vec::from_slice(alloc, info.floors.as_slice())?;

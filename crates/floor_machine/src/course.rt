@@ -1,28 +1,28 @@
 //! The course of one event: what was shown before it, which floor requests it ended, and what is
 //! shown otherwise after it (RFC 8855, sections 10.1.2 and 12.1).
 
-ghost use Rattle.std.specs.Prelude.{◌≡◌, ◌==◌, ◌++◌, [], All, IfOk, IfSome, OnOk, Some, find, not, option_map};
+ghost use Rattle.std.specs.Prelude.{◌≡◌, ◌==◌, [], All, IfOk, IfSome, Some, find, option_map};
+ghost use Rattle.std.specs.List.{list_any};
 ghost use Rattle.std.specs.Option.{option_copied};
 ghost use Rattle.floor_config.specs.Configuration.{IsFloor};
-ghost use Rattle.floor_queue.specs.Queue.{IsAddable, IsSettled, new_of, request_at};
+ghost use Rattle.floor_queue.specs.Queue.{IsAddable, IsQueue, IsSettled, new_of, numbers_of, request_at};
 ghost use Rattle.floor_message.specs.Shown.{AreShown, IsShown, IsShownInfo};
-ghost use Rattle.floor_machine.specs.steps.Fitting.{AreAddable, AreFloorsShown, AreUpdatesShown};
+ghost use Rattle.floor_machine.specs.steps.Fitting.{AreAddable, AreFloorsShown};
 ghost use Rattle.floor_machine.specs.Shown.{entry_of};
 ghost use Rattle.floor_machine.specs.steps.Telling as spec;
-ghost use Rattle.floor_machine.specs.steps.Telling.{entry_of_ended, infos_of, shown_of};
-ghost use Rattle.floor_machine.specs.Same as same;
+ghost use Rattle.floor_machine.specs.steps.Telling.{entry_of_ended, shown_of};
 ghost use Rattle.floor_machine.specs.Reply as reply;
-ghost use Rattle.floor_machine.specs.Told as told;
 
 use crate::copying::infos_on;
-use crate::same::{same_info, same_infos};
+use crate::marking::Mark;
 use crate::sending::{FloorUpdate, Update};
-use crate::showing::{ended_info, info, infos};
+use crate::showing::{ended_info, info};
 use crate::status::RequestStatus;
 use floor_config::{Config, Floor};
 use floor_message::{Info, Infos, Tell};
 use floor_queue::{Request, Requests};
 use std::alloc::{AllocError, Global};
+use std::mem;
 
 /// A floor request that an event ended.
 #[derive(Debug, Drop)]
@@ -55,16 +55,50 @@ pub(crate) struct Course {
     pub numbers: Vec<u16>,
     /// The requests that it ended.
     pub ended: Vec<Ended>,
+    /// The marks of those that it changed.
+    pub marks: Vec<Mark>,
 }
 
-fn find_ended(ended: &[Ended], number: u16) -> Option<&Ended>
+/// The course of an event that begins: what was shown is moved into it.
+pub(crate) fn begin(
+    alloc: Global,
+    requests: &Requests,
+    shown: &mut Vec<Info>,
+) -> Result<Course, AllocError>
+    ensures before { IfOk result (λ course. course.before.items ≡ shown.old.items) }
+    ensures numbers { IfOk result (λ course. course.numbers.items
+        ≡ numbers_of requests.now.ongoing) }
+    ensures ended { IfOk result (λ course. course.ended.items ≡ []) }
+    ensures marks { IfOk result (λ course. course.marks.items ≡ []) }
+    ensures queue { IfOk result (λ course. IsQueue requests.now) }
+{
+    let numbers = numbers_of(alloc, requests.ongoing())?;
+    Ok(Course {
+        before: mem::replace(shown, Vec::new(alloc)),
+        numbers,
+        ended: Vec::new(alloc),
+        marks: Vec::new(alloc),
+    })
+}
+
+fn numbers_of(alloc: Global, requests: &[Request]) -> Result<Vec<u16>, AllocError>
+    ensures { IfOk result (λ numbers. numbers.items ≡ numbers_of requests.now) }
+{
+    requests.iter().map(|r| r.number).collect(alloc)
+}
+
+pub(crate) fn find_ended(ended: &[Ended], number: u16) -> Option<&Ended>
     ensures { option_copied result ≡ find (λ d. d.request.number == number) ended.now }
 {
     ended.iter().find(|d| d.request.number == number)
 }
 
 /// What is shown of a request that ended.
-fn shown_ended(alloc: Global, config: &Config, ended: &Ended) -> Result<Shown, AllocError>
+pub(crate) fn shown_ended(
+    alloc: Global,
+    config: &Config,
+    ended: &Ended,
+) -> Result<Shown, AllocError>
     requires { IsAddable config.now.floors (new_of ended.now.request) }
     ensures value { IfOk result (λ shown. shown
         ≡ shown_of config.now [] (entry_of_ended ended.now)) }
@@ -75,6 +109,29 @@ fn shown_ended(alloc: Global, config: &Config, ended: &Ended) -> Result<Shown, A
         number: ended.request.number,
         requester: ended.request.requester,
         beneficiary: ended.request.beneficiary,
+        info,
+    })
+}
+
+/// What is shown of an ongoing request.
+pub(crate) fn shown_request(
+    alloc: Global,
+    config: &Config,
+    requests: &Requests,
+    request: &Request,
+) -> Result<Shown, AllocError>
+    requires floors { requests.now.floors ≡ config.now.floors }
+    requires settled { IsSettled requests.now }
+    requires found { request_at requests.now.ongoing request.now.number ≡ Some request.now }
+    ensures value { IfOk result (λ shown. shown
+        ≡ shown_of config.now requests.now.ongoing (entry_of request.now)) }
+    ensures shown { IfOk result (λ shown. IsShownInfo shown.info) }
+{
+    let info = info(alloc, config, requests, request)?;
+    Ok(Shown {
+        number: request.number,
+        requester: request.requester,
+        beneficiary: request.beneficiary,
         info,
     })
 }
@@ -95,15 +152,7 @@ fn shown_ongoing(
 {
     match requests.get(number) {
         None => Ok(None),
-        Some(request) => {
-            let info = info(alloc, config, requests, request)?;
-            Ok(Some(Shown {
-                number: request.number,
-                requester: request.requester,
-                beneficiary: request.beneficiary,
-                info,
-            }))
-        }
+        Some(request) => Ok(Some(shown_request(alloc, config, requests, request)?)),
     }
 }
 
@@ -128,24 +177,8 @@ pub(crate) fn shown_at(
     }
 }
 
-fn find_info(infos: &[Info], request: u16) -> Option<&Info>
-    ensures { option_copied result ≡ find (λ i. i.request == request) infos.now }
-{
-    infos.iter().find(|i| i.request == request)
-}
-
-/// Whether a request is shown otherwise than before.
-fn is_changed(before: &[Info], now: &Info) -> bool
-    ensures { result ≡ told.is_changed before.now now.now }
-{
-    match find_info(before, now.request) {
-        Some(info) => !same_info(info, now),
-        None => true,
-    }
-}
-
 /// The status that tells of a changed request.
-fn update_of(shown: Shown) -> Update
+pub(crate) fn update_of(shown: Shown) -> Update
     ensures { result ≡ spec.update_of shown }
 {
     Update {
@@ -154,77 +187,6 @@ fn update_of(shown: Shown) -> Update
         beneficiary: shown.beneficiary,
         tell: Tell::FloorRequestStatus { info: shown.info },
     }
-}
-
-/// Puts the status of a request, if it is shown otherwise than before.
-fn put_if_changed(
-    before: &[Info],
-    shown: Shown,
-    updates: &mut Vec<Update>,
-) -> Result<(), AllocError>
-    ensures { OnOk result (updates.new.items ≡ updates.old.items
-        ++ spec.update_if before.now shown) }
-{
-    if is_changed(before, &shown.info) {
-        updates.push(update_of(shown))?;
-    }
-    Ok(())
-}
-
-/// Puts the status of the request with this number, if it is shown otherwise than before.
-fn put_update(
-    alloc: Global,
-    config: &Config,
-    requests: &Requests,
-    course: &Course,
-    number: u16,
-    updates: &mut Vec<Update>,
-) -> Result<(), AllocError>
-    requires floors { requests.now.floors ≡ config.now.floors }
-    requires settled { IsSettled requests.now }
-    requires ended { AreAddable config.now.floors course.now.ended.items }
-    ensures added { OnOk result (updates.new.items ≡ updates.old.items ++ spec.update_at config.now
-        requests.now.ongoing course.now.ended.items course.now.before.items number) }
-    ensures shown { OnOk result (AreUpdatesShown (spec.update_at config.now
-        requests.now.ongoing course.now.ended.items course.now.before.items number)) }
-{
-    if let Some(shown) = shown_at(alloc, config, requests, &course.ended, number)? {
-        put_if_changed(&course.before, shown, updates)?;
-    }
-    Ok(())
-}
-
-/// The statuses of the requests that are shown otherwise than before.
-pub(crate) fn updates(
-    alloc: Global,
-    config: &Config,
-    requests: &Requests,
-    course: &Course,
-) -> Result<Vec<Update>, AllocError>
-    requires floors { requests.now.floors ≡ config.now.floors }
-    requires settled { IsSettled requests.now }
-    requires ended { AreAddable config.now.floors course.now.ended.items }
-    ensures value { IfOk result (λ updates. updates.items
-        ≡ spec.updates config.now requests.now.ongoing
-        course.now.ended.items course.now.before.items course.now.numbers.items) }
-    ensures shown { IfOk result (λ updates. AreUpdatesShown updates.items) }
-{
-    let mut updates = Vec::new(alloc);
-    for number in &course.numbers {
-        put_update(alloc, config, requests, course, *number, &mut updates)?;
-    }
-    Ok(updates)
-}
-
-/// Whether the requests that name the floor are shown otherwise than before.
-fn differs_on(alloc: Global, floor: u16, before: &[Info], now: &[Info]) -> Result<bool, AllocError>
-    ensures { IfOk result (λ differs. differs
-        ≡ not (same.same_infos (reply.infos_on floor before.now)
-        (reply.infos_on floor now.now))) }
-{
-    let before = infos_on(alloc, floor, before)?;
-    let now = infos_on(alloc, floor, now)?;
-    Ok(!same_infos(&before, &now))
 }
 
 /// The status of a floor.
@@ -241,22 +203,29 @@ pub(crate) fn floor_status(alloc: Global, floor: u16, now: &[Info]) -> Result<Te
     })
 }
 
-/// The statuses of those of these floors whose requests are shown otherwise than before.
-fn floor_updates(
+/// Whether one of the changed requests names the floor.
+fn is_changed(changed: &[u16], floor: u16) -> bool
+    ensures { result ≡ list_any (λ f. f == floor) changed.now }
+{
+    changed.iter().any(|f| *f == floor)
+}
+
+/// The statuses of those of these floors that are among the changed ones.
+pub(crate) fn floor_updates(
     alloc: Global,
     floors: &[Floor],
-    before: &[Info],
+    changed: &[u16],
     now: &[Info],
 ) -> Result<Vec<FloorUpdate>, AllocError>
     requires floors { All IsFloor floors.now }
     requires shown { AreShown now.now }
     ensures value { IfOk result (λ updates.
-        updates.items ≡ spec.floor_updates before.now now.now floors.now) }
+        updates.items ≡ spec.floors_changed now.now changed.now floors.now) }
     ensures shown { IfOk result (λ updates. AreFloorsShown updates.items) }
 {
     let mut updates = Vec::new(alloc);
     for floor in floors {
-        if differs_on(alloc, floor.id, before, now)? {
+        if is_changed(changed, floor.id) {
             updates.push(FloorUpdate {
                 floor: floor.id,
                 tell: floor_status(alloc, floor.id, now)?,
@@ -264,27 +233,4 @@ fn floor_updates(
         }
     }
     Ok(updates)
-}
-
-/// The statuses of those of these floors whose requests are shown otherwise than before. Where there
-/// is no floor, nothing that is shown is looked at.
-pub(crate) fn floor_updates_of(
-    alloc: Global,
-    config: &Config,
-    requests: &Requests,
-    floors: &[Floor],
-    before: &[Info],
-) -> Result<Vec<FloorUpdate>, AllocError>
-    requires floors { requests.now.floors ≡ config.now.floors }
-    requires settled { IsSettled requests.now }
-    requires known { All IsFloor floors.now }
-    ensures value { IfOk result (λ updates. updates.items
-        ≡ spec.floor_updates before.now (infos_of config.now requests.now.ongoing) floors.now) }
-    ensures shown { IfOk result (λ updates. AreFloorsShown updates.items) }
-{
-    if floors.is_empty() {
-        return Ok(Vec::new(alloc));
-    }
-    let now = infos(alloc, config, requests)?;
-    floor_updates(alloc, floors, before, &now)
 }

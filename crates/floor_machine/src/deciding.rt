@@ -4,10 +4,12 @@ ghost use Rattle.std.specs.Prelude.{◌≡◌, ◌++◌, All, OnOk, map};
 ghost use Rattle.std.specs.List.{list_any};
 ghost use Rattle.floor_queue.specs.Queue.{MaySetFloor};
 ghost use Rattle.floor_machine.specs.Change as change;
+ghost use Rattle.floor_machine.specs.steps.Marks.{KeepsNoted};
 ghost use Rattle.floor_machine.specs.steps.Serving.{MayDecide, after_decide, ended_by};
 
 use crate::course::Ended;
 use crate::ending::dismiss_request;
+use crate::marking::{Mark, mark_ongoing};
 use floor_message::Verdict;
 use floor_queue::{Requests, Word};
 use std::alloc::AllocError;
@@ -62,6 +64,7 @@ fn set_words(requests: &mut Requests, request: u16, verdicts: &[(u16, Verdict)])
 pub(crate) fn decide(
     requests: &mut Requests,
     ended: &mut Vec<Ended>,
+    marks: &mut Vec<Mark>,
     request: u16,
     verdicts: &[(u16, Verdict)],
 ) -> Result<(), AllocError>
@@ -69,11 +72,34 @@ pub(crate) fn decide(
     ensures next { OnOk result (requests.new ≡ after_decide requests.old request verdicts.now) }
     ensures ended { OnOk result (ended.new.items ≡ ended.old.items
         ++ ended_by requests.old request verdicts.now) }
+    ensures noted { OnOk result (KeepsNoted requests.old.ongoing marks.old.items
+        requests.new.ongoing marks.new.items) }
     ensures floors { requests.new.floors ≡ requests.old.floors }
 {
     if has_final(verdicts) {
-        return dismiss_request(requests, ended, request);
+        return dismiss_request(requests, ended, marks, request);
     }
+    leave_words(requests, marks, request, verdicts)
+}
+
+/// Stores the words on the floors of a request, and marks it as it was and as it is.
+fn leave_words(
+    requests: &mut Requests,
+    marks: &mut Vec<Mark>,
+    request: u16,
+    verdicts: &[(u16, Verdict)],
+) -> Result<(), AllocError>
+    requires { All (λ v. MaySetFloor requests.old request v.0) verdicts.now }
+    ensures next { OnOk result (requests.new ≡ record requests.old {
+      ongoing = map (change.decided_at request verdicts.now) requests.old.ongoing;
+    }) }
+    ensures noted { OnOk result (KeepsNoted requests.old.ongoing marks.old.items
+        requests.new.ongoing marks.new.items) }
+    ensures floors { requests.new.floors ≡ requests.old.floors }
+{
+    // The requests ascend, so that no other has the number.
+    let _ongoing = requests.ongoing();
+    mark_ongoing(marks, requests, request)?;
     set_words(requests, request, verdicts);
-    Ok(())
+    mark_ongoing(marks, requests, request)
 }

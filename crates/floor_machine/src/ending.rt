@@ -3,9 +3,11 @@
 ghost use Rattle.std.specs.Prelude.{◌≡◌, ◌==◌, ◌++◌, ◌∷◌, [], IfSome, IsSome, OnOk, find, option_map};
 ghost use Rattle.floor_queue.specs.Queue.{IsQueue, after_end, request_at};
 ghost use Rattle.floor_machine.specs.Change as change;
+ghost use Rattle.floor_machine.specs.steps.Marks.{KeepsNoted};
 ghost use Rattle.floor_machine.specs.steps.Serving.{after_release_for, released_for};
 
 use crate::course::Ended;
+use crate::marking::{Mark, mark_request};
 use crate::status::RequestStatus;
 use floor_queue::{Request, Requests};
 use std::alloc::AllocError;
@@ -36,6 +38,7 @@ fn dismissed(request: &Request) -> RequestStatus
 pub(crate) fn release_request(
     requests: &mut Requests,
     ended: &mut Vec<Ended>,
+    marks: &mut Vec<Mark>,
     request: u16,
 ) -> Result<(), AllocError>
     requires { IsSome (request_at requests.old.ongoing request) }
@@ -43,9 +46,14 @@ pub(crate) fn release_request(
     ensures ended { OnOk result (IfSome (request_at requests.old.ongoing request)
         (λ r. ended.new.items ≡ ended.old.items
         ++ record { request = r; ending = change.released r } ∷ [])) }
+    ensures noted { OnOk result (KeepsNoted requests.old.ongoing marks.old.items
+        requests.new.ongoing marks.new.items) }
     ensures floors { requests.new.floors ≡ requests.old.floors }
 {
+    // The requests ascend, so that no other has the number.
+    let _ongoing = requests.ongoing();
     let request = requests.end(request);
+    mark_request(marks, &request)?;
     let ending = released(&request);
     ended.push(Ended { request, ending })?;
     Ok(())
@@ -55,6 +63,7 @@ pub(crate) fn release_request(
 pub(crate) fn dismiss_request(
     requests: &mut Requests,
     ended: &mut Vec<Ended>,
+    marks: &mut Vec<Mark>,
     request: u16,
 ) -> Result<(), AllocError>
     requires { IsSome (request_at requests.old.ongoing request) }
@@ -62,9 +71,14 @@ pub(crate) fn dismiss_request(
     ensures ended { OnOk result (IfSome (request_at requests.old.ongoing request)
         (λ r. ended.new.items ≡ ended.old.items
         ++ record { request = r; ending = change.dismissed r } ∷ [])) }
+    ensures noted { OnOk result (KeepsNoted requests.old.ongoing marks.old.items
+        requests.new.ongoing marks.new.items) }
     ensures floors { requests.new.floors ≡ requests.old.floors }
 {
+    // The requests ascend, so that no other has the number.
+    let _ongoing = requests.ongoing();
     let request = requests.end(request);
+    mark_request(marks, &request)?;
     let ending = dismissed(&request);
     ended.push(Ended { request, ending })?;
     Ok(())
@@ -91,15 +105,18 @@ fn first_for(requests: &Requests, beneficiary: u16) -> Option<u16>
 pub(crate) fn release_all_for(
     requests: &mut Requests,
     ended: &mut Vec<Ended>,
+    marks: &mut Vec<Mark>,
     beneficiary: u16,
 ) -> Result<(), AllocError>
     ensures next { OnOk result (requests.new ≡ after_release_for requests.old beneficiary) }
     ensures ended { OnOk result (ended.new.items ≡ ended.old.items
         ++ released_for requests.old beneficiary) }
+    ensures noted { OnOk result (KeepsNoted requests.old.ongoing marks.old.items
+        requests.new.ongoing marks.new.items) }
     ensures floors { requests.new.floors ≡ requests.old.floors }
 {
     while let Some(request) = first_for(requests, beneficiary) {
-        release_request(requests, ended, request)?;
+        release_request(requests, ended, marks, request)?;
     }
     Ok(())
 }

@@ -9,8 +9,9 @@ ghost use Rattle.floor_machine.specs.declared.event.Event.TheVariants.{Leave};
 ghost use Rattle.floor_machine.specs.steps.Fitting.{IsToldShown};
 ghost use Rattle.floor_machine.specs.Journal.{parcels_of};
 ghost use Rattle.floor_machine.specs.steps.Serving.{IsBegun, IsChanged, IsState, conference_of};
+ghost use Rattle.floor_machine.specs.steps.Telling.{AreInfos};
 
-use crate::course::Course;
+use crate::course::{Course, begin};
 use crate::ending::release_all_for;
 use crate::parcel::Parcel;
 use crate::state::State;
@@ -33,13 +34,20 @@ impl State {
         if self.members.is_present(user) {
             return Ok(());
         }
-        release_all_for(&mut self.requests, &mut course.ended, user)
+        release_all_for(
+            &mut self.requests,
+            &mut course.ended,
+            &mut course.marks,
+            user,
+        )
     }
 
     /// A member leaves, and what that ends and grants is told. After an error `out` is as it was.
     pub(crate) fn leave(&mut self, n: u32, out: &mut Vec<Parcel>) -> Result<(), AllocError>
         requires state { IsState self.old }
         requires settled { IsSettled self.old.requests }
+        requires shows { AreInfos self.old.config
+            self.old.requests.ongoing self.old.shown.items }
         ensures next { OnOk result (conference_of self.new
             ≡ change.next (conference_of self.old) (Leave n)) }
         ensures out { OnOk result (out.new.items ≡ out.old.items
@@ -48,12 +56,14 @@ impl State {
         ensures left { OnErr result (out.new.items ≡ out.old.items) }
         ensures state { OnOk result (IsState self.new) }
         ensures settled { OnOk result (IsSettled self.new.requests) }
+        ensures shows { OnOk result (AreInfos self.new.config
+            self.new.requests.ongoing self.new.shown.items) }
     {
         let alloc = self.members.allocator();
         let user = self.user_of(n);
-        let mut course = self.begin(alloc)?;
+        let mut course = begin(alloc, &self.requests, &mut self.shown)?;
         self.change_left(&mut course, n, user)?;
-        let _granted = self.requests.settle()?;
-        self.tell(alloc, &course, &None, out)
+        let changes = self.settle(alloc, &mut course)?;
+        self.tell(alloc, &changes, &None, out)
     }
 }

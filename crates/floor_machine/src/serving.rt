@@ -12,14 +12,17 @@ ghost use Rattle.floor_machine.specs.Conference.{user_of};
 ghost use Rattle.floor_machine.specs.declared.event.Event.TheVariants.{Message};
 ghost use Rattle.floor_machine.specs.Journal.{parcels_of};
 ghost use Rattle.floor_machine.specs.steps.Fitting.{IsToldShown};
+ghost use Rattle.floor_machine.specs.steps.Marks.{KeepsNoted};
 ghost use Rattle.floor_machine.specs.steps.Serving as serving;
 ghost use Rattle.floor_machine.specs.steps.Serving.{HasRoom, IsBegun, IsChanged, IsJudged, IsState, MayServe, changes_requests, conference_of, judged_change, members_judged};
+ghost use Rattle.floor_machine.specs.steps.Telling.{AreInfos};
 ghost use Rattle.floor_machine.specs.Outgoing.{response_head};
 
-use crate::course::Course;
+use crate::course::{Course, begin};
 use crate::deciding::decide;
 use crate::ending::release_request;
 use crate::judged::Judged;
+use crate::marking::{Mark, mark_ongoing};
 use crate::members::Members;
 use crate::parcel::Parcel;
 use crate::sending::{Reply, put_all, put_behind};
@@ -31,18 +34,27 @@ use floor_wire::{Frame, Numbers, Octets};
 use std::alloc::{AllocError, Global};
 
 /// Adds a request, and notes its number.
-fn add_request(requests: &mut Requests, numbers: &mut Vec<u16>, new: New) -> Result<(), AllocError>
+fn add_request(
+    requests: &mut Requests,
+    numbers: &mut Vec<u16>,
+    marks: &mut Vec<Mark>,
+    new: New,
+) -> Result<(), AllocError>
     requires addable { IsAddable requests.old.floors new }
     requires room { HasRoom requests.old.ongoing requests.old.given }
     ensures next { OnOk result (requests.new ≡ after_add requests.old new) }
     ensures numbers { OnOk result (numbers.new.items ≡ numbers.old.items
         ++ (requests.old.given + 1) ∷ []) }
+    ensures noted { OnOk result (KeepsNoted requests.old.ongoing marks.old.items
+        requests.new.ongoing marks.new.items) }
     ensures floors { requests.new.floors ≡ requests.old.floors }
 {
+    // No ongoing request has the next number.
+    let _ongoing = requests.ongoing();
     match requests.add(new) {
         Ok(number) => {
             numbers.push(number)?;
-            Ok(())
+            mark_ongoing(marks, requests, number)
         }
         Err(AddRefusal::Full | AddRefusal::NoNumber) => unreachable!(),
         Err(AddRefusal::Memory) => Err(AllocError),
@@ -135,6 +147,8 @@ impl State {
         }) }
         ensures course { OnOk result (course.new.numbers.items ≡ course.old.numbers.items
             ++ (self.old.requests.given + 1) ∷ []) }
+        ensures noted { OnOk result (KeepsNoted self.old.requests.ongoing course.old.marks.items
+            self.new.requests.ongoing course.new.marks.items) }
         ensures before { course.new.before ≡ course.old.before }
         ensures ended { course.new.ended ≡ course.old.ended }
         ensures kept { IsState self.old → IsState self.new }
@@ -146,7 +160,12 @@ impl State {
             priority,
             info: copied(alloc, info)?,
         };
-        add_request(&mut self.requests, &mut course.numbers, new)
+        add_request(
+            &mut self.requests,
+            &mut course.numbers,
+            &mut course.marks,
+            new,
+        )
     }
 
     /// Does what is accepted and changes requests, before the requests are settled.
@@ -177,11 +196,17 @@ impl State {
                 info,
             } => self.request(alloc, course, user, *beneficiary, floors, *priority, info),
             Ask::FloorRelease { request } => {
-                release_request(&mut self.requests, &mut course.ended, *request)
+                release_request(
+                    &mut self.requests,
+                    &mut course.ended,
+                    &mut course.marks,
+                    *request,
+                )
             }
             Ask::ChairAction { request, verdicts } => decide(
                 &mut self.requests,
                 &mut course.ended,
+                &mut course.marks,
                 *request,
                 verdicts.as_slice(),
             ),
@@ -232,6 +257,8 @@ impl State {
         requires changes { changes_requests judged.now ≡ true }
         requires state { IsState self.old }
         requires settled { IsSettled self.old.requests }
+        requires shows { AreInfos self.old.config
+            self.old.requests.ongoing self.old.shown.items }
         requires user { user ≡ user_of (conference_of self.old) n }
         requires judged { IsJudged (conference_of self.old) n frame.now judged.now }
         requires may { MayServe (conference_of self.old) user judged.now }
@@ -243,17 +270,19 @@ impl State {
         ensures left { OnErr result (out.new.items ≡ out.old.items) }
         ensures state { OnOk result (IsState self.new) }
         ensures settled { OnOk result (IsSettled self.new.requests) }
+        ensures shows { OnOk result (AreInfos self.new.config
+            self.new.requests.ongoing self.new.shown.items) }
     {
-        let mut course = self.begin(alloc)?;
+        let mut course = begin(alloc, &self.requests, &mut self.shown)?;
         self.change(alloc, &mut course, n, user, judged)?;
-        let _granted = self.requests.settle()?;
+        let changes = self.settle(alloc, &mut course)?;
         let tells = self.answer(alloc, &course.ended, user, judged)?;
         let reply = Some(Reply {
             n,
             head: response_head(frame),
             tells,
         });
-        self.tell(alloc, &course, &reply, out)
+        self.tell(alloc, &changes, &reply, out)
     }
 
     /// Answers a message that changes no request: its sender alone is told anything, so nothing
@@ -270,6 +299,8 @@ impl State {
         requires kept { changes_requests judged.now ≡ false }
         requires state { IsState self.old }
         requires settled { IsSettled self.old.requests }
+        requires shows { AreInfos self.old.config
+            self.old.requests.ongoing self.old.shown.items }
         requires user { user ≡ user_of (conference_of self.old) n }
         requires judged { IsJudged (conference_of self.old) n frame.now judged.now }
         requires may { MayServe (conference_of self.old) user judged.now }
@@ -281,6 +312,8 @@ impl State {
         ensures left { OnErr result (out.new.items ≡ out.old.items) }
         ensures state { OnOk result (IsState self.new) }
         ensures settled { OnOk result (IsSettled self.new.requests) }
+        ensures shows { OnOk result (AreInfos self.new.config
+            self.new.requests.ongoing self.new.shown.items) }
     {
         // The ongoing requests ascend, so that each is shown as before.
         let _ongoing = self.requests.ongoing();
@@ -314,6 +347,8 @@ impl State {
     ) -> Result<(), AllocError>
         requires state { IsState self.old }
         requires settled { IsSettled self.old.requests }
+        requires shows { AreInfos self.old.config
+            self.old.requests.ongoing self.old.shown.items }
         ensures next { OnOk result (conference_of self.new
             ≡ change.next (conference_of self.old) (Message n frame.now)) }
         ensures out { OnOk result (out.new.items ≡ out.old.items
@@ -322,6 +357,8 @@ impl State {
         ensures left { OnErr result (out.new.items ≡ out.old.items) }
         ensures state { OnOk result (IsState self.new) }
         ensures settled { OnOk result (IsSettled self.new.requests) }
+        ensures shows { OnOk result (AreInfos self.new.config
+            self.new.requests.ongoing self.new.shown.items) }
         ensures message { IsMessage frame.now }
     {
         let alloc = self.members.allocator();

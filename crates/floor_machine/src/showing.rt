@@ -8,7 +8,7 @@ ghost use Rattle.floor_message.specs.Shown.{AreShown, IsShownInfo};
 ghost use Rattle.floor_machine.specs.steps.Fitting.{HasNumbers};
 ghost use Rattle.floor_machine.specs.Shown as spec;
 ghost use Rattle.floor_machine.specs.Shown.{entry_of, info, info_of, overall_status};
-ghost use Rattle.floor_machine.specs.steps.Telling.{ended_floor_shown, entry_of_ended, info_with, infos_of, position_shown};
+ghost use Rattle.floor_machine.specs.steps.Telling.{ended_floor_shown, entry_of_ended, info_with, position_shown};
 
 use crate::checks::find_user;
 use crate::course::Ended;
@@ -276,24 +276,6 @@ pub(crate) fn ended_info(alloc: Global, config: &Config, ended: &Ended) -> Resul
     let status = ended.ending.number();
     let floors = ended_floors_shown(alloc, status, &ended.request)?;
     info_with(alloc, config, &ended.request, status, floors)
-}
-
-/// What is shown of all ongoing requests, ascending.
-pub(crate) fn infos(
-    alloc: Global,
-    config: &Config,
-    requests: &Requests,
-) -> Result<Vec<Info>, AllocError>
-    requires floors { requests.now.floors ≡ config.now.floors }
-    requires settled { IsSettled requests.now }
-    ensures value { IfOk result (λ shown. shown.items ≡ infos_of config.now requests.now.ongoing) }
-    ensures shown { IfOk result (λ infos. AreShown infos.items) }
-{
-    let mut shown = Vec::new(alloc);
-    for request in requests.ongoing() {
-        shown.push(info(alloc, config, requests, request)?)?;
-    }
-    Ok(shown)
 }
 
 /// What is shown of the ongoing requests of which the user is requester or beneficiary, ascending.

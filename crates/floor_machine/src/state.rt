@@ -1,26 +1,31 @@
 //! The state of one conference (RFC 8855, sections 10 to 13).
 
-ghost use Rattle.std.specs.Prelude.{◌≡◌, ◌<◌, ◌+◌, [], ◌++◌, IfOk, OnOk, OnErr, Some, filter, length};
+ghost use Rattle.std.specs.Prelude.{◌≡◌, ◌<◌, ◌+◌, [], ◌++◌, All, IfOk, OnOk, OnErr, filter, length};
 ghost use Rattle.floor_config.specs.Configuration.{user_ids};
-ghost use Rattle.floor_queue.specs.Queue.{IsQueue, IsSettled, numbers_of};
+ghost use Rattle.floor_queue.specs.Order.{settle};
+ghost use Rattle.floor_queue.specs.Queue.{IsSettled, after_settle};
+ghost use Rattle.floor_message.specs.Shown.{IsShownInfo};
 ghost use Rattle.floor_machine.specs.Change as change;
 ghost use Rattle.floor_machine.specs.Conference.{is_live, opening, user_of};
 ghost use Rattle.floor_machine.specs.declared.event.Event.TheVariants.{Join};
 ghost use Rattle.floor_machine.specs.Journal.{parcels_of};
 ghost use Rattle.floor_machine.specs.steps.Fitting.{AreAddable, AreFloorsShown, AreUpdatesShown, IsReplyShown, IsToldShown};
+ghost use Rattle.floor_machine.specs.steps.Renewing.{IsCourse};
 ghost use Rattle.floor_machine.specs.steps.Serving.{IsState, conference_of};
-ghost use Rattle.floor_machine.specs.steps.Telling as steps;
-ghost use Rattle.floor_machine.specs.steps.Telling.{infos_of, is_watched_by, parcels_to_all};
+ghost use Rattle.floor_machine.specs.steps.Telling.{AreChanged, AreInfos, floors_changed, infos_of, is_watched_by, parcels_to_all, updates};
 
-use crate::course::{Course, floor_updates_of, updates};
+use crate::course::{Course, floor_updates};
+use crate::marking::mark_granted;
 use crate::members::Members;
 use crate::parcel::Parcel;
+use crate::renewing::{Changes, renew};
 use crate::sending::{Reply, put_all, put_behind};
-use crate::showing::infos;
 use crate::watching::watched_floors;
 use floor_config::{Config, User};
-use floor_queue::{Request, Requests};
+use floor_message::Info;
+use floor_queue::Requests;
 use std::alloc::{AllocError, Global};
+use std::mem;
 
 /// A conference: what it was configured with, and what happened in it.
 #[derive(Debug, Drop)]
@@ -33,6 +38,8 @@ pub(crate) struct State {
     pub requests: Requests,
     /// The members, in the order of joining.
     pub members: Members,
+    /// What is shown of the ongoing floor requests, in their order.
+    pub shown: Vec<Info>,
     /// Whether it has not ended.
     pub is_open: bool,
 }
@@ -43,18 +50,14 @@ fn user_ids(alloc: Global, users: &[User]) -> Result<Vec<u16>, AllocError>
     users.iter().map(|user| user.id).collect(alloc)
 }
 
-fn numbers_of(alloc: Global, requests: &[Request]) -> Result<Vec<u16>, AllocError>
-    ensures { IfOk result (λ numbers. numbers.items ≡ numbers_of requests.now) }
-{
-    requests.iter().map(|r| r.number).collect(alloc)
-}
-
 impl State {
     /// The conference as it opens.
     pub(crate) fn new(alloc: Global, config: Config) -> Result<State, AllocError>
         ensures state { IfOk result (λ state. conference_of state ≡ opening config) }
         ensures kept { IfOk result IsState }
         ensures settled { IfOk result (λ state. IsSettled state.requests) }
+        ensures shows { IfOk result (λ state. AreInfos state.config
+            state.requests.ongoing state.shown.items) }
     {
         let users = user_ids(alloc, config.users())?;
         let requests = Requests::new(alloc, &config)?;
@@ -63,6 +66,7 @@ impl State {
             users,
             requests,
             members: Members::new(alloc),
+            shown: Vec::new(alloc),
             is_open: true,
         })
     }
@@ -92,6 +96,8 @@ impl State {
         requires few { length self.old.members < 4294967295 }
         requires state { IsState self.old }
         requires settled { IsSettled self.old.requests }
+        requires shows { AreInfos self.old.config
+            self.old.requests.ongoing self.old.shown.items }
         ensures number { IfOk result (λ n. n ≡ length self.old.members + 1) }
         ensures next { OnOk result (conference_of self.new
             ≡ change.next (conference_of self.old) (Join user)) }
@@ -99,68 +105,74 @@ impl State {
         ensures shown { OnOk result (IsToldShown (conference_of self.old) (Join user)) }
         ensures state { IsState self.new }
         ensures settled { IsSettled self.new.requests }
+        ensures shows { AreInfos self.new.config
+            self.new.requests.ongoing self.new.shown.items }
     {
         // The ongoing requests ascend, so that each is shown as before, and nobody is told of it.
         let _ongoing = self.requests.ongoing();
         self.members.join(user)
     }
 
-    /// What is shown before the event.
-    pub(crate) fn begin(&self, alloc: Global) -> Result<Course, AllocError>
-        requires floors { self.now.requests.floors ≡ self.now.config.floors }
-        requires settled { IsSettled self.now.requests }
-        ensures before { IfOk result (λ course. course.before.items
-            ≡ infos_of self.now.config self.now.requests.ongoing) }
-        ensures numbers { IfOk result (λ course. course.numbers.items
-            ≡ numbers_of self.now.requests.ongoing) }
-        ensures ended { IfOk result (λ course. course.ended.items ≡ []) }
-        ensures queue { IfOk result (λ course. IsQueue self.now.requests) }
+    /// Grants the requests that are due, shows anew those that the event may have moved, and gives
+    /// what changed.
+    pub(crate) fn settle(
+        &mut self,
+        alloc: Global,
+        course: &mut Course,
+    ) -> Result<Changes, AllocError>
+        requires floors { self.old.requests.floors ≡ self.old.config.floors }
+        requires ended { AreAddable self.old.config.floors course.old.ended.items }
+        requires course { IsCourse self.old.config self.old.requests.ongoing
+            course.old.before.items course.old }
+        requires fit { All IsShownInfo course.old.before.items }
+        ensures next { OnOk result (self.new ≡ record self.old {
+          requests = after_settle self.old.requests;
+          shown = self.new.shown;
+        }) }
+        ensures settled { OnOk result (IsSettled self.new.requests) }
+        ensures shows { OnOk result (AreInfos self.new.config
+            self.new.requests.ongoing self.new.shown.items) }
+        ensures ended { course.new.ended ≡ course.old.ended }
+        ensures updates { IfOk result (λ changes. changes.updates.items
+            ≡ updates self.old.config (settle self.old.requests.floors self.old.requests.ongoing)
+            course.old.ended.items course.old.before.items course.old.numbers.items) }
+        ensures floors { IfOk result (λ changes. AreChanged course.old.before.items
+            (infos_of self.old.config
+            (settle self.old.requests.floors self.old.requests.ongoing)) changes.floors.items) }
+        ensures shown { IfOk result (λ changes. AreUpdatesShown changes.updates.items) }
     {
-        let before = infos(alloc, &self.config, &self.requests)?;
-        let numbers = numbers_of(alloc, self.requests.ongoing())?;
-        Ok(Course {
-            before,
-            numbers,
-            ended: Vec::new(alloc),
-        })
+        // The requests ascend, so that each is found by its number.
+        let _ongoing = self.requests.ongoing();
+        let granted = self.requests.settle()?;
+        mark_granted(&mut course.marks, &self.requests, granted.as_slice())?;
+        mem::swap(&mut self.shown, &mut course.before);
+        renew(alloc, &self.config, &self.requests, course, &mut self.shown)
     }
 
     /// Puts what the event tells each live member. After an error `out` is as it was.
     pub(crate) fn tell(
         &self,
         alloc: Global,
-        course: &Course,
+        changes: &Changes,
         reply: &Option<Reply>,
         out: &mut Vec<Parcel>,
     ) -> Result<(), AllocError>
-        requires floors { self.now.requests.floors ≡ self.now.config.floors }
-        requires settled { IsSettled self.now.requests }
-        requires ended { AreAddable self.now.config.floors course.now.ended.items }
+        requires shows { AreInfos self.now.config
+            self.now.requests.ongoing self.now.shown.items }
+        requires updates { AreUpdatesShown changes.now.updates.items }
         requires reply { IsReplyShown reply.now }
         ensures told { OnOk result (out.new.items ≡ out.old.items
-            ++ parcels_to_all self.now.config.conference reply.now
-            (steps.updates self.now.config self.now.requests.ongoing course.now.ended.items
-            course.now.before.items course.now.numbers.items)
-            (steps.floor_updates course.now.before.items
-            (infos_of self.now.config self.now.requests.ongoing) self.now.config.floors)
+            ++ parcels_to_all self.now.config.conference reply.now changes.now.updates.items
+            (floors_changed self.now.shown.items changes.now.floors.items self.now.config.floors)
             self.now.members) }
-        ensures requests_shown { OnOk result (AreUpdatesShown
-            (steps.updates self.now.config self.now.requests.ongoing course.now.ended.items
-            course.now.before.items course.now.numbers.items)) }
-        ensures floors_shown { OnOk result (AreFloorsShown
-            (filter (is_watched_by self.now.members) (steps.floor_updates course.now.before.items
-            (infos_of self.now.config self.now.requests.ongoing) self.now.config.floors))) }
+        ensures floors_shown { OnOk result (AreFloorsShown (filter (is_watched_by self.now.members)
+            (floors_changed self.now.shown.items changes.now.floors.items self.now.config.floors))) }
         ensures left { OnErr result (out.new.items ≡ out.old.items) }
     {
-        let updates = updates(alloc, &self.config, &self.requests, course)?;
+        // At most 256 requests are ongoing.
+        let _ongoing = self.requests.ongoing();
         let floors = watched_floors(alloc, &self.config, &self.members)?;
-        let floor_updates = floor_updates_of(
-            alloc,
-            &self.config,
-            &self.requests,
-            &floors,
-            &course.before,
-        )?;
+        let floor_updates = floor_updates(alloc, &floors, &changes.floors, &self.shown)?;
         let mut parcels = Vec::new(alloc);
         put_all(
             alloc,
@@ -168,7 +180,7 @@ impl State {
             self.config.conference(),
             &self.members,
             reply,
-            &updates,
+            &changes.updates,
             &floor_updates,
         )?;
         put_behind(out, parcels)?;

@@ -1,6 +1,6 @@
 -- The steps by which a message is served.
 use Rattle.std.specs.Prelude.{◌≡◌, ◌≢◌, ◌≤◌, ◌<◌, ℕ, ◌==◌, ◌&&◌, Bool, true, false, not, List, [], ◌∷◌, length, map, filter, Option, option_map, unwrap_or, is_some, nat_lt, IsSome, IsSomeAnd, if◌then◌else◌}
-use Rattle.std.specs.List.{list_any, list_all}
+use Rattle.std.specs.List.{flat_map, list_any, list_all}
 use Rattle.std.specs.Option.{option_map_or}
 use Rattle.floor_config.specs.Configuration.{user_ids}
 use Rattle.floor_queue.specs.declared.request.New.{New}
@@ -25,7 +25,8 @@ use Rattle.floor_machine.specs.Shown.{Entry, ongoing_of, described}
 use Rattle.floor_machine.specs.Checks.{refusal, beneficiary_of, is_allowed}
 use Rattle.floor_machine.specs.Change.{Change, no_change, asked_change, is_final, decided_at, released, dismissed, watching}
 use Rattle.floor_machine.specs.Reply.{infos, infos_of_user, floor_answers, supported_primitives, supported_attributes}
-use Rattle.floor_machine.specs.steps.Telling.{entry_of_ended, shown_at}
+use Rattle.floor_machine.specs.steps.Marks.{AreNoted}
+use Rattle.floor_machine.specs.steps.Telling.{AreInfos, entry_of_ended, listed, shown_at}
 
 -- the conference that a state is
 abbrev pub conference_of : State → Conference
@@ -39,10 +40,11 @@ pub record IsState (s : State) : Type 0 where
   pub floors : s.requests.floors ≡ s.config.floors
   pub numbered : is_numbered_from 1 s.members ≡ true
 
--- what a machine keeps: unless it is broken, its state is one, and settled
+-- what a machine keeps: unless it is broken, its state is one, and settled, and has what is shown of its ongoing requests
 pub record IsMachine (s : State) (is_broken : Bool) : Type 0 where
   pub state : is_broken ≡ false → IsState s
   pub settled : is_broken ≡ false → IsSettled s.requests
+  pub shows : is_broken ≡ false → AreInfos s.config s.requests.ongoing s.shown.items
 
 -- the message after the own checks
 abbrev pub judged : Conference → ℕ → Answer → Judged
@@ -90,7 +92,7 @@ abbrev pub is_rising : List ℕ → Bool
 is_rising [] = true
 is_rising (n ∷ numbers) = list_all (nat_lt n) numbers && is_rising numbers
 
--- t, which isn't settled yet, is s after the change, and the course has noted what it was and what ended
+-- t, which isn't settled yet, is s after the change, and the course has noted what it was, what ended, and what else changed
 pub record IsChanged (s : Conference) (c : Change) (t : Conference) (course : Course) : Type 0 where
   pub config : t.config ≡ s.config
   pub given : t.given ≡ c.given
@@ -101,6 +103,8 @@ pub record IsChanged (s : Conference) (c : Change) (t : Conference) (course : Co
   pub numbers : course.numbers.items ≡ numbers_in c.entries
   pub rising : is_rising course.numbers.items ≡ true
   pub before : course.before.items ≡ infos s
+  pub old : flat_map (λ n. listed (request_at s.ongoing n)) course.numbers.items ≡ s.ongoing
+  pub noted : AreNoted s.config.floors s.ongoing t.ongoing course.marks.items
 
 -- the course of an event that has changed nothing yet
 abbrev pub IsBegun : Conference → Course → Type 0

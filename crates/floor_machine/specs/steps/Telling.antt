@@ -1,5 +1,5 @@
 -- What the steps of one event find, one after another, and the parcels that are made of it.
-use Rattle.std.specs.Prelude.{ℕ, ◌==◌, ◌&&◌, ◌||◌, nat_lt, length, not, if◌then◌else◌, Bool, false, List, [], ◌∷◌, ◌++◌, map, filter, find, fold, max, Option, Some, None, option_map}
+use Rattle.std.specs.Prelude.{◌≡◌, All, ℕ, ◌==◌, ◌&&◌, ◌||◌, nat_lt, length, not, if◌then◌else◌, Bool, false, List, [], ◌∷◌, ◌++◌, map, filter, find, fold, max, Option, Some, None, option_map}
 use Rattle.std.specs.List.{list_any, flat_map}
 use Rattle.std.specs.Option.{option_map_or}
 use Rattle.floor_config.specs.Configuration.{Configuration}
@@ -10,6 +10,7 @@ use Rattle.floor_queue.specs.Queue.{request_at}
 use Rattle.floor_wire.specs.Header.{addressed}
 use Rattle.floor_message.specs.Written.{tell_bytes}
 use Rattle.floor_message.specs.declared.head.Head.{Head}
+use Rattle.floor_message.specs.Shown.{IsShownInfo}
 use Rattle.floor_message.specs.declared.tell.Info.{Info}
 use Rattle.floor_message.specs.declared.tell.Tell.{Tell}
 use Rattle.floor_message.specs.declared.tell.Tell.TheVariants.{FloorRequestStatus, FloorStatus}
@@ -77,6 +78,15 @@ shown_at config ongoing ended number = option_map (shown_of config ongoing) (ent
 abbrev pub infos_of : Configuration → List Request → List Info
 infos_of config ongoing = map (info config ongoing) ongoing
 
+-- These infos show all ongoing requests, and no more than a conference has.
+pub record AreInfos (config : Configuration) (ongoing : List Request) (shown : List Info) : Type 0 where
+  pub infos : shown ≡ infos_of config ongoing
+  pub fit : All IsShownInfo shown
+
+-- what is there, as a list
+abbrev pub listed : {A : Type 0} → Option A → List A
+listed o = option_map_or (λ x. x ∷ []) o []
+
 -- the status that tells of a changed request
 abbrev pub update_of : Shown → Update
 update_of shown =
@@ -110,6 +120,19 @@ is_floor_changed before now floor = not (same_infos (infos_on floor.id before) (
 -- the floors whose requests are shown otherwise than before
 abbrev pub floor_updates : List Info → List Info → List Floor → List FloorUpdate
 floor_updates before now floors = map (floor_update now) (filter (is_floor_changed before now) floors)
+
+-- a floor is one of these exactly where the requests that name it are shown otherwise than before
+abbrev pub AreChanged : List Info → List Info → List ℕ → Type 0
+AreChanged before now changed =
+    (floor : ℕ) → list_any (λ f. f == floor) changed ≡ not (same_infos (infos_on floor before) (infos_on floor now))
+
+-- the floor is one of these
+abbrev pub is_one_of : List ℕ → Floor → Bool
+is_one_of changed f = list_any (λ floor. floor == f.id) changed
+
+-- the statuses of the floors that are among the changed ones
+abbrev pub floors_changed : List Info → List ℕ → List Floor → List FloorUpdate
+floors_changed now changed floors = map (floor_update now) (filter (is_one_of changed) floors)
 
 -- the first message has the head, and those behind it the same without the transaction
 abbrev pub answered : Head → List Tell → List Outgoing

@@ -2,6 +2,6 @@ use Rattle.std.proofs.Common.{sym}
 use Rattle.floor_machine.proofs.Found.{request_at_own}
 use Rattle.floor_machine.proofs.course.shown_ongoing.Goals as goal
 
-pub info-requires-clause-found : goal.info-requires-clause-found
-info-requires-clause-found c =
+pub shown_request-requires-clause-found : goal.shown_request-requires-clause-found
+shown_request-requires-clause-found c =
     request_at_own c.args.requests.now.ongoing c.args.number c.in-Some.request.now (sym c.in-Some.ensures)

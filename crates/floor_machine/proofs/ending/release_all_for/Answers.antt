@@ -38,12 +38,13 @@ loop-request-preserved c =
           ap (λ (x : Queue). after_release_for x b) c.in_ok-release_request.ensures.next
           ∙ ap (λ (rs : List Request). record q { ongoing = rs }) (sym first.others)
           ∙ c.loop-request.invariant.next;
-      noted =
+      told =
           ap (λ (x : Queue). c.release_request.new.ended.items ++ released_for x b) c.in_ok-release_request.ensures.next
           ∙ ap (λ (es : List Ended). es ++ released_for (after_end q k) b) noted
           ∙ append_assoc c.loop-request.ended.items (given_back first.request ∷ []) (released_for (after_end q k) b)
           ∙ ap (λ (rs : List Request). c.loop-request.ended.items ++ map given_back rs) (sym first.passing)
-          ∙ c.loop-request.invariant.noted;
+          ∙ c.loop-request.invariant.told;
+      noted = λ floors before noted. c.in_ok-release_request.ensures.noted floors before (c.loop-request.invariant.noted floors before noted);
     }
 
 pub returns-clause-next : goal.returns-clause-next
@@ -57,4 +58,7 @@ returns-clause-ended c =
     let q : Queue = c.loop-request.requests in
     sym (append-nil c.loop-request.ended.items)
     ∙ ap (λ (rs : List Request). c.loop-request.ended.items ++ map given_back rs) (sym (none-passing (λ r. r.beneficiary == c.args.beneficiary) q.ongoing c.in_default.ensures.found))
-    ∙ c.loop-request.invariant.noted
+    ∙ c.loop-request.invariant.told
+
+pub returns-clause-noted : goal.returns-clause-noted
+returns-clause-noted c = c.loop-request.invariant.noted

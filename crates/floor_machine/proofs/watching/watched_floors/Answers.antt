@@ -1,10 +1,10 @@
-use Rattle.std.proofs.Common.{◌≡◌, ◌∙◌, false, List, Result, Ok, Err, ap, subst, sym}
+use Rattle.std.proofs.Common.{◌≡◌, ◌∙◌, List, Result, Ok, Err, subst, sym}
 use Rattle.std.specs.Prelude.{All, IfOk, filter}
 use Rattle.std.proofs.lemmas.List.Elements.{All-filter}
 use Rattle.floor_config.specs.Configuration.{IsFloor}
 use Rattle.floor_config.specs.declared.config.Floor.{Floor}
 use Rattle.floor_machine.specs.declared.member.Member.{Member}
-use Rattle.floor_machine.specs.steps.Telling.{has_watcher, is_floor_watched}
+use Rattle.floor_machine.specs.steps.Telling.{is_floor_watched}
 use Rattle.floor_machine.proofs.Watched.{none-watched}
 use Rattle.floor_machine.proofs.watching.watched_floors.Goals as goal
 

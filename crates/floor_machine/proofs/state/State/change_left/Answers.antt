@@ -5,8 +5,9 @@ use Rattle.floor_machine.specs.declared.event.Event.TheVariants.{Leave}
 use Rattle.floor_machine.specs.declared.member.Member.{Member}
 use Rattle.floor_machine.specs.Change.{change}
 use Rattle.floor_machine.specs.Conference.{is_numbered_from}
+use Rattle.floor_machine.specs.steps.Marks.{AreNoted}
 use Rattle.floor_machine.specs.steps.Serving.{IsChanged, conference_of}
-use Rattle.floor_machine.proofs.Asked.{on_ok, on_ok_both}
+use Rattle.floor_machine.proofs.Asked.{on_ok, on_ok_three}
 use Rattle.floor_machine.proofs.Left.{changed-absent, changed-present}
 use Rattle.floor_machine.proofs.Sent.{numbered-leaving}
 use Rattle.floor_machine.proofs.state.State.change_left.Goals as goal
@@ -29,12 +30,13 @@ returns-then-is_present-clause-state c =
 pub returns-clause-changed : goal.returns-clause-changed
 returns-clause-changed c =
     let s = c.args.self.now in
-    let course : Course = record { before = c.args.course.now.before; numbers = c.args.course.now.numbers; ended = c.release_all_for.new.ended } in
+    let course : Course = record { before = c.args.course.now.before; numbers = c.args.course.now.numbers; ended = c.release_all_for.new.ended; marks = c.release_all_for.new.marks } in
     let C : Queue → Type 0 = λ q. IsChanged (conference_of s) (change (conference_of s) (Leave c.args.n)) (conference_of (record s { members = c.leave.new.self; requests = q })) course in
-    on_ok_both c.release_all_for.result (λ next noted. subst C (sym next)
+    let N : Queue → Type 0 = λ q. AreNoted s.config.floors s.requests.ongoing q.ongoing c.release_all_for.new.marks.items in
+    on_ok_three c.release_all_for.result (λ next told noted. subst C (sym next)
     (changed-absent s c.args.course.now course c.args.n c.args.user c.leave.new.self c.requires.user c.requires.queue c.requires.begun c.leave.ensures
-    (sym c.if-is_present.false ∙ c.is_present.ensures) noted refl refl))
-    c.release_all_for.ensures.next c.release_all_for.ensures.ended
+    (sym c.if-is_present.false ∙ c.is_present.ensures) told refl refl (subst N next (noted s.config.floors s.requests.ongoing c.requires.begun.noted))))
+    c.release_all_for.ensures.next c.release_all_for.ensures.ended c.release_all_for.ensures.noted
 
 pub returns-clause-state : goal.returns-clause-state
 returns-clause-state c =

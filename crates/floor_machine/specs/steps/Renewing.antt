@@ -1,0 +1,83 @@
+-- What is shown after an event, number by number: of some requests it is made anew, and of all others it stays.
+use Rattle.std.specs.Prelude.{◌≡◌, ℕ, ◌+◌, ◌==◌, not, if◌then◌else◌, Bool, true, List, [], ◌∷◌, ◌++◌, drop, find, length, map, take, Option, Some, None, option_and_then, option_map}
+use Rattle.std.specs.List.{flat_map, slice_get}
+use Rattle.std.specs.Option.{option_map_or}
+use Rattle.floor_config.specs.Configuration.{Configuration}
+use Rattle.floor_queue.specs.declared.request.Request.{Request}
+use Rattle.floor_queue.specs.Queue.{request_at}
+use Rattle.floor_message.specs.declared.tell.Info.{Info}
+use Rattle.floor_machine.specs.declared.course.Course.{Course}
+use Rattle.floor_machine.specs.declared.course.Ended.{Ended}
+use Rattle.floor_machine.specs.declared.course.Shown.{Shown}
+use Rattle.floor_machine.specs.declared.renewing.Changes.{Changes}
+use Rattle.floor_machine.specs.declared.sending.Update.{Update}
+use Rattle.floor_machine.specs.Shown.{info}
+use Rattle.floor_machine.specs.Same.{same_info}
+use Rattle.floor_machine.specs.steps.Marks.{AreNoted}
+use Rattle.floor_machine.specs.steps.Serving.{is_rising}
+use Rattle.floor_machine.specs.steps.Telling.{infos_of, listed, update_of}
+
+-- the item at this place, if it passes
+abbrev pub here : {A : Type 0} → (A → Bool) → List A → ℕ → Option A
+here p xs place = option_and_then (λ x. if p x then Some x else None) (slice_get xs place)
+
+-- the info at this place, if it is that of the request with this number
+abbrev pub info_here : List Info → ℕ → ℕ → Option Info
+info_here infos place number = here (λ i. i.request == number) infos place
+
+-- the request at this place, if it has this number
+abbrev pub request_here : List Request → ℕ → ℕ → Option Request
+request_here requests place number = here (λ r. r.number == number) requests place
+
+-- the info of the request with this number
+abbrev pub info_with : List Info → ℕ → Option Info
+info_with infos number = find (λ i. i.request == number) infos
+
+-- the ongoing request with this number, if it hasn't ended
+abbrev pub left_at : List Ended → List Request → ℕ → Option Request
+left_at ended ongoing number = option_map_or (λ d. None) (find (λ d. d.request.number == number) ended) (request_at ongoing number)
+
+-- what is shown of the ongoing request with this number
+abbrev pub now_at : Configuration → List Ended → List Request → ℕ → Option Info
+now_at config ended ongoing number = option_map (info config ongoing) (left_at ended ongoing number)
+
+-- a request is shown otherwise than before
+abbrev pub differs : Option Info → Info → Bool
+differs old now = option_map_or (λ i. not (same_info i now)) old true
+
+-- the floors that a request names, as it is shown
+abbrev pub floors_shown : Info → List ℕ
+floors_shown i = map (λ f. f.0) i.floors
+
+-- the floors that it named before, if it was shown
+abbrev pub floors_before : Option Info → List ℕ
+floors_before old = option_map_or floors_shown old []
+
+-- the floors of a request that is shown otherwise than before, or no more
+abbrev pub floors_moved : Option Info → Option Info → List ℕ
+floors_moved old None = floors_before old
+floors_moved old (Some now) = if differs old now then floors_before old ++ floors_shown now else []
+
+-- the status of a request, if it is shown otherwise than before
+abbrev pub update_from : Option Info → Option Shown → List Update
+update_from old shown = option_map_or (λ s. if differs old s.info then update_of s ∷ [] else []) shown []
+
+-- What is done at one number: its info in the stead of the old one, and what that changed.
+pub record IsRenewed (place : ℕ) (old now : Option Info) (shown : Option Shown) (before after : List Info) (changes changes' : Changes) : Type 0 where
+  pub infos : after ≡ take place before ++ listed now ++ drop (place + length (listed old)) before
+  pub updates : changes'.updates.items ≡ changes.updates.items ++ update_from old shown
+  pub floors : changes'.floors.items ≡ changes.floors.items ++ floors_moved old now
+
+-- What the course of an event knows: there were some requests, which were shown, and of which its marks have noted what became of them;
+-- and its numbers rise, and are those of the requests before and after.
+pub record IsCourse (config : Configuration) (ongoing : List Request) (shown : List Info) (course : Course) : Type 0 where
+  pub requests : List Request
+  pub before : shown ≡ infos_of config requests
+  pub noted : AreNoted config.floors requests ongoing course.marks.items
+  pub rising : is_rising course.numbers.items ≡ true
+  pub old : flat_map (λ n. listed (request_at requests n)) course.numbers.items ≡ requests
+  pub left : flat_map (λ n. listed (left_at course.ended.items ongoing n)) course.numbers.items ≡ ongoing
+
+-- the floors that the requests with these numbers named or name, of each that is shown otherwise than before, or no more
+abbrev pub moved : Configuration → List Request → List Ended → List Info → List ℕ → List ℕ
+moved config ongoing ended before numbers = flat_map (λ n. floors_moved (info_with before n) (now_at config ended ongoing n)) numbers
