@@ -1,6 +1,6 @@
 -- One more event of a booth.
-use Rattle.std.proofs.Common.{◌≡◌, ◌⊎◌, inl, inr, ⊎_elim, ℕ, zero, suc, ◌+◌, ◌-◌, ◌<◌, ◌≤◌, Bool, true, false, true≢false, List, [], ◌∷◌, ◌++◌, length, get_or, Option, Some, None, refl, sym, ap, subst, ◌∙◌, arith, append_assoc, append-nil, length-append, add-one}
-use Rattle.std.specs.Prelude.{◌==◌, filter, is_some, slice_set, IsSomeAnd, OnOk, OnErr, Result, Ok, Err}
+use Rattle.std.proofs.Common.{◌≡◌, ◌⊎◌, ⊎_elim, ℕ, zero, suc, ◌+◌, ◌-◌, ◌<◌, ◌≤◌, Bool, true, false, true≢false, List, [], ◌∷◌, ◌++◌, length, get_or, Option, Some, None, refl, sym, ap, subst, ◌∙◌, arith, append_assoc, append-nil, length-append, add-one}
+use Rattle.std.specs.Prelude.{◌==◌, is_some, slice_set, IsSomeAnd, OnOk, OnErr, Result, Ok, Err}
 use Rattle.std.specs.Result.{IsErrAnd}
 use Rattle.std.proofs.lemmas.List.Elements.{filter-append}
 use Rattle.floor_config.specs.Configuration.{Configuration}
@@ -9,7 +9,7 @@ use Rattle.floor_machine.specs.declared.event.Event.TheVariants.{Join, Message, 
 use Rattle.floor_machine.specs.Parcel.{Parcel}
 use Rattle.floor_machine.specs.Conference.{Conference, opening, is_live}
 use Rattle.floor_machine.specs.Change.{IsLawful, next}
-use Rattle.floor_machine.specs.Journal.{IsJournal, IsLawfulFrom, after, parcels_of, parcels_from, sent_to}
+use Rattle.floor_machine.specs.Journal.{IsLawfulFrom, after, parcels_of, sent_to}
 use Rattle.floor_machine.proofs.Runs.{after_from-more, members-after}
 use Rattle.floor_machine.specs.Membership.{joins}
 use Rattle.floor_machine.proofs.Staying as members
@@ -17,7 +17,7 @@ use Rattle.floor_machine.specs.declared.machine.Refusal.TheVariants.{Broken, End
 use Rattle.floor_room.specs.declared.refusal.RoomRefusal.{RoomRefusal}
 use Rattle.floor_room.specs.declared.refusal.RoomRefusal.TheVariants.{JournalFull, Refused}
 use Rattle.floor_room.specs.Room.{joined, parcels_to}
-use Rattle.floor_room.specs.Ledger.{Ledger, Added, IsRefusedBy, Unadded, broken_off, conference_of, with_entry}
+use Rattle.floor_room.specs.Ledger.{Ledger, Added, IsRefusedBy, Unadded, conference_of, with_entry}
 use Rattle.floor_room.proofs.Adding.{parcels_to-more}
 use Rattle.floor_room.proofs.Joining.{members-next, parcels_to-before}
 use Rattle.floor_room.proofs.Ledgers.{IsOpen, allowed-open, journal-more}

@@ -1,17 +1,15 @@
 -- The first place at which something isn't so.
-use Rattle.std.proofs.Common.{◌≡◌, ⊎_elim, ◌⊎◌, inl, inr, ℕ, zero, suc, ◌+◌, ◌*◌, ◌<◌, ◌≤◌, min, Bool, true, false, true≢false, List, [], ◌∷◌, ◌++◌, length, get_or, map, take, All, sum_by, Option, Some, None, refl, sym, ap, subst, ◌∙◌, arith, append_assoc, append-nil, length-append}
+use Rattle.std.proofs.Common.{◌≡◌, ⊎_elim, ◌⊎◌, inl, inr, ℕ, zero, suc, ◌+◌, ◌<◌, ◌≤◌, min, Bool, true, false, true≢false, List, [], ◌∷◌, ◌++◌, length, get_or, map, take, Option, Some, None, refl, sym, ap, subst, ◌∙◌, arith}
 use Rattle.std.specs.Prelude.{◌==◌, nat_le, slice_get, IfSome, IfErr, Result, Ok, Err}
-use Rattle.std.specs.List.{list_any}
 use Rattle.std.specs.Result.{IsErrAnd}
 use Rattle.std.proofs.lemmas.Bool.Decides.{nat_tests}
-use Rattle.std.proofs.lemmas.List.{map-append, take_more}
+use Rattle.std.proofs.lemmas.List.{map-append}
 use Rattle.std.proofs.lemmas.List.Sums.{sum_by-append}
 use Rattle.floor_serve.specs.Booth as spec
-use Rattle.floor_serve.specs.Finish.{Agrees, AgreesWithAll, AreOneMember, AreWhole, Finished, IsGood, Looked, numbers_of}
+use Rattle.floor_serve.specs.Finish.{Agrees, AgreesWithAll, AreWhole, Finished, IsGood, Looked, numbers_of}
 use Rattle.floor_serve.specs.Seat.{Seat}
 use Rattle.floor_serve.specs.Table.{is_opened}
 use Rattle.floor_serve.specs.declared.fault.FinishFault.{FinishFault}
-use Rattle.floor_serve.specs.declared.finishing.Report.{Report}
 use Rattle.floor_serve.specs.steps.First.{AgreesAt, AgreesWithAllAt, AllFound, IsFirst, KnownAt, SingleAt}
 
 below : (a b : ℕ) → nat_le a b ≡ true → a ≤ b

@@ -7,3 +7,4 @@ pub mod Firsts
 pub mod Leaving
 pub mod Ordered
 pub mod Counts
+pub mod Keeping

@@ -1,9 +1,8 @@
 -- A booth: one conference with its journal, and the sender of each member that ever joined.
-use Rattle.std.specs.Prelude.{◌≡◌, ◌⊎◌, ℕ, List, [], ◌∷◌, ◌++◌, ◌+◌, length, Bool, true, false, Option, Some, None, is_some}
+use Rattle.std.specs.Prelude.{◌≡◌, ◌⊎◌, ℕ, List, [], ◌∷◌, ◌++◌, ◌+◌, length, true, false, Option, Some, None, is_some}
 use Rattle.floor_config.specs.Configuration.{Configuration}
 use Rattle.floor_machine.specs.declared.event.Event.{Event}
 use Rattle.floor_machine.specs.declared.event.Event.TheVariants.{Join}
-use Rattle.floor_machine.specs.declared.machine.Refusal.{Refusal}
 use Rattle.floor_machine.specs.declared.machine.Refusal.TheVariants.{Memory}
 use Rattle.floor_machine.specs.Parcel.{Parcel}
 use Rattle.floor_machine.specs.Conference.{is_live}
@@ -11,7 +10,7 @@ use Rattle.floor_machine.specs.Change.{IsLawful}
 use Rattle.floor_machine.specs.Journal.{IsJournal, parcels_of}
 use Rattle.floor_room.specs.declared.refusal.RoomRefusal.{RoomRefusal}
 use Rattle.floor_room.specs.declared.refusal.RoomRefusal.TheVariants.{JournalFull, Refused}
-use Rattle.floor_room.specs.Ledger.{Ledger, broken_off, conference_of, new_ledger, refusal, with_entry}
+use Rattle.floor_room.specs.Ledger.{Ledger, conference_of, new_ledger, refusal, with_entry}
 use Rattle.floor_outbox.specs.Ends.{PairId, Sender}
 use Rattle.floor_serve.specs.Senders.{AreFed, fed, sender_of}
 

@@ -1,5 +1,5 @@
 -- The end: what every seat recorded, against the journals of the conferences.
-use Rattle.std.specs.Prelude.{◌≡◌, ℕ, ◌+◌, ◌<◌, ◌≤◌, List, [], ◌∷◌, ◌++◌, length, map, take, sum_by, slice_get, All, IfSome, Some, Bool, true, false, Result, Ok, Err}
+use Rattle.std.specs.Prelude.{◌≡◌, ℕ, ◌<◌, List, [], ◌∷◌, ◌++◌, length, map, take, sum_by, slice_get, All, IfSome, Some, true, false, Result, Ok, Err}
 use Rattle.floor_serve.specs.Booth.{Booth, IsBooth}
 use Rattle.floor_serve.specs.Fits.{messages_of}
 use Rattle.floor_serve.specs.Seat.{Seat}

@@ -3,3 +3,4 @@ pub mod Slots
 pub mod First
 pub mod Ascending
 pub mod Parts
+pub mod Last

@@ -8,12 +8,13 @@ ghost use Rattle.floor_machine.specs.declared.machine.Refusal.TheVariants.{Memor
 ghost use Rattle.floor_room.specs.Ledger.{Added, IsRefusedBy, Unadded, broken_off, conference_of, refusal};
 ghost use Rattle.floor_room.specs.Room.{joined, parcels_to};
 ghost use Rattle.floor_room.specs.Status.{IsStatus};
-ghost use Rattle.floor_serve.specs.Booth.{IsBooth, IsGone, Left, LeftJoin, Took, new_booth, opened};
+ghost use Rattle.floor_serve.specs.Booth.{IsBooth, IsGone, Left, LeftJoin, Took, new_booth, off, opened};
 ghost use Rattle.floor_serve.specs.Fits.{messages_of};
+ghost use Rattle.floor_serve.specs.steps.Last.{last_message};
 ghost use Rattle.floor_serve.specs.Senders.{IsInPart, IsPut, fed, sender_of, without};
 
 use crate::fitting::fits;
-use crate::seat::Seat;
+use crate::seat::{Seat, Sent};
 use crate::senders::{close, close_all, deliver};
 use crate::wakers::Wakers;
 use floor_outbox::{Outbox, Parcel, Sender, Taker, pair, rejoin};
@@ -167,6 +168,40 @@ impl Booth {
         Ok(self.journal().len() as u32)
     }
 
+    /// Takes a message of a member, and gives what its seat keeps of it. Where that can't share the
+    /// journal's memory, the conference is broken off, with the message in its journal.
+    #[tactic(auto, using(crate::proofs::Keeping::began_whole, crate::proofs::Keeping::last_taken))]
+    pub(crate) fn keep<R: Wait>(
+        &mut self,
+        rt: &R,
+        n: u32,
+        frame: Frame,
+    ) -> Result<Sent, RoomRefusal>
+        ensures sent { IfOk result (λ sent. sent
+            ≡ record { place = length self.new.ledger.journal; bytes = frame }) }
+        ensures took { OnOk result (Took self.old self.new (Message n frame) []) }
+        ensures refused { IsRefusedBy (refusal self.old.ledger (Message n frame)) result }
+        ensures left { IfErr result (Left self.old self.new (Message n frame)) }
+    {
+        let place = self.submit(rt, n, frame)?;
+        match last_message(self.journal()) {
+            Ok(Some(bytes)) => Ok(Sent { place, bytes }),
+            Ok(None) => unreachable!(),
+            Err(_) => {
+                self.break_off();
+                Err(RoomRefusal::Refused(Refusal::Memory))
+            }
+        }
+    }
+
+    /// Breaks the conference off, and sets every closed mark. Takes no memory.
+    fn break_off(&mut self)
+        ensures { self.new ≡ off self.old }
+    {
+        self.ledger.break_off();
+        close_all(&self.senders);
+    }
+
     /// Takes it that a member has left. Its sender's closed mark is set, also after a refusal.
     pub fn leave<R: Wait>(&mut self, rt: &R, n: u32) -> Result<(), RoomRefusal>
         ensures took { OnOk result (Took self.old self.new (Leave n) []) }
@@ -218,6 +253,16 @@ impl Booth {
         ensures next { self.new ≡ record self.old { senders = without self.old.senders n } }
     {
         let_go(&mut self.senders, n);
+    }
+}
+
+/// The last message of the journal, if its last event is one. It shares the journal's memory.
+fn last_message(journal: &[Event]) -> Result<Option<Frame>, AllocError>
+    ensures { IfOk result (λ last. last ≡ last_message journal.now) }
+{
+    match journal.last() {
+        Some(Event::Message { frame, .. }) => Ok(Some(frame.share()?)),
+        Some(_) | None => Ok(None),
     }
 }
 

@@ -7,10 +7,9 @@ ghost use Rattle.floor_serve.specs.Booth.{JoinedInOneHold, TookAt, TookInOneHold
 
 use crate::booth::Booth;
 use crate::gate::Gate;
-use crate::seat::{Receipt, Seat, Sent};
+use crate::seat::{Receipt, Seat};
 use floor_outbox::Taker;
 use floor_room::{Act, Frame, RoomRefusal, Status, journal_text};
-use floor_wire::Octets;
 use std::alloc::{AllocError, Global};
 use std::marker::Model;
 use std::sync::{Arc, Mutex, Wait};
@@ -72,9 +71,9 @@ impl Desk {
         Ok((Seat::new(self.alloc, self.conference, n), taker))
     }
 
-    /// Submits a message of the seat's member, which keeps it with its place in the journal. After
-    /// a refusal the seat is as it was. Refused as [`Booth::submit`], and with `Memory` and nothing
-    /// changed where the seat can't grow.
+    /// Submits a message of the seat's member, which keeps it with its place in the journal, in the
+    /// journal's own memory. After a refusal the seat is as it was. Refused as [`Booth::submit`],
+    /// and with `Memory` and nothing changed where the seat can't grow.
     pub fn submit<G: Gate, R: Wait>(
         &self,
         rt: &R,
@@ -91,19 +90,19 @@ impl Desk {
         ensures left { OnErr result (seat.new ≡ seat.old) }
     {
         // The seat's memory is taken first, so that a message that was taken is recorded.
-        let bytes = Octets::from_vec(Vec::from_slice(self.alloc, frame.bytes())?);
         seat.sent.reserve(1)?;
         let mut booth = self.booth.lock(rt);
-        let submitted = booth.submit(rt, seat.n(), frame);
-        match &submitted {
+        let kept = booth.keep(rt, seat.n(), frame);
+        match &kept {
             Ok(_) => gate.pass(seat.conference(), seat.n()),
             Err(_) => {}
         }
         let wakers = booth.wakers();
         drop(booth);
         wakers.wake();
-        let place = submitted?;
-        seat.sent.push_reserved(Sent { place, bytes });
+        let sent = kept?;
+        let place = sent.place;
+        seat.sent.push_reserved(sent);
         Ok(Receipt { place })
     }
 

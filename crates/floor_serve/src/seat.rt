@@ -2,8 +2,7 @@
 
 ghost use Rattle.std.specs.Prelude.{◌≡◌, []};
 
-use floor_room::Place;
-use floor_wire::Octets;
+use floor_room::{Frame, Place};
 use std::alloc::Global;
 use std::marker::Model;
 
@@ -12,8 +11,8 @@ use std::marker::Model;
 pub struct Sent {
     /// Its place, from 1.
     pub place: Place,
-    /// Its bytes.
-    pub bytes: Octets,
+    /// Its bytes, in the journal's own memory.
+    pub bytes: Frame,
 }
 
 /// The place of a message that was taken.

@@ -78,6 +78,15 @@ impl Frame {
         Ok(Frame { bytes })
     }
 
+    /// The same message, which shares its buffer with this one: nothing is copied.
+    pub fn share(&self) -> Result<Frame, AllocError>
+        ensures value { IfOk result (λ shared. shared ≡ self.now) }
+        ensures kept { IsMessage self.now }
+    {
+        let bytes = self.bytes.clone()?;
+        Ok(Frame { bytes })
+    }
+
     pub(crate) fn new(bytes: Bytes) -> Frame
         requires { IsMessage bytes }
         ensures { result ≡ bytes }

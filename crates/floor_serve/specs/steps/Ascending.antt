@@ -1,5 +1,5 @@
 -- Seats that ascend, by conference and by number.
-use Rattle.std.specs.Prelude.{◌≡◌, ◌≢◌, ℕ, ◌<◌, ◌≤◌, List, length, slice_index_or}
+use Rattle.std.specs.Prelude.{◌≡◌, ℕ, ◌<◌, ◌≤◌, List, length, slice_index_or}
 use Rattle.floor_serve.specs.Seat.{Seat}
 
 -- a seat is of a lower conference, or of a lower number of the same

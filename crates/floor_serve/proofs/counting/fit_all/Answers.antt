@@ -1,4 +1,4 @@
-use Rattle.std.proofs.Common.{length, ap, arith, ◌∙◌}
+use Rattle.std.proofs.Common.{length, ap, arith}
 use Rattle.floor_serve.proofs.Counts.{counted-all, counted-few, counted-more, part-of}
 use Rattle.floor_serve.proofs.counting.fit_all.Goals as goal
 

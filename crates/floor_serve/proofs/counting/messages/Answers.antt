@@ -1,4 +1,4 @@
-use Rattle.std.proofs.Common.{◌∙◌, sym, ap, arith}
+use Rattle.std.proofs.Common.{arith}
 use Rattle.floor_serve.proofs.Counts.{messages-more}
 use Rattle.floor_serve.proofs.counting.messages.Goals as goal
 

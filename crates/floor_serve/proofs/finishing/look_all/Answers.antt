@@ -1,4 +1,4 @@
-use Rattle.std.proofs.Common.{◌≡◌, take, refl, arith}
+use Rattle.std.proofs.Common.{take, refl, arith}
 use Rattle.std.specs.Prelude.{Err}
 use Rattle.floor_serve.specs.Finish.{Finished}
 use Rattle.floor_serve.specs.steps.Slots.{numbers}

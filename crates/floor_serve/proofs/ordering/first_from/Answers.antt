@@ -1,4 +1,4 @@
-use Rattle.std.proofs.Common.{ltb, ltb-true, ltb-false, arith, rules}
+use Rattle.std.proofs.Common.{ltb, ltb-true, ltb-false, rules}
 use Rattle.std.proofs.lemmas.List.Sorted.{IsPartitionPoint-from_clause, IsPartitionedBy-ltb}
 use Rattle.floor_serve.proofs.ordering.first_from.Goals as goal
 

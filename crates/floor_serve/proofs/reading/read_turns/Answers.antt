@@ -1,4 +1,4 @@
-use Rattle.std.proofs.Common.{◌≡◌, ◌∙◌, ap, sym, subst, take}
+use Rattle.std.proofs.Common.{◌∙◌, ap, sym, subst, take}
 use Rattle.std.specs.Prelude.{Err}
 use Rattle.floor_serve.specs.declared.fault.ReadFault.{ReadFault}
 use Rattle.floor_serve.specs.Read.{Ended}

@@ -1,4 +1,4 @@
-use Rattle.std.proofs.Common.{◌≡◌, ◌∙◌, ap}
+use Rattle.std.proofs.Common.{◌∙◌, ap}
 use Rattle.floor_serve.specs.Seat.{Seat}
 use Rattle.floor_serve.proofs.Submitting.{served-more, served-rest}
 use Rattle.floor_serve.proofs.reading.submit_all.Goals as goal

@@ -1,4 +1,4 @@
-use Rattle.std.proofs.Common.{◌≡◌, ◌∙◌, ◌++◌, List, ℕ, refl, sym, ap, subst}
+use Rattle.std.proofs.Common.{◌∙◌, List, refl, sym, ap, subst}
 use Rattle.floor_machine.specs.Parcel.{Parcel}
 use Rattle.floor_outbox.specs.Ends.{Taker}
 use Rattle.floor_serve.specs.Written.{Gathered}

@@ -1,4 +1,4 @@
-use Rattle.std.proofs.Common.{◌≡◌, ◌+◌, ◌∙◌, ◌∷◌, [], ◌++◌, List, Option, Some, inl, length, refl, sym, ap}
+use Rattle.std.proofs.Common.{◌+◌, ◌∙◌, ◌∷◌, [], ◌++◌, List, Option, Some, inl, length, refl, ap}
 use Rattle.floor_machine.specs.declared.event.Event.TheVariants.{Join}
 use Rattle.floor_room.specs.Ledger.{conference_of, refusal}
 use Rattle.floor_outbox.specs.Ends.{Sender}

@@ -1,7 +1,6 @@
 use Rattle.std.proofs.Common.{◌≡◌, sym, subst}
 use Rattle.std.specs.Prelude.{IsSomeAnd}
 use Rattle.floor_room.specs.Room.{parcels_to}
-use Rattle.floor_outbox.specs.Ends.{Sender}
 use Rattle.floor_serve.specs.Booth as spec
 use Rattle.floor_serve.specs.Senders.{IsPut, sender_of}
 use Rattle.floor_serve.proofs.Booths.{booth-reclaimed, number-low, reclaimed-sent}
