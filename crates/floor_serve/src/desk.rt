@@ -1,9 +1,9 @@
 //! One conference as threads share it.
 
-ghost use Rattle.std.specs.Prelude.{◌≡◌, ◌∷◌, ◌++◌, [], IfOk, OnErr, OnOk};
+ghost use Rattle.std.specs.Prelude.{◌≡◌, ◌∷◌, ◌++◌, [], IfOk, OnErr, OnOk, string_bytes};
 ghost use Rattle.floor_machine.specs.declared.event.Event.TheVariants.{Leave, Message};
 ghost use Rattle.floor_machine.specs.Machine.{event_of_act};
-ghost use Rattle.floor_serve.specs.Booth.{JoinedInOneHold, TookAt, TookInOneHold};
+ghost use Rattle.floor_serve.specs.Booth.{HadInOneHold, JoinedInOneHold, StoodInOneHold, TookAt, TookInOneHold};
 
 use crate::booth::Booth;
 use crate::gate::Gate;
@@ -140,12 +140,16 @@ impl Desk {
     }
 
     /// How the conference stands. Takes no memory.
-    pub fn status<R: Wait>(&self, rt: &R) -> Status {
+    pub fn status<R: Wait>(&self, rt: &R) -> Status
+        ensures value { StoodInOneHold result }
+    {
         self.booth.lock(rt).status()
     }
 
     /// The lines of the conference's journal, a line for each event, and their number.
-    pub fn journal_text<R: Wait>(&self, rt: &R) -> Result<String, AllocError> {
+    pub fn journal_text<R: Wait>(&self, rt: &R) -> Result<String, AllocError>
+        ensures value { IfOk result (λ text. HadInOneHold (string_bytes text)) }
+    {
         let booth = self.booth.lock(rt);
         journal_text(self.alloc, booth.journal())
     }

@@ -54,6 +54,7 @@ impl Table {
     /// Opens a conference under its number. After a refusal nothing has changed.
     pub fn open(&mut self, config: Config) -> Result<(), OpenRefusal>
         ensures took { OnOk result (self.new ≡ self.old ++ config.conference ∷ []) }
+        ensures free { OnOk result (is_opened self.old config.conference ≡ false) }
         ensures used { (result ≡ Err OpenRefusal.Used)
             ↔ (is_opened self.old config.conference ≡ true) }
         ensures left { OnErr result (self.new ≡ self.old) }
@@ -75,6 +76,7 @@ impl Table {
     /// The desk of the conference with this number, also when it is closed.
     pub fn desk(&self, conference: u32) -> Result<Desk, DeskRefusal>
         ensures found { IfOk result (λ desk. desk.conference ≡ conference) }
+        ensures opened { OnOk result (is_opened self.now conference ≡ true) }
         ensures no_conference { (result ≡ Err DeskRefusal.NoConference)
             ↔ (is_opened self.now conference ≡ false) }
     {
