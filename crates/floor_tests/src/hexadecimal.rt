@@ -74,18 +74,3 @@ fn push_piece(alloc: Global, out: &mut Vec<u8>, piece: &str) -> Result<(), Alloc
     }
     Ok(())
 }
-
-/// The bytes of a message of conference 1 and user 10.
-pub fn message(
-    alloc: Global,
-    primitive: u8,
-    transaction: u8,
-    payload: &[u8],
-) -> Result<Vec<u8>, AllocError> {
-    let units = (payload.len() / 4).min(65535) as u16;
-    let mut message = Vec::from_slice(alloc, &[0x20, primitive])?;
-    message.extend_from_slice(&units.to_be_bytes())?;
-    message.extend_from_slice(&[0, 0, 0, 1, 0, transaction, 0, 10])?;
-    message.extend_from_slice(payload)?;
-    Ok(message)
-}

@@ -13,6 +13,7 @@ mod client;
 mod config;
 #[cfg(test)]
 mod console;
+pub mod framed;
 #[cfg(test)]
 mod hexadecimal;
 #[cfg(test)]

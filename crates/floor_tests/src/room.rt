@@ -1,7 +1,8 @@
 //! Runs of a room, as lines that act on it and lines that they answer, and a full journal.
 
 use crate::cases::{assert_told, barred, differing};
-use crate::hexadecimal::{frame, message, spelled};
+use crate::framed::message;
+use crate::hexadecimal::{frame, spelled};
 use floor_room::{
     Act, Config, Event, Frame, Ledger, Parcel, ReplayFault, Room, RoomRefusal, journal_text, replay,
 };

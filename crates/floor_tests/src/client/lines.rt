@@ -2,7 +2,8 @@
 
 use super::conversing::heard;
 use crate::cases::{assert_told, differing};
-use crate::hexadecimal::{bytes, message};
+use crate::framed::message;
+use crate::hexadecimal::bytes;
 use floor_client::{Client, Frame};
 use std::alloc::{AllocError, Global};
 

@@ -2,7 +2,8 @@
 
 use super::runs::join;
 use crate::cases::{assert_told, differing, number, part};
-use crate::hexadecimal::{message, payload, spelled};
+use crate::framed::message;
+use crate::hexadecimal::{payload, spelled};
 use floor_config::{Floors, Users};
 use floor_machine::{Config, Floor, Machine, Parcel, User};
 use floor_wire::Frame;

@@ -2,7 +2,8 @@
 
 use super::shown::{answer, answer_to_bytes, asked, shown};
 use crate::cases::{assert_told, differing, part};
-use crate::hexadecimal::{bytes, message, payload};
+use crate::framed::message;
+use crate::hexadecimal::{bytes, payload};
 use floor_message::{Ask, Frame};
 use std::alloc::{AllocError, Global};
 use std::fmt::Write;

@@ -6,7 +6,8 @@
 
 use super::shown::{asked, shown, written};
 use crate::cases::{assert_told, differing, number};
-use crate::hexadecimal::{message, payload};
+use crate::framed::message;
+use crate::hexadecimal::payload;
 use floor_message::{
     Ask, Frame, Head, Info, Infos, Octets, Tell, Who, read_tell, tell_fits, write_tell,
 };

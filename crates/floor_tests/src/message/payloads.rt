@@ -2,7 +2,7 @@
 
 use super::shown::{asked, is_read_back, written};
 use crate::cases::assert_told;
-use crate::hexadecimal::message;
+use crate::framed::message;
 use floor_message::{Ask, Frame};
 use std::alloc::{AllocError, Global};
 use std::fmt::Write;
