@@ -15,6 +15,7 @@ mod fits;
 mod floor_statuses;
 mod format;
 mod head;
+mod information;
 mod infos;
 mod kind;
 mod laws;
