@@ -1,19 +1,29 @@
 //! What a message asks, under the binding of its connection: the first check that applies
 //! (RFC 8855, sections 5.1 to 5.3 and 13).
 
-ghost use Rattle.std.specs.Prelude.{◌≡◌, ◌<◌, ◌*◌, All, [], map, IfErr, IfOk, MatchOption, Option, Some};
+ghost use Rattle.std.specs.Prelude.{◌≡◌, Some, IfOk, [], IfErr};
 ghost use Rattle.floor_message.specs.Ask.{HasShortDetails, IsAnswer, ask};
-ghost use Rattle.floor_message.specs.steps.Answering as spec;
 ghost use Rattle.floor_message.specs.Binding.{binding_of};
-ghost use Rattle.floor_message.specs.Picked.{distinct, mandatory};
+ghost use Rattle.floor_message.specs.Fields.{is_ask, fields};
+ghost use Rattle.floor_message.specs.declared.primitive.Primitive.TheVariants as primitive;
+ghost use Rattle.floor_message.specs.steps.Answering as spec;
 ghost use Rattle.floor_wire.specs.Spelled.{spelled};
 
 use crate::ask::{Ask, AskFault, Binding};
-use crate::ask_fields::{fields, is_ask};
 use crate::code::ErrorCode;
-use crate::mandatory::mandatory_types;
+use crate::format::attribute_types::doubled;
+use crate::format::attributes::payload_attrs;
+use crate::format::floors::floors_in;
+use crate::format::mandatory::mandatory_types;
+use crate::format::number::first_number;
+use crate::format::octets::first_octets;
+use crate::format::pair::first_pair;
+use crate::format::priority::priority_asked;
+use crate::format::text::info_kept;
+use crate::format::verdicts::chair_action;
+use crate::kind::{BENEFICIARY_ID, FLOOR_REQUEST_ID, PARTICIPANT_PROVIDED_INFO, PRIORITY};
 use crate::primitive::Primitive;
-use floor_wire::{Attrs, Frame, Header, Octets, WireFault, read_attrs};
+use floor_wire::{Attr, Frame, Header, Numbers, Octets};
 use std::alloc::{AllocError, Global};
 
 /// What the message asks of the server; None for an Error, which is left unanswered.
@@ -95,31 +105,6 @@ fn by_attributes(
     }
 }
 
-/// The attributes that the payload spells, where it spells any.
-pub(crate) fn payload_attrs(alloc: Global, payload: &[u8]) -> Result<Option<Attrs>, AllocError>
-    ensures found { IfOk result (λ found. found ≡ spelled payload.now) }
-    ensures kinds { IfOk result (λ found. MatchOption found (Unit {0})
-        (λ attrs. All (λ t. t < 128) (distinct (mandatory attrs)))) }
-{
-    match read_attrs(alloc, payload) {
-        Ok(attrs) => Ok(Some(attrs)),
-        Err(WireFault::Memory) => Err(AllocError),
-        Err(WireFault::BadLength(_) | WireFault::Overrun(_)) => Ok(None),
-    }
-}
-
-/// The types, each in the upper 7 bits of a byte.
-pub(crate) fn doubled(alloc: Global, types: &[u8]) -> Result<Vec<u8>, AllocError>
-    requires { All (λ t. t < 128) types.now }
-    ensures { IfOk result (λ v. v.items ≡ map (λ k. 2 * k) types.now) }
-{
-    let mut bytes = Vec::with_capacity(alloc, types.len())?;
-    for kind in types {
-        bytes.push(2 * *kind)?;
-    }
-    Ok(bytes)
-}
-
 /// An Error without details.
 fn error(alloc: Global, code: ErrorCode) -> AskFault
     ensures { result ≡ AskFault.Error code [] }
@@ -128,4 +113,98 @@ fn error(alloc: Global, code: ErrorCode) -> AskFault
         code,
         details: Octets::from_vec(Vec::new(alloc)),
     }
+}
+
+/// The primitive is one that a client asks by.
+pub(crate) fn is_ask(primitive: Primitive) -> bool
+    ensures { result ≡ is_ask primitive }
+{
+    match primitive {
+        Primitive::FloorRequest
+        | Primitive::FloorRelease
+        | Primitive::FloorRequestQuery
+        | Primitive::UserQuery
+        | Primitive::FloorQuery
+        | Primitive::ChairAction
+        | Primitive::Hello => true,
+        Primitive::FloorRequestStatus
+        | Primitive::UserStatus
+        | Primitive::FloorStatus
+        | Primitive::ChairActionAck
+        | Primitive::HelloAck
+        | Primitive::Error => false,
+    }
+}
+
+/// What the attributes ask, unless a required one is missing or has no usable value.
+pub(crate) fn fields(
+    alloc: Global,
+    primitive: Primitive,
+    attrs: &[Attr],
+) -> Result<Option<Ask>, AllocError>
+    ensures { IfOk result (λ ask. ask ≡ fields primitive attrs.now) }
+{
+    match primitive {
+        Primitive::FloorRequest => floor_request(alloc, attrs),
+        Primitive::FloorRelease => Ok(floor_release(attrs)),
+        Primitive::FloorRequestQuery => Ok(floor_request_query(attrs)),
+        Primitive::UserQuery => Ok(Some(user_query(attrs))),
+        Primitive::FloorQuery => Ok(Some(floor_query(alloc, attrs)?)),
+        Primitive::ChairAction => chair_action(alloc, attrs),
+        Primitive::Hello => Ok(Some(Ask::Hello)),
+        Primitive::FloorRequestStatus
+        | Primitive::UserStatus
+        | Primitive::FloorStatus
+        | Primitive::ChairActionAck
+        | Primitive::HelloAck
+        | Primitive::Error => Ok(None),
+    }
+}
+
+fn floor_request(alloc: Global, attrs: &[Attr]) -> Result<Option<Ask>, AllocError>
+    ensures { IfOk result (λ ask. ask ≡ fields primitive.FloorRequest attrs.now) }
+{
+    let floors = floors_in(alloc, attrs)?;
+    if floors.is_empty() {
+        return Ok(None);
+    }
+    let Some(info) = info_kept(alloc, first_octets(attrs, PARTICIPANT_PROVIDED_INFO))? else {
+        return Ok(None);
+    };
+    Ok(Some(Ask::FloorRequest {
+        beneficiary: first_number(attrs, BENEFICIARY_ID),
+        floors: Numbers::from_vec(floors),
+        priority: priority_asked(first_pair(attrs, PRIORITY)),
+        info,
+    }))
+}
+
+fn floor_release(attrs: &[Attr]) -> Option<Ask>
+    ensures { result ≡ fields primitive.FloorRelease attrs.now }
+{
+    let request = first_number(attrs, FLOOR_REQUEST_ID)?;
+    Some(Ask::FloorRelease { request })
+}
+
+fn floor_request_query(attrs: &[Attr]) -> Option<Ask>
+    ensures { result ≡ fields primitive.FloorRequestQuery attrs.now }
+{
+    let request = first_number(attrs, FLOOR_REQUEST_ID)?;
+    Some(Ask::FloorRequestQuery { request })
+}
+
+fn user_query(attrs: &[Attr]) -> Ask
+    ensures { fields primitive.UserQuery attrs.now ≡ Some result }
+{
+    Ask::UserQuery {
+        beneficiary: first_number(attrs, BENEFICIARY_ID),
+    }
+}
+
+fn floor_query(alloc: Global, attrs: &[Attr]) -> Result<Ask, AllocError>
+    ensures { IfOk result (λ ask. fields primitive.FloorQuery attrs.now ≡ Some ask) }
+{
+    Ok(Ask::FloorQuery {
+        floors: Numbers::from_vec(floors_in(alloc, attrs)?),
+    })
 }

@@ -1,22 +1,23 @@
 //! Messages from a client as bytes (RFC 8855, sections 5.3.1 to 5.3.11).
 
-ghost use Rattle.std.specs.Prelude.{◌≡◌, ◌<◌, ◌^◌, ◌*◌, ◌++◌, IfOk, OnOk, All, map};
-ghost use Rattle.floor_message.specs.Fits.{AskFits, FloorRequestFits, FloorsFit, VerdictsFit};
+ghost use Rattle.std.specs.Prelude.{◌≡◌, IfOk, ◌<◌, ◌*◌};
+ghost use Rattle.floor_message.specs.Fits.{AskFits, FloorRequestFits, FloorsFit};
 ghost use Rattle.floor_message.specs.Room.{FitsRoom};
 ghost use Rattle.floor_message.specs.Written as spec;
 ghost use Rattle.floor_wire.specs.Spelling.{IsWritable, format_of};
-ghost use Rattle.floor_wire.specs.declared.format.Format.TheVariants.{Unsigned16};
 ghost use Rattle.floor_wire.specs.View.{attributes_of};
+ghost use Rattle.floor_wire.specs.declared.format.Format.TheVariants.{Unsigned16};
 
-use crate::ask::{Ask, Verdict};
-use crate::attributes::{group, plain, priority_attr, put_number, put_octets, status_attr};
+use crate::ask::Ask;
+use crate::format::floors::put_floors;
+use crate::format::number::put_number;
+use crate::format::octets::put_octets;
+use crate::format::priority::priority_attr;
+use crate::format::verdicts::chair_action_attrs;
 use crate::head::Head;
-use crate::kind::{
-    BENEFICIARY_ID, FLOOR_ID, FLOOR_REQUEST_ID, FLOOR_REQUEST_INFORMATION, FLOOR_REQUEST_STATUS,
-    PARTICIPANT_PROVIDED_INFO,
-};
+use crate::kind::{BENEFICIARY_ID, FLOOR_REQUEST_ID, PARTICIPANT_PROVIDED_INFO};
 use crate::primitive::Primitive;
-use floor_wire::{Attr, Body, Frame, Octets};
+use floor_wire::{Attr, Frame, Octets};
 use std::alloc::{AllocError, Global};
 
 /// The message from a client, under this head.
@@ -120,55 +121,4 @@ fn floor_query_attrs(alloc: Global, floors: &[u16]) -> Result<Vec<Attr>, AllocEr
     let mut out = Vec::new(alloc);
     put_floors(&mut out, floors)?;
     Ok(out)
-}
-
-fn put_floors(out: &mut Vec<Attr>, floors: &[u16]) -> Result<(), AllocError>
-    ensures out { OnOk result (out.new.items
-        ≡ out.old.items ++ map (spec.number FLOOR_ID) floors.now) }
-    ensures range { All (λ floor. floor < 2 ^ 16) floors.now }
-{
-    for floor in floors {
-        out.push(plain(FLOOR_ID, Body::Num(*floor)))?;
-    }
-    Ok(())
-}
-
-fn chair_action_attrs(
-    alloc: Global,
-    request: u16,
-    verdicts: &[(u16, Verdict)],
-) -> Result<Vec<Attr>, AllocError>
-    requires { VerdictsFit verdicts.now }
-    ensures value { IfOk result (λ attrs. attrs.items
-        ≡ spec.ask_attrs (Ask.ChairAction request verdicts.now)) }
-    ensures fits { IfOk result (λ _. FitsRoom
-        (spec.ask_attrs (Ask.ChairAction request verdicts.now)) (4 * 65535)) }
-{
-    let mut inside = Vec::new(alloc);
-    for (floor, verdict) in verdicts {
-        inside.push(verdict_attr(alloc, *floor, *verdict)?)?;
-    }
-    let mut out = Vec::new(alloc);
-    out.push(group(FLOOR_REQUEST_INFORMATION, request, inside))?;
-    Ok(out)
-}
-
-fn verdict_attr(alloc: Global, floor: u16, verdict: Verdict) -> Result<Attr, AllocError>
-    ensures value { IfOk result (λ attr. attr ≡ spec.verdict_attr (floor, verdict)) }
-    ensures range { floor < 2 ^ 16 }
-{
-    let mut inside = Vec::new(alloc);
-    inside.push(status_attr(status_of(verdict), 0))?;
-    Ok(group(FLOOR_REQUEST_STATUS, floor, inside))
-}
-
-fn status_of(verdict: Verdict) -> u8
-    ensures { result ≡ spec.status_of verdict }
-{
-    match verdict {
-        Verdict::Accepted => 2,
-        Verdict::Granted => 3,
-        Verdict::Denied => 4,
-        Verdict::Revoked => 7,
-    }
 }

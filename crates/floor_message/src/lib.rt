@@ -8,32 +8,28 @@
 #![tactic(auto)]
 
 mod ask;
-mod ask_fields;
 mod ask_reader;
-mod ask_size;
 mod ask_writer;
-mod attributes;
 mod code;
+mod fits;
 mod floor_statuses;
+mod format;
 mod head;
+mod information;
 mod infos;
 mod kind;
 mod laws;
-mod mandatory;
-mod pick;
 mod primitive;
 mod tell;
 mod tell_reader;
-mod tell_size;
 mod tell_writer;
-mod text;
 mod verdicts;
 
 pub use ask::{Ask, AskFault, Binding, Verdict};
 pub use ask_reader::read_ask;
-pub use ask_size::ask_fits;
 pub use ask_writer::write_ask;
 pub use code::ErrorCode;
+pub use fits::{ask_fits, tell_fits};
 pub use floor_statuses::FloorStatuses;
 pub use floor_wire::{Frame, Numbers, Octets};
 pub use head::Head;
@@ -45,6 +41,5 @@ pub use laws::{
 pub use primitive::Primitive;
 pub use tell::{Info, Tell, TellFault, Who};
 pub use tell_reader::read_tell;
-pub use tell_size::tell_fits;
 pub use tell_writer::write_tell;
 pub use verdicts::Verdicts;

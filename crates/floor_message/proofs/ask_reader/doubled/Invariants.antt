@@ -1,5 +1,0 @@
-use Rattle.std.proofs.Common.{◌≡◌, ◌*◌, map, take}
-use Rattle.floor_message.proofs.ask_reader.doubled.Given as goal
-
-abbrev pub invariant-loop-kind : goal.invariant-loop-kind
-invariant-loop-kind l = l.bytes.items ≡ map (λ k. 2 * k) (take l.kind-index l.types)

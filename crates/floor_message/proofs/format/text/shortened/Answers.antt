@@ -1,0 +1,11 @@
+use Rattle.std.proofs.Common.{◌∙◌, sym, ap, take}
+use Rattle.floor_message.specs.Text.{shortened}
+use Rattle.floor_message.proofs.Cutting.{cut_is}
+use Rattle.floor_message.proofs.format.text.shortened.Goals as goal
+
+pub returns : goal.returns
+unfolding shortened
+returns c =
+    let e = c.floor_char_boundary-end.ensures in
+    ap (λ l. take c.floor_char_boundary-end.result l) c.as_bytes.ensures.value
+    ∙ ap (λ n. take n c.args.text.now) (sym (cut_is c.args.text.now 62 c.floor_char_boundary-end.result e.bound e.boundary e.nearest))

@@ -1,6 +1,0 @@
-use Rattle.std.proofs.Common.{◌≡◌, ◌++◌, map, take}
-use Rattle.floor_message.specs.Written.{info_attr}
-use Rattle.floor_message.proofs.tell_writer.put_infos.Given as goal
-
-abbrev pub invariant-loop-info : goal.invariant-loop-info
-invariant-loop-info l = l.out.items ≡ l.initial.out.items ++ map info_attr (take l.info-index l.infos)

@@ -1,0 +1,104 @@
+//! Which messages can be written, so that they are read back as they were (RFC 8855, sections 5.1 to
+//! 5.3).
+
+ghost use Rattle.std.specs.Prelude.{◌↔◌, IfSome, IsTrue};
+ghost use Rattle.floor_message.specs.Fits.{AskFits, FloorRequestFits, NumbersFit, TellFits};
+ghost use Rattle.floor_message.specs.Written.{ask_attrs, tell_attrs};
+ghost use Rattle.floor_message.specs.steps.Leaves.{Leaves};
+ghost use Rattle.floor_wire.specs.Bytes.{IsBytes, IsOfBytes};
+ghost use Rattle.floor_wire.specs.View.{attributes_of};
+
+use crate::ask::Ask;
+use crate::format::attribute_types::types_fit;
+use crate::format::error_code::after_error;
+use crate::format::floor_request_information::{
+    after_info, after_infos, priorities_fit, priority_fits,
+};
+use crate::format::floors::{after_floor, floors_fit};
+use crate::format::supported::after_supported;
+use crate::format::text::info_fits;
+use crate::format::user_information::after_who;
+use crate::format::verdicts::verdicts_fit;
+use crate::tell::Tell;
+use floor_wire::Octets;
+
+/// The most bytes behind a header: 65,535 units of 4.
+const LONGEST_PAYLOAD: usize = 4 * 65535;
+
+/// Whether the message can be written: a FloorRequest names a floor, floors and verdicts name each
+/// floor once, a priority is at most 4, a text is UTF-8 of 1 to 62 bytes, there are 1 to 31
+/// verdicts and at most 60,000 floors. Takes no memory, so its time grows with the square of the
+/// floors.
+pub fn ask_fits(ask: &Ask) -> bool
+    ensures value { IsTrue result ↔ AskFits ask.now }
+    ensures bytes { IsTrue result → IsOfBytes (attributes_of (ask_attrs ask.now)) }
+{
+    match ask {
+        Ask::FloorRequest {
+            floors,
+            priority,
+            info,
+            ..
+        } => floor_request_fits(floors.as_slice(), *priority, info),
+        Ask::FloorRelease { .. } => true,
+        Ask::FloorRequestQuery { .. } => true,
+        Ask::UserQuery { .. } => true,
+        Ask::FloorQuery { floors } => floors_fit(floors.as_slice()),
+        Ask::ChairAction { verdicts, .. } => verdicts_fit(verdicts.as_slice()),
+        Ask::Hello => true,
+    }
+}
+
+fn floor_request_fits(floors: &[u16], priority: u8, info: &Option<Octets>) -> bool
+    ensures value { IsTrue result ↔ FloorRequestFits floors.now priority info.now }
+    ensures bytes { IsTrue result → IfSome info.now IsBytes }
+{
+    !floors.is_empty() && priority <= 4 && floors_fit(floors) && info_fits(info)
+}
+
+/// Whether the message can be written: each priority is at most 4, each type of attribute below
+/// 128, each group at most 252 bytes, each octet string at most 253 octets, an ERROR-CODE at most
+/// 252 details, and the payload at most 65,535 units of 4 bytes. Takes no memory.
+pub fn tell_fits(tell: &Tell) -> bool
+    ensures value { IsTrue result ↔ TellFits tell.now }
+    ensures bytes { IsTrue result → IsOfBytes (attributes_of (tell_attrs tell.now)) }
+{
+    numbers_fit(tell) && after_tell(LONGEST_PAYLOAD, tell).is_some()
+}
+
+fn numbers_fit(tell: &Tell) -> bool
+    ensures { IsTrue result ↔ NumbersFit tell.now }
+{
+    match tell {
+        Tell::FloorRequestStatus { info } => priority_fits(info),
+        Tell::UserStatus { infos, .. } => priorities_fit(infos.as_slice()),
+        Tell::FloorStatus { infos, .. } => priorities_fit(infos.as_slice()),
+        Tell::ChairActionAck => true,
+        Tell::HelloAck { attributes, .. } => types_fit(attributes.as_slice()),
+        Tell::Error { .. } => true,
+    }
+}
+
+/// What is left of the room behind the attributes of the message, where they can be written in it.
+fn after_tell(room: usize, tell: &Tell) -> Option<usize>
+    requires { NumbersFit tell.now }
+    ensures { Leaves (tell_attrs tell.now) room result }
+{
+    match tell {
+        Tell::FloorRequestStatus { info } => after_info(room, info),
+        Tell::UserStatus { who, infos } => {
+            let room = after_who(room, who)?;
+            after_infos(room, infos.as_slice())
+        }
+        Tell::FloorStatus { floor, infos } => {
+            let room = after_floor(room, *floor)?;
+            after_infos(room, infos.as_slice())
+        }
+        Tell::ChairActionAck => Some(room),
+        Tell::HelloAck {
+            primitives,
+            attributes,
+        } => after_supported(room, primitives.as_slice(), attributes.as_slice()),
+        Tell::Error { code, details } => after_error(room, *code, details.as_slice()),
+    }
+}

@@ -1,0 +1,71 @@
+//! The floors that a message names: FLOOR-IDs (RFC 8855, section 5.2.2).
+
+ghost use Rattle.std.specs.Prelude.{◌≡◌, IfOk, OnOk, ◌<◌, All, map, ◌↔◌, IsTrue, ◌^◌, ◌++◌};
+ghost use Rattle.floor_message.specs.Fits.{FloorsFit};
+ghost use Rattle.floor_message.specs.Picked.{distinct, numbers, IsOnceBy};
+ghost use Rattle.floor_message.specs.Written as spec;
+ghost use Rattle.floor_message.specs.steps.Leaves.{Leaves};
+
+use crate::format::attributes::{SHORT_ATTRIBUTE, plain};
+use crate::format::number::number_of;
+use crate::kind::FLOOR_ID;
+use floor_wire::{Attr, Body};
+use indexmap::IndexSet;
+use std::alloc::{AllocError, Global};
+
+/// The most floors of a message: with them it fits its Payload Length.
+const MOST_FLOORS: usize = 60_000;
+
+/// The floors that the attributes name, each once, in order of first appearance.
+pub(crate) fn floors_in(alloc: Global, attrs: &[Attr]) -> Result<Vec<u16>, AllocError>
+    ensures { IfOk result (λ floors. floors.items ≡ distinct (numbers FLOOR_ID attrs.now)) }
+{
+    let mut found = IndexSet::new(alloc);
+    for attr in attrs {
+        if let Some(floor) = number_of(attr, FLOOR_ID) {
+            found.insert(floor)?;
+        }
+    }
+    Vec::from_slice(alloc, found.as_slice())
+}
+
+pub(crate) fn put_floors(out: &mut Vec<Attr>, floors: &[u16]) -> Result<(), AllocError>
+    ensures out { OnOk result (out.new.items
+        ≡ out.old.items ++ map (spec.number FLOOR_ID) floors.now) }
+    ensures range { All (λ floor. floor < 2 ^ 16) floors.now }
+{
+    for floor in floors {
+        out.push(plain(FLOOR_ID, Body::Num(*floor)))?;
+    }
+    Ok(())
+}
+
+pub(crate) fn floors_fit(floors: &[u16]) -> bool
+    ensures { IsTrue result ↔ FloorsFit floors.now }
+{
+    floors.len() <= MOST_FLOORS && is_each_once(floors)
+}
+
+/// Whether no number stands twice.
+fn is_each_once(numbers: &[u16]) -> bool
+    ensures { IsTrue result ↔ IsOnceBy (λ n. n) numbers.now }
+{
+    let mut rest = numbers;
+    while let [first, others @ ..] = rest {
+        let again = others.contains(first);
+        if again {
+            return false;
+        }
+        rest = others;
+    }
+    true
+}
+
+pub(crate) fn after_floor(room: usize, floor: Option<u16>) -> Option<usize>
+    ensures { Leaves (spec.optional (spec.number 2) floor) room result }
+{
+    match floor {
+        Some(_) => room.checked_sub(SHORT_ATTRIBUTE),
+        None => Some(room),
+    }
+}

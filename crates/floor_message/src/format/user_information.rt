@@ -1,0 +1,69 @@
+//! BENEFICIARY-INFORMATION and REQUESTED-BY-INFORMATION: a user (RFC 8855, sections 5.2.14 and 5.2.16).
+
+ghost use Rattle.std.specs.Prelude.{◌≡◌, option_map, IfOk, OnOk, ◌<◌, ◌++◌, ℕ};
+ghost use Rattle.floor_message.specs.Picked.{first, groups};
+ghost use Rattle.floor_message.specs.Tell.{who_of};
+ghost use Rattle.floor_message.specs.Written as spec;
+ghost use Rattle.floor_message.specs.steps.Leaves.{Leaves};
+ghost use Rattle.floor_wire.specs.Spelling.{format_of};
+ghost use Rattle.floor_wire.specs.declared.format.Format.TheVariants.{Grouped};
+
+use crate::format::group::{GROUP_HEAD, LONGEST_GROUP, first_group, group};
+use crate::format::octets::{after_optional_octets, first_copied, put_octets};
+use crate::kind::{USER_DISPLAY_NAME, USER_URI};
+use crate::tell::Who;
+use floor_wire::Attr;
+use std::alloc::{AllocError, Global};
+
+pub(crate) fn first_who(alloc: Global, attrs: &[Attr], kind: u8) -> Result<Option<Who>, AllocError>
+    ensures { IfOk result (λ who. who ≡ option_map who_of (first (groups kind attrs.now))) }
+{
+    let Some((user, inside)) = first_group(attrs, kind) else {
+        return Ok(None);
+    };
+    Ok(Some(Who {
+        user,
+        name: first_copied(alloc, inside, USER_DISPLAY_NAME)?,
+        uri: first_copied(alloc, inside, USER_URI)?,
+    }))
+}
+
+pub(crate) fn put_who(
+    alloc: Global,
+    out: &mut Vec<Attr>,
+    kind: u8,
+    who: &Option<Who>,
+) -> Result<(), AllocError>
+    ensures { OnOk result (out.new.items
+        ≡ out.old.items ++ spec.optional (spec.who_attr kind) who.now) }
+{
+    if let Some(who) = who {
+        out.push(who_attr(alloc, kind, who)?)?;
+    }
+    Ok(())
+}
+
+fn who_attr(alloc: Global, kind: u8, who: &Who) -> Result<Attr, AllocError>
+    ensures { IfOk result (λ attr. attr ≡ spec.who_attr kind who.now) }
+{
+    let mut inside = Vec::new(alloc);
+    put_octets(alloc, &mut inside, USER_DISPLAY_NAME, &who.name)?;
+    put_octets(alloc, &mut inside, USER_URI, &who.uri)?;
+    Ok(group(kind, who.user, inside))
+}
+
+pub(crate) fn after_who(room: usize, who: &Option<Who>) -> Option<usize>
+    ensures { (kind : ℕ) → kind < 128 → format_of kind ≡ Grouped
+        → Leaves (spec.optional (spec.who_attr kind) who.now) room result }
+{
+    match who {
+        Some(who) => {
+            // Read for its range: a User ID has 16 bits.
+            let _user = who.user;
+            let left = after_optional_octets(LONGEST_GROUP - GROUP_HEAD, &who.name)?;
+            let left = after_optional_octets(left, &who.uri)?;
+            room.checked_sub(LONGEST_GROUP - left)
+        }
+        None => Some(room),
+    }
+}

@@ -1,0 +1,188 @@
+//! The verdicts of a ChairAction: a FLOOR-REQUEST-INFORMATION with a FLOOR-REQUEST-STATUS for each
+//! floor (RFC 8855, sections 5.2.15, 5.2.17 and 5.3.9).
+
+ghost use Rattle.std.specs.Prelude.{◌≡◌, ◌<◌, ◌*◌, ◌^◌, ◌==◌, ◌↔◌, option_and_then, option_map, map, IfOk, IsTrue, OnOk};
+ghost use Rattle.std.specs.List.{list_any};
+ghost use Rattle.floor_message.specs.Fields.{fields, floors_judged, given, status_for, verdict_of};
+ghost use Rattle.floor_message.specs.Fits.{VerdictsFit};
+ghost use Rattle.floor_message.specs.Picked.{IsOnceBy};
+ghost use Rattle.floor_message.specs.Room.{FitsRoom};
+ghost use Rattle.floor_message.specs.Written as spec;
+ghost use Rattle.floor_message.specs.declared.primitive.Primitive.TheVariants as primitive;
+ghost use Rattle.floor_message.specs.steps.Adding.{add_new};
+
+use crate::ask::{Ask, Verdict};
+use crate::format::group::{first_group, group, group_of};
+use crate::format::overall_request_status::overall_status;
+use crate::format::request_status::{status_attr, status_in};
+use crate::kind::{FLOOR_REQUEST_INFORMATION, FLOOR_REQUEST_STATUS};
+use crate::verdicts::Verdicts;
+use floor_wire::Attr;
+use std::alloc::{AllocError, Global};
+
+/// The most verdicts of a ChairAction: with them its group fits its Length.
+const MOST_VERDICTS: usize = 31;
+
+/// What a ChairAction asks.
+pub(crate) fn chair_action(alloc: Global, attrs: &[Attr]) -> Result<Option<Ask>, AllocError>
+    ensures { IfOk result (λ ask. ask ≡ fields primitive.ChairAction attrs.now) }
+{
+    let Some((request, inside)) = first_group(attrs, FLOOR_REQUEST_INFORMATION) else {
+        return Ok(None);
+    };
+    let judged = floors_judged(alloc, inside)?;
+    let Some(verdicts) = given(alloc, &judged)? else {
+        return Ok(None);
+    };
+    if verdicts.is_empty() {
+        return Ok(None);
+    }
+    Ok(Some(Ask::ChairAction {
+        request,
+        verdicts: Verdicts::from_vec(verdicts),
+    }))
+}
+
+/// The floors that a ChairAction names, each once, with the verdicts on them.
+fn floors_judged(alloc: Global, inside: &[Attr]) -> Result<Vec<(u16, Option<Verdict>)>, AllocError>
+    ensures { IfOk result (λ v. v.items ≡ floors_judged inside.now) }
+{
+    let overall = overall_status(inside);
+    let mut found = Vec::new(alloc);
+    for attr in inside {
+        if let Some((floor, within)) = group_of(attr, FLOOR_REQUEST_STATUS) {
+            add_floor(&mut found, floor, verdict_on(overall, status_in(within)))?;
+        }
+    }
+    Ok(found)
+}
+
+/// Adds the floor, unless it is there.
+fn add_floor(
+    found: &mut Vec<(u16, Option<Verdict>)>,
+    floor: u16,
+    verdict: Option<Verdict>,
+) -> Result<(), AllocError>
+    ensures { OnOk result (found.new.items ≡ add_new (λ v. v.0) found.old.items (floor, verdict)) }
+{
+    for (known, _) in found.as_slice() {
+        if floor == *known {
+            return Ok(());
+        }
+    }
+    found.push((floor, verdict))?;
+    Ok(())
+}
+
+/// The verdict of a floor: by its own status, else by the overall one. Our choice, since the RFC
+/// tells a chair's decision in neither place alone.
+fn verdict_on(overall: Option<u8>, own: Option<u8>) -> Option<Verdict>
+    ensures { result ≡ option_and_then verdict_of (status_for overall own) }
+{
+    let status = match own {
+        Some(own) => Some(own),
+        None => overall,
+    };
+    verdict_of(status?)
+}
+
+fn verdict_of(status: u8) -> Option<Verdict>
+    ensures { result ≡ verdict_of status }
+{
+    match status {
+        2 => Some(Verdict::Accepted),
+        3 => Some(Verdict::Granted),
+        4 => Some(Verdict::Denied),
+        7 => Some(Verdict::Revoked),
+        _ => None,
+    }
+}
+
+/// The floors with their verdicts, where each has one.
+fn given(
+    alloc: Global,
+    judged: &[(u16, Option<Verdict>)],
+) -> Result<Option<Vec<(u16, Verdict)>>, AllocError>
+    ensures { IfOk result (λ o. option_map (λ v. v.items) o ≡ given judged.now) }
+{
+    let mut verdicts = Vec::new(alloc);
+    for (floor, verdict) in judged {
+        let Some(verdict) = verdict else {
+            return Ok(None);
+        };
+        verdicts.push((*floor, *verdict))?;
+    }
+    Ok(Some(verdicts))
+}
+
+/// The attributes of a ChairAction.
+pub(crate) fn chair_action_attrs(
+    alloc: Global,
+    request: u16,
+    verdicts: &[(u16, Verdict)],
+) -> Result<Vec<Attr>, AllocError>
+    requires { VerdictsFit verdicts.now }
+    ensures value { IfOk result (λ attrs. attrs.items
+        ≡ spec.ask_attrs (Ask.ChairAction request verdicts.now)) }
+    ensures fits { IfOk result (λ _. FitsRoom
+        (spec.ask_attrs (Ask.ChairAction request verdicts.now)) (4 * 65535)) }
+{
+    let mut inside = Vec::new(alloc);
+    for (floor, verdict) in verdicts {
+        inside.push(verdict_attr(alloc, *floor, *verdict)?)?;
+    }
+    let mut out = Vec::new(alloc);
+    out.push(group(FLOOR_REQUEST_INFORMATION, request, inside))?;
+    Ok(out)
+}
+
+fn verdict_attr(alloc: Global, floor: u16, verdict: Verdict) -> Result<Attr, AllocError>
+    ensures value { IfOk result (λ attr. attr ≡ spec.verdict_attr (floor, verdict)) }
+    ensures range { floor < 2 ^ 16 }
+{
+    let mut inside = Vec::new(alloc);
+    inside.push(status_attr(status_of(verdict), 0))?;
+    Ok(group(FLOOR_REQUEST_STATUS, floor, inside))
+}
+
+fn status_of(verdict: Verdict) -> u8
+    ensures { result ≡ spec.status_of verdict }
+{
+    match verdict {
+        Verdict::Accepted => 2,
+        Verdict::Granted => 3,
+        Verdict::Denied => 4,
+        Verdict::Revoked => 7,
+    }
+}
+
+pub(crate) fn verdicts_fit(verdicts: &[(u16, Verdict)]) -> bool
+    ensures { IsTrue result ↔ VerdictsFit verdicts.now }
+{
+    !verdicts.is_empty() && verdicts.len() <= MOST_VERDICTS && is_each_judged_once(verdicts)
+}
+
+/// Whether no floor stands twice.
+fn is_each_judged_once(verdicts: &[(u16, Verdict)]) -> bool
+    ensures { IsTrue result ↔ IsOnceBy (λ v. v.0) verdicts.now }
+{
+    let mut rest = verdicts;
+    while let [(first, _), others @ ..] = rest {
+        if is_judged(others, *first) {
+            return false;
+        }
+        rest = others;
+    }
+    true
+}
+
+fn is_judged(verdicts: &[(u16, Verdict)], floor: u16) -> bool
+    ensures { result ≡ list_any (λ v. v.0 == floor) verdicts.now }
+{
+    for (judged, _) in verdicts {
+        if *judged == floor {
+            return true;
+        }
+    }
+    false
+}
