@@ -8,11 +8,12 @@ ghost use Rattle.floor_machine.specs.Reply as spec;
 ghost use Rattle.floor_machine.specs.Shown as shown;
 ghost use Rattle.floor_machine.specs.steps.Serving as serving;
 ghost use Rattle.floor_machine.specs.steps.Serving.{conference_of};
-ghost use Rattle.floor_machine.specs.steps.Telling.{AreInfos};
+ghost use Rattle.floor_machine.specs.steps.Telling.{AreInfos, infos_with_user};
 
+use crate::copying::infos_with_user;
 use crate::course::{Ended, floor_status, shown_at};
 use crate::judged::Judged;
-use crate::showing::{described, infos_of_user};
+use crate::showing::described;
 use crate::state::State;
 use floor_config::Config;
 use floor_message::{Ask, Info, Infos, Tell, Who};
@@ -63,6 +64,20 @@ fn hello_tells(alloc: Global) -> Result<Vec<Tell>, AllocError>
     )
 }
 
+/// The requests of the user, behind who it is where that is asked.
+fn user_status(alloc: Global, who: Option<Who>, user: u16, now: &[Info]) -> Result<Tell, AllocError>
+    requires who { IfSome who IsDescribed }
+    requires shown { AreShown now.now }
+    ensures value { IfOk result (λ tell. tell ≡ Tell.UserStatus who (infos_with_user user now.now)) }
+    ensures shown { IfOk result IsShown }
+{
+    let infos = infos_with_user(alloc, user, now)?;
+    Ok(Tell::UserStatus {
+        who,
+        infos: Infos::from_vec(infos),
+    })
+}
+
 /// The statuses of floors, in their order.
 fn floor_statuses(alloc: Global, now: &[Info], floors: &[u16]) -> Result<Vec<Tell>, AllocError>
     requires { AreShown now.now }
@@ -105,27 +120,18 @@ impl State {
         user: u16,
         beneficiary: Option<u16>,
     ) -> Result<Vec<Tell>, AllocError>
-        requires floors { self.now.requests.floors ≡ self.now.config.floors }
-        requires settled { IsSettled self.now.requests }
+        requires shows { AreInfos self.now.config
+            self.now.requests.ongoing self.now.shown.items }
         ensures value { IfOk result (λ tells. tells.items
             ≡ Tell.UserStatus (option_map (shown.described self.now.config) beneficiary)
             (spec.infos_of_user (unwrap_or beneficiary user) (conference_of self.now)) ∷ []) }
         ensures shown { IfOk result (λ tells. All IsShown tells.items) }
     {
+        // At most 256 requests are ongoing.
+        let _ongoing = self.requests.ongoing();
         let who = described_if(alloc, &self.config, beneficiary)?;
-        let infos = infos_of_user(
-            alloc,
-            &self.config,
-            &self.requests,
-            beneficiary.unwrap_or(user),
-        )?;
-        one(
-            alloc,
-            Tell::UserStatus {
-                who,
-                infos: Infos::from_vec(infos),
-            },
-        )
+        let tell = user_status(alloc, who, beneficiary.unwrap_or(user), &self.shown)?;
+        one(alloc, tell)
     }
 
     /// The statuses of floors, or one that names none where none is asked about.

@@ -1,8 +1,10 @@
 //! Copies of what is shown of floor requests.
 
-ghost use Rattle.std.specs.Prelude.{◌≡◌, ◌==◌, IfOk};
+ghost use Rattle.std.specs.Prelude.{◌≡◌, ◌==◌, IfOk, false};
 ghost use Rattle.std.specs.List.{list_any};
+ghost use Rattle.std.specs.Option.{option_map_or};
 ghost use Rattle.floor_machine.specs.Reply.{infos_on};
+ghost use Rattle.floor_machine.specs.steps.Telling.{infos_with_user, shows_user};
 
 use crate::showing::copied;
 use floor_message::{FloorStatuses, Info, Who};
@@ -66,4 +68,38 @@ pub(crate) fn infos_on(alloc: Global, floor: u16, infos: &[Info]) -> Result<Vec<
         }
     }
     Ok(on)
+}
+
+/// Whether the user is the one that is shown.
+fn is_shown_user(who: &Option<Who>, user: u16) -> bool
+    ensures { result ≡ option_map_or (λ shown. shown.user == user) who.now false }
+{
+    match who {
+        Some(who) => who.user == user,
+        None => false,
+    }
+}
+
+/// Whether the user is the requester or the beneficiary of the request that is shown.
+fn shows_user(info: &Info, user: u16) -> bool
+    ensures { result ≡ shows_user user info.now }
+{
+    is_shown_user(&info.requester, user) || is_shown_user(&info.beneficiary, user)
+}
+
+/// Copies of those of which the user is requester or beneficiary, in their order.
+pub(crate) fn infos_with_user(
+    alloc: Global,
+    user: u16,
+    infos: &[Info],
+) -> Result<Vec<Info>, AllocError>
+    ensures { IfOk result (λ own. own.items ≡ infos_with_user user infos.now) }
+{
+    let mut own = Vec::new(alloc);
+    for info in infos {
+        if shows_user(info, user) {
+            own.push(copied_info(alloc, info)?)?;
+        }
+    }
+    Ok(own)
 }

@@ -6,7 +6,7 @@ ghost use Rattle.std.specs.List.{flat_map, list_any};
 ghost use Rattle.floor_queue.specs.Requested.{is_granting};
 ghost use Rattle.floor_queue.specs.Order.{names};
 ghost use Rattle.floor_machine.specs.steps.Marks as spec;
-ghost use Rattle.floor_machine.specs.steps.Marks.{is_before, is_urged, mark_of, marks_at, marks_waiting, waiting_mark};
+ghost use Rattle.floor_machine.specs.steps.Marks.{is_before, has_granting_chair, mark_of, marks_at, marks_waiting, waiting_mark};
 
 use floor_queue::{Request, RequestedFloor, Requests, Word};
 use floor_wire::Numbers;
@@ -21,7 +21,7 @@ pub(crate) struct Mark {
     /// Whether it waits: no other is behind it where it doesn't.
     pub waits: bool,
     /// Whether the last word of one of its chairs was Granted: else it isn't express.
-    pub is_urged: bool,
+    pub has_granting_chair: bool,
     /// Its priority.
     pub priority: u8,
     /// The floors that it names.
@@ -40,8 +40,8 @@ fn is_granting(word: Option<Word>) -> bool
 }
 
 /// Whether the last word of one of the request's chairs was Granted.
-fn is_urged(request: &Request) -> bool
-    ensures { result ≡ is_urged request.now }
+fn has_granting_chair(request: &Request) -> bool
+    ensures { result ≡ has_granting_chair request.now }
 {
     request
         .floors
@@ -65,7 +65,7 @@ fn mark_of(alloc: Global, request: &Request) -> Result<Mark, AllocError>
     Ok(Mark {
         number: request.number,
         waits: request.waits(),
-        is_urged: is_urged(request),
+        has_granting_chair: has_granting_chair(request),
         priority: request.priority,
         floors,
     })
@@ -156,7 +156,7 @@ fn precedes(mark: &Mark, request: &Request) -> bool
     ensures { result ≡ spec.precedes mark.now request.now }
 {
     mark.waits
-        && (mark.is_urged || is_before(mark, request))
+        && (mark.has_granting_chair || is_before(mark, request))
         && names_any(request, mark.floors.as_slice())
 }
 

@@ -122,6 +122,10 @@ fn take_info(infos: &mut Vec<Info>, place: usize, number: u16)
     match info_at(infos, place, number) {
         Some(_shown) => {
             let _taken = infos.remove(place);
+            // What showed 256 requests would take some 50 kB while none is ongoing.
+            if infos.is_empty() {
+                infos.shrink_to_fit();
+            }
         }
         None => {}
     }

@@ -104,17 +104,3 @@ pub(crate) fn same_info(a: &Info, b: &Info) -> bool
         && same_number(a.priority, b.priority)
         && same_text(&a.info, &b.info)
 }
-
-fn all_same_infos(a: &[Info], b: &[Info]) -> bool
-    ensures { result ≡ list_all (λ p. spec.same_info p.0 p.1) (zip a.now b.now) }
-{
-    a.iter().zip(b.iter()).all(|(x, y)| same_info(x, y))
-}
-
-/// Whether the same is shown in the same order.
-#[tactic(auto, using(crate::proofs::SameLists::same_list_zip))]
-pub(crate) fn same_infos(a: &[Info], b: &[Info]) -> bool
-    ensures { result ≡ spec.same_infos a.now b.now }
-{
-    a.len() == b.len() && all_same_infos(a, b)
-}

@@ -1,10 +1,10 @@
 //! What is shown of users and of floor requests (RFC 8855, sections 5.2.12 to 5.2.18).
 
-ghost use Rattle.std.specs.Prelude.{◌≡◌, ◌<◌, ◌^◌, ◌==◌, [], true, IfOk, OnOk, Some, None, map, filter, fold, max, if◌then◌else◌};
+ghost use Rattle.std.specs.Prelude.{◌≡◌, ◌<◌, ◌^◌, ◌==◌, [], true, IfOk, OnOk, Some, None, map, fold, max, if◌then◌else◌};
 ghost use Rattle.floor_config.specs.Configuration.{IsConfiguration};
 ghost use Rattle.floor_queue.specs.Order.{names};
-ghost use Rattle.floor_queue.specs.Queue.{IsAddable, IsSettled, involves, new_of, request_at};
-ghost use Rattle.floor_message.specs.Shown.{AreShown, IsShownInfo};
+ghost use Rattle.floor_queue.specs.Queue.{IsAddable, IsSettled, new_of, request_at};
+ghost use Rattle.floor_message.specs.Shown.{IsShownInfo};
 ghost use Rattle.floor_machine.specs.steps.Fitting.{HasNumbers};
 ghost use Rattle.floor_machine.specs.Shown as spec;
 ghost use Rattle.floor_machine.specs.Shown.{entry_of, info, info_of, overall_status};
@@ -276,26 +276,4 @@ pub(crate) fn ended_info(alloc: Global, config: &Config, ended: &Ended) -> Resul
     let status = ended.ending.number();
     let floors = ended_floors_shown(alloc, status, &ended.request)?;
     info_with(alloc, config, &ended.request, status, floors)
-}
-
-/// What is shown of the ongoing requests of which the user is requester or beneficiary, ascending.
-pub(crate) fn infos_of_user(
-    alloc: Global,
-    config: &Config,
-    requests: &Requests,
-    user: u16,
-) -> Result<Vec<Info>, AllocError>
-    requires floors { requests.now.floors ≡ config.now.floors }
-    requires settled { IsSettled requests.now }
-    ensures value { IfOk result (λ shown. shown.items ≡ map (info config.now requests.now.ongoing)
-        (filter (λ r. involves r user) requests.now.ongoing)) }
-    ensures shown { IfOk result (λ infos. AreShown infos.items) }
-{
-    let mut shown = Vec::new(alloc);
-    for request in requests.ongoing() {
-        if request.involves(user) {
-            shown.push(info(alloc, config, requests, request)?)?;
-        }
-    }
-    Ok(shown)
 }

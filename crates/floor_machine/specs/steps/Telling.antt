@@ -83,6 +83,15 @@ pub record AreInfos (config : Configuration) (ongoing : List Request) (shown : L
   pub infos : shown ≡ infos_of config ongoing
   pub fit : All IsShownInfo shown
 
+-- the user is the requester or the beneficiary of the request that is shown
+abbrev pub shows_user : ℕ → Info → Bool
+shows_user user i =
+    option_map_or (λ who. who.user == user) i.requester false || option_map_or (λ who. who.user == user) i.beneficiary false
+
+-- those infos of which the user is requester or beneficiary
+abbrev pub infos_with_user : ℕ → List Info → List Info
+infos_with_user user shown_infos = filter (shows_user user) shown_infos
+
 -- what is there, as a list
 abbrev pub listed : {A : Type 0} → Option A → List A
 listed o = option_map_or (λ x. x ∷ []) o []
