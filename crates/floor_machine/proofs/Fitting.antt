@@ -13,7 +13,7 @@ use Rattle.floor_queue.specs.declared.requested_floor.RequestedFloor.{RequestedF
 use Rattle.floor_queue.specs.Queue.{Queue, IsAddable, IsQueue, is_floor, new_of, request_at}
 use Rattle.floor_message.specs.Shown.{AreShown, IsDescribed, IsNamed, IsShown, IsShownInfo}
 use Rattle.floor_message.specs.declared.tell.Info.{Info}
-use Rattle.floor_machine.specs.declared.sending.FloorUpdate.{FloorUpdate}
+use Rattle.floor_machine.specs.declared.tell.changed.FloorUpdate.{FloorUpdate}
 use Rattle.floor_machine.specs.Conference.{user_with}
 use Rattle.floor_machine.specs.Shown.{Entry, info_of, named, described, floor_shown}
 use Rattle.floor_machine.specs.Reply.{infos_on}

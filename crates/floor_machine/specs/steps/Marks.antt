@@ -7,7 +7,7 @@ use Rattle.floor_queue.specs.declared.request.Request.{Request}
 use Rattle.floor_queue.specs.Requested.{is_granting}
 use Rattle.floor_queue.specs.Order.{ahead, names, waits}
 use Rattle.floor_queue.specs.Queue.{request_at}
-use Rattle.floor_machine.specs.declared.marking.Mark.{Mark}
+use Rattle.floor_machine.specs.declared.marks.Mark.{Mark}
 
 -- the last word of one of the request's chairs was Granted: each express request is one of these
 abbrev pub has_granting_chair : Request → Bool

@@ -16,10 +16,10 @@ use Rattle.floor_message.specs.declared.tell.Tell.{Tell}
 use Rattle.floor_message.specs.declared.tell.Tell.TheVariants.{FloorRequestStatus, UserStatus, ChairActionAck, HelloAck, Error}
 use Rattle.floor_machine.specs.declared.course.Course.{Course}
 use Rattle.floor_machine.specs.declared.course.Ended.{Ended}
-use Rattle.floor_machine.specs.declared.judged.Judged.{Judged}
-use Rattle.floor_machine.specs.declared.judged.Judged.TheVariants.{Accepted, Refused, Unanswered}
+use Rattle.floor_machine.specs.declared.change.judged.Judged.{Judged}
+use Rattle.floor_machine.specs.declared.change.judged.Judged.TheVariants.{Accepted, Refused, Unanswered}
 use Rattle.floor_machine.specs.declared.member.Member.{Member}
-use Rattle.floor_machine.specs.declared.state.State.{State}
+use Rattle.floor_machine.specs.declared.conference.State.{State}
 use Rattle.floor_machine.specs.Conference.{Conference, binding, is_numbered_from, user_of}
 use Rattle.floor_machine.specs.Shown.{Entry, ongoing_of, described}
 use Rattle.floor_machine.specs.Checks.{refusal, beneficiary_of, is_allowed}

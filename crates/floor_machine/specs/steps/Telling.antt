@@ -17,11 +17,11 @@ use Rattle.floor_message.specs.declared.tell.Tell.TheVariants.{FloorRequestStatu
 use Rattle.floor_machine.specs.declared.member.Member.{Member}
 use Rattle.floor_machine.specs.Parcel.{Parcel}
 use Rattle.floor_machine.specs.declared.course.Ended.{Ended}
-use Rattle.floor_machine.specs.declared.course.Shown.{Shown}
-use Rattle.floor_machine.specs.declared.sending.Reply.{Reply}
-use Rattle.floor_machine.specs.declared.sending.Update.{Update}
-use Rattle.floor_machine.specs.declared.sending.FloorNotice.{FloorNotice}
-use Rattle.floor_machine.specs.declared.sending.FloorUpdate.{FloorUpdate}
+use Rattle.floor_machine.specs.declared.information.shown.Shown.{Shown}
+use Rattle.floor_machine.specs.declared.change.reply.Reply.{Reply}
+use Rattle.floor_machine.specs.declared.tell.changed.Update.{Update}
+use Rattle.floor_machine.specs.declared.tell.parcels.FloorNotice.{FloorNotice}
+use Rattle.floor_machine.specs.declared.tell.changed.FloorUpdate.{FloorUpdate}
 use Rattle.floor_machine.specs.Shown.{Entry, entry_of, info, info_of, named}
 use Rattle.floor_machine.specs.Same.{same_infos}
 use Rattle.floor_machine.specs.Outgoing.{Outgoing, notice, notice_head}
