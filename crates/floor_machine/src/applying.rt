@@ -1,32 +1,27 @@
 //! What a lawful event makes of a conference, and what it tells the members: first the change, then
 //! what is told of it.
 
-ghost use Rattle.std.specs.Prelude.{◌≡◌, ◌++◌, All, IfOk, IsSome, OnErr, OnOk, false, true};
+ghost use Rattle.std.specs.Prelude.{◌≡◌, ◌++◌, All, IfOk, IsSome, OnErr, OnOk};
 ghost use Rattle.floor_queue.specs.Order.{settle};
 ghost use Rattle.floor_queue.specs.Queue.{IsSettled, after_settle, request_at};
 ghost use Rattle.floor_wire.specs.Message.{IsMessage};
 ghost use Rattle.floor_message.specs.Shown.{IsShownInfo};
 ghost use Rattle.floor_machine.specs.Change as change;
 ghost use Rattle.floor_machine.specs.Change.{IsLawful};
-ghost use Rattle.floor_machine.specs.Conference.{user_of};
 ghost use Rattle.floor_machine.specs.Fitting.{ToldFits};
 ghost use Rattle.floor_machine.specs.Journal.{parcels_of};
 ghost use Rattle.floor_machine.specs.declared.event.Event.TheVariants.{Leave, Message, Revoke};
 ghost use Rattle.floor_machine.specs.steps.Events.{HasNumber, IsSilent, event_of};
 ghost use Rattle.floor_machine.specs.steps.Fitting.{AreAddable, AreUpdatesShown, IsToldShown};
 ghost use Rattle.floor_machine.specs.steps.Renewing.{IsCourse};
-ghost use Rattle.floor_machine.specs.steps.Serving.{IsJudged, IsState, MayServe, changes_requests, conference_of};
+ghost use Rattle.floor_machine.specs.steps.Serving.{IsState, conference_of};
 ghost use Rattle.floor_machine.specs.steps.Telling.{AreChanged, AreInfos, infos_of, updates};
 
-use crate::change::judged::Judged;
-use crate::change::message::watch_asked;
-use crate::change::reply::{Reply, response_head};
 use crate::conference::State;
 use crate::course::{Course, begin};
 use crate::event::{Act, BorrowedEvent};
 use crate::marks::mark_granted;
 use crate::parcel::Parcel;
-use crate::tell::parcels::{put_all, put_behind};
 use crate::tell::renewing::{Changes, renew};
 use floor_message::what_is_shown_fits;
 use floor_wire::Frame;
@@ -98,107 +93,21 @@ impl State {
         // A frame is one message, which makes the event a lawful one.
         let _bytes = frame.bytes();
         let user = self.user_of(n);
-        let judged = self.judge(alloc, user, frame)?;
-        if judged.changes_requests() {
-            self.serve(alloc, n, user, frame, &judged, out)
-        } else {
-            self.respond(alloc, n, user, frame, &judged, out)
-        }
-    }
-
-    /// Serves a message that changes requests: what is shown otherwise after it is told. After an
-    /// error `out` is as it was.
-    fn serve(
-        &mut self,
-        alloc: Global,
-        n: u32,
-        user: u16,
-        frame: &Frame,
-        judged: &Judged,
-        out: &mut Vec<Parcel>,
-    ) -> Result<(), AllocError>
-        requires changes { changes_requests judged.now ≡ true }
-        requires state { IsState self.old }
-        requires settled { IsSettled self.old.requests }
-        requires shows { AreInfos self.old.config
-            self.old.requests.ongoing self.old.shown.items }
-        requires user { user ≡ user_of (conference_of self.old) n }
-        requires judged { IsJudged (conference_of self.old) n frame.now judged.now }
-        requires may { MayServe (conference_of self.old) user judged.now }
-        ensures next { OnOk result (conference_of self.new
-            ≡ change.next (conference_of self.old) (Message n frame.now)) }
-        ensures out { OnOk result (out.new.items ≡ out.old.items
-            ++ parcels_of (conference_of self.old) (Message n frame.now)) }
-        ensures shown { OnOk result (IsToldShown (conference_of self.old) (Message n frame.now)) }
-        ensures left { OnErr result (out.new.items ≡ out.old.items) }
-        ensures state { OnOk result (IsState self.new) }
-        ensures settled { OnOk result (IsSettled self.new.requests) }
-        ensures shows { OnOk result (AreInfos self.new.config
-            self.new.requests.ongoing self.new.shown.items) }
-    {
-        let mut course = begin(alloc, &self.requests, &mut self.shown)?;
-        self.change(alloc, &mut course, n, user, judged)?;
-        let changes = self.settle(alloc, &mut course)?;
-        let tells = self.answer(alloc, &course.ended, user, judged)?;
-        let reply = Some(Reply {
-            n,
-            head: response_head(frame),
-            tells,
-        });
-        self.tell(alloc, &changes, &reply, out)
-    }
-
-    /// Answers a message that changes no request: its sender alone is told anything, so nothing
-    /// that is shown of the requests is looked at. After an error `out` is as it was.
-    fn respond(
-        &mut self,
-        alloc: Global,
-        n: u32,
-        user: u16,
-        frame: &Frame,
-        judged: &Judged,
-        out: &mut Vec<Parcel>,
-    ) -> Result<(), AllocError>
-        requires kept { changes_requests judged.now ≡ false }
-        requires state { IsState self.old }
-        requires settled { IsSettled self.old.requests }
-        requires shows { AreInfos self.old.config
-            self.old.requests.ongoing self.old.shown.items }
-        requires user { user ≡ user_of (conference_of self.old) n }
-        requires judged { IsJudged (conference_of self.old) n frame.now judged.now }
-        requires may { MayServe (conference_of self.old) user judged.now }
-        ensures next { OnOk result (conference_of self.new
-            ≡ change.next (conference_of self.old) (Message n frame.now)) }
-        ensures out { OnOk result (out.new.items ≡ out.old.items
-            ++ parcels_of (conference_of self.old) (Message n frame.now)) }
-        ensures shown { OnOk result (IsToldShown (conference_of self.old) (Message n frame.now)) }
-        ensures left { OnErr result (out.new.items ≡ out.old.items) }
-        ensures state { OnOk result (IsState self.new) }
-        ensures settled { OnOk result (IsSettled self.new.requests) }
-        ensures shows { OnOk result (AreInfos self.new.config
-            self.new.requests.ongoing self.new.shown.items) }
-    {
-        // The ongoing requests ascend, so that each is shown as before.
+        // The requests ascend, so that no two have one number.
         let _ongoing = self.requests.ongoing();
-        watch_asked(alloc, &mut self.members, n, judged)?;
-        let tells = self.answer(alloc, &[], user, judged)?;
-        let reply = Some(Reply {
-            n,
-            head: response_head(frame),
-            tells,
-        });
-        let mut parcels = Vec::new(alloc);
-        put_all(
-            alloc,
-            &mut parcels,
-            self.config.conference(),
-            &self.members,
-            &reply,
-            &[],
-            &[],
-        )?;
-        put_behind(out, parcels)?;
-        Ok(())
+        let judged = self.judge(alloc, user, frame)?;
+        match self.change(alloc, n, user, &judged)? {
+            Some(mut course) => {
+                let changes = self.settle(alloc, &mut course)?;
+                let reply = self.reply(alloc, &course.ended, n, user, frame, &judged)?;
+                self.tell(alloc, &changes, &Some(reply), out)
+            }
+            // Its sender alone is told anything, and nothing that is shown is looked at.
+            None => {
+                let reply = self.reply(alloc, &[], n, user, frame, &judged)?;
+                self.tell_reply(alloc, &Some(reply), out)
+            }
+        }
     }
 
     /// A member leaves, and what that ends and grants is told. After an error `out` is as it was.

@@ -3,7 +3,7 @@
 
 ghost use Rattle.std.specs.List.{list_all, list_any};
 ghost use Rattle.std.specs.Option.{option_map_or};
-ghost use Rattle.std.specs.Prelude.{◌≡◌, ◌&&◌, ◌++◌, ◌==◌, ◌∷◌, [], All, IfSome, IsSome, OnOk, false, map};
+ghost use Rattle.std.specs.Prelude.{◌≡◌, ◌&&◌, ◌++◌, ◌==◌, ◌∷◌, [], All, IfOk, IfSome, IsSome, OnOk, false, map};
 ghost use Rattle.floor_queue.specs.Order.{names};
 ghost use Rattle.floor_queue.specs.Queue.{MaySetFloor, after_end, request_at};
 ghost use Rattle.floor_machine.specs.Change as change;
@@ -11,16 +11,17 @@ ghost use Rattle.floor_machine.specs.Checks as checks;
 ghost use Rattle.floor_machine.specs.Checks.{chair_checks, first_of, on_request};
 ghost use Rattle.floor_machine.specs.Conference.{chair_is};
 ghost use Rattle.floor_machine.specs.steps.Marks.{KeepsNoted};
-ghost use Rattle.floor_machine.specs.steps.Serving.{MayDecide, after_decide, conference_of, ended_by};
+ghost use Rattle.floor_machine.specs.steps.Serving.{IsChanged, IsState, MayDecide, after_decide, conference_of, ended_by};
+ghost use Rattle.floor_machine.specs.steps.Telling.{AreInfos};
 
 use crate::conference::State;
-use crate::course::Ended;
+use crate::course::{Course, Ended, begin};
 use crate::marks::{Mark, mark_ongoing, mark_request};
 use crate::status::RequestStatus;
 use floor_config::{Config, Floor};
-use floor_message::{ErrorCode, Verdict};
+use floor_message::{Ask, ErrorCode, Verdict};
 use floor_queue::{Request, Requests, Word};
-use std::alloc::AllocError;
+use std::alloc::{AllocError, Global};
 
 impl State {
     /// The error code by which the own checks refuse a ChairAction.
@@ -38,6 +39,34 @@ impl State {
             None => Some(ErrorCode::FloorRequestIdDoesNotExist),
             Some(found) => self.verdicts_refusal(user, found, verdicts),
         }
+    }
+
+    /// Does what the verdicts of a ChairAction of member n say, before the requests are settled.
+    pub(crate) fn chair_action(
+        &mut self,
+        alloc: Global,
+        n: u32,
+        request: u16,
+        verdicts: &[(u16, Verdict)],
+    ) -> Result<Course, AllocError>
+        requires decide { MayDecide self.old.requests.ongoing request verdicts.now }
+        requires state { IsState self.old }
+        requires shows { AreInfos self.old.config
+            self.old.requests.ongoing self.old.shown.items }
+        ensures changed { IfOk result (λ course. IsChanged (conference_of self.old)
+            (change.asked_change (conference_of self.old) n (Ask.ChairAction request verdicts.now))
+            (conference_of self.new) course) }
+        ensures state { OnOk result (IsState self.new) }
+    {
+        let mut course = begin(alloc, &self.requests, &mut self.shown)?;
+        decide(
+            &mut self.requests,
+            &mut course.ended,
+            &mut course.marks,
+            request,
+            verdicts,
+        )?;
+        Ok(course)
     }
 
     fn verdicts_refusal(

@@ -1,20 +1,21 @@
 //! A FloorRelease: its own checks, and how the floor request ends that is given back (RFC 8855, sections
 //! 10.2 and 13.4).
 
-ghost use Rattle.std.specs.Prelude.{◌≡◌, ◌++◌, ◌∷◌, [], IfSome, IsSome, OnOk};
+ghost use Rattle.std.specs.Prelude.{◌≡◌, ◌++◌, ◌∷◌, [], IfOk, IfSome, IsSome, OnOk};
 ghost use Rattle.floor_queue.specs.Queue.{after_end, request_at};
 ghost use Rattle.floor_machine.specs.Change as change;
 ghost use Rattle.floor_machine.specs.Checks.{on_request, release_checks};
 ghost use Rattle.floor_machine.specs.steps.Marks.{KeepsNoted};
-ghost use Rattle.floor_machine.specs.steps.Serving.{conference_of};
+ghost use Rattle.floor_machine.specs.steps.Serving.{IsChanged, IsState, conference_of};
+ghost use Rattle.floor_machine.specs.steps.Telling.{AreInfos};
 
 use crate::conference::State;
-use crate::course::Ended;
+use crate::course::{Course, Ended, begin};
 use crate::marks::{Mark, mark_request};
 use crate::status::RequestStatus;
-use floor_message::ErrorCode;
+use floor_message::{Ask, ErrorCode};
 use floor_queue::{Request, Requests};
-use std::alloc::AllocError;
+use std::alloc::{AllocError, Global};
 
 impl State {
     /// The error code by which the own checks refuse a FloorRelease.
@@ -31,6 +32,32 @@ impl State {
                 }
             }
         }
+    }
+
+    /// Ends the request that a FloorRelease of member n gives back, before the requests are settled.
+    pub(crate) fn floor_release(
+        &mut self,
+        alloc: Global,
+        n: u32,
+        request: u16,
+    ) -> Result<Course, AllocError>
+        requires ongoing { IsSome (request_at self.old.requests.ongoing request) }
+        requires state { IsState self.old }
+        requires shows { AreInfos self.old.config
+            self.old.requests.ongoing self.old.shown.items }
+        ensures changed { IfOk result (λ course. IsChanged (conference_of self.old)
+            (change.asked_change (conference_of self.old) n (Ask.FloorRelease request))
+            (conference_of self.new) course) }
+        ensures state { OnOk result (IsState self.new) }
+    {
+        let mut course = begin(alloc, &self.requests, &mut self.shown)?;
+        release_request(
+            &mut self.requests,
+            &mut course.ended,
+            &mut course.marks,
+            request,
+        )?;
+        Ok(course)
     }
 }
 

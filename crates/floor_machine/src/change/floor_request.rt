@@ -1,20 +1,23 @@
 //! A FloorRequest: its own checks, and the request that it adds (RFC 8855, sections 10.1 and 13.1).
 
 ghost use Rattle.std.specs.List.{list_any};
-ghost use Rattle.std.specs.Prelude.{◌≡◌, ◌++◌, ◌+◌, ◌∷◌, [], OnOk, nat_le};
+ghost use Rattle.std.specs.Prelude.{◌≡◌, ◌++◌, ◌+◌, ◌∷◌, [], IfOk, OnOk, nat_le};
 ghost use Rattle.floor_queue.specs.Queue.{IsAddable, after_add};
+ghost use Rattle.floor_machine.specs.Change as change;
 ghost use Rattle.floor_machine.specs.Checks as checks;
 ghost use Rattle.floor_machine.specs.Checks.{first_of, request_checks};
+ghost use Rattle.floor_machine.specs.Conference.{user_of};
 ghost use Rattle.floor_machine.specs.steps.Marks.{KeepsNoted};
 ghost use Rattle.floor_machine.specs.steps.Serving as serving;
-ghost use Rattle.floor_machine.specs.steps.Serving.{HasRoom, IsState, conference_of};
+ghost use Rattle.floor_machine.specs.steps.Serving.{HasRoom, IsChanged, IsState, conference_of};
+ghost use Rattle.floor_machine.specs.steps.Telling.{AreInfos};
 
 use crate::conference::State;
-use crate::course::Course;
+use crate::course::{Course, begin};
 use crate::information::showing::copied;
 use crate::lookup::{are_floors, has_proxy, is_user};
 use crate::marks::{Mark, mark_ongoing};
-use floor_message::ErrorCode;
+use floor_message::{Ask, ErrorCode};
 use floor_queue::{AddRefusal, MAX_FLOORS, MAX_ONGOING, New, Request, Requests};
 use floor_wire::{Numbers, Octets};
 use std::alloc::{AllocError, Global};
@@ -56,8 +59,45 @@ impl State {
         None
     }
 
+    /// Adds the request that a FloorRequest of member n asks for, before the requests are settled.
+    pub(crate) fn floor_request(
+        &mut self,
+        alloc: Global,
+        n: u32,
+        user: u16,
+        beneficiary: Option<u16>,
+        floors: &Numbers,
+        priority: u8,
+        info: &Option<Octets>,
+    ) -> Result<Course, AllocError>
+        requires addable { IsAddable self.old.config.floors
+            (serving.new_of_ask user beneficiary floors.now priority info.now) }
+        requires room { HasRoom self.old.requests.ongoing self.old.requests.given }
+        requires user { user ≡ user_of (conference_of self.old) n }
+        requires state { IsState self.old }
+        requires shows { AreInfos self.old.config
+            self.old.requests.ongoing self.old.shown.items }
+        ensures changed { IfOk result (λ course. IsChanged (conference_of self.old)
+            (change.asked_change (conference_of self.old) n
+            (Ask.FloorRequest beneficiary floors.now priority info.now))
+            (conference_of self.new) course) }
+        ensures state { OnOk result (IsState self.new) }
+    {
+        let mut course = begin(alloc, &self.requests, &mut self.shown)?;
+        self.request(
+            alloc,
+            &mut course,
+            user,
+            beneficiary,
+            floors,
+            priority,
+            info,
+        )?;
+        Ok(course)
+    }
+
     /// Adds the request that a user asks for.
-    pub(crate) fn request(
+    fn request(
         &mut self,
         alloc: Global,
         course: &mut Course,

@@ -1,28 +1,25 @@
 //! What the message of a member changes, and what answers it (RFC 8855, section 13).
 
-ghost use Rattle.std.specs.Prelude.{◌≡◌, All, IfOk, OnOk, true};
+ghost use Rattle.std.specs.Prelude.{◌≡◌, All, IfOk, OnOk};
 ghost use Rattle.floor_config.specs.Configuration.{user_ids};
-ghost use Rattle.floor_queue.specs.Queue.{IsQueue, IsSettled};
+ghost use Rattle.floor_queue.specs.Queue.{IsSettled};
 ghost use Rattle.floor_message.specs.Ask.{Answer, ask, asks};
 ghost use Rattle.floor_message.specs.Fits.{AskFits};
 ghost use Rattle.floor_message.specs.Laws.{CountsFit};
 ghost use Rattle.floor_message.specs.Shown.{IsShown};
-ghost use Rattle.floor_machine.specs.Change as change;
 ghost use Rattle.floor_machine.specs.Checks as checks;
 ghost use Rattle.floor_machine.specs.Conference.{user_of};
+ghost use Rattle.floor_machine.specs.Outgoing.{response_head};
 ghost use Rattle.floor_machine.specs.steps.Fitting.{AreAddable, DetailsFit};
 ghost use Rattle.floor_machine.specs.steps.Serving as serving;
-ghost use Rattle.floor_machine.specs.steps.Serving.{IsBegun, IsChanged, IsState, MayServe, changes_requests, conference_of, judged_change, members_judged};
+ghost use Rattle.floor_machine.specs.steps.Serving.{IsState, IsTaken, MayServe, conference_of};
 ghost use Rattle.floor_machine.specs.steps.Telling.{AreInfos};
 
-use crate::change::chair_action::decide;
-use crate::change::floor_release::release_request;
 use crate::change::judged::Judged;
 use crate::change::queries::hello_tells;
-use crate::change::reply::one;
+use crate::change::reply::{Reply, one, response_head};
 use crate::conference::State;
 use crate::course::{Course, Ended};
-use crate::members::Members;
 use floor_message::{Ask, AskFault, Binding, ErrorCode, Tell, read_ask, what_is_asked_fits};
 use floor_wire::{Frame, Octets};
 use std::alloc::{AllocError, Global};
@@ -96,50 +93,43 @@ impl State {
         }
     }
 
-    /// Does what a message that changes requests is to do, before the requests are settled.
+    /// Does what a judged message of member n asks, before the requests are settled. What changes
+    /// requests gives the course of its event.
     pub(crate) fn change(
         &mut self,
         alloc: Global,
-        course: &mut Course,
         n: u32,
         user: u16,
         judged: &Judged,
-    ) -> Result<(), AllocError>
-        requires changes { changes_requests judged.now ≡ true }
+    ) -> Result<Option<Course>, AllocError>
         requires may { MayServe (conference_of self.old) user judged.now }
+        requires user { user ≡ user_of (conference_of self.old) n }
         requires state { IsState self.old }
-        requires queue { IsQueue self.old.requests }
-        requires begun { IsBegun (conference_of self.old) course.old }
-        ensures changed { user ≡ user_of (conference_of self.old) n
-            → OnOk result (IsChanged (conference_of self.old)
-            (judged_change (conference_of self.old) n judged.now)
-            (conference_of self.new) course.new) }
+        requires shows { AreInfos self.old.config
+            self.old.requests.ongoing self.old.shown.items }
+        ensures taken { IfOk result (IsTaken self.old n judged.now self.new) }
         ensures state { OnOk result (IsState self.new) }
     {
         match judged {
-            Judged::Accepted(ask) => self.change_asked(alloc, course, n, user, ask),
-            Judged::Refused { .. } | Judged::Unanswered => unreachable!(),
+            Judged::Accepted(ask) => self.change_asked(alloc, n, user, ask),
+            Judged::Refused { .. } | Judged::Unanswered => Ok(None),
         }
     }
 
-    /// Does what is accepted and changes requests, before the requests are settled.
+    /// Does what an accepted message asks: each primitive does its own.
     fn change_asked(
         &mut self,
         alloc: Global,
-        course: &mut Course,
         n: u32,
         user: u16,
         ask: &Ask,
-    ) -> Result<(), AllocError>
-        requires changes { changes_requests (Judged.Accepted ask.now) ≡ true }
+    ) -> Result<Option<Course>, AllocError>
         requires may { MayServe (conference_of self.old) user (Judged.Accepted ask.now) }
+        requires user { user ≡ user_of (conference_of self.old) n }
         requires state { IsState self.old }
-        requires queue { IsQueue self.old.requests }
-        requires begun { IsBegun (conference_of self.old) course.old }
-        ensures changed { user ≡ user_of (conference_of self.old) n
-            → OnOk result (IsChanged (conference_of self.old)
-            (change.asked_change (conference_of self.old) n ask.now)
-            (conference_of self.new) course.new) }
+        requires shows { AreInfos self.old.config
+            self.old.requests.ongoing self.old.shown.items }
+        ensures taken { IfOk result (IsTaken self.old n (Judged.Accepted ask.now) self.new) }
         ensures state { OnOk result (IsState self.new) }
     {
         match ask {
@@ -148,31 +138,63 @@ impl State {
                 floors,
                 priority,
                 info,
-            } => self.request(alloc, course, user, *beneficiary, floors, *priority, info),
-            Ask::FloorRelease { request } => {
-                release_request(
-                    &mut self.requests,
-                    &mut course.ended,
-                    &mut course.marks,
-                    *request,
-                )
+            } => {
+                let course = self.floor_request(
+                    alloc,
+                    n,
+                    user,
+                    *beneficiary,
+                    floors,
+                    *priority,
+                    info,
+                )?;
+                Ok(Some(course))
             }
-            Ask::ChairAction { request, verdicts } => decide(
-                &mut self.requests,
-                &mut course.ended,
-                &mut course.marks,
-                *request,
-                verdicts.as_slice(),
-            ),
-            Ask::FloorRequestQuery { .. }
-            | Ask::UserQuery { .. }
-            | Ask::FloorQuery { .. }
-            | Ask::Hello => unreachable!(),
+            Ask::FloorRelease { request } => Ok(Some(self.floor_release(alloc, n, *request)?)),
+            Ask::ChairAction { request, verdicts } => {
+                let course = self.chair_action(alloc, n, *request, verdicts.as_slice())?;
+                Ok(Some(course))
+            }
+            Ask::FloorQuery { floors } => {
+                self.members.watch(alloc, n, floors)?;
+                Ok(None)
+            }
+            Ask::FloorRequestQuery { .. } | Ask::UserQuery { .. } | Ask::Hello => Ok(None),
         }
     }
 
+    /// What the sender of a judged message is answered, after the event.
+    pub(crate) fn reply(
+        &self,
+        alloc: Global,
+        ended: &[Ended],
+        n: u32,
+        user: u16,
+        frame: &Frame,
+        judged: &Judged,
+    ) -> Result<Reply, AllocError>
+        requires floors { self.now.requests.floors ≡ self.now.config.floors }
+        requires settled { IsSettled self.now.requests }
+        requires ended { AreAddable self.now.config.floors ended.now }
+        requires details { DetailsFit judged.now }
+        requires shows { AreInfos self.now.config
+            self.now.requests.ongoing self.now.shown.items }
+        ensures to { IfOk result (λ reply. reply.n ≡ n) }
+        ensures head { IfOk result (λ reply. reply.head ≡ response_head frame.now) }
+        ensures tells { IfOk result (λ reply. reply.tells.items
+            ≡ serving.judged_tells (conference_of self.now) ended.now user judged.now) }
+        ensures shown { IfOk result (λ reply. All IsShown reply.tells.items) }
+    {
+        let tells = self.answer(alloc, ended, user, judged)?;
+        Ok(Reply {
+            n,
+            head: response_head(frame),
+            tells,
+        })
+    }
+
     /// What a judged message is answered by, after the event.
-    pub(crate) fn answer(
+    fn answer(
         &self,
         alloc: Global,
         ended: &[Ended],
@@ -228,29 +250,5 @@ impl State {
             Ask::FloorQuery { floors } => self.floor_tells(alloc, floors.as_slice()),
             Ask::ChairAction { .. } => one(alloc, Tell::ChairActionAck),
         }
-    }
-}
-
-/// The members after what the message of one of them asks: a FloorQuery replaces the floors that it
-/// watches.
-pub(crate) fn watch_asked(
-    alloc: Global,
-    members: &mut Members,
-    n: u32,
-    judged: &Judged,
-) -> Result<(), AllocError>
-    ensures { OnOk result (members.new ≡ members_judged members.old n judged.now) }
-{
-    match judged {
-        Judged::Accepted(ask) => match ask {
-            Ask::FloorQuery { floors } => members.watch(alloc, n, floors),
-            Ask::FloorRequest { .. }
-            | Ask::FloorRelease { .. }
-            | Ask::FloorRequestQuery { .. }
-            | Ask::UserQuery { .. }
-            | Ask::ChairAction { .. }
-            | Ask::Hello => Ok(()),
-        },
-        Judged::Refused { .. } | Judged::Unanswered => Ok(()),
     }
 }

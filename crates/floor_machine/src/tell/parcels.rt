@@ -70,6 +70,32 @@ impl State {
         put_behind(out, parcels)?;
         Ok(())
     }
+
+    /// Puts the reply alone, of an event that changes nothing that is shown. After an error `out` is
+    /// as it was.
+    pub(crate) fn tell_reply(
+        &self,
+        alloc: Global,
+        reply: &Option<Reply>,
+        out: &mut Vec<Parcel>,
+    ) -> Result<(), AllocError>
+        requires { IsReplyShown reply.now }
+        ensures told { OnOk result (out.new.items ≡ out.old.items
+            ++ parcels_to_all self.now.config.conference reply.now [] [] self.now.members) }
+        ensures left { OnErr result (out.new.items ≡ out.old.items) }
+    {
+        let mut parcels = Vec::new(alloc);
+        put_all(
+            alloc,
+            &mut parcels,
+            self.config.conference(),
+            &self.members,
+            reply,
+            &[],
+            &[],
+        )?;
+        put_behind(out, parcels)
+    }
 }
 
 /// Puts all that an event tells the live members, by ascending number. The status of a changed
