@@ -17,7 +17,7 @@ use Rattle.floor_message.specs.declared.ask.Verdict.{Verdict}
 use Rattle.floor_message.specs.declared.ask.Ask.TheVariants.{FloorRequest, FloorRelease, FloorRequestQuery, UserQuery, FloorQuery, ChairAction, Hello}
 use Rattle.floor_message.specs.declared.code.ErrorCode.{ErrorCode}
 use Rattle.floor_message.specs.declared.code.ErrorCode.TheVariants.{FloorRequestIdDoesNotExist, UnauthorizedOperation, UserDoesNotExist, InvalidFloorId, GenericError, MaximumFloorRequestsReached}
-use Rattle.floor_machine.specs.declared.judged.Judged.TheVariants.{Accepted}
+use Rattle.floor_machine.specs.declared.change.judged.Judged.TheVariants.{Accepted}
 use Rattle.floor_machine.specs.Conference.{Conference, is_user, has_proxy, chair_is}
 use Rattle.floor_machine.specs.Checks.{Check, when, first_of, beneficiary_of, requests_for, release_checks, chair_checks, is_allowed, refusal}
 use Rattle.floor_machine.specs.steps.Serving.{HasRoom, MayServe}

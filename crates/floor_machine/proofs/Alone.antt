@@ -12,8 +12,8 @@ use Rattle.floor_message.specs.declared.code.ErrorCode.{ErrorCode}
 use Rattle.floor_message.specs.declared.tell.Tell.TheVariants.{FloorRequestStatus}
 use Rattle.floor_machine.specs.declared.event.Event.{Event}
 use Rattle.floor_machine.specs.declared.event.Event.TheVariants.{Message}
-use Rattle.floor_machine.specs.declared.judged.Judged.{Judged}
-use Rattle.floor_machine.specs.declared.judged.Judged.TheVariants.{Accepted, Refused}
+use Rattle.floor_machine.specs.declared.change.judged.Judged.{Judged}
+use Rattle.floor_machine.specs.declared.change.judged.Judged.TheVariants.{Accepted, Refused}
 use Rattle.floor_machine.specs.declared.member.Member.{Member}
 use Rattle.floor_machine.specs.Conference.{Conference, binding, member_with, opening, user_of}
 use Rattle.floor_machine.specs.Change.{change, next}

@@ -13,7 +13,7 @@ use Rattle.floor_message.specs.declared.ask.Ask.TheVariants.{FloorRequest, Floor
 use Rattle.floor_message.specs.declared.ask.Verdict.{Verdict}
 use Rattle.floor_machine.specs.declared.course.Course.{Course}
 use Rattle.floor_machine.specs.declared.course.Ended.{Ended}
-use Rattle.floor_machine.specs.declared.state.State.{State}
+use Rattle.floor_machine.specs.declared.conference.State.{State}
 use Rattle.floor_machine.specs.declared.status.RequestStatus.{RequestStatus}
 use Rattle.floor_machine.specs.Shown.{entry_of}
 use Rattle.floor_machine.specs.Conference.{Conference, user_of}

@@ -15,10 +15,10 @@ use Rattle.floor_machine.specs.declared.course.Course.{Course}
 use Rattle.floor_machine.specs.declared.event.Event.{Event}
 use Rattle.floor_machine.specs.declared.event.Event.TheVariants.{Close}
 use Rattle.floor_machine.specs.declared.member.Member.{Member}
-use Rattle.floor_machine.specs.declared.sending.FloorUpdate.{FloorUpdate}
-use Rattle.floor_machine.specs.declared.sending.Reply.{Reply}
-use Rattle.floor_machine.specs.declared.sending.Update.{Update}
-use Rattle.floor_machine.specs.declared.state.State.{State}
+use Rattle.floor_machine.specs.declared.tell.changed.FloorUpdate.{FloorUpdate}
+use Rattle.floor_machine.specs.declared.change.reply.Reply.{Reply}
+use Rattle.floor_machine.specs.declared.tell.changed.Update.{Update}
+use Rattle.floor_machine.specs.declared.conference.State.{State}
 use Rattle.floor_machine.specs.Conference.{Conference, member_with}
 use Rattle.floor_machine.specs.Change.{change, next, shown}
 use Rattle.floor_machine.specs.steps.Serving.{IsChanged, IsState, conference_of, ended_of, is_rising, numbers_in}

@@ -1,5 +1,5 @@
 -- What the machine tells shows no more than a conference has.
-use Rattle.std.proofs.Common.{◌≡◌, ℕ, zero, suc, ◌^◌, ◌<◌, ◌≤◌, Bool, true, false, cond, List, [], ◌∷◌, ◌++◌, length, get_or, take, map, Option, Some, None, refl, sym, subst, ap, arith}
+use Rattle.std.proofs.Common.{◌≡◌, ℕ, zero, suc, ◌^◌, ◌<◌, ◌≤◌, Bool, true, false, cond, List, [], ◌∷◌, ◌++◌, length, get_or, take, map, Option, Some, None, refl, sym, subst, arith}
 use Rattle.std.specs.Prelude.{◌==◌, ◌||◌, All, filter, find, IfOk, IfSome, OnOk, IsTrue, Result, Ok, Err, option_and_then}
 use Rattle.std.specs.List.{list_any}
 use Rattle.std.proofs.lemmas.Bool.{eqb-true}
@@ -13,7 +13,7 @@ use Rattle.floor_queue.specs.declared.requested_floor.RequestedFloor.{RequestedF
 use Rattle.floor_queue.specs.Queue.{Queue, IsAddable, IsQueue, is_floor, new_of, request_at}
 use Rattle.floor_message.specs.Shown.{AreShown, IsDescribed, IsNamed, IsShown, IsShownInfo}
 use Rattle.floor_message.specs.declared.tell.Info.{Info}
-use Rattle.floor_machine.specs.declared.sending.FloorUpdate.{FloorUpdate}
+use Rattle.floor_machine.specs.declared.tell.changed.FloorUpdate.{FloorUpdate}
 use Rattle.floor_machine.specs.Conference.{user_with}
 use Rattle.floor_machine.specs.Shown.{Entry, info_of, named, described, floor_shown}
 use Rattle.floor_machine.specs.Reply.{infos_on}
@@ -130,20 +130,15 @@ length-take_le zero xs = omega arith
 length-take_le (suc i) [] = omega arith
 length-take_le (suc i) (x ∷ xs) = let rest = length-take_le i xs in omega (arith, rest)
 
--- the infos of some of at most 256 requests are at most 256
-pub few_infos_of : (f : Request → Info) (p : Request → Bool) (rs xs : List Request) (i : ℕ) (infos : List Info) → infos ≡ map f (filter p (take i xs)) → xs ≡ rs → length rs ≤ 256 →
-    length infos ≤ 256
-few_infos_of f p rs xs i infos same all few =
-    omega (arith, few, length-take_le i xs, length-filter_le p (take i xs), length-map (filter p (take i xs)) f, ap (λ (is : List Info). length is) same, ap (λ (qs : List Request). length qs) all)
-
 -- some of the infos that a conference has are no more than it has
+pub some_fit : (p : Info → Bool) (infos : List Info) → AreShown infos → AreShown (filter p infos)
+some_fit p infos h = record {
+  each = All-filter p IsShownInfo infos h.each;
+  few = omega (arith, h.few, length-filter_le p infos);
+}
+
 pub infos_on_fit : (floor : ℕ) (infos : List Info) → AreShown infos → AreShown (infos_on floor infos)
-infos_on_fit floor infos h =
-    let p : Info → Bool = λ i. list_any (λ f. f.0 == floor) i.floors in
-    record {
-      each = All-filter p IsShownInfo infos h.each;
-      few = omega (arith, h.few, length-filter_le p infos);
-    }
+infos_on_fit floor infos h = some_fit (λ i. list_any (λ f. f.0 == floor) i.floors) infos h
 
 -- the statuses of floors of the conference
 floors_changed_fit : (now : List Info) (changed : List ℕ) (floors : List Floor) → All IsFloor floors → AreShown now → AreFloorsShown (floors_changed now changed floors)

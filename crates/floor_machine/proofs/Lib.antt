@@ -37,3 +37,4 @@ pub mod Renewed
 pub mod Moved
 pub mod Walk
 pub mod Courses
+pub mod Users

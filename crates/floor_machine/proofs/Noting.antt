@@ -15,10 +15,10 @@ use Rattle.floor_queue.specs.Order.{ahead, due_numbers, earlier, earlier_by_prio
 use Rattle.floor_queue.specs.Queue.{is_ascending, request_at, without}
 use Rattle.floor_queue.specs.Requested.{is_granting}
 use Rattle.floor_message.specs.declared.ask.Verdict.{Verdict}
-use Rattle.floor_machine.specs.declared.marking.Mark.{Mark}
+use Rattle.floor_machine.specs.declared.marks.Mark.{Mark}
 use Rattle.floor_machine.specs.Change.{decided, decided_at}
 use Rattle.floor_machine.specs.Shown.{entry_of, floor_shown, floor_status, info, overall_status, status_number}
-use Rattle.floor_machine.specs.steps.Marks.{AreNoted, KeepsNoted, concerns, is_before, is_marked, is_noted, is_urged, mark_of, marks_at, marks_waiting, precedes, waiting_mark}
+use Rattle.floor_machine.specs.steps.Marks.{AreNoted, KeepsNoted, concerns, is_before, is_marked, is_noted, has_granting_chair, mark_of, marks_at, marks_waiting, precedes, waiting_mark}
 use Rattle.floor_machine.specs.steps.Telling.{info_with}
 use Rattle.floor_machine.proofs.Found.{and_left, and_right, or_right, request_at_place, same_number}
 use Rattle.floor_machine.proofs.Shows.{info_with-ongoing}
@@ -49,10 +49,10 @@ or_right_false true b h = absurd (let clash : true ≡ false = h in cc)
 or_right_false false b h = h
 
 -- of floors of which some is chaired, and each chaired one has the word Granted, some has it
-urged-in : (floors : List Floor) (fs : List RequestedFloor) → list_any (λ f. is_chaired floors f.floor) fs ≡ true →
+granting-in : (floors : List Floor) (fs : List RequestedFloor) → list_any (λ f. is_chaired floors f.floor) fs ≡ true →
     list_all (λ f. not (is_chaired floors f.floor) || is_granting f.word) fs ≡ true → list_any (λ f. is_granting f.word) fs ≡ true
-urged-in floors [] h k = h
-urged-in floors (f ∷ fs) h k = by (is_chaired floors f.floor) (is_granting f.word) h (and_left _ _ k) (λ any. urged-in floors fs any (and_right _ _ k))
+granting-in floors [] h k = h
+granting-in floors (f ∷ fs) h k = by (is_chaired floors f.floor) (is_granting f.word) h (and_left _ _ k) (λ any. granting-in floors fs any (and_right _ _ k))
   where
     by : (b g : Bool) → (b || list_any (λ x. is_chaired floors x.floor) fs) ≡ true → (not b || g) ≡ true →
         (list_any (λ x. is_chaired floors x.floor) fs ≡ true → list_any (λ x. is_granting x.word) fs ≡ true) → (g || list_any (λ x. is_granting x.word) fs) ≡ true
@@ -61,11 +61,11 @@ urged-in floors (f ∷ fs) h k = by (is_chaired floors f.floor) (is_granting f.w
     by false false h k rest = rest h
 
 -- an express request has a word Granted
-urged-express : (floors : List Floor) (q : Request) → is_express floors q ≡ true → is_urged q ≡ true
-urged-express floors q h = urged-in floors q.floors (and_left _ _ h) (and_right _ _ h)
+granting-express : (floors : List Floor) (q : Request) → is_express floors q ≡ true → has_granting_chair q ≡ true
+granting-express floors q h = granting-in floors q.floors (and_left _ _ h) (and_right _ _ h)
 
 -- a request that is earlier has a word Granted, or is before the other
-earlier-before : (floors : List Floor) (q r : Request) → earlier floors q r ≡ true → (is_urged q || is_before (mark_of q) r) ≡ true
+earlier-before : (floors : List Floor) (q r : Request) → earlier floors q r ≡ true → (has_granting_chair q || is_before (mark_of q) r) ≡ true
 earlier-before floors q r h = by (is_express floors q) (is_express floors r) refl h
   where
     either : (a b : Bool) → a ≡ true → (a || b) ≡ true
@@ -73,10 +73,10 @@ earlier-before floors q r h = by (is_express floors q) (is_express floors r) ref
     either false b h = cc
 
     by : (b d : Bool) → is_express floors q ≡ b →
-        cond b (cond d (earlier_by_priority q r) true) (cond d false (earlier_by_priority q r)) ≡ true → (is_urged q || is_before (mark_of q) r) ≡ true
-    by true d e h = either (is_urged q) _ (urged-express floors q e)
+        cond b (cond d (earlier_by_priority q r) true) (cond d false (earlier_by_priority q r)) ≡ true → (has_granting_chair q || is_before (mark_of q) r) ≡ true
+    by true d e h = either (has_granting_chair q) _ (granting-express floors q e)
     by false true e h = cc
-    by false false e h = or_right (is_urged q) _ h
+    by false false e h = or_right (has_granting_chair q) _ h
 
 -- where two requests name a floor, the one names a floor of the other
 names-shared : (r : Request) (floor : ℕ) (fs : List RequestedFloor) → names r floor ≡ true → list_any (λ f. f.floor == floor) fs ≡ true →
@@ -103,7 +103,7 @@ not-ahead true true true u l h f g = let a : u ≡ true = g refl in let b : l �
 pub passed : (floors : List Floor) (q r : Request) (floor : ℕ) → precedes (mark_of q) r ≡ false → names r floor ≡ true →
     (waits q && names q floor && earlier floors q r) ≡ false
 passed floors q r floor h named =
-    not-ahead (waits q) (names q floor) (earlier floors q r) (is_urged q || is_before (mark_of q) r) (list_any (names r) (map (λ (f : RequestedFloor). f.floor) q.floors)) h
+    not-ahead (waits q) (names q floor) (earlier floors q r) (has_granting_chair q || is_before (mark_of q) r) (list_any (names r) (map (λ (f : RequestedFloor). f.floor) q.floors)) h
     (names-shared r floor q.floors named) (earlier-before floors q r)
 
 -- nothing is to be noted where nothing has changed

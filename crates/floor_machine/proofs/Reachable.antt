@@ -20,7 +20,7 @@ use Rattle.floor_message.specs.declared.ask.Verdict.{Verdict}
 use Rattle.floor_message.specs.declared.code.ErrorCode.{ErrorCode}
 use Rattle.floor_machine.specs.declared.event.Event.{Event}
 use Rattle.floor_machine.specs.declared.event.Event.TheVariants.{Join, Message, Leave, Revoke, Close}
-use Rattle.floor_machine.specs.declared.judged.Judged.TheVariants.{Accepted}
+use Rattle.floor_machine.specs.declared.change.judged.Judged.TheVariants.{Accepted}
 use Rattle.floor_machine.specs.declared.member.Member.{Member}
 use Rattle.floor_machine.specs.Conference.{Conference, binding, is_numbered_from, is_present, opening, user_of}
 use Rattle.floor_machine.specs.Shown.{Entry, entry_of, ongoing_of}

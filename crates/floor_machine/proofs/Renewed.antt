@@ -10,9 +10,9 @@ use Rattle.floor_queue.specs.Queue.{request_at}
 use Rattle.floor_message.specs.Shown.{IsShownInfo}
 use Rattle.floor_message.specs.declared.tell.Info.{Info}
 use Rattle.floor_machine.specs.declared.course.Ended.{Ended}
-use Rattle.floor_machine.specs.declared.course.Shown.{Shown}
-use Rattle.floor_machine.specs.declared.renewing.Changes.{Changes}
-use Rattle.floor_machine.specs.declared.sending.Update.{Update}
+use Rattle.floor_machine.specs.declared.information.shown.Shown.{Shown}
+use Rattle.floor_machine.specs.declared.tell.renewing.Changes.{Changes}
+use Rattle.floor_machine.specs.declared.tell.changed.Update.{Update}
 use Rattle.floor_machine.specs.Shown.{Entry, entry_of, info, info_of}
 use Rattle.floor_machine.specs.Same.{same_info}
 use Rattle.floor_machine.specs.steps.Renewing.{IsRenewed, differs, floors_before, floors_shown, info_here, now_at, update_from}

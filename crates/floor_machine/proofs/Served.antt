@@ -18,13 +18,13 @@ use Rattle.floor_message.specs.declared.tell.Tell.{Tell}
 use Rattle.floor_message.specs.declared.tell.Tell.TheVariants.{FloorRequestStatus, UserStatus, Error}
 use Rattle.floor_machine.specs.declared.course.Course.{Course}
 use Rattle.floor_machine.specs.declared.course.Ended.{Ended}
-use Rattle.floor_machine.specs.declared.judged.Judged.TheVariants.{Accepted, Refused}
+use Rattle.floor_machine.specs.declared.change.judged.Judged.TheVariants.{Accepted, Refused}
 use Rattle.floor_machine.specs.declared.member.Member.{Member}
 use Rattle.floor_machine.specs.Parcel.{Parcel}
-use Rattle.floor_machine.specs.declared.sending.Reply.{Reply}
-use Rattle.floor_machine.specs.declared.state.State.{State}
-use Rattle.floor_machine.specs.declared.sending.Update.{Update}
-use Rattle.floor_machine.specs.declared.sending.FloorUpdate.{FloorUpdate}
+use Rattle.floor_machine.specs.declared.change.reply.Reply.{Reply}
+use Rattle.floor_machine.specs.declared.conference.State.{State}
+use Rattle.floor_machine.specs.declared.tell.changed.Update.{Update}
+use Rattle.floor_machine.specs.declared.tell.changed.FloorUpdate.{FloorUpdate}
 use Rattle.floor_machine.specs.Conference.{Conference, user_of, binding, is_numbered_from}
 use Rattle.floor_machine.specs.declared.event.Event.{Event}
 use Rattle.floor_machine.specs.declared.event.Event.TheVariants.{Message}

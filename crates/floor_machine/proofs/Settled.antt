@@ -7,11 +7,11 @@ use Rattle.floor_queue.specs.Order.{settle}
 use Rattle.floor_queue.specs.Queue.{after_settle}
 use Rattle.floor_message.specs.declared.tell.Info.{Info}
 use Rattle.floor_machine.specs.declared.course.Course.{Course}
-use Rattle.floor_machine.specs.declared.renewing.Changes.{Changes}
-use Rattle.floor_machine.specs.declared.sending.FloorUpdate.{FloorUpdate}
-use Rattle.floor_machine.specs.declared.sending.Reply.{Reply}
-use Rattle.floor_machine.specs.declared.sending.Update.{Update}
-use Rattle.floor_machine.specs.declared.state.State.{State}
+use Rattle.floor_machine.specs.declared.tell.renewing.Changes.{Changes}
+use Rattle.floor_machine.specs.declared.tell.changed.FloorUpdate.{FloorUpdate}
+use Rattle.floor_machine.specs.declared.change.reply.Reply.{Reply}
+use Rattle.floor_machine.specs.declared.tell.changed.Update.{Update}
+use Rattle.floor_machine.specs.declared.conference.State.{State}
 use Rattle.floor_machine.specs.steps.Fitting.{AreFloorsShown}
 use Rattle.floor_machine.specs.steps.Telling.{AreChanged, AreInfos, floor_update, floor_updates, floors_changed, infos_of, is_floor_changed, is_one_of, is_watched_by, parcels_to_all, updates}
 

@@ -1,21 +1,32 @@
-//! What a lawful event makes of a conference, and what it tells the members.
+//! What a lawful event makes of a conference, and what it tells the members: first the change, then
+//! what is told of it.
 
-ghost use Rattle.std.specs.Prelude.{◌≡◌, ◌++◌, OnOk, OnErr};
-ghost use Rattle.floor_queue.specs.Queue.{IsSettled};
+ghost use Rattle.std.specs.Prelude.{◌≡◌, ◌++◌, All, IfOk, IsSome, OnErr, OnOk};
+ghost use Rattle.floor_queue.specs.Order.{settle};
+ghost use Rattle.floor_queue.specs.Queue.{IsSettled, after_settle, request_at};
+ghost use Rattle.floor_wire.specs.Message.{IsMessage};
+ghost use Rattle.floor_message.specs.Shown.{IsShownInfo};
 ghost use Rattle.floor_machine.specs.Change as change;
 ghost use Rattle.floor_machine.specs.Change.{IsLawful};
 ghost use Rattle.floor_machine.specs.Fitting.{ToldFits};
 ghost use Rattle.floor_machine.specs.Journal.{parcels_of};
-ghost use Rattle.floor_machine.specs.steps.Events.{IsSilent};
-ghost use Rattle.floor_machine.specs.steps.Events.{HasNumber, event_of};
+ghost use Rattle.floor_machine.specs.declared.event.Event.TheVariants.{Leave, Message, Revoke};
+ghost use Rattle.floor_machine.specs.steps.Events.{HasNumber, IsSilent, event_of};
+ghost use Rattle.floor_machine.specs.steps.Fitting.{AreAddable, AreUpdatesShown, IsToldShown};
+ghost use Rattle.floor_machine.specs.steps.Renewing.{IsCourse};
 ghost use Rattle.floor_machine.specs.steps.Serving.{IsState, conference_of};
-ghost use Rattle.floor_machine.specs.steps.Telling.{AreInfos};
+ghost use Rattle.floor_machine.specs.steps.Telling.{AreChanged, AreInfos, infos_of, updates};
 
+use crate::conference::State;
+use crate::course::{Course, begin};
 use crate::event::{Act, BorrowedEvent};
+use crate::marks::mark_granted;
 use crate::parcel::Parcel;
-use crate::state::State;
+use crate::tell::renewing::{Changes, renew};
 use floor_message::what_is_shown_fits;
-use std::alloc::AllocError;
+use floor_wire::Frame;
+use std::alloc::{AllocError, Global};
+use std::mem;
 
 impl State {
     /// Does the event, and puts what it tells each live member. After an error `out` is as it was.
@@ -53,5 +64,136 @@ impl State {
             BorrowedEvent::Admin(Act::Close) => self.close(),
         }
         Ok(())
+    }
+
+    /// Serves the message of a member. After an error `out` is as it was.
+    pub(crate) fn message(
+        &mut self,
+        n: u32,
+        frame: &Frame,
+        out: &mut Vec<Parcel>,
+    ) -> Result<(), AllocError>
+        requires state { IsState self.old }
+        requires settled { IsSettled self.old.requests }
+        requires shows { AreInfos self.old.config
+            self.old.requests.ongoing self.old.shown.items }
+        ensures next { OnOk result (conference_of self.new
+            ≡ change.next (conference_of self.old) (Message n frame.now)) }
+        ensures out { OnOk result (out.new.items ≡ out.old.items
+            ++ parcels_of (conference_of self.old) (Message n frame.now)) }
+        ensures shown { OnOk result (IsToldShown (conference_of self.old) (Message n frame.now)) }
+        ensures left { OnErr result (out.new.items ≡ out.old.items) }
+        ensures state { OnOk result (IsState self.new) }
+        ensures settled { OnOk result (IsSettled self.new.requests) }
+        ensures shows { OnOk result (AreInfos self.new.config
+            self.new.requests.ongoing self.new.shown.items) }
+        ensures message { IsMessage frame.now }
+    {
+        let alloc = self.members.allocator();
+        // A frame is one message, which makes the event a lawful one.
+        let _bytes = frame.bytes();
+        let user = self.user_of(n);
+        // The requests ascend, so that no two have one number.
+        let _ongoing = self.requests.ongoing();
+        let judged = self.judge(alloc, user, frame)?;
+        match self.change(alloc, n, user, &judged)? {
+            Some(mut course) => {
+                let changes = self.settle(alloc, &mut course)?;
+                let reply = self.reply(alloc, &course.ended, n, user, frame, &judged)?;
+                self.tell(alloc, &changes, &Some(reply), out)
+            }
+            // Its sender alone is told anything, and nothing that is shown is looked at.
+            None => {
+                let reply = self.reply(alloc, &[], n, user, frame, &judged)?;
+                self.tell_reply(alloc, &Some(reply), out)
+            }
+        }
+    }
+
+    /// A member leaves, and what that ends and grants is told. After an error `out` is as it was.
+    pub(crate) fn leave(&mut self, n: u32, out: &mut Vec<Parcel>) -> Result<(), AllocError>
+        requires state { IsState self.old }
+        requires settled { IsSettled self.old.requests }
+        requires shows { AreInfos self.old.config
+            self.old.requests.ongoing self.old.shown.items }
+        ensures next { OnOk result (conference_of self.new
+            ≡ change.next (conference_of self.old) (Leave n)) }
+        ensures out { OnOk result (out.new.items ≡ out.old.items
+            ++ parcels_of (conference_of self.old) (Leave n)) }
+        ensures shown { OnOk result (IsToldShown (conference_of self.old) (Leave n)) }
+        ensures left { OnErr result (out.new.items ≡ out.old.items) }
+        ensures state { OnOk result (IsState self.new) }
+        ensures settled { OnOk result (IsSettled self.new.requests) }
+        ensures shows { OnOk result (AreInfos self.new.config
+            self.new.requests.ongoing self.new.shown.items) }
+    {
+        let alloc = self.members.allocator();
+        let user = self.user_of(n);
+        let mut course = begin(alloc, &self.requests, &mut self.shown)?;
+        self.change_left(&mut course, n, user)?;
+        let changes = self.settle(alloc, &mut course)?;
+        self.tell(alloc, &changes, &None, out)
+    }
+
+    /// The request is taken away or denied, and what that ends and grants is told. After an error
+    /// `out` is as it was.
+    pub(crate) fn revoke(&mut self, request: u16, out: &mut Vec<Parcel>) -> Result<(), AllocError>
+        requires ongoing { IsSome (request_at self.old.requests.ongoing request) }
+        requires state { IsState self.old }
+        requires settled { IsSettled self.old.requests }
+        requires shows { AreInfos self.old.config
+            self.old.requests.ongoing self.old.shown.items }
+        ensures next { OnOk result (conference_of self.new
+            ≡ change.next (conference_of self.old) (Revoke request)) }
+        ensures out { OnOk result (out.new.items ≡ out.old.items
+            ++ parcels_of (conference_of self.old) (Revoke request)) }
+        ensures shown { OnOk result (IsToldShown (conference_of self.old) (Revoke request)) }
+        ensures left { OnErr result (out.new.items ≡ out.old.items) }
+        ensures state { OnOk result (IsState self.new) }
+        ensures settled { OnOk result (IsSettled self.new.requests) }
+        ensures shows { OnOk result (AreInfos self.new.config
+            self.new.requests.ongoing self.new.shown.items) }
+    {
+        let alloc = self.members.allocator();
+        let mut course = begin(alloc, &self.requests, &mut self.shown)?;
+        self.change_revoked(&mut course, request)?;
+        let changes = self.settle(alloc, &mut course)?;
+        self.tell(alloc, &changes, &None, out)
+    }
+
+    /// Grants the requests that are due, shows anew those that the event may have moved, and gives
+    /// what changed.
+    pub(crate) fn settle(
+        &mut self,
+        alloc: Global,
+        course: &mut Course,
+    ) -> Result<Changes, AllocError>
+        requires floors { self.old.requests.floors ≡ self.old.config.floors }
+        requires ended { AreAddable self.old.config.floors course.old.ended.items }
+        requires course { IsCourse self.old.config self.old.requests.ongoing
+            course.old.before.items course.old }
+        requires fit { All IsShownInfo course.old.before.items }
+        ensures next { OnOk result (self.new ≡ record self.old {
+          requests = after_settle self.old.requests;
+          shown = self.new.shown;
+        }) }
+        ensures settled { OnOk result (IsSettled self.new.requests) }
+        ensures shows { OnOk result (AreInfos self.new.config
+            self.new.requests.ongoing self.new.shown.items) }
+        ensures ended { course.new.ended ≡ course.old.ended }
+        ensures updates { IfOk result (λ changes. changes.updates.items
+            ≡ updates self.old.config (settle self.old.requests.floors self.old.requests.ongoing)
+            course.old.ended.items course.old.before.items course.old.numbers.items) }
+        ensures floors { IfOk result (λ changes. AreChanged course.old.before.items
+            (infos_of self.old.config
+            (settle self.old.requests.floors self.old.requests.ongoing)) changes.floors.items) }
+        ensures shown { IfOk result (λ changes. AreUpdatesShown changes.updates.items) }
+    {
+        // The requests ascend, so that each is found by its number.
+        let _ongoing = self.requests.ongoing();
+        let granted = self.requests.settle()?;
+        mark_granted(&mut course.marks, &self.requests, granted.as_slice())?;
+        mem::swap(&mut self.shown, &mut course.before);
+        renew(alloc, &self.config, &self.requests, course, &mut self.shown)
     }
 }

@@ -2,32 +2,22 @@
 //! (RFC 8855, sections 8 to 13).
 #![tactic(auto)]
 
-mod administering;
-mod answering;
 mod applying;
-mod checks;
-mod copying;
+mod change;
+mod conference;
 mod course;
-mod deciding;
-mod ending;
 mod event;
-mod judged;
+mod information;
 mod laws;
-mod leaving;
+mod lookup;
 mod machine;
-mod marking;
+mod marks;
 mod member;
 mod members;
 mod parcel;
-mod renewing;
 mod running;
-mod same;
-mod sending;
-mod serving;
-mod showing;
-mod state;
 mod status;
-mod watching;
+mod tell;
 
 pub use event::{Act, Event, MAX_EVENTS};
 pub use floor_config::{Config, Floor, User};

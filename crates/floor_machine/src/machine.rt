@@ -7,10 +7,10 @@ ghost use Rattle.floor_machine.specs.steps.Events.{IsSilent};
 ghost use Rattle.floor_machine.specs.Machine.{IsRefusedBy, Left, Took, act_refusal, event_of_act, event_refusal, join_refusal, member_refusal, whole};
 ghost use Rattle.floor_machine.specs.steps.Events.{HasNumber, event_of};
 
-use crate::checks::is_user;
+use crate::conference::State;
 use crate::event::{Act, BorrowedEvent, Event};
+use crate::lookup::is_user;
 use crate::parcel::Parcel;
-use crate::state::State;
 use floor_config::Config;
 use floor_wire::Frame;
 use std::alloc::{AllocError, Global};

@@ -5,11 +5,11 @@ use Rattle.floor_queue.specs.declared.request.Request.{Request}
 use Rattle.floor_queue.specs.Queue.{IsAddable, new_of}
 use Rattle.floor_message.specs.Shown.{IsShown}
 use Rattle.floor_machine.specs.declared.course.Ended.{Ended}
-use Rattle.floor_machine.specs.declared.judged.Judged.{Judged}
-use Rattle.floor_machine.specs.declared.judged.Judged.TheVariants.{Accepted, Refused, Unanswered}
-use Rattle.floor_machine.specs.declared.sending.Reply.{Reply}
-use Rattle.floor_machine.specs.declared.sending.Update.{Update}
-use Rattle.floor_machine.specs.declared.sending.FloorUpdate.{FloorUpdate}
+use Rattle.floor_machine.specs.declared.change.judged.Judged.{Judged}
+use Rattle.floor_machine.specs.declared.change.judged.Judged.TheVariants.{Accepted, Refused, Unanswered}
+use Rattle.floor_machine.specs.declared.change.reply.Reply.{Reply}
+use Rattle.floor_machine.specs.declared.tell.changed.Update.{Update}
+use Rattle.floor_machine.specs.declared.tell.changed.FloorUpdate.{FloorUpdate}
 use Rattle.floor_machine.specs.declared.event.Event.{Event}
 use Rattle.floor_machine.specs.Conference.{Conference}
 use Rattle.floor_machine.specs.Outgoing.{Outgoing}

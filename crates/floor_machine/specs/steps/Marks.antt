@@ -7,11 +7,11 @@ use Rattle.floor_queue.specs.declared.request.Request.{Request}
 use Rattle.floor_queue.specs.Requested.{is_granting}
 use Rattle.floor_queue.specs.Order.{ahead, names, waits}
 use Rattle.floor_queue.specs.Queue.{request_at}
-use Rattle.floor_machine.specs.declared.marking.Mark.{Mark}
+use Rattle.floor_machine.specs.declared.marks.Mark.{Mark}
 
 -- the last word of one of the request's chairs was Granted: each express request is one of these
-abbrev pub is_urged : Request → Bool
-is_urged r = list_any (λ f. is_granting f.word) r.floors
+abbrev pub has_granting_chair : Request → Bool
+has_granting_chair r = list_any (λ f. is_granting f.word) r.floors
 
 -- the mark of a request
 abbrev pub mark_of : Request → Mark
@@ -19,7 +19,7 @@ mark_of r =
     record {
       number = r.number;
       waits = waits r;
-      is_urged = is_urged r;
+      has_granting_chair = has_granting_chair r;
       priority = r.priority;
       floors = map (λ f. f.floor) r.floors;
     }
@@ -42,7 +42,7 @@ is_before m r = if m.priority == r.priority then nat_lt m.number r.number else n
 
 -- the marked request may be ahead of the other
 abbrev pub precedes : Mark → Request → Bool
-precedes m r = m.waits && (m.is_urged || is_before m r) && list_any (names r) m.floors
+precedes m r = m.waits && (m.has_granting_chair || is_before m r) && list_any (names r) m.floors
 
 -- the mark is the request's own, or that of one which may be ahead of it
 abbrev pub concerns : Request → Mark → Bool

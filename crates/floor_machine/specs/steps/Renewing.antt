@@ -8,9 +8,9 @@ use Rattle.floor_queue.specs.Queue.{request_at}
 use Rattle.floor_message.specs.declared.tell.Info.{Info}
 use Rattle.floor_machine.specs.declared.course.Course.{Course}
 use Rattle.floor_machine.specs.declared.course.Ended.{Ended}
-use Rattle.floor_machine.specs.declared.course.Shown.{Shown}
-use Rattle.floor_machine.specs.declared.renewing.Changes.{Changes}
-use Rattle.floor_machine.specs.declared.sending.Update.{Update}
+use Rattle.floor_machine.specs.declared.information.shown.Shown.{Shown}
+use Rattle.floor_machine.specs.declared.tell.renewing.Changes.{Changes}
+use Rattle.floor_machine.specs.declared.tell.changed.Update.{Update}
 use Rattle.floor_machine.specs.Shown.{info}
 use Rattle.floor_machine.specs.Same.{same_info}
 use Rattle.floor_machine.specs.steps.Marks.{AreNoted}

@@ -1,5 +1,5 @@
 -- The steps by which a message is served.
-use Rattle.std.specs.Prelude.{◌≡◌, ◌≢◌, ◌≤◌, ◌<◌, ℕ, ◌==◌, ◌&&◌, Bool, true, false, not, List, [], ◌∷◌, length, map, filter, Option, option_map, unwrap_or, is_some, nat_lt, IsSome, IsSomeAnd, if◌then◌else◌}
+use Rattle.std.specs.Prelude.{◌≡◌, ◌≢◌, ◌≤◌, ◌<◌, ℕ, ◌==◌, ◌&&◌, Bool, true, false, not, List, [], ◌∷◌, length, map, filter, Option, option_map, unwrap_or, is_some, nat_lt, Some, None, IsSome, IsSomeAnd, if◌then◌else◌}
 use Rattle.std.specs.List.{flat_map, list_any, list_all}
 use Rattle.std.specs.Option.{option_map_or}
 use Rattle.floor_config.specs.Configuration.{user_ids}
@@ -16,10 +16,10 @@ use Rattle.floor_message.specs.declared.tell.Tell.{Tell}
 use Rattle.floor_message.specs.declared.tell.Tell.TheVariants.{FloorRequestStatus, UserStatus, ChairActionAck, HelloAck, Error}
 use Rattle.floor_machine.specs.declared.course.Course.{Course}
 use Rattle.floor_machine.specs.declared.course.Ended.{Ended}
-use Rattle.floor_machine.specs.declared.judged.Judged.{Judged}
-use Rattle.floor_machine.specs.declared.judged.Judged.TheVariants.{Accepted, Refused, Unanswered}
+use Rattle.floor_machine.specs.declared.change.judged.Judged.{Judged}
+use Rattle.floor_machine.specs.declared.change.judged.Judged.TheVariants.{Accepted, Refused, Unanswered}
 use Rattle.floor_machine.specs.declared.member.Member.{Member}
-use Rattle.floor_machine.specs.declared.state.State.{State}
+use Rattle.floor_machine.specs.declared.conference.State.{State}
 use Rattle.floor_machine.specs.Conference.{Conference, binding, is_numbered_from, user_of}
 use Rattle.floor_machine.specs.Shown.{Entry, ongoing_of, described}
 use Rattle.floor_machine.specs.Checks.{refusal, beneficiary_of, is_allowed}
@@ -109,6 +109,12 @@ pub record IsChanged (s : Conference) (c : Change) (t : Conference) (course : Co
 -- the course of an event that has changed nothing yet
 abbrev pub IsBegun : Conference → Course → Type 0
 IsBegun s course = IsChanged s (no_change s) s course
+
+-- What a judged message of n has made of s: t, which isn't settled yet, where it changes requests, with the course that has noted
+-- what it changed. Any other has changed the members alone.
+abbrev pub IsTaken : State → ℕ → Judged → State → Option Course → Type 0
+IsTaken s n j t (Some course) = IsChanged (conference_of s) (judged_change (conference_of s) n j) (conference_of t) course
+IsTaken s n j t None = (changes_requests j ≡ false) × (t ≡ record s { members = members_judged s.members n j })
 
 -- the request that a FloorRequest of this user asks for
 abbrev pub new_of_ask : ℕ → Option ℕ → List ℕ → ℕ → Option (List ℕ) → New

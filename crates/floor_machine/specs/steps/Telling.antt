@@ -17,11 +17,11 @@ use Rattle.floor_message.specs.declared.tell.Tell.TheVariants.{FloorRequestStatu
 use Rattle.floor_machine.specs.declared.member.Member.{Member}
 use Rattle.floor_machine.specs.Parcel.{Parcel}
 use Rattle.floor_machine.specs.declared.course.Ended.{Ended}
-use Rattle.floor_machine.specs.declared.course.Shown.{Shown}
-use Rattle.floor_machine.specs.declared.sending.Reply.{Reply}
-use Rattle.floor_machine.specs.declared.sending.Update.{Update}
-use Rattle.floor_machine.specs.declared.sending.FloorNotice.{FloorNotice}
-use Rattle.floor_machine.specs.declared.sending.FloorUpdate.{FloorUpdate}
+use Rattle.floor_machine.specs.declared.information.shown.Shown.{Shown}
+use Rattle.floor_machine.specs.declared.change.reply.Reply.{Reply}
+use Rattle.floor_machine.specs.declared.tell.changed.Update.{Update}
+use Rattle.floor_machine.specs.declared.tell.parcels.FloorNotice.{FloorNotice}
+use Rattle.floor_machine.specs.declared.tell.changed.FloorUpdate.{FloorUpdate}
 use Rattle.floor_machine.specs.Shown.{Entry, entry_of, info, info_of, named}
 use Rattle.floor_machine.specs.Same.{same_infos}
 use Rattle.floor_machine.specs.Outgoing.{Outgoing, notice, notice_head}
@@ -82,6 +82,15 @@ infos_of config ongoing = map (info config ongoing) ongoing
 pub record AreInfos (config : Configuration) (ongoing : List Request) (shown : List Info) : Type 0 where
   pub infos : shown ≡ infos_of config ongoing
   pub fit : All IsShownInfo shown
+
+-- the user is the requester or the beneficiary of the request that is shown
+abbrev pub shows_user : ℕ → Info → Bool
+shows_user user i =
+    option_map_or (λ who. who.user == user) i.requester false || option_map_or (λ who. who.user == user) i.beneficiary false
+
+-- those infos of which the user is requester or beneficiary
+abbrev pub infos_with_user : ℕ → List Info → List Info
+infos_with_user user shown_infos = filter (shows_user user) shown_infos
 
 -- what is there, as a list
 abbrev pub listed : {A : Type 0} → Option A → List A

@@ -1,5 +1,0 @@
-use Rattle.std.proofs.Common.{refl}
-use Rattle.floor_machine.proofs.sending.write_floor_notice.Goals as goal
-
-pub returns : goal.returns
-returns c = rw (c.in_ok-push.ensures.items, c.of.ensures.value, c.in_ok-frame.ensures) refl

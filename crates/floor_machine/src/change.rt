@@ -1,0 +1,12 @@
+//! What an event changes in a conference: each primitive with its own checks and what it does, and the
+//! members and the administrator beside them. Nothing here knows what is told of the change.
+
+pub(crate) mod administrator;
+pub(crate) mod chair_action;
+pub(crate) mod floor_release;
+pub(crate) mod floor_request;
+pub(crate) mod judged;
+pub(crate) mod membership;
+pub(crate) mod message;
+pub(crate) mod queries;
+pub(crate) mod reply;

@@ -1,0 +1,275 @@
+//! A ChairAction: its own checks, and what the verdicts do to the floor request (RFC 8855, sections
+//! 11.1 and 13.6).
+
+ghost use Rattle.std.specs.List.{list_all, list_any};
+ghost use Rattle.std.specs.Option.{option_map_or};
+ghost use Rattle.std.specs.Prelude.{◌≡◌, ◌&&◌, ◌++◌, ◌==◌, ◌∷◌, [], All, IfOk, IfSome, IsSome, OnOk, false, map};
+ghost use Rattle.floor_queue.specs.Order.{names};
+ghost use Rattle.floor_queue.specs.Queue.{MaySetFloor, after_end, request_at};
+ghost use Rattle.floor_machine.specs.Change as change;
+ghost use Rattle.floor_machine.specs.Checks as checks;
+ghost use Rattle.floor_machine.specs.Checks.{chair_checks, first_of, on_request};
+ghost use Rattle.floor_machine.specs.Conference.{chair_is};
+ghost use Rattle.floor_machine.specs.steps.Marks.{KeepsNoted};
+ghost use Rattle.floor_machine.specs.steps.Serving.{IsChanged, IsState, MayDecide, after_decide, conference_of, ended_by};
+ghost use Rattle.floor_machine.specs.steps.Telling.{AreInfos};
+
+use crate::conference::State;
+use crate::course::{Course, Ended, begin};
+use crate::marks::{Mark, mark_ongoing, mark_request};
+use crate::status::RequestStatus;
+use floor_config::{Config, Floor};
+use floor_message::{Ask, ErrorCode, Verdict};
+use floor_queue::{Request, Requests, Word};
+use std::alloc::{AllocError, Global};
+
+impl State {
+    /// The error code by which the own checks refuse a ChairAction.
+    pub(crate) fn chair_refusal(
+        &self,
+        user: u16,
+        request: u16,
+        verdicts: &[(u16, Verdict)],
+    ) -> Option<ErrorCode>
+        ensures { result
+            ≡ on_request (conference_of self.now) request
+            (chair_checks (conference_of self.now) user verdicts.now) }
+    {
+        match self.requests.get(request) {
+            None => Some(ErrorCode::FloorRequestIdDoesNotExist),
+            Some(found) => self.verdicts_refusal(user, found, verdicts),
+        }
+    }
+
+    /// Does what the verdicts of a ChairAction of member n say, before the requests are settled.
+    pub(crate) fn chair_action(
+        &mut self,
+        alloc: Global,
+        n: u32,
+        request: u16,
+        verdicts: &[(u16, Verdict)],
+    ) -> Result<Course, AllocError>
+        requires decide { MayDecide self.old.requests.ongoing request verdicts.now }
+        requires state { IsState self.old }
+        requires shows { AreInfos self.old.config
+            self.old.requests.ongoing self.old.shown.items }
+        ensures changed { IfOk result (λ course. IsChanged (conference_of self.old)
+            (change.asked_change (conference_of self.old) n (Ask.ChairAction request verdicts.now))
+            (conference_of self.new) course) }
+        ensures state { OnOk result (IsState self.new) }
+    {
+        let mut course = begin(alloc, &self.requests, &mut self.shown)?;
+        decide(
+            &mut self.requests,
+            &mut course.ended,
+            &mut course.marks,
+            request,
+            verdicts,
+        )?;
+        Ok(course)
+    }
+
+    fn verdicts_refusal(
+        &self,
+        user: u16,
+        request: &Request,
+        verdicts: &[(u16, Verdict)],
+    ) -> Option<ErrorCode>
+        ensures { result
+            ≡ first_of (chair_checks (conference_of self.now) user verdicts.now request.now) }
+    {
+        if !are_named(request, verdicts) {
+            return Some(ErrorCode::InvalidFloorId);
+        }
+        if !are_chaired(&self.config, user, verdicts) {
+            return Some(ErrorCode::UnauthorizedOperation);
+        }
+        if !are_allowed(request.is_granted, verdicts) {
+            return Some(ErrorCode::GenericError);
+        }
+        None
+    }
+}
+
+/// Whether the request names the floor of each verdict.
+fn are_named(request: &Request, verdicts: &[(u16, Verdict)]) -> bool
+    ensures { result ≡ list_all (λ v. names request.now v.0) verdicts.now }
+{
+    verdicts.iter().all(|v| request.names(v.0))
+}
+
+/// Whether the user is the chair of the floor.
+fn is_chair(floor: &Floor, user: u16) -> bool
+    ensures { result ≡ option_map_or (λ chair. chair == user) floor.now.chair false }
+{
+    match floor.chair {
+        Some(chair) => chair == user,
+        None => false,
+    }
+}
+
+fn has_chair(floors: &[Floor], floor: u16, user: u16) -> bool
+    ensures { result
+        ≡ list_any (λ f. f.id == floor && option_map_or (λ chair. chair == user) f.chair false)
+        floors.now }
+{
+    floors.iter().any(|f| f.id == floor && is_chair(f, user))
+}
+
+/// Whether the user is the chair of the floor with this number.
+fn chair_is(config: &Config, floor: u16, user: u16) -> bool
+    ensures { result ≡ chair_is config.now floor user }
+{
+    has_chair(config.floors(), floor, user)
+}
+
+/// Whether the user is the chair of the floor of each verdict.
+fn are_chaired(config: &Config, user: u16, verdicts: &[(u16, Verdict)]) -> bool
+    ensures { result ≡ list_all (λ v. chair_is config.now v.0 user) verdicts.now }
+{
+    verdicts.iter().all(|v| chair_is(config, v.0, user))
+}
+
+/// Whether the verdict is one that the request's state allows.
+fn is_allowed(is_granted: bool, verdict: Verdict) -> bool
+    ensures { result ≡ checks.is_allowed is_granted verdict }
+{
+    match verdict {
+        Verdict::Accepted => !is_granted,
+        Verdict::Granted => !is_granted,
+        Verdict::Denied => !is_granted,
+        Verdict::Revoked => is_granted,
+    }
+}
+
+fn are_allowed(is_granted: bool, verdicts: &[(u16, Verdict)]) -> bool
+    ensures { result ≡ list_all (λ v. checks.is_allowed is_granted v.1) verdicts.now }
+{
+    verdicts.iter().all(|v| is_allowed(is_granted, v.1))
+}
+
+/// Does what the verdicts say: one that ends the request ends it, and else each of their floors is
+/// Accepted.
+pub(crate) fn decide(
+    requests: &mut Requests,
+    ended: &mut Vec<Ended>,
+    marks: &mut Vec<Mark>,
+    request: u16,
+    verdicts: &[(u16, Verdict)],
+) -> Result<(), AllocError>
+    requires { MayDecide requests.old.ongoing request verdicts.now }
+    ensures next { OnOk result (requests.new ≡ after_decide requests.old request verdicts.now) }
+    ensures ended { OnOk result (ended.new.items ≡ ended.old.items
+        ++ ended_by requests.old request verdicts.now) }
+    ensures noted { OnOk result (KeepsNoted requests.old.ongoing marks.old.items
+        requests.new.ongoing marks.new.items) }
+    ensures floors { requests.new.floors ≡ requests.old.floors }
+{
+    if has_final(verdicts) {
+        return dismiss_request(requests, ended, marks, request);
+    }
+    leave_words(requests, marks, request, verdicts)
+}
+
+/// Stores the words on the floors of a request, and marks it as it was and as it is.
+fn leave_words(
+    requests: &mut Requests,
+    marks: &mut Vec<Mark>,
+    request: u16,
+    verdicts: &[(u16, Verdict)],
+) -> Result<(), AllocError>
+    requires { All (λ v. MaySetFloor requests.old request v.0) verdicts.now }
+    ensures next { OnOk result (requests.new ≡ record requests.old {
+      ongoing = map (change.decided_at request verdicts.now) requests.old.ongoing;
+    }) }
+    ensures noted { OnOk result (KeepsNoted requests.old.ongoing marks.old.items
+        requests.new.ongoing marks.new.items) }
+    ensures floors { requests.new.floors ≡ requests.old.floors }
+{
+    // The requests ascend, so that no other has the number.
+    let _ongoing = requests.ongoing();
+    mark_ongoing(marks, requests, request)?;
+    set_words(requests, request, verdicts);
+    mark_ongoing(marks, requests, request)
+}
+
+/// Whether the verdict ends the request.
+fn is_final(verdict: Verdict) -> bool
+    ensures { result ≡ change.is_final verdict }
+{
+    match verdict {
+        Verdict::Accepted => false,
+        Verdict::Granted => false,
+        Verdict::Denied => true,
+        Verdict::Revoked => true,
+    }
+}
+
+/// Whether one of the verdicts ends the request.
+fn has_final(verdicts: &[(u16, Verdict)]) -> bool
+    ensures { result ≡ list_any (λ v. change.is_final v.1) verdicts.now }
+{
+    verdicts.iter().any(|v| is_final(v.1))
+}
+
+/// The word that a verdict which doesn't end the request leaves on the floor.
+fn word_of(verdict: Verdict) -> Word
+    ensures { result ≡ change.word_of verdict }
+{
+    match verdict {
+        Verdict::Accepted => Word::Accepted,
+        Verdict::Granted => Word::Granted,
+        Verdict::Denied => Word::Accepted,
+        Verdict::Revoked => Word::Accepted,
+    }
+}
+
+/// Stores the words on the floors of a request, from the last to the first, so that of two on one
+/// floor the first stands.
+fn set_words(requests: &mut Requests, request: u16, verdicts: &[(u16, Verdict)])
+    requires { All (λ v. MaySetFloor requests.old request v.0) verdicts.now }
+    ensures { requests.new ≡ record requests.old {
+      ongoing = map (change.decided_at request verdicts.now) requests.old.ongoing;
+    } }
+{
+    for place in 0..verdicts.len() {
+        let verdict = verdicts[verdicts.len() - 1 - place];
+        requests.set_floor(request, verdict.0, word_of(verdict.1));
+    }
+}
+
+/// Ends a request that a chair or the administrator refuses, and notes it.
+pub(crate) fn dismiss_request(
+    requests: &mut Requests,
+    ended: &mut Vec<Ended>,
+    marks: &mut Vec<Mark>,
+    request: u16,
+) -> Result<(), AllocError>
+    requires { IsSome (request_at requests.old.ongoing request) }
+    ensures next { OnOk result (requests.new ≡ after_end requests.old request) }
+    ensures ended { OnOk result (IfSome (request_at requests.old.ongoing request)
+        (λ r. ended.new.items ≡ ended.old.items
+        ++ record { request = r; ending = change.dismissed r } ∷ [])) }
+    ensures noted { OnOk result (KeepsNoted requests.old.ongoing marks.old.items
+        requests.new.ongoing marks.new.items) }
+    ensures floors { requests.new.floors ≡ requests.old.floors }
+{
+    // The requests ascend, so that no other has the number.
+    let _ongoing = requests.ongoing();
+    let request = requests.end(request);
+    mark_request(marks, &request)?;
+    let ending = dismissed(&request);
+    ended.push(Ended { request, ending })?;
+    Ok(())
+}
+
+/// How a request ends that is refused.
+fn dismissed(request: &Request) -> RequestStatus
+    ensures { result ≡ change.dismissed request.now }
+{
+    if request.is_granted {
+        RequestStatus::Revoked
+    } else {
+        RequestStatus::Denied
+    }
+}

@@ -1,0 +1,195 @@
+//! A FloorRequest: its own checks, and the request that it adds (RFC 8855, sections 10.1 and 13.1).
+
+ghost use Rattle.std.specs.List.{list_any};
+ghost use Rattle.std.specs.Prelude.{◌≡◌, ◌++◌, ◌+◌, ◌∷◌, [], IfOk, OnOk, nat_le};
+ghost use Rattle.floor_queue.specs.Queue.{IsAddable, after_add};
+ghost use Rattle.floor_machine.specs.Change as change;
+ghost use Rattle.floor_machine.specs.Checks as checks;
+ghost use Rattle.floor_machine.specs.Checks.{first_of, request_checks};
+ghost use Rattle.floor_machine.specs.Conference.{user_of};
+ghost use Rattle.floor_machine.specs.steps.Marks.{KeepsNoted};
+ghost use Rattle.floor_machine.specs.steps.Serving as serving;
+ghost use Rattle.floor_machine.specs.steps.Serving.{HasRoom, IsChanged, IsState, conference_of};
+ghost use Rattle.floor_machine.specs.steps.Telling.{AreInfos};
+
+use crate::conference::State;
+use crate::course::{Course, begin};
+use crate::information::showing::copied;
+use crate::lookup::{are_floors, has_proxy, is_user};
+use crate::marks::{Mark, mark_ongoing};
+use floor_message::{Ask, ErrorCode};
+use floor_queue::{AddRefusal, MAX_FLOORS, MAX_ONGOING, New, Request, Requests};
+use floor_wire::{Numbers, Octets};
+use std::alloc::{AllocError, Global};
+
+impl State {
+    /// The error code by which the own checks refuse a FloorRequest.
+    pub(crate) fn request_refusal(
+        &self,
+        user: u16,
+        beneficiary: u16,
+        floors: &[u16],
+    ) -> Option<ErrorCode>
+        ensures { result
+            ≡ first_of (request_checks (conference_of self.now) user beneficiary floors.now) }
+    {
+        if beneficiary != user && !has_proxy(&self.config, user) {
+            return Some(ErrorCode::UnauthorizedOperation);
+        }
+        if !is_user(&self.config, beneficiary) {
+            return Some(ErrorCode::UserDoesNotExist);
+        }
+        if !are_floors(self.config.floors(), floors) {
+            return Some(ErrorCode::InvalidFloorId);
+        }
+        if floors.len() > MAX_FLOORS {
+            return Some(ErrorCode::GenericError);
+        }
+        if is_at_some_limit(
+            self.config.limit(),
+            self.requests.ongoing(),
+            beneficiary,
+            floors,
+        ) {
+            return Some(ErrorCode::MaximumFloorRequestsReached);
+        }
+        if self.requests.len() >= MAX_ONGOING || self.requests.given() == u16::MAX {
+            return Some(ErrorCode::GenericError);
+        }
+        None
+    }
+
+    /// Adds the request that a FloorRequest of member n asks for, before the requests are settled.
+    pub(crate) fn floor_request(
+        &mut self,
+        alloc: Global,
+        n: u32,
+        user: u16,
+        beneficiary: Option<u16>,
+        floors: &Numbers,
+        priority: u8,
+        info: &Option<Octets>,
+    ) -> Result<Course, AllocError>
+        requires addable { IsAddable self.old.config.floors
+            (serving.new_of_ask user beneficiary floors.now priority info.now) }
+        requires room { HasRoom self.old.requests.ongoing self.old.requests.given }
+        requires user { user ≡ user_of (conference_of self.old) n }
+        requires state { IsState self.old }
+        requires shows { AreInfos self.old.config
+            self.old.requests.ongoing self.old.shown.items }
+        ensures changed { IfOk result (λ course. IsChanged (conference_of self.old)
+            (change.asked_change (conference_of self.old) n
+            (Ask.FloorRequest beneficiary floors.now priority info.now))
+            (conference_of self.new) course) }
+        ensures state { OnOk result (IsState self.new) }
+    {
+        let mut course = begin(alloc, &self.requests, &mut self.shown)?;
+        self.request(
+            alloc,
+            &mut course,
+            user,
+            beneficiary,
+            floors,
+            priority,
+            info,
+        )?;
+        Ok(course)
+    }
+
+    /// Adds the request that a user asks for.
+    fn request(
+        &mut self,
+        alloc: Global,
+        course: &mut Course,
+        user: u16,
+        beneficiary: Option<u16>,
+        floors: &Numbers,
+        priority: u8,
+        info: &Option<Octets>,
+    ) -> Result<(), AllocError>
+        requires addable { IsAddable self.old.requests.floors
+            (serving.new_of_ask user beneficiary floors.now priority info.now) }
+        requires room { HasRoom self.old.requests.ongoing self.old.requests.given }
+        ensures next { OnOk result (self.new ≡ record self.old {
+          requests = after_add self.old.requests
+              (serving.new_of_ask user beneficiary floors.now priority info.now);
+        }) }
+        ensures course { OnOk result (course.new.numbers.items ≡ course.old.numbers.items
+            ++ (self.old.requests.given + 1) ∷ []) }
+        ensures noted { OnOk result (KeepsNoted self.old.requests.ongoing course.old.marks.items
+            self.new.requests.ongoing course.new.marks.items) }
+        ensures before { course.new.before ≡ course.old.before }
+        ensures ended { course.new.ended ≡ course.old.ended }
+        ensures kept { IsState self.old → IsState self.new }
+    {
+        let new = New {
+            requester: user,
+            beneficiary: beneficiary.unwrap_or(user),
+            floors: floors.copy(alloc)?,
+            priority,
+            info: copied(alloc, info)?,
+        };
+        add_request(
+            &mut self.requests,
+            &mut course.numbers,
+            &mut course.marks,
+            new,
+        )
+    }
+}
+
+/// How many of the requests for the floor are for this beneficiary.
+fn requests_for(ongoing: &[Request], beneficiary: u16, floor: u16) -> usize
+    ensures { result ≡ checks.requests_for ongoing.now beneficiary floor }
+{
+    ongoing
+        .iter()
+        .filter(|r| r.beneficiary == beneficiary && r.names(floor))
+        .count()
+}
+
+/// Whether the beneficiary has as many requests for the floor as it may.
+fn is_at_limit(limit: u16, ongoing: &[Request], beneficiary: u16, floor: u16) -> bool
+    ensures { result ≡ nat_le limit (checks.requests_for ongoing.now beneficiary floor) }
+{
+    usize::from(limit) <= requests_for(ongoing, beneficiary, floor)
+}
+
+/// Whether the beneficiary has as many requests for one of the floors as it may.
+fn is_at_some_limit(limit: u16, ongoing: &[Request], beneficiary: u16, floors: &[u16]) -> bool
+    ensures { result
+        ≡ list_any (λ floor. nat_le limit (checks.requests_for ongoing.now beneficiary floor))
+        floors.now }
+{
+    floors
+        .iter()
+        .any(|floor| is_at_limit(limit, ongoing, beneficiary, *floor))
+}
+
+/// Adds a request, and notes its number.
+fn add_request(
+    requests: &mut Requests,
+    numbers: &mut Vec<u16>,
+    marks: &mut Vec<Mark>,
+    new: New,
+) -> Result<(), AllocError>
+    requires addable { IsAddable requests.old.floors new }
+    requires room { HasRoom requests.old.ongoing requests.old.given }
+    ensures next { OnOk result (requests.new ≡ after_add requests.old new) }
+    ensures numbers { OnOk result (numbers.new.items ≡ numbers.old.items
+        ++ (requests.old.given + 1) ∷ []) }
+    ensures noted { OnOk result (KeepsNoted requests.old.ongoing marks.old.items
+        requests.new.ongoing marks.new.items) }
+    ensures floors { requests.new.floors ≡ requests.old.floors }
+{
+    // No ongoing request has the next number.
+    let _ongoing = requests.ongoing();
+    match requests.add(new) {
+        Ok(number) => {
+            numbers.push(number)?;
+            mark_ongoing(marks, requests, number)
+        }
+        Err(AddRefusal::Full | AddRefusal::NoNumber) => unreachable!(),
+        Err(AddRefusal::Memory) => Err(AllocError),
+    }
+}

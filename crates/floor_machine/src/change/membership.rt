@@ -1,0 +1,110 @@
+//! A member joins or leaves, and what ends with the last connection of its user (RFC 8855, section
+//! 13.4, for the requests that are given back).
+
+ghost use Rattle.std.specs.Prelude.{◌≡◌, ◌++◌, ◌+◌, ◌<◌, ◌==◌, [], IfOk, OnOk, find, length, option_map};
+ghost use Rattle.floor_queue.specs.Queue.{IsQueue, IsSettled};
+ghost use Rattle.floor_machine.specs.Change as change;
+ghost use Rattle.floor_machine.specs.Conference.{user_of};
+ghost use Rattle.floor_machine.specs.Journal.{parcels_of};
+ghost use Rattle.floor_machine.specs.declared.event.Event.TheVariants.{Join, Leave};
+ghost use Rattle.floor_machine.specs.steps.Fitting.{IsToldShown};
+ghost use Rattle.floor_machine.specs.steps.Marks.{KeepsNoted};
+ghost use Rattle.floor_machine.specs.steps.Serving.{IsBegun, IsChanged, IsState, after_release_for, conference_of, released_for};
+ghost use Rattle.floor_machine.specs.steps.Telling.{AreInfos};
+
+use crate::change::floor_release::release_request;
+use crate::conference::State;
+use crate::course::{Course, Ended};
+use crate::marks::Mark;
+use floor_queue::Requests;
+use std::alloc::AllocError;
+
+impl State {
+    /// Adds a live member. After an error nothing has changed.
+    pub(crate) fn join(&mut self, user: u16) -> Result<u32, AllocError>
+        requires few { length self.old.members < 4294967295 }
+        requires state { IsState self.old }
+        requires settled { IsSettled self.old.requests }
+        requires shows { AreInfos self.old.config
+            self.old.requests.ongoing self.old.shown.items }
+        ensures number { IfOk result (λ n. n ≡ length self.old.members + 1) }
+        ensures next { OnOk result (conference_of self.new
+            ≡ change.next (conference_of self.old) (Join user)) }
+        ensures told { OnOk result (parcels_of (conference_of self.old) (Join user) ≡ []) }
+        ensures shown { OnOk result (IsToldShown (conference_of self.old) (Join user)) }
+        ensures state { IsState self.new }
+        ensures settled { IsSettled self.new.requests }
+        ensures shows { AreInfos self.new.config
+            self.new.requests.ongoing self.new.shown.items }
+    {
+        // The ongoing requests ascend, so that each is shown as before, and nobody is told of it.
+        let _ongoing = self.requests.ongoing();
+        self.members.join(user)
+    }
+
+    /// A member leaves, before the requests are settled: where it was the last of its user, the
+    /// requests for that user end as they are given back.
+    pub(crate) fn change_left(
+        &mut self,
+        course: &mut Course,
+        n: u32,
+        user: u16,
+    ) -> Result<(), AllocError>
+        requires user { user ≡ user_of (conference_of self.old) n }
+        requires state { IsState self.old }
+        requires queue { IsQueue self.old.requests }
+        requires begun { IsBegun (conference_of self.old) course.old }
+        ensures changed { OnOk result (IsChanged (conference_of self.old)
+            (change.change (conference_of self.old) (Leave n))
+            (conference_of self.new) course.new) }
+        ensures state { OnOk result (IsState self.new) }
+    {
+        self.members.leave(n);
+        if self.members.is_present(user) {
+            return Ok(());
+        }
+        release_all_for(
+            &mut self.requests,
+            &mut course.ended,
+            &mut course.marks,
+            user,
+        )
+    }
+}
+
+/// The number of the first ongoing request that is for this beneficiary.
+fn first_for(requests: &Requests, beneficiary: u16) -> Option<u16>
+    ensures found { result
+        ≡ option_map (λ r. r.number)
+        (find (λ r. r.beneficiary == beneficiary) requests.now.ongoing) }
+    ensures kept { IsQueue requests.now }
+{
+    match requests
+        .ongoing()
+        .iter()
+        .find(|r| r.beneficiary == beneficiary)
+    {
+        Some(request) => Some(request.number),
+        None => None,
+    }
+}
+
+/// Ends all requests that are for this beneficiary, as they are given back, and notes them.
+pub(crate) fn release_all_for(
+    requests: &mut Requests,
+    ended: &mut Vec<Ended>,
+    marks: &mut Vec<Mark>,
+    beneficiary: u16,
+) -> Result<(), AllocError>
+    ensures next { OnOk result (requests.new ≡ after_release_for requests.old beneficiary) }
+    ensures ended { OnOk result (ended.new.items ≡ ended.old.items
+        ++ released_for requests.old beneficiary) }
+    ensures noted { OnOk result (KeepsNoted requests.old.ongoing marks.old.items
+        requests.new.ongoing marks.new.items) }
+    ensures floors { requests.new.floors ≡ requests.old.floors }
+{
+    while let Some(request) = first_for(requests, beneficiary) {
+        release_request(requests, ended, marks, request)?;
+    }
+    Ok(())
+}

@@ -1,0 +1,165 @@
+//! The queries and Hello: their own checks, and what answers them (RFC 8855, sections 12 and 13).
+
+ghost use Rattle.std.specs.List.{list_all};
+ghost use Rattle.std.specs.Option.{option_map_or};
+ghost use Rattle.std.specs.Prelude.{◌≡◌, ◌∷◌, [], All, IfOk, IfSome, Some, map, not, option_map, true, unwrap_or};
+ghost use Rattle.floor_queue.specs.Queue.{is_floor};
+ghost use Rattle.floor_message.specs.Shown.{AreShown, IsDescribed, IsShown};
+ghost use Rattle.floor_machine.specs.Checks.{first_of, on_request, when};
+ghost use Rattle.floor_machine.specs.Conference.{is_user};
+ghost use Rattle.floor_machine.specs.Reply as reply;
+ghost use Rattle.floor_machine.specs.Shown as shown;
+ghost use Rattle.floor_machine.specs.steps.Serving.{conference_of};
+ghost use Rattle.floor_machine.specs.steps.Telling.{AreInfos, infos_with_user};
+
+use crate::change::reply::one;
+use crate::conference::State;
+use crate::information::copying::{floor_status, infos_with_user};
+use crate::information::showing::described;
+use crate::lookup::{are_floors, is_user};
+use floor_config::Config;
+use floor_message::{ErrorCode, Info, Infos, Tell, Who};
+use floor_wire::Octets;
+use std::alloc::{AllocError, Global};
+
+impl State {
+    /// The error code by which the own checks refuse a FloorRequestQuery.
+    pub(crate) fn query_refusal(&self, request: u16) -> Option<ErrorCode>
+        ensures { result ≡ on_request (conference_of self.now) request (λ r. []) }
+    {
+        match self.requests.get(request) {
+            None => Some(ErrorCode::FloorRequestIdDoesNotExist),
+            Some(_found) => None,
+        }
+    }
+
+    /// The error code by which the own checks refuse a UserQuery.
+    pub(crate) fn user_refusal(&self, beneficiary: Option<u16>) -> Option<ErrorCode>
+        ensures { result
+            ≡ first_of (when (not (option_map_or (is_user self.now.config) beneficiary true))
+            ErrorCode.UserDoesNotExist ∷ []) }
+    {
+        match beneficiary {
+            None => None,
+            Some(user) => {
+                if is_user(&self.config, user) {
+                    None
+                } else {
+                    Some(ErrorCode::UserDoesNotExist)
+                }
+            }
+        }
+    }
+
+    /// The error code by which the own checks refuse a FloorQuery.
+    pub(crate) fn floors_refusal(&self, floors: &[u16]) -> Option<ErrorCode>
+        ensures { result
+            ≡ first_of (when (not (list_all (is_floor self.now.config.floors) floors.now))
+            ErrorCode.InvalidFloorId ∷ []) }
+    {
+        if are_floors(self.config.floors(), floors) {
+            None
+        } else {
+            Some(ErrorCode::InvalidFloorId)
+        }
+    }
+
+    /// The user, where one is asked about, and the requests of one.
+    pub(crate) fn user_tells(
+        &self,
+        alloc: Global,
+        user: u16,
+        beneficiary: Option<u16>,
+    ) -> Result<Vec<Tell>, AllocError>
+        requires shows { AreInfos self.now.config
+            self.now.requests.ongoing self.now.shown.items }
+        ensures value { IfOk result (λ tells. tells.items
+            ≡ Tell.UserStatus (option_map (shown.described self.now.config) beneficiary)
+            (reply.infos_of_user (unwrap_or beneficiary user) (conference_of self.now)) ∷ []) }
+        ensures shown { IfOk result (λ tells. All IsShown tells.items) }
+    {
+        // At most 256 requests are ongoing.
+        let _ongoing = self.requests.ongoing();
+        let who = described_if(alloc, &self.config, beneficiary)?;
+        let tell = user_status(alloc, who, beneficiary.unwrap_or(user), &self.shown)?;
+        one(alloc, tell)
+    }
+
+    /// The statuses of floors, or one that names none where none is asked about.
+    pub(crate) fn floor_tells(&self, alloc: Global, floors: &[u16]) -> Result<Vec<Tell>, AllocError>
+        requires shows { AreInfos self.now.config
+            self.now.requests.ongoing self.now.shown.items }
+        ensures value { IfOk result (λ tells. tells.items
+            ≡ reply.floor_answers (conference_of self.now) floors.now) }
+        ensures shown { IfOk result (λ tells. All IsShown tells.items) }
+    {
+        if floors.is_empty() {
+            let infos = Infos::from_vec(Vec::new(alloc));
+            return one(alloc, Tell::FloorStatus { floor: None, infos });
+        }
+        // At most 256 requests are ongoing.
+        let _ongoing = self.requests.ongoing();
+        floor_statuses(alloc, &self.shown, floors)
+    }
+}
+
+/// The user by name and URI, where one is asked about.
+fn described_if(
+    alloc: Global,
+    config: &Config,
+    user: Option<u16>,
+) -> Result<Option<Who>, AllocError>
+    ensures value { IfOk result (λ who. who ≡ option_map (shown.described config.now) user) }
+    ensures shown { IfOk result (λ who. IfSome who IsDescribed) }
+{
+    match user {
+        None => Ok(None),
+        Some(user) => Ok(Some(described(alloc, config, user)?)),
+    }
+}
+
+/// The requests of the user, behind who it is where that is asked.
+fn user_status(alloc: Global, who: Option<Who>, user: u16, now: &[Info]) -> Result<Tell, AllocError>
+    requires who { IfSome who IsDescribed }
+    requires shown { AreShown now.now }
+    ensures value { IfOk result (λ tell. tell ≡ Tell.UserStatus who (infos_with_user user now.now)) }
+    ensures shown { IfOk result IsShown }
+{
+    let infos = infos_with_user(alloc, user, now)?;
+    Ok(Tell::UserStatus {
+        who,
+        infos: Infos::from_vec(infos),
+    })
+}
+
+/// The statuses of floors, in their order.
+fn floor_statuses(alloc: Global, now: &[Info], floors: &[u16]) -> Result<Vec<Tell>, AllocError>
+    requires { AreShown now.now }
+    ensures value { IfOk result (λ tells. tells.items
+        ≡ map (λ floor. Tell.FloorStatus (Some floor) (reply.infos_on floor now.now)) floors.now) }
+    ensures shown { IfOk result (λ tells. All IsShown tells.items) }
+{
+    let mut tells = Vec::new(alloc);
+    for floor in floors {
+        tells.push(floor_status(alloc, *floor, now)?)?;
+    }
+    Ok(tells)
+}
+
+pub(crate) fn hello_tells(alloc: Global) -> Result<Vec<Tell>, AllocError>
+    ensures value { IfOk result (λ tells. tells.items
+        ≡ Tell.HelloAck reply.supported_primitives reply.supported_attributes ∷ []) }
+    ensures shown { IfOk result (λ tells. All IsShown tells.items) }
+{
+    let primitives = vec![in alloc; 1, 2, 3, 4, 5, 6, 7, 8, 9, 10, 11, 12, 13]?;
+    let attributes = vec![in alloc;
+        1, 2, 3, 4, 5, 6, 7, 8, 9, 10, 11, 12, 13, 14, 15, 16, 17, 18,
+    ]?;
+    one(
+        alloc,
+        Tell::HelloAck {
+            primitives: Octets::from_vec(primitives),
+            attributes: Octets::from_vec(attributes),
+        },
+    )
+}

@@ -1,0 +1,413 @@
+//! Telling the members what an event changed (RFC 8855, sections 8 and 12.1).
+
+ghost use Rattle.std.specs.List.{list_any};
+ghost use Rattle.std.specs.Option.{option_map_or};
+ghost use Rattle.std.specs.Prelude.{◌≡◌, ◌++◌, ◌∷◌, [], All, IfOk, OnErr, OnOk, filter, map};
+ghost use Rattle.floor_message.specs.Shown.{IsShown};
+ghost use Rattle.floor_machine.specs.Conference.{member_with};
+ghost use Rattle.floor_machine.specs.Journal.{parcel};
+ghost use Rattle.floor_machine.specs.Told.{is_status_of};
+ghost use Rattle.floor_machine.specs.steps.Fitting.{AreFloorsShown, AreUpdatesShown, IsReplyShown};
+ghost use Rattle.floor_machine.specs.steps.Telling.{AreInfos, answered, answered_to, floor_notice, floor_notice_to, floors_changed, is_answered, is_due_to, is_noticed, is_watched_by, noticed_to, noticed_to_all, parcels_to_all, update_to, updates};
+
+use crate::change::reply::Reply;
+use crate::conference::State;
+use crate::member::Member;
+use crate::members::Members;
+use crate::parcel::Parcel;
+use crate::tell::changed::{FloorUpdate, Update, floor_updates};
+use crate::tell::renewing::Changes;
+use crate::tell::watching::{is_watched, watched_floors, watches};
+use floor_message::{Head, Tell, what_is_shown_fits, write_tell};
+use floor_wire::SharedFrame;
+use std::alloc::{AllocError, Global};
+
+/// The status of a changed floor as it is written once, under User ID 0, for all who watch the
+/// floor.
+#[derive(Debug, Drop)]
+struct FloorNotice {
+    /// The Floor ID.
+    floor: u16,
+    /// The message.
+    message: SharedFrame,
+}
+
+impl State {
+    /// Puts what the event tells each live member. After an error `out` is as it was.
+    pub(crate) fn tell(
+        &self,
+        alloc: Global,
+        changes: &Changes,
+        reply: &Option<Reply>,
+        out: &mut Vec<Parcel>,
+    ) -> Result<(), AllocError>
+        requires shows { AreInfos self.now.config
+            self.now.requests.ongoing self.now.shown.items }
+        requires updates { AreUpdatesShown changes.now.updates.items }
+        requires reply { IsReplyShown reply.now }
+        ensures told { OnOk result (out.new.items ≡ out.old.items
+            ++ parcels_to_all self.now.config.conference reply.now changes.now.updates.items
+            (floors_changed self.now.shown.items changes.now.floors.items self.now.config.floors)
+            self.now.members) }
+        ensures floors_shown { OnOk result (AreFloorsShown (filter (is_watched_by self.now.members)
+            (floors_changed self.now.shown.items changes.now.floors.items self.now.config.floors))) }
+        ensures left { OnErr result (out.new.items ≡ out.old.items) }
+    {
+        // At most 256 requests are ongoing.
+        let _ongoing = self.requests.ongoing();
+        let floors = watched_floors(alloc, &self.config, &self.members)?;
+        let floor_updates = floor_updates(alloc, &floors, &changes.floors, &self.shown)?;
+        let mut parcels = Vec::new(alloc);
+        put_all(
+            alloc,
+            &mut parcels,
+            self.config.conference(),
+            &self.members,
+            reply,
+            &changes.updates,
+            &floor_updates,
+        )?;
+        put_behind(out, parcels)?;
+        Ok(())
+    }
+
+    /// Puts the reply alone, of an event that changes nothing that is shown. After an error `out` is
+    /// as it was.
+    pub(crate) fn tell_reply(
+        &self,
+        alloc: Global,
+        reply: &Option<Reply>,
+        out: &mut Vec<Parcel>,
+    ) -> Result<(), AllocError>
+        requires { IsReplyShown reply.now }
+        ensures told { OnOk result (out.new.items ≡ out.old.items
+            ++ parcels_to_all self.now.config.conference reply.now [] [] self.now.members) }
+        ensures left { OnErr result (out.new.items ≡ out.old.items) }
+    {
+        let mut parcels = Vec::new(alloc);
+        put_all(
+            alloc,
+            &mut parcels,
+            self.config.conference(),
+            &self.members,
+            reply,
+            &[],
+            &[],
+        )?;
+        put_behind(out, parcels)
+    }
+}
+
+/// Puts all that an event tells the live members, by ascending number. The status of a changed
+/// floor is spelled once, however many watch the floor, and where nobody does not at all.
+pub(crate) fn put_all(
+    alloc: Global,
+    out: &mut Vec<Parcel>,
+    conference: u32,
+    members: &Members,
+    reply: &Option<Reply>,
+    updates: &[Update],
+    floor_updates: &[FloorUpdate],
+) -> Result<(), AllocError>
+    requires reply { IsReplyShown reply.now }
+    requires requests { AreUpdatesShown updates.now }
+    requires floors { AreFloorsShown floor_updates.now }
+    ensures { OnOk result (out.new.items ≡ out.old.items
+        ++ parcels_to_all conference reply.now updates.now floor_updates.now members.now) }
+{
+    let notices = floor_notices(alloc, conference, members, floor_updates)?;
+    put_members(alloc, out, conference, members, reply, updates, &notices)
+}
+
+/// Puts parcels behind those that are there, or in place of none. After an error `out` is as it was.
+pub(crate) fn put_behind(out: &mut Vec<Parcel>, mut parcels: Vec<Parcel>) -> Result<(), AllocError>
+    ensures out { OnOk result (out.new.items ≡ out.old.items ++ parcels.items) }
+    ensures left { OnErr result (out.new.items ≡ out.old.items) }
+{
+    if out.is_empty() {
+        *out = parcels;
+        return Ok(());
+    }
+    out.append(&mut parcels)
+}
+
+/// Puts all that is for the live members, by ascending number.
+fn put_members(
+    alloc: Global,
+    out: &mut Vec<Parcel>,
+    conference: u32,
+    members: &Members,
+    reply: &Option<Reply>,
+    updates: &[Update],
+    notices: &[FloorNotice],
+) -> Result<(), AllocError>
+    requires reply { IsReplyShown reply.now }
+    requires requests { AreUpdatesShown updates.now }
+    ensures { OnOk result (out.new.items ≡ out.old.items
+        ++ noticed_to_all conference reply.now updates.now notices.now members.now) }
+{
+    let live = members.live_numbers();
+    for n in live {
+        put_live(alloc, out, conference, members, *n, reply, updates, notices)?;
+    }
+    Ok(())
+}
+
+/// Puts all that is for the member with this number, if it is live.
+fn put_live(
+    alloc: Global,
+    out: &mut Vec<Parcel>,
+    conference: u32,
+    members: &Members,
+    n: u32,
+    reply: &Option<Reply>,
+    updates: &[Update],
+    notices: &[FloorNotice],
+) -> Result<(), AllocError>
+    requires reply { IsReplyShown reply.now }
+    requires requests { AreUpdatesShown updates.now }
+    ensures { OnOk result (out.new.items ≡ out.old.items ++ option_map_or
+        (noticed_to conference reply.now updates.now notices.now)
+        (member_with members.now n) []) }
+{
+    match members.get(n) {
+        Some(member) => { put_member(alloc, out, conference, member, reply, updates, notices) }
+        None => Ok(()),
+    }
+}
+
+/// Puts all that is for the member.
+fn put_member(
+    alloc: Global,
+    out: &mut Vec<Parcel>,
+    conference: u32,
+    member: &Member,
+    reply: &Option<Reply>,
+    updates: &[Update],
+    notices: &[FloorNotice],
+) -> Result<(), AllocError>
+    requires reply { IsReplyShown reply.now }
+    requires requests { AreUpdatesShown updates.now }
+    ensures { OnOk result (out.new.items ≡ out.old.items
+        ++ noticed_to conference reply.now updates.now notices.now member.now) }
+{
+    put_reply(alloc, out, member.n, reply)?;
+    put_updates(alloc, out, conference, member, reply, updates)?;
+    put_floor_notices(out, member, notices)
+}
+
+/// Puts the reply, if it is to this member.
+fn put_reply(
+    alloc: Global,
+    out: &mut Vec<Parcel>,
+    n: u32,
+    reply: &Option<Reply>,
+) -> Result<(), AllocError>
+    requires { IsReplyShown reply.now }
+    ensures { OnOk result (out.new.items ≡ out.old.items
+        ++ map (parcel n) (answered_to reply.now n)) }
+{
+    if let Some(reply) = reply {
+        if reply.n == n {
+            put_answer(alloc, out, n, reply.head, &reply.tells)?;
+        }
+    }
+    Ok(())
+}
+
+/// Puts the answer, of which the first message alone has the transaction.
+fn put_answer(
+    alloc: Global,
+    out: &mut Vec<Parcel>,
+    n: u32,
+    first: Head,
+    tells: &[Tell],
+) -> Result<(), AllocError>
+    requires { All IsShown tells.now }
+    ensures { OnOk result (out.new.items
+        ≡ out.old.items ++ map (parcel n) (answered first tells.now)) }
+{
+    let mut head = first;
+    for tell in tells {
+        put(alloc, out, n, &head, tell)?;
+        head.transaction = 0;
+    }
+    Ok(())
+}
+
+/// Puts the statuses of the changed requests that the member is told of.
+fn put_updates(
+    alloc: Global,
+    out: &mut Vec<Parcel>,
+    conference: u32,
+    member: &Member,
+    reply: &Option<Reply>,
+    updates: &[Update],
+) -> Result<(), AllocError>
+    requires { AreUpdatesShown updates.now }
+    ensures { OnOk result (out.new.items ≡ out.old.items
+        ++ map (λ u. parcel member.now.n (update_to conference member.now u))
+        (filter (is_due_to reply.now member.now) updates.now)) }
+{
+    for update in updates {
+        if is_due_to(reply, member, update) {
+            put_notice(alloc, out, conference, member, &update.tell)?;
+        }
+    }
+    Ok(())
+}
+
+/// Puts the statuses of the changed floors that the member watches.
+fn put_floor_notices(
+    out: &mut Vec<Parcel>,
+    member: &Member,
+    notices: &[FloorNotice],
+) -> Result<(), AllocError>
+    ensures { OnOk result (out.new.items ≡ out.old.items
+        ++ map (floor_notice_to member.now) (filter (is_noticed member.now) notices.now)) }
+{
+    for notice in notices {
+        if watches(member, notice.floor) {
+            put_floor_notice(out, member, notice)?;
+        }
+    }
+    Ok(())
+}
+
+/// Puts the status of a changed floor to the member.
+fn put_floor_notice(
+    out: &mut Vec<Parcel>,
+    member: &Member,
+    notice: &FloorNotice,
+) -> Result<(), AllocError>
+    ensures { OnOk result (out.new.items ≡ out.old.items
+        ++ floor_notice_to member.now notice.now ∷ []) }
+{
+    let message = notice.message.addressed(member.user)?;
+    out.push(Parcel::of(member.n, message))?;
+    Ok(())
+}
+
+/// The statuses of the changed floors that a live member watches, as they are written.
+fn floor_notices(
+    alloc: Global,
+    conference: u32,
+    members: &Members,
+    updates: &[FloorUpdate],
+) -> Result<Vec<FloorNotice>, AllocError>
+    requires { AreFloorsShown updates.now }
+    ensures { IfOk result (λ notices. notices.items
+        ≡ map (floor_notice conference) (filter (is_watched_by members.now) updates.now)) }
+{
+    let mut notices = Vec::new(alloc);
+    for update in updates {
+        if is_watched(members, update.floor) {
+            write_floor_notice(alloc, &mut notices, conference, update)?;
+        }
+    }
+    Ok(notices)
+}
+
+/// Writes the status of a changed floor.
+fn write_floor_notice(
+    alloc: Global,
+    notices: &mut Vec<FloorNotice>,
+    conference: u32,
+    update: &FloorUpdate,
+) -> Result<(), AllocError>
+    requires { IsShown update.now.tell }
+    ensures { OnOk result (notices.new.items
+        ≡ notices.old.items ++ floor_notice conference update.now ∷ []) }
+{
+    what_is_shown_fits();
+    let head = Head {
+        conference,
+        transaction: 0,
+        user: 0,
+    };
+    let frame = write_tell(alloc, &head, &update.tell)?;
+    notices.push(FloorNotice {
+        floor: update.floor,
+        message: SharedFrame::of(frame),
+    })?;
+    Ok(())
+}
+
+/// Puts a message that the server starts.
+fn put_notice(
+    alloc: Global,
+    out: &mut Vec<Parcel>,
+    conference: u32,
+    member: &Member,
+    tell: &Tell,
+) -> Result<(), AllocError>
+    requires { IsShown tell.now }
+    ensures { OnOk result (out.new.items ≡ out.old.items ++ parcel member.now.n record {
+      head = record { conference = conference; transaction = 0; user = member.now.user };
+      tell = tell.now;
+    } ∷ []) }
+{
+    let head = Head {
+        conference,
+        transaction: 0,
+        user: member.user,
+    };
+    put(alloc, out, member.n, &head, tell)
+}
+
+/// Puts one message to the member with this number.
+fn put(
+    alloc: Global,
+    out: &mut Vec<Parcel>,
+    n: u32,
+    head: &Head,
+    tell: &Tell,
+) -> Result<(), AllocError>
+    requires { IsShown tell.now }
+    ensures { OnOk result (out.new.items
+        ≡ out.old.items ++ parcel n record { head = head.now; tell = tell.now } ∷ []) }
+{
+    what_is_shown_fits();
+    let frame = write_tell(alloc, head, tell)?;
+    out.push(Parcel::new(n, frame))?;
+    Ok(())
+}
+
+/// Whether the member is told of the changed request.
+fn is_due_to(reply: &Option<Reply>, member: &Member, update: &Update) -> bool
+    ensures { result ≡ is_due_to reply.now member.now update.now }
+{
+    (update.requester == member.user || update.beneficiary == member.user)
+        && !is_answered(reply, member.n, update.number)
+}
+
+/// Whether the reply to this member is already the status of the request.
+fn is_answered(reply: &Option<Reply>, n: u32, request: u16) -> bool
+    ensures { result ≡ is_answered reply.now n request }
+{
+    match reply {
+        Some(reply) => reply.n == n && has_status_of(&reply.tells, request),
+        None => false,
+    }
+}
+
+/// Whether one of the messages is the status of this request.
+fn has_status_of(tells: &[Tell], request: u16) -> bool
+    ensures { result ≡ list_any (is_status_of request) tells.now }
+{
+    tells.iter().any(|tell| is_status_of(request, tell))
+}
+
+/// Whether the message is the status of this request.
+fn is_status_of(request: u16, tell: &Tell) -> bool
+    ensures { result ≡ is_status_of request tell.now }
+{
+    match tell {
+        Tell::FloorRequestStatus { info } => info.request == request,
+        Tell::UserStatus { .. } => false,
+        Tell::FloorStatus { .. } => false,
+        Tell::ChairActionAck => false,
+        Tell::HelloAck { .. } => false,
+        Tell::Error { .. } => false,
+    }
+}

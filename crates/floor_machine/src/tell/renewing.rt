@@ -1,0 +1,364 @@
+//! What is shown after an event: of the requests that it ended, changed or may have moved it is made
+//! anew, and of all others it stays (RFC 8855, sections 10.1.2 and 12.1).
+
+ghost use Rattle.std.specs.Prelude.{◌≡◌, ◌==◌, ◌+◌, ◌++◌, ◌∷◌, ◌≤◌, [], false, All, drop, find, length, take, IfOk, OnOk, Some, None};
+ghost use Rattle.std.specs.Option.{option_copied};
+ghost use Rattle.floor_queue.specs.Queue.{IsAddable, IsSettled, new_of, request_at};
+ghost use Rattle.floor_message.specs.Shown.{IsShownInfo};
+ghost use Rattle.floor_machine.specs.Shown.{entry_of, info};
+ghost use Rattle.floor_machine.specs.steps.Fitting.{AreAddable, AreUpdatesShown};
+ghost use Rattle.floor_machine.specs.steps.Marks.{is_marked};
+ghost use Rattle.floor_machine.specs.steps.Renewing as spec;
+ghost use Rattle.floor_machine.specs.steps.Renewing.{IsCourse, IsRenewed, info_here, left_at, now_at, request_here};
+ghost use Rattle.floor_machine.specs.steps.Telling.{AreChanged, entry_of_ended, infos_of, listed, shown_at, shown_of, updates};
+
+use crate::course::{Course, Ended, find_ended};
+use crate::information::copying::copied_info;
+use crate::information::same::same_info;
+use crate::information::shown::{shown_ended, shown_request};
+use crate::marks::{Mark, is_marked};
+use crate::tell::changed::{Update, update_of};
+use floor_config::Config;
+use floor_message::Info;
+use floor_queue::{Request, Requests};
+use std::alloc::{AllocError, Global};
+
+/// What an event changed in what is shown.
+#[derive(Debug, Drop)]
+pub(crate) struct Changes {
+    /// The statuses of the requests that are shown otherwise than before.
+    pub updates: Vec<Update>,
+    /// The floors that they named before it or name after it, as often as they name them.
+    pub floors: Vec<u16>,
+}
+
+/// The info at the place, if it is that of the request with this number.
+fn info_at(infos: &[Info], place: usize, number: u16) -> Option<&Info>
+    ensures { option_copied result ≡ info_here infos.now place number }
+{
+    match infos.get(place) {
+        Some(info) => {
+            if info.request == number {
+                Some(info)
+            } else {
+                None
+            }
+        }
+        None => None,
+    }
+}
+
+/// The ongoing request at the place, if it is the one with this number.
+fn request_at(requests: &[Request], place: usize, number: u16) -> Option<&Request>
+    ensures { option_copied result ≡ request_here requests.now place number }
+{
+    match requests.get(place) {
+        Some(request) => {
+            if request.number == number {
+                Some(request)
+            } else {
+                None
+            }
+        }
+        None => None,
+    }
+}
+
+/// Whether the request is shown otherwise than at the place.
+fn differs(infos: &[Info], place: usize, now: &Info) -> bool
+    ensures { result ≡ spec.differs (info_here infos.now place now.now.request) now.now }
+{
+    match info_at(infos, place, now.request) {
+        Some(info) => !same_info(info, now),
+        None => true,
+    }
+}
+
+/// Notes the floors that the request names.
+fn note_floors(floors: &mut Vec<u16>, info: &Info) -> Result<(), AllocError>
+    ensures { OnOk result (floors.new.items ≡ floors.old.items ++ spec.floors_shown info.now) }
+{
+    for shown in info.floors.as_slice() {
+        floors.push(shown.0)?;
+    }
+    Ok(())
+}
+
+/// Notes the floors that the request with this number named, if it stands at the place.
+fn note_floors_at(
+    floors: &mut Vec<u16>,
+    infos: &[Info],
+    place: usize,
+    number: u16,
+) -> Result<(), AllocError>
+    ensures { OnOk result (floors.new.items ≡ floors.old.items
+        ++ spec.floors_before (info_here infos.now place number)) }
+{
+    match info_at(infos, place, number) {
+        Some(info) => note_floors(floors, info),
+        None => Ok(()),
+    }
+}
+
+/// Puts the info at the place, in the stead of the one that shows the same request.
+fn put_info(infos: &mut Vec<Info>, place: usize, info: Info) -> Result<(), AllocError>
+    requires { place ≤ length infos.old.items }
+    ensures { OnOk result (infos.new.items ≡ take place infos.old.items ++ info
+        ∷ drop (place + length (listed (info_here infos.old.items place info.request)))
+        infos.old.items) }
+{
+    match info_at(infos, place, info.request) {
+        Some(_shown) => infos[place] = info,
+        None => infos.insert(place, info)?,
+    }
+    Ok(())
+}
+
+/// Takes the info of the request with this number away, if it stands at the place.
+fn take_info(infos: &mut Vec<Info>, place: usize, number: u16)
+    ensures { infos.new.items ≡ take place infos.old.items
+        ++ drop (place + length (listed (info_here infos.old.items place number)))
+        infos.old.items }
+{
+    match info_at(infos, place, number) {
+        Some(_shown) => {
+            let _taken = infos.remove(place);
+            // What showed 256 requests would take some 50 kB while none is ongoing.
+            if infos.is_empty() {
+                infos.shrink_to_fit();
+            }
+        }
+        None => {}
+    }
+}
+
+/// Shows an ongoing request anew, and notes what changed.
+fn renew_marked(
+    alloc: Global,
+    config: &Config,
+    requests: &Requests,
+    request: &Request,
+    place: usize,
+    infos: &mut Vec<Info>,
+    changes: &mut Changes,
+) -> Result<(), AllocError>
+    requires floors { requests.now.floors ≡ config.now.floors }
+    requires settled { IsSettled requests.now }
+    requires found { request_at requests.now.ongoing request.now.number ≡ Some request.now }
+    requires place { place ≤ length infos.old.items }
+    ensures renewed { OnOk result (IsRenewed place
+        (info_here infos.old.items place request.now.number)
+        (Some (info config.now requests.now.ongoing request.now))
+        (Some (shown_of config.now requests.now.ongoing (entry_of request.now)))
+        infos.old.items infos.new.items changes.old changes.new) }
+    ensures fit { OnOk result
+        (All IsShownInfo infos.old.items → All IsShownInfo infos.new.items) }
+    ensures shown { OnOk result
+        (AreUpdatesShown changes.old.updates.items → AreUpdatesShown changes.new.updates.items) }
+{
+    let shown = shown_request(alloc, config, requests, request)?;
+    if differs(infos, place, &shown.info) {
+        note_floors_at(&mut changes.floors, infos, place, request.number)?;
+        note_floors(&mut changes.floors, &shown.info)?;
+        let info = copied_info(alloc, &shown.info)?;
+        changes.updates.push(update_of(shown))?;
+        put_info(infos, place, info)?;
+    }
+    Ok(())
+}
+
+/// Puts the status of a request that ended, if it is shown otherwise than before.
+fn put_ended(
+    alloc: Global,
+    config: &Config,
+    ended: &Ended,
+    place: usize,
+    infos: &[Info],
+    updates: &mut Vec<Update>,
+) -> Result<(), AllocError>
+    requires { IsAddable config.now.floors (new_of ended.now.request) }
+    ensures put { OnOk result (updates.new.items ≡ updates.old.items
+        ++ spec.update_from (info_here infos.now place ended.now.request.number)
+        (Some (shown_of config.now [] (entry_of_ended ended.now)))) }
+    ensures shown { OnOk result
+        (AreUpdatesShown updates.old.items → AreUpdatesShown updates.new.items) }
+{
+    let shown = shown_ended(alloc, config, ended)?;
+    if differs(infos, place, &shown.info) {
+        updates.push(update_of(shown))?;
+    }
+    Ok(())
+}
+
+/// Shows the request with this number no more, and notes its floors.
+fn forget(
+    infos: &mut Vec<Info>,
+    place: usize,
+    number: u16,
+    floors: &mut Vec<u16>,
+) -> Result<(), AllocError>
+    ensures infos { OnOk result (infos.new.items ≡ take place infos.old.items
+        ++ drop (place + length (listed (info_here infos.old.items place number)))
+        infos.old.items) }
+    ensures floors { OnOk result (floors.new.items ≡ floors.old.items
+        ++ spec.floors_before (info_here infos.old.items place number)) }
+{
+    note_floors_at(floors, infos, place, number)?;
+    take_info(infos, place, number);
+    Ok(())
+}
+
+/// Shows an ongoing request as it is after the event: anew, if some mark concerns it.
+fn renew_ongoing(
+    alloc: Global,
+    config: &Config,
+    requests: &Requests,
+    marks: &[Mark],
+    request: &Request,
+    place: usize,
+    infos: &mut Vec<Info>,
+    changes: &mut Changes,
+) -> Result<(), AllocError>
+    requires floors { requests.now.floors ≡ config.now.floors }
+    requires settled { IsSettled requests.now }
+    requires found { request_at requests.now.ongoing request.now.number ≡ Some request.now }
+    requires place { place ≤ length infos.old.items }
+    requires unmarked { is_marked marks.now request.now ≡ false
+        → info_here infos.old.items place request.now.number
+        ≡ Some (info config.now requests.now.ongoing request.now) }
+    ensures renewed { OnOk result (IsRenewed place
+        (info_here infos.old.items place request.now.number)
+        (Some (info config.now requests.now.ongoing request.now))
+        (Some (shown_of config.now requests.now.ongoing (entry_of request.now)))
+        infos.old.items infos.new.items changes.old changes.new) }
+    ensures fit { OnOk result
+        (All IsShownInfo infos.old.items → All IsShownInfo infos.new.items) }
+    ensures shown { OnOk result
+        (AreUpdatesShown changes.old.updates.items → AreUpdatesShown changes.new.updates.items) }
+{
+    if is_marked(marks, request) {
+        return renew_marked(alloc, config, requests, request, place, infos, changes);
+    }
+    Ok(())
+}
+
+/// Shows a request that ended no more, and notes what changed.
+fn renew_ended(
+    alloc: Global,
+    config: &Config,
+    ended: &Ended,
+    place: usize,
+    infos: &mut Vec<Info>,
+    changes: &mut Changes,
+) -> Result<(), AllocError>
+    requires { IsAddable config.now.floors (new_of ended.now.request) }
+    ensures renewed { OnOk result (IsRenewed place
+        (info_here infos.old.items place ended.now.request.number) None
+        (Some (shown_of config.now [] (entry_of_ended ended.now)))
+        infos.old.items infos.new.items changes.old changes.new) }
+    ensures fit { OnOk result
+        (All IsShownInfo infos.old.items → All IsShownInfo infos.new.items) }
+    ensures shown { OnOk result
+        (AreUpdatesShown changes.old.updates.items → AreUpdatesShown changes.new.updates.items) }
+{
+    put_ended(alloc, config, ended, place, infos, &mut changes.updates)?;
+    forget(infos, place, ended.request.number, &mut changes.floors)
+}
+
+/// Shows the request with this number as it is after the event. Gives the place behind it.
+fn renew_at(
+    alloc: Global,
+    config: &Config,
+    requests: &Requests,
+    course: &Course,
+    number: u16,
+    place: usize,
+    infos: &mut Vec<Info>,
+    changes: &mut Changes,
+) -> Result<usize, AllocError>
+    requires floors { requests.now.floors ≡ config.now.floors }
+    requires settled { IsSettled requests.now }
+    requires ended { AreAddable config.now.floors course.now.ended.items }
+    requires place { place ≤ length infos.old.items }
+    requires here { find (λ d. d.request.number == number) course.now.ended.items ≡ None
+        → request_here requests.now.ongoing place number
+        ≡ request_at requests.now.ongoing number }
+    requires unmarked { (r : Request)
+        → left_at course.now.ended.items requests.now.ongoing number ≡ Some r
+        → is_marked course.now.marks.items r ≡ false
+        → info_here infos.old.items place number ≡ Some (info config.now requests.now.ongoing r) }
+    ensures place { IfOk result (λ behind. behind ≡ place + length
+        (listed (left_at course.now.ended.items requests.now.ongoing number))) }
+    ensures renewed { OnOk result (IsRenewed place (info_here infos.old.items place number)
+        (now_at config.now course.now.ended.items requests.now.ongoing number)
+        (shown_at config.now requests.now.ongoing course.now.ended.items number)
+        infos.old.items infos.new.items changes.old changes.new) }
+    ensures fit { OnOk result
+        (All IsShownInfo infos.old.items → All IsShownInfo infos.new.items) }
+    ensures shown { OnOk result
+        (AreUpdatesShown changes.old.updates.items → AreUpdatesShown changes.new.updates.items) }
+{
+    match find_ended(&course.ended, number) {
+        Some(ended) => {
+            renew_ended(alloc, config, ended, place, infos, changes)?;
+            Ok(place)
+        }
+        None => match request_at(requests.ongoing(), place, number) {
+            Some(request) => {
+                let marks = course.marks.as_slice();
+                renew_ongoing(
+                    alloc, config, requests, marks, request, place, infos, changes,
+                )?;
+                Ok(place + 1)
+            }
+            None => {
+                forget(infos, place, number, &mut changes.floors)?;
+                Ok(place)
+            }
+        },
+    }
+}
+
+/// Shows all ongoing requests as they are after the event, and gives what changed. Only those that
+/// some mark concerns are shown anew.
+pub(crate) fn renew(
+    alloc: Global,
+    config: &Config,
+    requests: &Requests,
+    course: &Course,
+    infos: &mut Vec<Info>,
+) -> Result<Changes, AllocError>
+    requires floors { requests.now.floors ≡ config.now.floors }
+    requires settled { IsSettled requests.now }
+    requires ended { AreAddable config.now.floors course.now.ended.items }
+    requires course { IsCourse config.now requests.now.ongoing infos.old.items course.now }
+    requires fit { All IsShownInfo infos.old.items }
+    ensures infos { OnOk result
+        (infos.new.items ≡ infos_of config.now requests.now.ongoing) }
+    ensures updates { IfOk result (λ changes. changes.updates.items
+        ≡ updates config.now requests.now.ongoing course.now.ended.items infos.old.items
+        course.now.numbers.items) }
+    ensures floors { IfOk result (λ changes. AreChanged infos.old.items
+        (infos_of config.now requests.now.ongoing) changes.floors.items) }
+    ensures fit { OnOk result (All IsShownInfo infos.new.items) }
+    ensures shown { IfOk result (λ changes. AreUpdatesShown changes.updates.items) }
+{
+    let mut changes = Changes {
+        updates: Vec::new(alloc),
+        floors: Vec::new(alloc),
+    };
+    let mut place = 0;
+    for number in &course.numbers {
+        place = renew_at(
+            alloc,
+            config,
+            requests,
+            course,
+            *number,
+            place,
+            infos,
+            &mut changes,
+        )?;
+    }
+    Ok(changes)
+}
