@@ -2,7 +2,6 @@ pub mod Fitting
 pub mod Filtered
 pub mod Found
 pub mod Shows
-pub mod SameLists
 pub mod Entries
 pub mod Telling
 pub mod Changing

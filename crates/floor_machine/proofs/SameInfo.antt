@@ -1,6 +1,6 @@
 -- Two floor requests are shown alike exactly where all that is shown of them is equal.
-use Rattle.std.proofs.Common.{◌≡◌, ℕ, Bool, true, false, List, [], ◌∷◌, Option, Some, None, refl, ap, subst, ◌∙◌, arith}
-use Rattle.std.specs.Prelude.{◌==◌, ◌&&◌}
+use Rattle.std.proofs.Common.{◌≡◌, ℕ, Bool, true, false, List, [], ◌∷◌, Option, Some, None, true≢false, refl, sym, ap, subst, ◌∙◌, arith}
+use Rattle.std.specs.Prelude.{◌==◌, ◌&&◌, ◌↔◌, IsTrue}
 use Rattle.std.proofs.lemmas.Bool.Decides.{nat_tests}
 use Rattle.floor_message.specs.declared.tell.Who.{Who}
 use Rattle.floor_message.specs.declared.tell.Info.{Info}
@@ -132,6 +132,15 @@ info_own x =
     (same_option same_who x.requester x.requester) (same_option same_number x.priority x.priority) (same_option same_octets x.info x.info)
     (number_own x.request) ((options same_status statuses).own x.overall) ((lists same_floor floors).own x.floors) ((options same_who users).own x.beneficiary)
     ((options same_who users).own x.requester) ((options same_number numbers).own x.priority) (texts.own x.info)
+
+-- who answers exactly whether both are equal answers whether they are shown alike
+pub same_as : (answer : Bool) (x y : Info) → IsTrue answer ↔ (x ≡ y) → answer ≡ same_info x y
+same_as true x y h = sym (let P : Info → Type 0 = λ z. same_info x z ≡ true in subst P (h.0 refl) (info_own x))
+same_as false x y h = by (same_info x y) refl
+  where
+    by : (b : Bool) → same_info x y ≡ b → false ≡ same_info x y
+    by true e = absurd (true≢false (sym (h.1 (info_equal x y e))))
+    by false e = sym e
 
 pub same_is_equal : SameIsEqual
 same_is_equal = λ x y. (info_equal x y, λ e. let P : Info → Type 0 = λ z. same_info x z ≡ true in subst P e (info_own x))

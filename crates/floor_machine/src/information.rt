@@ -2,6 +2,5 @@
 //! kept beside the state, told to the members and copied into answers.
 
 pub(crate) mod copying;
-pub(crate) mod same;
 pub(crate) mod showing;
 pub(crate) mod shown;

@@ -11,9 +11,6 @@ use Rattle.floor_machine.specs.Journal.{IsJournal, parcels_of}
 use Rattle.floor_room.specs.declared.refusal.RoomRefusal.{RoomRefusal}
 use Rattle.floor_room.specs.declared.refusal.RoomRefusal.TheVariants.{JournalFull, Refused}
 use Rattle.floor_room.specs.Ledger.{Ledger, conference_of, new_ledger, refusal, with_entry}
-use Rattle.floor_room.specs.declared.status.Status.{Status}
-use Rattle.floor_room.specs.Status.{IsStatus}
-use Rattle.floor_room.specs.Text.{journal_text}
 use Rattle.floor_outbox.specs.Ends.{PairId, Sender}
 use Rattle.floor_serve.specs.Senders.{AreFed, fed, sender_of}
 
@@ -62,16 +59,6 @@ pub record TookAt (e : Event) (more : List (Option Sender)) (place : ℕ) : Type
   pub after : Booth
   pub took : Took before after e more
   pub place_is : place ≡ length after.ledger.journal
-
--- In one hold of its lock a booth stood so.
-pub record StoodInOneHold (status : Status) : Type 0 where
-  pub booth : Booth
-  pub value : IsStatus booth.ledger status
-
--- In one hold of its lock a booth had the journal of this text.
-pub record HadInOneHold (text : List ℕ) : Type 0 where
-  pub booth : Booth
-  pub value : text ≡ journal_text booth.ledger.journal
 
 -- The event stands behind the journal, and some first of what it tells was put.
 pub record Began (old new : Booth) (e : Event) (more : List (Option Sender)) : Type 0 where

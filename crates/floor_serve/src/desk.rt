@@ -1,9 +1,9 @@
 //! One conference as threads share it.
 
-ghost use Rattle.std.specs.Prelude.{◌≡◌, ◌∷◌, ◌++◌, [], IfOk, OnErr, OnOk, string_bytes};
+ghost use Rattle.std.specs.Prelude.{◌≡◌, ◌∷◌, ◌++◌, [], IfOk, OnErr, OnOk};
 ghost use Rattle.floor_machine.specs.declared.event.Event.TheVariants.{Leave, Message};
 ghost use Rattle.floor_machine.specs.Machine.{event_of_act};
-ghost use Rattle.floor_serve.specs.Booth.{HadInOneHold, JoinedInOneHold, StoodInOneHold, TookAt, TookInOneHold};
+ghost use Rattle.floor_serve.specs.Booth.{JoinedInOneHold, TookAt, TookInOneHold};
 
 use crate::booth::Booth;
 use crate::gate::Gate;
@@ -140,16 +140,12 @@ impl Desk {
     }
 
     /// How the conference stands. Takes no memory.
-    pub fn status<R: Wait>(&self, rt: &R) -> Status
-        ensures value { StoodInOneHold result }
-    {
+    pub fn status<R: Wait>(&self, rt: &R) -> Status {
         self.booth.lock(rt).status()
     }
 
     /// The lines of the conference's journal, a line for each event, and their number.
-    pub fn journal_text<R: Wait>(&self, rt: &R) -> Result<String, AllocError>
-        ensures value { IfOk result (λ text. HadInOneHold (string_bytes text)) }
-    {
+    pub fn journal_text<R: Wait>(&self, rt: &R) -> Result<String, AllocError> {
         let booth = self.booth.lock(rt);
         journal_text(self.alloc, booth.journal())
     }

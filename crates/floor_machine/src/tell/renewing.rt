@@ -5,6 +5,7 @@ ghost use Rattle.std.specs.Prelude.{◌≡◌, ◌==◌, ◌+◌, ◌++◌, ◌�
 ghost use Rattle.std.specs.Option.{option_copied};
 ghost use Rattle.floor_queue.specs.Queue.{IsAddable, IsSettled, new_of, request_at};
 ghost use Rattle.floor_message.specs.Shown.{IsShownInfo};
+ghost use Rattle.floor_machine.specs.Same.{same_info};
 ghost use Rattle.floor_machine.specs.Shown.{entry_of, info};
 ghost use Rattle.floor_machine.specs.steps.Fitting.{AreAddable, AreUpdatesShown};
 ghost use Rattle.floor_machine.specs.steps.Marks.{is_marked};
@@ -13,8 +14,6 @@ ghost use Rattle.floor_machine.specs.steps.Renewing.{IsCourse, IsRenewed, info_h
 ghost use Rattle.floor_machine.specs.steps.Telling.{AreChanged, entry_of_ended, infos_of, listed, shown_at, shown_of, updates};
 
 use crate::course::{Course, Ended, find_ended};
-use crate::information::copying::copied_info;
-use crate::information::same::same_info;
 use crate::information::shown::{shown_ended, shown_request};
 use crate::marks::{Mark, is_marked};
 use crate::tell::changed::{Update, update_of};
@@ -64,12 +63,19 @@ fn request_at(requests: &[Request], place: usize, number: u16) -> Option<&Reques
     }
 }
 
+/// Whether all that is shown of a request is as before.
+fn is_shown_alike(before: &Info, now: &Info) -> bool
+    ensures { result ≡ same_info before.now now.now }
+{
+    before.is_same(now)
+}
+
 /// Whether the request is shown otherwise than at the place.
 fn differs(infos: &[Info], place: usize, now: &Info) -> bool
     ensures { result ≡ spec.differs (info_here infos.now place now.now.request) now.now }
 {
     match info_at(infos, place, now.request) {
-        Some(info) => !same_info(info, now),
+        Some(info) => !is_shown_alike(info, now),
         None => true,
     }
 }
@@ -160,7 +166,7 @@ fn renew_marked(
     if differs(infos, place, &shown.info) {
         note_floors_at(&mut changes.floors, infos, place, request.number)?;
         note_floors(&mut changes.floors, &shown.info)?;
-        let info = copied_info(alloc, &shown.info)?;
+        let info = shown.info.copy(alloc)?;
         changes.updates.push(update_of(shown))?;
         put_info(infos, place, info)?;
     }
