@@ -23,6 +23,7 @@ pub(crate) fn doubled(alloc: Global, types: &[u8]) -> Result<Vec<u8>, AllocError
     Ok(bytes)
 }
 
+/// Whether each type has 7 bits.
 pub(crate) fn types_fit(types: &[u8]) -> bool
     ensures { IsTrue result ↔ All (λ kind. kind < 128) types.now }
 {

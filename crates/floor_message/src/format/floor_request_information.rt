@@ -23,6 +23,7 @@ use crate::tell::Info;
 use floor_wire::Attr;
 use std::alloc::{AllocError, Global};
 
+/// The floor requests that the attributes show, in order.
 pub(crate) fn infos_of(alloc: Global, attrs: &[Attr]) -> Result<Infos, AllocError>
     ensures { IfOk result (λ infos. infos ≡ infos_of attrs.now) }
 {
@@ -35,6 +36,7 @@ pub(crate) fn infos_of(alloc: Global, attrs: &[Attr]) -> Result<Infos, AllocErro
     Ok(Infos::from_vec(infos))
 }
 
+/// The floor request that a FLOOR-REQUEST-INFORMATION shows.
 pub(crate) fn info_of(alloc: Global, request: u16, inside: &[Attr]) -> Result<Info, AllocError>
     ensures { IfOk result (λ info. info ≡ info_of (request, inside.now)) }
 {
@@ -49,6 +51,7 @@ pub(crate) fn info_of(alloc: Global, request: u16, inside: &[Attr]) -> Result<In
     })
 }
 
+/// Adds a FLOOR-REQUEST-INFORMATION for each floor request.
 pub(crate) fn put_infos(
     alloc: Global,
     out: &mut Vec<Attr>,
@@ -63,6 +66,7 @@ pub(crate) fn put_infos(
     Ok(())
 }
 
+/// FLOOR-REQUEST-INFORMATION.
 pub(crate) fn info_attr(alloc: Global, info: &Info) -> Result<Attr, AllocError>
     requires { PriorityFits info.now }
     ensures { IfOk result (λ attr. attr ≡ spec.info_attr info.now) }
@@ -87,6 +91,7 @@ pub(crate) fn info_attr(alloc: Global, info: &Info) -> Result<Attr, AllocError>
     Ok(group(FLOOR_REQUEST_INFORMATION, info.request, inside))
 }
 
+/// Whether each priority is at most 4.
 pub(crate) fn priorities_fit(infos: &[Info]) -> bool
     ensures { IsTrue result ↔ All PriorityFits infos.now }
 {
@@ -98,6 +103,7 @@ pub(crate) fn priorities_fit(infos: &[Info]) -> bool
     true
 }
 
+/// Whether the priority, where there is one, is at most 4.
 pub(crate) fn priority_fits(info: &Info) -> bool
     ensures { IsTrue result ↔ PriorityFits info.now }
 {
@@ -107,6 +113,7 @@ pub(crate) fn priority_fits(info: &Info) -> bool
     }
 }
 
+/// What is left of the room behind the FLOOR-REQUEST-INFORMATION of each floor request.
 pub(crate) fn after_infos(room: usize, infos: &[Info]) -> Option<usize>
     requires { All PriorityFits infos.now }
     ensures { Leaves (map spec.info_attr infos.now) room result }
@@ -118,6 +125,7 @@ pub(crate) fn after_infos(room: usize, infos: &[Info]) -> Option<usize>
     Some(left)
 }
 
+/// What is left of the room behind FLOOR-REQUEST-INFORMATION.
 pub(crate) fn after_info(room: usize, info: &Info) -> Option<usize>
     requires { PriorityFits info.now }
     ensures { Leaves (spec.info_attr info.now ∷ []) room result }

@@ -16,6 +16,7 @@ use crate::kind::{FLOOR_REQUEST_STATUS, REQUEST_STATUS};
 use floor_wire::Attr;
 use std::alloc::{AllocError, Global};
 
+/// The floors of a floor request, in order, with their statuses.
 pub(crate) fn floor_statuses_of(alloc: Global, inside: &[Attr]) -> Result<FloorStatuses, AllocError>
     ensures { IfOk result (λ floors. floors
         ≡ map floor_of (groups FLOOR_REQUEST_STATUS inside.now)) }
@@ -29,6 +30,7 @@ pub(crate) fn floor_statuses_of(alloc: Global, inside: &[Attr]) -> Result<FloorS
     Ok(FloorStatuses::from_vec(floors))
 }
 
+/// Adds a FLOOR-REQUEST-STATUS for each floor.
 pub(crate) fn put_floor_statuses(
     alloc: Global,
     out: &mut Vec<Attr>,
@@ -46,6 +48,7 @@ pub(crate) fn put_floor_statuses(
     Ok(())
 }
 
+/// What is left of the room behind the FLOOR-REQUEST-STATUS of each floor.
 pub(crate) fn after_floor_statuses(room: usize, floors: &[(u16, Option<(u8, u8)>)]) -> Option<usize>
     ensures { Leaves (map spec.floor_attr floors.now) room result }
 {

@@ -29,6 +29,7 @@ pub(crate) fn floors_in(alloc: Global, attrs: &[Attr]) -> Result<Vec<u16>, Alloc
     Vec::from_slice(alloc, found.as_slice())
 }
 
+/// Adds a FLOOR-ID for each floor.
 pub(crate) fn put_floors(out: &mut Vec<Attr>, floors: &[u16]) -> Result<(), AllocError>
     ensures out { OnOk result (out.new.items
         ≡ out.old.items ++ map (spec.number FLOOR_ID) floors.now) }
@@ -40,6 +41,7 @@ pub(crate) fn put_floors(out: &mut Vec<Attr>, floors: &[u16]) -> Result<(), Allo
     Ok(())
 }
 
+/// Whether the floors are named once each, and are at most 60,000.
 pub(crate) fn floors_fit(floors: &[u16]) -> bool
     ensures { IsTrue result ↔ FloorsFit floors.now }
 {
@@ -61,6 +63,7 @@ fn is_each_once(numbers: &[u16]) -> bool
     true
 }
 
+/// What is left of the room behind a FLOOR-ID, where there is one.
 pub(crate) fn after_floor(room: usize, floor: Option<u16>) -> Option<usize>
     ensures { Leaves (spec.optional (spec.number 2) floor) room result }
 {

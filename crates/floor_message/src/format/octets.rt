@@ -75,6 +75,7 @@ pub(crate) fn put_octets(
     Ok(())
 }
 
+/// What is left of the room behind so many octets.
 pub(crate) fn after_octets(room: usize, len: usize) -> Option<usize>
     ensures { (kind : ℕ) (octets : List ℕ) → kind < 128 → format_of kind ≡ OctetString
         → len ≡ length octets → IsBytes octets
@@ -86,6 +87,7 @@ pub(crate) fn after_octets(room: usize, len: usize) -> Option<usize>
     room.checked_sub((2 + len).next_multiple_of(4))
 }
 
+/// What is left of the room behind octets, where there are any.
 pub(crate) fn after_optional_octets(room: usize, octets: &Option<Octets>) -> Option<usize>
     ensures { (kind : ℕ) → kind < 128 → format_of kind ≡ OctetString
         → Leaves (spec.optional (spec.octets kind) octets.now) room result }

@@ -22,6 +22,7 @@ pub(crate) fn overall_status(inside: &[Attr]) -> Option<u8>
     status_in(overall)
 }
 
+/// The status and the queue position in the first OVERALL-REQUEST-STATUS.
 pub(crate) fn overall_of(inside: &[Attr]) -> Option<(u8, u8)>
     ensures { result ≡ overall_of inside.now }
 {
@@ -29,6 +30,7 @@ pub(crate) fn overall_of(inside: &[Attr]) -> Option<(u8, u8)>
     first_pair(within, REQUEST_STATUS)
 }
 
+/// Adds OVERALL-REQUEST-STATUS, where there is a status.
 pub(crate) fn put_overall(
     alloc: Global,
     out: &mut Vec<Attr>,
@@ -46,6 +48,7 @@ pub(crate) fn put_overall(
     Ok(())
 }
 
+/// What is left of the room behind OVERALL-REQUEST-STATUS, where there is a status.
 pub(crate) fn after_overall(room: usize, request: u16, overall: Option<(u8, u8)>) -> Option<usize>
     ensures { Leaves (spec.optional (spec.overall_attr request) overall) room result }
 {

@@ -29,6 +29,7 @@ pub(crate) fn priority_asked(pair: Option<(u8, u8)>) -> u8
     }
 }
 
+/// The priority in the first PRIORITY.
 pub(crate) fn priority_in(inside: &[Attr]) -> Option<u8>
     ensures { result ≡ option_map priority_of (first (pairs PRIORITY inside.now)) }
 {
@@ -44,6 +45,7 @@ pub(crate) fn priority_attr(priority: u8) -> Attr
     plain(PRIORITY, Body::Pair(32 * priority, 0))
 }
 
+/// Adds PRIORITY, where there is one.
 pub(crate) fn put_priority(out: &mut Vec<Attr>, priority: Option<u8>) -> Result<(), AllocError>
     requires { IfSome priority (λ priority. priority ≤ 4) }
     ensures { OnOk result (out.new.items
@@ -55,6 +57,7 @@ pub(crate) fn put_priority(out: &mut Vec<Attr>, priority: Option<u8>) -> Result<
     Ok(())
 }
 
+/// What is left of the room behind PRIORITY, where there is one.
 pub(crate) fn after_priority(room: usize, priority: Option<u8>) -> Option<usize>
     requires { IfSome priority (λ priority. priority ≤ 4) }
     ensures { Leaves (spec.optional spec.priority_attr priority) room result }

@@ -52,6 +52,7 @@ pub(crate) fn info_kept(
     Ok(Some(Some(Octets::from_vec(kept))))
 }
 
+/// Whether the text, where there is one, is UTF-8 of 1 to 62 bytes.
 pub(crate) fn info_fits(info: &Option<Octets>) -> bool
     ensures value { IsTrue result ↔ IfSome info.now TextFits }
     ensures bytes { IsTrue result → IfSome info.now IsBytes }

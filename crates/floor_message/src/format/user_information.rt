@@ -15,6 +15,7 @@ use crate::tell::Who;
 use floor_wire::Attr;
 use std::alloc::{AllocError, Global};
 
+/// The user in the first group of the type.
 pub(crate) fn first_who(alloc: Global, attrs: &[Attr], kind: u8) -> Result<Option<Who>, AllocError>
     ensures { IfOk result (λ who. who ≡ option_map who_of (first (groups kind attrs.now))) }
 {
@@ -28,6 +29,7 @@ pub(crate) fn first_who(alloc: Global, attrs: &[Attr], kind: u8) -> Result<Optio
     }))
 }
 
+/// Adds the group of a user, where there is one.
 pub(crate) fn put_who(
     alloc: Global,
     out: &mut Vec<Attr>,
@@ -52,6 +54,7 @@ fn who_attr(alloc: Global, kind: u8, who: &Who) -> Result<Attr, AllocError>
     Ok(group(kind, who.user, inside))
 }
 
+/// What is left of the room behind the group of a user, where there is one.
 pub(crate) fn after_who(room: usize, who: &Option<Who>) -> Option<usize>
     ensures { (kind : ℕ) → kind < 128 → format_of kind ≡ Grouped
         → Leaves (spec.optional (spec.who_attr kind) who.now) room result }

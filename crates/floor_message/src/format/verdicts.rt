@@ -156,6 +156,7 @@ fn status_of(verdict: Verdict) -> u8
     }
 }
 
+/// Whether there are 1 to 31 verdicts, each on a floor of its own.
 pub(crate) fn verdicts_fit(verdicts: &[(u16, Verdict)]) -> bool
     ensures { IsTrue result ↔ VerdictsFit verdicts.now }
 {
