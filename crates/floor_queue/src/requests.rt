@@ -216,6 +216,21 @@ impl Requests {
         if self.given == u16::MAX {
             return Err(AddRefusal::NoNumber);
         }
+        let number = self.add_with_room(new)?;
+        Ok(number)
+    }
+
+    /// Adds a request as `add` does, where fewer than 256 are ongoing and a number is left, as `len`
+    /// and `given` tell. After an error nothing has changed.
+    pub fn add_with_room(&mut self, new: New) -> Result<u16, AllocError>
+        requires addable { IsAddable self.old.floors new }
+        requires room { length self.old.ongoing < 256 }
+        requires number_left { self.old.given < 65535 }
+        ensures number { IfOk result (λ number. number ≡ self.old.given + 1) }
+        ensures next { OnOk result (self.new ≡ after_add self.old new) }
+
+        ensures left { OnErr result (self.new ≡ self.old) }
+    {
         let alloc = *self.ongoing.allocator();
         let floors = first_floors(alloc, &self.floors, new.floors.as_slice())?;
         let number = self.given + 1;
