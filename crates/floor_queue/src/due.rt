@@ -5,12 +5,12 @@ ghost use Rattle.std.specs.List.{list_any, list_all};
 ghost use Rattle.floor_queue.specs.Order.{due_numbers, position};
 ghost use Rattle.floor_queue.specs.Queue.{is_ascending};
 ghost use Rattle.floor_queue.specs.steps.Lines.{AreLines, IsLined, has_place, is_due_in, is_number_due, line_has_due, line_shows, rank_shows};
-ghost use Rattle.floor_queue.specs.steps.Numbers.{ascend, is_in};
+ghost use Rattle.floor_queue.specs.steps.Numbers.{is_in};
 
 use crate::index::line::Line;
 use crate::index::lines::Lines;
 use crate::index::number::find_request;
-use crate::index::numbers::add_number;
+use crate::index::numbers::AscendingNumbers;
 use crate::index::rank::{Rank, rank_of};
 use crate::order::room_of;
 use crate::request::Request;
@@ -136,11 +136,11 @@ pub(crate) fn due_numbers(
     requires { IsLined floors.now requests.now lines.now }
     ensures { IfOk result (λ numbers. numbers.items ≡ due_numbers floors.now requests.now) }
 {
-    let mut numbers = Vec::new(alloc);
+    let mut numbers = AscendingNumbers::new(alloc);
     for line in lines.as_slice() {
         add_due_of_line(floors, lines, requests, line, &mut numbers)?;
     }
-    Ok(numbers)
+    Ok(numbers.into_vec())
 }
 
 /// Adds the numbers of those requests that the line shows to be due.
@@ -149,13 +149,11 @@ fn add_due_of_line(
     lines: &Lines,
     requests: &[Request],
     line: &Line,
-    numbers: &mut Vec<u16>,
+    numbers: &mut AscendingNumbers,
 ) -> Result<(), AllocError>
-    requires ascending { IsTrue (is_ascending requests.now) }
-    requires ascend { IsTrue (ascend numbers.old.items) }
-    ensures ascend { OnOk result (IsTrue (ascend numbers.new.items)) }
-    ensures members { OnOk result ((k : ℕ) → is_in k numbers.new.items
-        ≡ (is_in k numbers.old.items
+    requires { IsTrue (is_ascending requests.now) }
+    ensures { OnOk result ((k : ℕ) → is_in k numbers.new
+        ≡ (is_in k numbers.old
         || line_shows floors.now lines.now requests.now (λ n. n == k) line.now)) }
 {
     if line.is_marked() {
@@ -171,13 +169,11 @@ fn add_due(
     lines: &Lines,
     requests: &[Request],
     ranks: &[Rank],
-    numbers: &mut Vec<u16>,
+    numbers: &mut AscendingNumbers,
 ) -> Result<(), AllocError>
-    requires ascending { IsTrue (is_ascending requests.now) }
-    requires ascend { IsTrue (ascend numbers.old.items) }
-    ensures ascend { OnOk result (IsTrue (ascend numbers.new.items)) }
-    ensures members { OnOk result ((k : ℕ) → is_in k numbers.new.items
-        ≡ (is_in k numbers.old.items
+    requires { IsTrue (is_ascending requests.now) }
+    ensures { OnOk result ((k : ℕ) → is_in k numbers.new
+        ≡ (is_in k numbers.old
         || list_any (rank_shows floors.now lines.now requests.now (λ n. n == k)) ranks.now)) }
 {
     for rank in ranks {
@@ -191,17 +187,15 @@ fn add_if_due(
     lines: &Lines,
     requests: &[Request],
     rank: Rank,
-    numbers: &mut Vec<u16>,
+    numbers: &mut AscendingNumbers,
 ) -> Result<(), AllocError>
-    requires ascending { IsTrue (is_ascending requests.now) }
-    requires ascend { IsTrue (ascend numbers.old.items) }
-    ensures ascend { OnOk result (IsTrue (ascend numbers.new.items)) }
-    ensures members { OnOk result ((k : ℕ) → is_in k numbers.new.items
-        ≡ (is_in k numbers.old.items
+    requires { IsTrue (is_ascending requests.now) }
+    ensures { OnOk result ((k : ℕ) → is_in k numbers.new
+        ≡ (is_in k numbers.old
         || rank_shows floors.now lines.now requests.now (λ n. n == k) rank)) }
 {
     if is_rank_due(floors, lines, requests, rank) {
-        add_number(numbers, rank.number)?;
+        numbers.add(rank.number)?;
     }
     Ok(())
 }

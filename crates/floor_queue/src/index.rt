@@ -8,3 +8,4 @@ pub(crate) mod number;
 pub(crate) mod numbers;
 pub(crate) mod parties;
 pub(crate) mod rank;
+pub(crate) mod ranks;

@@ -4,7 +4,7 @@ use Rattle.std.proofs.lemmas.List.Sums.{prefix_len-le-length}
 use Rattle.floor_queue.specs.declared.index.rank.Rank.{Rank}
 use Rattle.floor_queue.specs.steps.Lines.{before, is_in_order, place_in, with_rank}
 use Rattle.floor_queue.proofs.Ranking.{insert-place, in_order-with_rank}
-use Rattle.floor_queue.proofs.index.line.put_rank.Goals as goal
+use Rattle.floor_queue.proofs.index.ranks.put_rank.Goals as goal
 
 pub insert-room-requires : goal.insert-room-requires
 insert-room-requires c =

@@ -3,7 +3,7 @@ use Rattle.std.proofs.lemmas.List.Sorted.{IsPartitionPoint-from_clause}
 use Rattle.floor_queue.specs.declared.index.rank.Rank.{Rank}
 use Rattle.floor_queue.specs.steps.Lines.{before}
 use Rattle.floor_queue.proofs.Searching.{position-partition, partitioned-rank}
-use Rattle.floor_queue.proofs.index.line.place_in.Goals as goal
+use Rattle.floor_queue.proofs.index.ranks.place_in.Goals as goal
 
 pub returns : goal.returns
 returns c =
