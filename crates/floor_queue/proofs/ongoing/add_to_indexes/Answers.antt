@@ -2,7 +2,7 @@ use Rattle.std.proofs.Common.{◌∙◌, ap, map, List}
 use Rattle.floor_queue.specs.steps.Lines.{FloorLine, added, taken}
 use Rattle.floor_queue.proofs.Lining.{taken-added}
 use Rattle.floor_queue.proofs.Loops.{map-undone_all}
-use Rattle.floor_queue.proofs.requests.add_to_indexes.Goals as goal
+use Rattle.floor_queue.proofs.ongoing.add_to_indexes.Goals as goal
 
 pub returns-in-Err-clause-left_lines : goal.returns-in-Err-clause-left_lines
 returns-in-Err-clause-left_lines c =
