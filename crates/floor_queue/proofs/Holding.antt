@@ -1,7 +1,7 @@
 -- Those that hold a floor are the first of its line.
-use Rattle.std.proofs.Common.{◌≡◌, ℕ, ◌≤◌, ◌<◌, ◌+◌, Bool, true, false, cond, zero, suc, List, [], ◌∷◌, length, get_or, refl, ◌∙◌, ap, arith}
+use Rattle.std.proofs.Common.{◌≡◌, ◌+◌, Bool, true, false, cond, zero, suc, List, [], ◌∷◌, get_or, refl, ap, arith}
 use Rattle.std.specs.Prelude.{not, count_by}
-use Rattle.std.specs.List.{list_all, position_or_len}
+use Rattle.std.specs.List.{position_or_len}
 use Rattle.std.specs.List.Sorted.{IsPartitionedBy}
 use Rattle.std.proofs.lemmas.List.Sums.{AllPass-from_list_all}
 use Rattle.floor_queue.specs.declared.index.rank.Rank.{Rank}

@@ -147,7 +147,7 @@ MaySetFloor-set_floor q request floor word other id h =
 
 -- a new request -------------------------------------------------------------------------------
 
-is_ascending-push : (rs : List Request) (x : Request) → is_ascending rs ≡ true → list_all (λ r. nat_lt r.number x.number) rs ≡ true → is_ascending (rs ++ x ∷ []) ≡ true
+pub is_ascending-push : (rs : List Request) (x : Request) → is_ascending rs ≡ true → list_all (λ r. nat_lt r.number x.number) rs ≡ true → is_ascending (rs ++ x ∷ []) ≡ true
 is_ascending-push [] x h a = refl
 is_ascending-push (r ∷ rs) x h a =
     and_both _ _ (list_all-append (λ (q : Request). nat_lt r.number q.number) rs (x ∷ []) ∙ and_both _ _ (and_left _ _ h) (and_both _ _ (and_left _ _ a) refl))
@@ -160,13 +160,17 @@ map-first_floor floors (id ∷ ids) = ap (λ (xs : List ℕ). id ∷ xs) (map-fi
 new_of-first_request : (floors : List Floor) (number : ℕ) (new : New) → new_of (first_request floors number new) ≡ new
 new_of-first_request floors number new = ap (λ (ids : List ℕ). record new { floors = ids }) (map-first_floor floors new.floors)
 
+-- all numbers are below the next one
+pub all_below : (q : Queue) → IsQueue q → list_all (λ r. nat_lt r.number (q.given + 1)) q.ongoing ≡ true
+all_below q h =
+    list_all-from_AllPass (λ (r : Request). nat_lt r.number (q.given + 1)) q.ongoing
+    (All-weaker (λ (r : Request). (1 ≤ r.number) × (r.number ≤ q.given)) (λ (r : Request). nat_lt r.number (q.given + 1) ≡ true) (λ r k. lt-ltb r.number (q.given + 1) (omega (arith, k.1))) q.ongoing h.numbers)
+
 pub IsQueue-add : (q : Queue) (new : New) → IsQueue q → length q.ongoing < 256 → IsAddable q.floors new → IsQueue (after_add q new)
 IsQueue-add q new h few addable =
     record {
       rooms = h.rooms;
-      ascending = is_ascending-push q.ongoing (first_request q.floors (q.given + 1) new) h.ascending
-          (list_all-from_AllPass (λ (r : Request). nat_lt r.number (q.given + 1)) q.ongoing
-          (All-weaker (λ (r : Request). (1 ≤ r.number) × (r.number ≤ q.given)) (λ (r : Request). nat_lt r.number (q.given + 1) ≡ true) (λ r k. lt-ltb r.number (q.given + 1) (omega (arith, k.1))) q.ongoing h.numbers));
+      ascending = is_ascending-push q.ongoing (first_request q.floors (q.given + 1) new) h.ascending (all_below q h);
       numbers = All-push (λ (r : Request). (1 ≤ r.number) × (r.number ≤ q.given + 1)) q.ongoing (first_request q.floors (q.given + 1) new)
           (All-weaker (λ (r : Request). (1 ≤ r.number) × (r.number ≤ q.given)) (λ (r : Request). (1 ≤ r.number) × (r.number ≤ q.given + 1)) (λ r k. (k.0, omega (arith, k.1))) q.ongoing h.numbers)
           (omega arith, omega arith);
@@ -186,7 +190,7 @@ list_all-filter p t (x ∷ xs) h = by (t x) (list_all-filter p t xs (and_right _
     by true rest = and_both _ _ (and_left _ _ h) rest
     by false rest = rest
 
-is_ascending-filter : (t : Request → Bool) (rs : List Request) → is_ascending rs ≡ true → is_ascending (filter t rs) ≡ true
+pub is_ascending-filter : (t : Request → Bool) (rs : List Request) → is_ascending rs ≡ true → is_ascending (filter t rs) ≡ true
 is_ascending-filter t [] h = refl
 is_ascending-filter t (r ∷ rs) h = by (t r) (is_ascending-filter t rs (and_right _ _ h))
   where

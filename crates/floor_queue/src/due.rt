@@ -3,15 +3,14 @@
 ghost use Rattle.std.specs.Prelude.{◌≡◌, ◌≤◌, ◌==◌, ◌&&◌, ◌||◌, ℕ, IfOk, OnOk, IsSome, IsTrue, find};
 ghost use Rattle.std.specs.List.{list_any, list_all};
 ghost use Rattle.floor_queue.specs.Order.{due_numbers, position};
-ghost use Rattle.floor_queue.specs.Queue.{is_ascending};
 ghost use Rattle.floor_queue.specs.steps.Lines.{AreLines, IsLined, has_place, is_due_in, is_number_due, line_has_due, line_shows, rank_shows};
-ghost use Rattle.floor_queue.specs.steps.Numbers.{ascend, is_in};
+ghost use Rattle.floor_queue.specs.steps.Numbers.{is_in};
 
 use crate::index::line::Line;
 use crate::index::lines::Lines;
-use crate::index::number::find_request;
-use crate::index::numbers::add_number;
+use crate::index::numbers::AscendingNumbers;
 use crate::index::rank::{Rank, rank_of};
+use crate::ongoing::Ongoing;
 use crate::order::room_of;
 use crate::request::Request;
 use crate::requested_floor::RequestedFloor;
@@ -22,7 +21,7 @@ use std::alloc::{AllocError, Global};
 pub(crate) fn position(
     floors: &[Floor],
     lines: &Lines,
-    requests: &[Request],
+    requests: &Ongoing,
     request: &Request,
     floor: u16,
 ) -> u8
@@ -74,19 +73,17 @@ fn is_due(floors: &[Floor], lines: &Lines, request: &Request) -> bool
 }
 
 /// Whether the request with this number is due.
-fn is_number_due(floors: &[Floor], lines: &Lines, requests: &[Request], number: u16) -> bool
-    requires { IsTrue (is_ascending requests.now) }
+fn is_number_due(floors: &[Floor], lines: &Lines, requests: &Ongoing, number: u16) -> bool
     ensures { result ≡ is_number_due floors.now lines.now requests.now number }
 {
-    match find_request(requests, number) {
+    match requests.find(number) {
         Some(request) => is_due(floors, lines, request),
         None => false,
     }
 }
 
 /// Whether the rank is that of a request that is due.
-fn is_rank_due(floors: &[Floor], lines: &Lines, requests: &[Request], rank: Rank) -> bool
-    requires { IsTrue (is_ascending requests.now) }
+fn is_rank_due(floors: &[Floor], lines: &Lines, requests: &Ongoing, rank: Rank) -> bool
     ensures { result
         ≡ (rank.waits && is_number_due floors.now lines.now requests.now rank.number) }
 {
@@ -94,8 +91,7 @@ fn is_rank_due(floors: &[Floor], lines: &Lines, requests: &[Request], rank: Rank
 }
 
 /// Whether one of these ranks is that of a request that is due.
-fn have_due(floors: &[Floor], lines: &Lines, requests: &[Request], ranks: &[Rank]) -> bool
-    requires { IsTrue (is_ascending requests.now) }
+fn have_due(floors: &[Floor], lines: &Lines, requests: &Ongoing, ranks: &[Rank]) -> bool
     ensures { result ≡ list_any
         (λ k. k.waits && is_number_due floors.now lines.now requests.now k.number) ranks.now }
 {
@@ -106,8 +102,7 @@ fn have_due(floors: &[Floor], lines: &Lines, requests: &[Request], ranks: &[Rank
 
 /// Whether the line is marked, and one of its first requests, as many as the floor has room for, is
 /// due.
-fn line_has_due(floors: &[Floor], lines: &Lines, requests: &[Request], line: &Line) -> bool
-    requires { IsTrue (is_ascending requests.now) }
+fn line_has_due(floors: &[Floor], lines: &Lines, requests: &Ongoing, line: &Line) -> bool
     ensures { result ≡ line_has_due floors.now lines.now requests.now line.now }
 {
     let room = room_of(floors, line.floor());
@@ -115,8 +110,7 @@ fn line_has_due(floors: &[Floor], lines: &Lines, requests: &[Request], line: &Li
 }
 
 /// Whether one of the requests is due. Looks at the first requests of each marked line alone.
-pub(crate) fn has_due(floors: &[Floor], lines: &Lines, requests: &[Request]) -> bool
-    requires { IsTrue (is_ascending requests.now) }
+pub(crate) fn has_due(floors: &[Floor], lines: &Lines, requests: &Ongoing) -> bool
     ensures { result ≡ list_any (line_has_due floors.now lines.now requests.now) lines.now }
 {
     lines
@@ -131,31 +125,28 @@ pub(crate) fn due_numbers(
     alloc: Global,
     floors: &[Floor],
     lines: &Lines,
-    requests: &[Request],
+    requests: &Ongoing,
 ) -> Result<Vec<u16>, AllocError>
     requires { IsLined floors.now requests.now lines.now }
     ensures { IfOk result (λ numbers. numbers.items ≡ due_numbers floors.now requests.now) }
 {
-    let mut numbers = Vec::new(alloc);
+    let mut numbers = AscendingNumbers::new(alloc);
     for line in lines.as_slice() {
         add_due_of_line(floors, lines, requests, line, &mut numbers)?;
     }
-    Ok(numbers)
+    Ok(numbers.into_vec())
 }
 
 /// Adds the numbers of those requests that the line shows to be due.
 fn add_due_of_line(
     floors: &[Floor],
     lines: &Lines,
-    requests: &[Request],
+    requests: &Ongoing,
     line: &Line,
-    numbers: &mut Vec<u16>,
+    numbers: &mut AscendingNumbers,
 ) -> Result<(), AllocError>
-    requires ascending { IsTrue (is_ascending requests.now) }
-    requires ascend { IsTrue (ascend numbers.old.items) }
-    ensures ascend { OnOk result (IsTrue (ascend numbers.new.items)) }
-    ensures members { OnOk result ((k : ℕ) → is_in k numbers.new.items
-        ≡ (is_in k numbers.old.items
+    ensures { OnOk result ((k : ℕ) → is_in k numbers.new
+        ≡ (is_in k numbers.old
         || line_shows floors.now lines.now requests.now (λ n. n == k) line.now)) }
 {
     if line.is_marked() {
@@ -169,15 +160,12 @@ fn add_due_of_line(
 fn add_due(
     floors: &[Floor],
     lines: &Lines,
-    requests: &[Request],
+    requests: &Ongoing,
     ranks: &[Rank],
-    numbers: &mut Vec<u16>,
+    numbers: &mut AscendingNumbers,
 ) -> Result<(), AllocError>
-    requires ascending { IsTrue (is_ascending requests.now) }
-    requires ascend { IsTrue (ascend numbers.old.items) }
-    ensures ascend { OnOk result (IsTrue (ascend numbers.new.items)) }
-    ensures members { OnOk result ((k : ℕ) → is_in k numbers.new.items
-        ≡ (is_in k numbers.old.items
+    ensures { OnOk result ((k : ℕ) → is_in k numbers.new
+        ≡ (is_in k numbers.old
         || list_any (rank_shows floors.now lines.now requests.now (λ n. n == k)) ranks.now)) }
 {
     for rank in ranks {
@@ -189,19 +177,16 @@ fn add_due(
 fn add_if_due(
     floors: &[Floor],
     lines: &Lines,
-    requests: &[Request],
+    requests: &Ongoing,
     rank: Rank,
-    numbers: &mut Vec<u16>,
+    numbers: &mut AscendingNumbers,
 ) -> Result<(), AllocError>
-    requires ascending { IsTrue (is_ascending requests.now) }
-    requires ascend { IsTrue (ascend numbers.old.items) }
-    ensures ascend { OnOk result (IsTrue (ascend numbers.new.items)) }
-    ensures members { OnOk result ((k : ℕ) → is_in k numbers.new.items
-        ≡ (is_in k numbers.old.items
+    ensures { OnOk result ((k : ℕ) → is_in k numbers.new
+        ≡ (is_in k numbers.old
         || rank_shows floors.now lines.now requests.now (λ n. n == k) rank)) }
 {
     if is_rank_due(floors, lines, requests, rank) {
-        add_number(numbers, rank.number)?;
+        numbers.add(rank.number)?;
     }
     Ok(())
 }

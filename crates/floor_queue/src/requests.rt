@@ -1,18 +1,17 @@
 //! The ongoing floor requests of one conference (RFC 8855, sections 10, 11 and 13).
 
-ghost use Rattle.std.specs.Prelude.{true, ◌≡◌, ◌<◌, nat_lt, ◌++◌, ◌∷◌, [], ◌+◌, ◌↔◌, ◌==◌, ℕ, IfOk, OnOk, OnErr, Some, IsSome, IsTrue, length, map, filter, remove, slice_index_or};
-ghost use Rattle.std.specs.List.{list_any, list_all};
+ghost use Rattle.std.specs.Prelude.{◌≡◌, ◌<◌, ◌+◌, ◌↔◌, ◌==◌, ℕ, IfOk, OnOk, OnErr, Some, IsSome, IsTrue, length, map, filter};
+ghost use Rattle.std.specs.List.{list_any};
 ghost use Rattle.std.specs.Option.{option_copied};
 ghost use Rattle.floor_queue.specs.Order.{settle, due_numbers, holders, names, granted_if};
-ghost use Rattle.floor_queue.specs.Queue.{HasFloor, IsAddable, IsQueue, IsSettled, MaySetFloor, after_add, after_clear, after_end, after_set_floor, after_settle, empty_queue, first_floor, involves, is_ascending, numbers_of, position_of, request_at, with_word};
-ghost use Rattle.floor_queue.specs.steps.Lines.{AreLines, AreMarked, added};
-ghost use Rattle.floor_queue.specs.steps.Parties.{AreParties, numbers_with, with_parties};
-ghost use Rattle.floor_queue.specs.Requested.{floor_with_word};
+ghost use Rattle.floor_queue.specs.Queue.{HasFloor, IsAddable, IsQueue, IsSettled, MaySetFloor, after_add, after_clear, after_end, after_set_floor, after_settle, empty_queue, first_floor, involves, numbers_of, position_of, request_at};
+ghost use Rattle.floor_queue.specs.steps.Lines.{AreLines};
+ghost use Rattle.floor_queue.specs.steps.Parties.{numbers_with};
 
 use crate::index::lines::Lines;
-use crate::index::number::{find_request, place_of};
 use crate::index::parties::Parties;
-use crate::index::rank::{Rank, rank_of};
+use crate::index::rank::rank_of;
+use crate::ongoing::Ongoing;
 use crate::request::{New, Request};
 use crate::requested_floor::{FloorStatus, RequestedFloor, RequestedFloors, Word};
 use crate::{addable, due, order};
@@ -45,7 +44,7 @@ pub enum AddRefusal {
 pub struct Requests {
     floors: Vec<Floor>,
     given: u16,
-    ongoing: Vec<Request>,
+    ongoing: Ongoing,
     lines: Lines,
     parties: Parties,
 }
@@ -58,13 +57,13 @@ impl Model for Requests {
     ghost Value = { Queue };
 
     ghost view = { λ q.
-        record { floors = q.floors.items; given = q.given; ongoing = q.ongoing.items } };
+        record { floors = q.floors.items; given = q.given; ongoing = q.ongoing } };
 
     ghost invariant = { λ q.
-        IsQueue record { floors = q.floors.items; given = q.given; ongoing = q.ongoing.items }
-        × AreLines q.floors.items q.ongoing.items q.lines
-        × AreMarked q.floors.items q.ongoing.items q.lines
-        × AreParties q.ongoing.items q.parties };
+        IsQueue record { floors = q.floors.items; given = q.given; ongoing = q.ongoing }
+        × AreLines q.floors.items q.ongoing q.lines
+        × AreMarked q.floors.items q.ongoing q.lines
+        × AreParties q.ongoing q.parties };
 }
 
 impl Requests {
@@ -77,7 +76,7 @@ impl Requests {
         Ok(Requests {
             floors,
             given: 0,
-            ongoing: Vec::new(alloc),
+            ongoing: Ongoing::new(alloc),
             lines,
             parties: Parties::new(alloc),
         })
@@ -116,7 +115,7 @@ impl Requests {
     pub fn get(&self, request: u16) -> Option<&Request>
         ensures { option_copied result ≡ request_at self.now.ongoing request }
     {
-        find_request(&self.ongoing, request)
+        self.ongoing.find(request)
     }
 
     /// How many requests hold the floor. Takes no memory.
@@ -183,8 +182,8 @@ impl Requests {
         ensures { IfOk result (λ numbers.
             numbers ≡ numbers_of (filter (λ r. names r floor) self.now.ongoing)) }
     {
-        let alloc = *self.ongoing.allocator();
-        let numbers = numbers_of_floor(alloc, &self.ongoing, floor)?;
+        let alloc = self.ongoing.allocator();
+        let numbers = numbers_of_floor(alloc, self.ongoing.as_slice(), floor)?;
         Ok(Numbers::from_vec(numbers))
     }
 
@@ -193,7 +192,7 @@ impl Requests {
         ensures { IfOk result (λ numbers.
             numbers ≡ numbers_of (filter (λ r. involves r user) self.now.ongoing)) }
     {
-        let alloc = *self.ongoing.allocator();
+        let alloc = self.ongoing.allocator();
         let numbers = numbers_of_user(alloc, &self.parties, user)?;
         Ok(Numbers::from_vec(numbers))
     }
@@ -216,7 +215,22 @@ impl Requests {
         if self.given == u16::MAX {
             return Err(AddRefusal::NoNumber);
         }
-        let alloc = *self.ongoing.allocator();
+        let number = self.add_with_room(new)?;
+        Ok(number)
+    }
+
+    /// Adds a request as `add` does, where fewer than 256 are ongoing and a number is left, as `len`
+    /// and `given` tell. After an error nothing has changed.
+    pub fn add_with_room(&mut self, new: New) -> Result<u16, AllocError>
+        requires addable { IsAddable self.old.floors new }
+        requires room { length self.old.ongoing < 256 }
+        requires number_left { self.old.given < 65535 }
+        ensures number { IfOk result (λ number. number ≡ self.old.given + 1) }
+        ensures next { OnOk result (self.new ≡ after_add self.old new) }
+
+        ensures left { OnErr result (self.new ≡ self.old) }
+    {
+        let alloc = self.ongoing.allocator();
         let floors = first_floors(alloc, &self.floors, new.floors.as_slice())?;
         let number = self.given + 1;
         let request = Request {
@@ -228,13 +242,8 @@ impl Requests {
             floors: RequestedFloors::from_vec(floors),
             is_granted: false,
         };
-        append(
-            &self.floors,
-            &mut self.ongoing,
-            &mut self.lines,
-            &mut self.parties,
-            request,
-        )?;
+        self.ongoing
+            .add(&self.floors, &mut self.lines, &mut self.parties, request)?;
         self.given = number;
         Ok(number)
     }
@@ -246,14 +255,8 @@ impl Requests {
         ensures still { (other id : ℕ) →
             MaySetFloor self.old other id → MaySetFloor self.new other id }
     {
-        store_word(
-            &self.floors,
-            &mut self.ongoing,
-            &mut self.lines,
-            request,
-            floor,
-            word,
-        );
+        self.ongoing
+            .store_word(&self.floors, &mut self.lines, request, floor, word);
     }
 
     /// Takes a request out: it was cancelled, denied, released or revoked. Takes no memory.
@@ -262,8 +265,7 @@ impl Requests {
         ensures ended { request_at self.old.ongoing request ≡ Some result }
         ensures next { self.new ≡ after_end self.old request }
     {
-        let place = place_of(&self.ongoing, request);
-        let ended = take_out(&mut self.ongoing, place);
+        let ended = self.ongoing.end(request);
         let rank = rank_of(&self.floors, &ended);
         self.lines.take(&ended, rank);
         self.lines.mark(&ended);
@@ -277,7 +279,6 @@ impl Requests {
         ensures { self.new ≡ after_clear self.old }
     {
         self.ongoing.clear();
-        self.ongoing.shrink_to_fit();
         self.lines.clear();
         self.parties.clear();
     }
@@ -292,7 +293,7 @@ impl Requests {
 
         ensures left { OnErr result (self.new ≡ self.old) }
     {
-        let alloc = *self.ongoing.allocator();
+        let alloc = self.ongoing.allocator();
         let numbers = due::due_numbers(alloc, &self.floors, &self.lines, &self.ongoing)?;
         grant_all(&self.floors, &mut self.ongoing, &mut self.lines, &numbers);
         self.lines.unmark();
@@ -347,137 +348,15 @@ fn first_floor(floors: &[Floor], floor: u16) -> RequestedFloor
     }
 }
 
-/// Puts the request behind the others, into the lines of its floors and among those of its users.
-fn append(
-    floors: &[Floor],
-    requests: &mut Vec<Request>,
-    lines: &mut Lines,
-    parties: &mut Parties,
-    request: Request,
-) -> Result<(), AllocError>
-    requires some { IsTrue (nat_lt 0 (length request.floors)) }
-    requires lines { AreLines floors.now requests.old.items lines.old }
-    requires marks { AreMarked floors.now requests.old.items lines.old }
-    requires parties { AreParties requests.old.items parties.old }
-
-    ensures next { OnOk result (requests.new.items ≡ requests.old.items ++ request ∷ []) }
-    ensures lines { AreLines floors.now requests.new.items lines.new }
-    ensures marks { AreMarked floors.now requests.new.items lines.new }
-    ensures parties { AreParties requests.new.items parties.new }
-
-    ensures left { OnErr result (requests.new.items ≡ requests.old.items) }
-{
-    requests.reserve(1)?;
-    let rank = rank_of(floors, &request);
-    add_to_indexes(lines, parties, &request, rank)?;
-    lines.mark(&request);
-    let _pushed = requests.push(request);
-    Ok(())
-}
-
-/// After an error nothing has changed.
-fn add_to_indexes(
-    lines: &mut Lines,
-    parties: &mut Parties,
-    request: &Request,
-    rank: Rank,
-) -> Result<(), AllocError>
-    ensures lines { OnOk result (lines.new ≡ map (added request.now rank) lines.old) }
-    ensures parties { OnOk result (parties.new
-        ≡ with_parties request.now.requester request.now.beneficiary request.now.number
-        parties.old) }
-
-    ensures left_lines { OnErr result (lines.new ≡ lines.old) }
-    ensures left_parties { OnErr result (parties.new ≡ parties.old) }
-{
-    lines.add(request, rank)?;
-    if let Err(refused) = parties.add(request.requester, request.beneficiary, request.number) {
-        lines.take(request, rank);
-        return Err(refused);
-    }
-    Ok(())
-}
-
-/// Takes out the request at this place. The last one that is taken out gives the memory back.
-fn take_out(requests: &mut Vec<Request>, place: usize) -> Request
-    requires { place < length requests.old.items }
-    ensures value { result ≡ slice_index_or requests.old.items place result }
-    ensures items { requests.new.items ≡ remove requests.old.items place }
-{
-    let request = requests.remove(place);
-    if requests.is_empty() {
-        requests.shrink_to_fit();
-    }
-    request
-}
-
-/// Stores the word on the request with this number.
-fn store_word(
-    floors: &[Floor],
-    requests: &mut Vec<Request>,
-    lines: &mut Lines,
-    number: u16,
-    floor: u16,
-    word: Word,
-)
-    requires ascending { IsTrue (is_ascending requests.old.items) }
-    requires some { IsTrue (list_all (λ r. nat_lt 0 (length r.floors)) requests.old.items) }
-    requires lines { AreLines floors.now requests.old.items lines.old }
-    requires marks { AreMarked floors.now requests.old.items lines.old }
-    ensures next { requests.new.items ≡ map (with_word number floor word) requests.old.items }
-    ensures lines { AreLines floors.now requests.new.items lines.new }
-    ensures marks { AreMarked floors.now requests.new.items lines.new }
-{
-    let place = place_of(requests, number);
-    if place < requests.len() {
-        let old = rank_of(floors, &requests[place]);
-        set_word(&mut requests[place], floor, word);
-        let request = &requests[place];
-        lines.change(request, old, rank_of(floors, request));
-        lines.mark(request);
-    }
-}
-
-fn set_word(request: &mut Request, floor: u16, word: Word)
-    ensures { request.new
-        ≡ record request.old { floors = map (floor_with_word floor word) request.old.floors } }
-{
-    request.floors.set_word(floor, word);
-}
-
-fn grant_all(floors: &[Floor], requests: &mut Vec<Request>, lines: &mut Lines, numbers: &[u16])
-    requires ascending { IsTrue (is_ascending requests.old.items) }
-    requires lines { AreLines floors.now requests.old.items lines.old }
-    ensures next { requests.new.items
-        ≡ map (λ r. granted_if (list_any (λ n. n == r.number) numbers.now) r) requests.old.items }
-    ensures lines { AreLines floors.now requests.new.items lines.new }
+fn grant_all(floors: &[Floor], requests: &mut Ongoing, lines: &mut Lines, numbers: &[u16])
+    requires { AreLines floors.now requests.old lines.old }
+    ensures next { requests.new
+        ≡ map (λ r. granted_if (list_any (λ n. n == r.number) numbers.now) r) requests.old }
+    ensures lines { AreLines floors.now requests.new lines.new }
 {
     for number in numbers {
-        grant_one(floors, requests, lines, *number);
+        requests.grant(floors, lines, *number);
     }
-}
-
-/// Grants the request with this number.
-fn grant_one(floors: &[Floor], requests: &mut Vec<Request>, lines: &mut Lines, number: u16)
-    requires ascending { IsTrue (is_ascending requests.old.items) }
-    requires lines { AreLines floors.now requests.old.items lines.old }
-    ensures next { requests.new.items
-        ≡ map (λ r. granted_if (r.number == number) r) requests.old.items }
-    ensures lines { AreLines floors.now requests.new.items lines.new }
-{
-    let place = place_of(requests, number);
-    if place < requests.len() {
-        let old = rank_of(floors, &requests[place]);
-        grant(&mut requests[place]);
-        let request = &requests[place];
-        lines.change(request, old, rank_of(floors, request));
-    }
-}
-
-fn grant(request: &mut Request)
-    ensures { request.new ≡ granted_if true request.old }
-{
-    request.is_granted = true;
 }
 
 impl From<AllocError> for AddRefusal {

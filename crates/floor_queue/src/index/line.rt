@@ -1,10 +1,11 @@
 //! The ongoing requests of one floor in one line: those that hold it, then those that wait in their
 //! order, then the rest.
 
-ghost use Rattle.std.specs.Prelude.{◌≡◌, ◌<◌, OnOk, OnErr, IsTrue, vec_len, vec_capacity, [], count_by, false, take};
-ghost use Rattle.floor_queue.specs.steps.Lines.{added, emptied, is_in_order, marked, moved, moved_rank, place_in, taken, unmarked, with_rank, without_rank};
+ghost use Rattle.std.specs.Prelude.{◌≡◌, OnOk, OnErr, [], count_by, false, take};
+ghost use Rattle.floor_queue.specs.steps.Lines.{added, emptied, marked, moved, place_in, taken, unmarked};
 
-use crate::index::rank::{Rank, before};
+use crate::index::rank::Rank;
+use crate::index::ranks::Ranks;
 use crate::request::Request;
 use std::alloc::{AllocError, Global};
 use std::marker::Model;
@@ -15,19 +16,16 @@ use std::marker::Model;
 #[derive(Debug, Drop)]
 pub(crate) struct Line {
     floor: u16,
-    ranks: Vec<Rank>,
+    ranks: Ranks,
     is_marked: bool,
 }
 
 impl Model for Line {
-    ghost use Rattle.std.specs.Prelude.{IsTrue};
-    ghost use Rattle.floor_queue.specs.steps.Lines.{FloorLine, is_in_order};
+    ghost use Rattle.floor_queue.specs.steps.Lines.{FloorLine};
 
     ghost Value = { FloorLine };
 
-    ghost view = { λ l. record { floor = l.floor; ranks = l.ranks.items; is_marked = l.is_marked } };
-
-    ghost invariant = { λ l. IsTrue (is_in_order l.ranks.items) };
+    ghost view = { λ l. record { floor = l.floor; ranks = l.ranks; is_marked = l.is_marked } };
 }
 
 impl Line {
@@ -37,7 +35,7 @@ impl Line {
     {
         Line {
             floor,
-            ranks: Vec::new(alloc),
+            ranks: Ranks::new(alloc),
             is_marked: false,
         }
     }
@@ -60,25 +58,21 @@ impl Line {
     pub(crate) fn first(&self, count: usize) -> &[Rank]
         ensures { result.now ≡ take count self.now.ranks }
     {
-        if count < self.ranks.len() {
-            &self.ranks[..count]
-        } else {
-            self.ranks.as_slice()
-        }
+        self.ranks.first(count)
     }
 
     /// How many of the first ranks are before this one.
     pub(crate) fn place(&self, rank: Rank) -> usize
         ensures { result ≡ place_in rank self.now.ranks }
     {
-        place_in(&self.ranks, rank)
+        self.ranks.place(rank)
     }
 
     /// How many of the requests hold the floor.
     pub(crate) fn holders(&self) -> usize
         ensures { result ≡ count_by (λ k. k.is_granted) self.now.ranks }
     {
-        holders_in(&self.ranks)
+        self.ranks.holders()
     }
 
     /// Puts the rank in, if the request names the floor. After an error nothing has changed.
@@ -87,7 +81,7 @@ impl Line {
         ensures left { OnErr result (self.new ≡ self.old) }
     {
         if request.names(self.floor) {
-            add_rank(&mut self.ranks, rank)?;
+            self.ranks.add(rank)?;
         }
         Ok(())
     }
@@ -97,8 +91,7 @@ impl Line {
         ensures { self.new ≡ taken request.now rank self.old }
     {
         if request.names(self.floor) {
-            take_rank(&mut self.ranks, rank);
-            free_if_empty(&mut self.ranks);
+            self.ranks.take(rank);
         }
     }
 
@@ -107,7 +100,7 @@ impl Line {
         ensures { self.new ≡ moved request.now old new self.old }
     {
         if request.names(self.floor) {
-            move_rank(&mut self.ranks, old, new);
+            self.ranks.change(old, new);
         }
     }
 
@@ -133,76 +126,5 @@ impl Line {
     {
         self.is_marked = false;
         self.ranks.clear();
-        self.ranks.shrink_to_fit();
-    }
-}
-
-/// How many of the ranks are those of holders, which come first.
-fn holders_in(ranks: &[Rank]) -> usize
-    requires { IsTrue (is_in_order ranks.now) }
-    ensures { result ≡ count_by (λ k. k.is_granted) ranks.now }
-{
-    ranks.partition_point(|k| k.is_granted)
-}
-
-fn place_in(ranks: &[Rank], rank: Rank) -> usize
-    requires { IsTrue (is_in_order ranks.now) }
-    ensures { result ≡ place_in rank ranks.now }
-{
-    ranks.partition_point(|k| before(*k, rank))
-}
-
-fn add_rank(ranks: &mut Vec<Rank>, rank: Rank) -> Result<(), AllocError>
-    requires { IsTrue (is_in_order ranks.old.items) }
-    ensures in_order { IsTrue (is_in_order ranks.new.items) }
-    ensures next { OnOk result (ranks.new.items ≡ with_rank rank ranks.old.items) }
-    ensures left { OnErr result (ranks.new.items ≡ ranks.old.items) }
-{
-    ranks.reserve(1)?;
-    put_rank(ranks, rank);
-    Ok(())
-}
-
-/// Puts the rank in at its place.
-fn put_rank(ranks: &mut Vec<Rank>, rank: Rank)
-    requires room { vec_len ranks.old < vec_capacity ranks.old }
-    requires in_order { IsTrue (is_in_order ranks.old.items) }
-    ensures in_order { IsTrue (is_in_order ranks.new.items) }
-    ensures items { ranks.new.items ≡ with_rank rank ranks.old.items }
-{
-    let place = place_in(ranks, rank);
-    let _room = ranks.insert(place, rank);
-}
-
-fn take_rank(ranks: &mut Vec<Rank>, rank: Rank)
-    requires { IsTrue (is_in_order ranks.old.items) }
-    ensures in_order { IsTrue (is_in_order ranks.new.items) }
-    ensures items { ranks.new.items ≡ without_rank rank ranks.old.items }
-{
-    let place = place_in(ranks, rank);
-    if place < ranks.len() {
-        ranks.remove(place);
-    }
-}
-
-/// Gives the memory back, if no rank is left.
-fn free_if_empty(ranks: &mut Vec<Rank>)
-    ensures { ranks.new.items ≡ ranks.old.items }
-{
-    if ranks.is_empty() {
-        ranks.shrink_to_fit();
-    }
-}
-
-/// Takes a rank out, and puts another in where it was found: there is room where one was taken out.
-fn move_rank(ranks: &mut Vec<Rank>, old: Rank, new: Rank)
-    requires { IsTrue (is_in_order ranks.old.items) }
-    ensures in_order { IsTrue (is_in_order ranks.new.items) }
-    ensures items { ranks.new.items ≡ moved_rank old new ranks.old.items }
-{
-    let place = place_in(ranks, old);
-    if place < ranks.len() {
-        ranks.remove(place);
-        put_rank(ranks, new);
     }
 }

@@ -1,30 +1,65 @@
 //! Numbers of requests in ascending order, each once.
 
-ghost use Rattle.std.specs.Prelude.{◌≡◌, ◌==◌, OnOk, IsTrue, false, nat_lt, not};
+ghost use Rattle.std.specs.Prelude.{◌≡◌, ◌==◌, [], OnOk, IsTrue, false, nat_lt, not};
 ghost use Rattle.std.specs.List.{position_or_len, slice_get};
 ghost use Rattle.std.specs.Option.{option_map_or};
 ghost use Rattle.floor_queue.specs.steps.Numbers.{ascend, with_number};
 
-use std::alloc::AllocError;
+use std::alloc::{AllocError, Global};
+use std::marker::Model;
 
-/// Puts the number among the others, unless it is one of them.
-pub(crate) fn add_number(numbers: &mut Vec<u16>, number: u16) -> Result<(), AllocError>
-    requires { IsTrue (ascend numbers.old.items) }
-    ensures next { OnOk result (numbers.new.items ≡ with_number number numbers.old.items) }
-{
-    let place = first_from(numbers, number);
-    if !stands_at(numbers, place, number) {
-        numbers.insert(place, number)?;
-    }
-    Ok(())
+/// Numbers of requests in ascending order, each once. It has no memory while there are none.
+#[derive(Debug, Drop)]
+pub(crate) struct AscendingNumbers {
+    numbers: Vec<u16>,
 }
 
-/// The place of the first number that isn't below this one.
-fn first_from(numbers: &[u16], number: u16) -> usize
-    requires { IsTrue (ascend numbers.now) }
-    ensures { result ≡ position_or_len (λ n. not (nat_lt n number)) numbers.now }
-{
-    numbers.partition_point(|n| *n < number)
+impl Model for AscendingNumbers {
+    ghost use Rattle.std.specs.Prelude.{ℕ, IsTrue, List};
+    ghost use Rattle.floor_queue.specs.steps.Numbers.{ascend};
+
+    ghost Value = { List ℕ };
+
+    ghost view = { λ n. n.numbers.items };
+
+    ghost invariant = { λ n. IsTrue (ascend n.numbers.items) };
+}
+
+impl AscendingNumbers {
+    /// No number yet. Takes no memory.
+    pub(crate) fn new(alloc: Global) -> AscendingNumbers
+        ensures { result ≡ [] }
+    {
+        AscendingNumbers {
+            numbers: Vec::new(alloc),
+        }
+    }
+
+    /// Puts the number among the others, unless it is one of them.
+    pub(crate) fn add(&mut self, number: u16) -> Result<(), AllocError>
+        ensures next { OnOk result (self.new ≡ with_number number self.old) }
+    {
+        let place = self.first_from(number);
+        if !stands_at(&self.numbers, place, number) {
+            self.numbers.insert(place, number)?;
+        }
+        Ok(())
+    }
+
+    /// The numbers. Takes no memory.
+    pub(crate) fn into_vec(self) -> Vec<u16>
+        ensures value { result.items ≡ self }
+        ensures kept { IsTrue (ascend result.items) }
+    {
+        self.numbers
+    }
+
+    /// The place of the first number that isn't below this one.
+    fn first_from(&self, number: u16) -> usize
+        ensures { result ≡ position_or_len (λ n. not (nat_lt n number)) self.now }
+    {
+        self.numbers.partition_point(|n| *n < number)
+    }
 }
 
 /// Whether the number stands at the place.

@@ -46,7 +46,7 @@ impl Parties {
     pub(crate) fn of(&self, user: u16) -> &[Party]
         ensures { result.now ≡ filter (λ p. p.user == user) self.now }
     {
-        let from = first_from(&self.parties, user);
+        let from = self.first_from(user);
         let rest = &self.parties[from..];
         &rest[..up_to(rest, user)]
     }
@@ -85,7 +85,7 @@ impl Parties {
     pub(crate) fn end(&mut self, number: u16)
         ensures { self.new ≡ filter (λ p. not (p.number == number)) self.old }
     {
-        take_parties(&mut self.parties, number);
+        self.parties.retain(|p| p.number != number);
         if self.parties.is_empty() {
             self.parties.shrink_to_fit();
         }
@@ -98,15 +98,14 @@ impl Parties {
         self.parties.clear();
         self.parties.shrink_to_fit();
     }
-}
 
-/// The place of the first party of this user or a higher one.
-fn first_from(parties: &[Party], user: u16) -> usize
-    requires { IsTrue (by_user parties.now) }
-    ensures value { result ≡ position_or_len (λ p. not (nat_lt p.user user)) parties.now }
-    ensures bound { result ≤ length parties.now }
-{
-    parties.partition_point(|p| p.user < user)
+    /// The place of the first party of this user or a higher one.
+    fn first_from(&self, user: u16) -> usize
+        ensures value { result ≡ position_or_len (λ p. not (nat_lt p.user user)) self.now }
+        ensures bound { result ≤ length self.now }
+    {
+        self.parties.partition_point(|p| p.user < user)
+    }
 }
 
 /// How many of the first parties are of this user or a lower one.
@@ -129,13 +128,4 @@ fn put_party(parties: &mut Vec<Party>, party: Party)
 {
     let place = up_to(parties, party.user);
     let _room = parties.insert(place, party);
-}
-
-fn take_parties(parties: &mut Vec<Party>, number: u16)
-    requires { IsTrue (by_user parties.old.items) }
-    ensures by_user { IsTrue (by_user parties.new.items) }
-    ensures items { parties.new.items
-        ≡ filter (λ p. not (p.number == number)) parties.old.items }
-{
-    parties.retain(|p| p.number != number);
 }

@@ -8,6 +8,6 @@ use Rattle.floor_queue.proofs.requests.grant_all.Given as goal
 abbrev pub invariant-loop-number : goal.invariant-loop-number
 invariant-loop-number l =
     record {
-      next : l.requests.items ≡ map (λ r. granted_if (list_any (λ n. n == r.number) (take l.number-index l.numbers)) r) l.fn.requests.items;
-      lines : AreLines l.floors l.requests.items l.lines;
+      next : l.requests ≡ map (λ r. granted_if (list_any (λ n. n == r.number) (take l.number-index l.numbers)) r) l.fn.requests;
+      lines : AreLines l.floors l.requests l.lines;
     }

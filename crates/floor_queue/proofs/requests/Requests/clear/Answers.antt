@@ -6,10 +6,10 @@ use Rattle.floor_queue.proofs.requests.Requests.clear.Goals as goal
 
 pub invariant_of-self : goal.invariant_of-self
 invariant_of-self c = (
-  rw (c.shrink_to_fit.ensures.items, c.clear.ensures.items)
-      (IsQueue-clear record { floors = c.self.inside.floors.items; given = c.self.inside.given; ongoing = c.self.inside.ongoing.items } c.self.invariant.0),
-  rw (c.shrink_to_fit.ensures.items, c.clear.ensures.items, c.clear-2.ensures)
-      (AreLines-cleared c.self.inside.floors.items c.self.inside.ongoing.items c.self.inside.lines c.self.invariant.1),
-  rw (c.shrink_to_fit.ensures.items, c.clear.ensures.items) refl,
-  rw (c.shrink_to_fit.ensures.items, c.clear.ensures.items, c.clear-3.ensures) AreParties-none,
+  rw c.clear.ensures
+      (IsQueue-clear record { floors = c.self.inside.floors.items; given = c.self.inside.given; ongoing = c.self.inside.ongoing } c.self.invariant.0),
+  rw (c.clear.ensures, c.clear-2.ensures)
+      (AreLines-cleared c.self.inside.floors.items c.self.inside.ongoing c.self.inside.lines c.self.invariant.1),
+  rw c.clear.ensures refl,
+  rw (c.clear.ensures, c.clear-3.ensures) AreParties-none,
 )
