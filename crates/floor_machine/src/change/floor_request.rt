@@ -18,7 +18,7 @@ use crate::information::showing::copied;
 use crate::lookup::{are_floors, has_proxy, is_user};
 use crate::marks::{Mark, mark_ongoing};
 use floor_message::{Ask, ErrorCode};
-use floor_queue::{AddRefusal, MAX_FLOORS, MAX_ONGOING, New, Request, Requests};
+use floor_queue::{MAX_FLOORS, MAX_ONGOING, New, Request, Requests};
 use floor_wire::{Numbers, Octets};
 use std::alloc::{AllocError, Global};
 
@@ -184,12 +184,7 @@ fn add_request(
 {
     // No ongoing request has the next number.
     let _ongoing = requests.ongoing();
-    match requests.add(new) {
-        Ok(number) => {
-            numbers.push(number)?;
-            mark_ongoing(marks, requests, number)
-        }
-        Err(AddRefusal::Full | AddRefusal::NoNumber) => unreachable!(),
-        Err(AddRefusal::Memory) => Err(AllocError),
-    }
+    let number = requests.add_with_room(new)?;
+    numbers.push(number)?;
+    mark_ongoing(marks, requests, number)
 }
