@@ -182,8 +182,9 @@ fn add_request(
         requests.new.ongoing marks.new.items) }
     ensures floors { requests.new.floors ≡ requests.old.floors }
 {
-    // No ongoing request has the next number.
+    // No ongoing request has the next number, which has 16 bits.
     let _ongoing = requests.ongoing();
+    let _given = requests.given();
     let number = requests.add_with_room(new)?;
     numbers.push(number)?;
     mark_ongoing(marks, requests, number)

@@ -23,7 +23,7 @@ returns-in_ok-put_info-clause-renewed c =
     (ap (λ (x : Shown). x.info) is)
     (ap (λ (is : List Info). differs (info_here is place i.request) i) (sym c.deref.ensures.value) ∙ sym c.differs.ensures ∙ c.if-differs.true)
     (c.in_ok-put_info.ensures
-    ∙ ap (λ (x : Info). take place before ++ x ∷ drop (place + length (listed (info_here before place x.request))) before) c.in_ok-info.ensures)
+    ∙ ap (λ (x : Info). take place before ++ x ∷ drop (place + length (listed (info_here before place x.request))) before) c.in_ok-info.ensures.value)
     (c.in_ok-push.ensures.items
     ∙ ap (λ (u : Update). c.args.changes.now.updates.items ++ u ∷ []) (c.update_of.ensures ∙ ap (λ (x : Shown). update_of x) is))
     (c.in_ok-note_floors.ensures
@@ -32,7 +32,7 @@ returns-in_ok-put_info-clause-renewed c =
 
 pub returns-in_ok-put_info-clause-fit : goal.returns-in_ok-put_info-clause-fit
 returns-in_ok-put_info-clause-fit c =
-    fit-put c.args.place c.args.infos.now.items c.put_info.new.infos.items c.in_ok-shown.shown.info c.in_ok-info.info c.in_ok-info.ensures c.in_ok-shown.ensures.shown c.in_ok-put_info.ensures
+    fit-put c.args.place c.args.infos.now.items c.put_info.new.infos.items c.in_ok-shown.shown.info c.in_ok-info.info c.in_ok-info.ensures.value c.in_ok-shown.ensures.shown c.in_ok-put_info.ensures
 
 pub returns-else-differs-clause-renewed : goal.returns-else-differs-clause-renewed
 returns-else-differs-clause-renewed c =
