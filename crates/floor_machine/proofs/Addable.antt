@@ -21,7 +21,7 @@ use Rattle.floor_machine.specs.Shown.{Entry, entry_of}
 use Rattle.floor_machine.specs.Checks.{beneficiary_of}
 use Rattle.floor_machine.specs.Change.{Change, change, leaving, ends_without, ending, ends_at, entries_after, released, dismissed, decided_at, is_final}
 use Rattle.floor_machine.specs.steps.Telling.{entry_of_ended}
-use Rattle.floor_machine.specs.steps.Serving.{IsChanged, IsState, MayServe, ended_of, judged_change}
+use Rattle.floor_machine.specs.steps.Serving.{IsChanged, MayServe, ended_of, judged_change}
 use Rattle.floor_machine.specs.steps.Fitting.{AreAddable, DetailsFit}
 use Rattle.floor_machine.proofs.Entries.{ended_of-entries}
 use Rattle.floor_machine.proofs.Changing.{ended_of-decided, none-ended-added}
@@ -74,10 +74,10 @@ noted_addable floors ended es same h =
     noted_all (λ r. IsAddable floors (new_of r)) ended (subst Q (sym same) h)
 
 -- the ongoing requests are ones that could be added
-pub queue_addable : (t : State) → IsState t → IsQueue t.requests → All (λ r. IsAddable t.config.floors (new_of r)) t.requests.ongoing
-queue_addable t state queue =
+pub queue_addable : (t : State) → IsQueue t.requests → All (λ r. IsAddable t.config.floors (new_of r)) t.requests.ongoing
+queue_addable t queue =
     let Q : List Floor → Type 0 = λ fs. All (λ r. IsAddable fs (new_of r)) t.requests.ongoing in
-    subst Q state.floors queue.addable
+    subst Q t.same_floors queue.addable
 
 -- those of them that end are, too
 pub ending_addable : (s : Conference) (ends : Request → Option RequestStatus) (ended : List Ended) → All (λ r. IsAddable s.config.floors (new_of r)) s.ongoing →

@@ -18,10 +18,9 @@ use Rattle.floor_machine.specs.declared.status.RequestStatus.{RequestStatus}
 use Rattle.floor_machine.specs.Shown.{entry_of}
 use Rattle.floor_machine.specs.Conference.{Conference, user_of}
 use Rattle.floor_machine.specs.Change.{Change, no_change, asked_change, ending, ends_at, released, dismissed, is_final, decided_at}
-use Rattle.floor_machine.specs.Reply.{infos}
 use Rattle.floor_machine.specs.steps.Telling.{entry_of_ended, listed}
 use Rattle.floor_machine.specs.steps.Marks.{AreNoted}
-use Rattle.floor_machine.specs.steps.Serving.{IsChanged, IsState, MayDecide, after_decide, conference_of, ended_by, is_rising, new_of_ask}
+use Rattle.floor_machine.specs.steps.Serving.{IsChanged, MayDecide, after_decide, conference_of, ended_by, is_rising, new_of_ask, with_requests}
 use Rattle.floor_machine.proofs.Found.{request_at_place}
 use Rattle.floor_machine.proofs.Noting.{noted-none}
 use Rattle.floor_machine.proofs.Entries.{ongoing_of-entries, ended_of-entries, numbers_in-entries}
@@ -62,8 +61,8 @@ none-next given (r ∷ rs) h =
 
 -- nothing is changed as an event begins
 pub begun : (s : Conference) (course : Course) → is_ascending s.ongoing ≡ true →
-    course.before.items ≡ infos s → course.numbers.items ≡ numbers_of s.ongoing → course.ended.items ≡ [] → IsChanged s (no_change s) s course
-begun s course h before numbers ended = record {
+    course.numbers.items ≡ numbers_of s.ongoing → course.ended.items ≡ [] → IsChanged s (no_change s) s course
+begun s course h numbers ended = record {
   config = refl;
   given = refl;
   members = refl;
@@ -72,7 +71,6 @@ begun s course h before numbers ended = record {
   ended = ap (map entry_of_ended) ended ∙ sym (ended_of-entries s.ongoing);
   numbers = numbers ∙ sym (numbers_in-entries s.ongoing);
   rising = ap is_rising numbers ∙ rising-numbers s.ongoing ∙ h;
-  before = before;
   old = ap (flat_map (λ n. listed (request_at s.ongoing n))) numbers ∙ old-numbers (request_at s.ongoing) s.ongoing (λ i d within. request_at_place s.ongoing i d h within);
   noted = noted-none s.config.floors s.ongoing course.marks.items;
 }
@@ -83,18 +81,18 @@ made s user beneficiary floors priority info known = first_request known (s.requ
 
 -- a FloorRequest has added its request
 pub changed-request : (s : State) (course course' : Course) (n user : ℕ) (beneficiary : Option ℕ) (floors : List ℕ) (priority : ℕ) (info : Option (List ℕ)) →
-    IsState s → IsQueue s.requests → IsChanged (conference_of s) (no_change (conference_of s)) (conference_of s) course → user ≡ user_of (conference_of s) n →
-    course'.numbers.items ≡ course.numbers.items ++ (s.requests.given + 1) ∷ [] → course'.before ≡ course.before → course'.ended ≡ course.ended →
+    IsQueue s.requests → IsChanged (conference_of s) (no_change (conference_of s)) (conference_of s) course → user ≡ user_of (conference_of s) n →
+    course'.numbers.items ≡ course.numbers.items ++ (s.requests.given + 1) ∷ [] → course'.ended ≡ course.ended →
     AreNoted s.config.floors s.requests.ongoing (after_add s.requests (new_of_ask user beneficiary floors priority info)).ongoing course'.marks.items →
     IsChanged (conference_of s) (asked_change (conference_of s) n (FloorRequest beneficiary floors priority info))
-    (conference_of (record s { requests = after_add s.requests (new_of_ask user beneficiary floors priority info) })) course'
-changed-request s course course' n user beneficiary floors priority info state queue begun is_user numbers before ended noted =
+    (with_requests (conference_of s) (after_add s.requests (new_of_ask user beneficiary floors priority info))) course'
+changed-request s course course' n user beneficiary floors priority info queue begun is_user numbers ended noted =
     let rs = s.requests.ongoing in
     let mine = made s user beneficiary floors priority info s.requests.floors in
     let spec = made s (user_of (conference_of s) n) beneficiary floors priority info s.config.floors in
     let same : mine ≡ spec =
     ap (λ (u : ℕ). made s u beneficiary floors priority info s.requests.floors) is_user
-    ∙ ap (made s (user_of (conference_of s) n) beneficiary floors priority info) state.floors in
+    ∙ ap (made s (user_of (conference_of s) n) beneficiary floors priority info) s.same_floors in
     record {
       config = refl;
       given = refl;
@@ -104,7 +102,6 @@ changed-request s course course' n user beneficiary floors priority info state q
       ended = ap (λ (es : List Ended). map entry_of_ended es) (ap (λ x. x.items) ended) ∙ begun.ended ∙ ended_of-entries rs ∙ sym (none-ended-added rs spec);
       numbers = numbers ∙ ap (λ (ns : List ℕ). ns ++ (s.requests.given + 1) ∷ []) (begun.numbers ∙ numbers_in-entries rs) ∙ sym (numbers-added rs spec);
       rising = ap is_rising (numbers ∙ ap (λ (ns : List ℕ). ns ++ (s.requests.given + 1) ∷ []) (begun.numbers ∙ numbers_in-entries rs)) ∙ rising-next rs s.requests.given queue.ascending queue.numbers;
-      before = ap (λ x. x.items) before ∙ begun.before;
       old =
           ap (flat_map (λ n. listed (request_at rs n))) numbers
           ∙ flat_map-append (λ n. listed (request_at rs n)) course.numbers.items ((s.requests.given + 1) ∷ [])
@@ -127,10 +124,10 @@ pub changed-end : (s : State) (how : Request → RequestStatus) (course course' 
     IsQueue s.requests → IsChanged (conference_of s) (no_change (conference_of s)) (conference_of s) course →
     IsSome (request_at s.requests.ongoing request) →
     IfSome (request_at s.requests.ongoing request) (λ r. course'.ended.items ≡ course.ended.items ++ record { request = r; ending = how r } ∷ []) →
-    course'.numbers ≡ course.numbers → course'.before ≡ course.before →
+    course'.numbers ≡ course.numbers →
     AreNoted s.config.floors s.requests.ongoing (after_end s.requests request).ongoing course'.marks.items →
-    IsChanged (conference_of s) (record (no_change (conference_of s)) { entries = ending (conference_of s) (ends_at request how) }) (conference_of (record s { requests = after_end s.requests request })) course'
-changed-end s how course course' request queue begun ongoing told numbers before noted =
+    IsChanged (conference_of s) (record (no_change (conference_of s)) { entries = ending (conference_of s) (ends_at request how) }) (with_requests (conference_of s) (after_end s.requests request)) course'
+changed-end s how course course' request queue begun ongoing told numbers noted =
     let rs = s.requests.ongoing in
     let same : course'.numbers.items ≡ numbers_of rs = ap (λ x. x.items) numbers ∙ begun.numbers ∙ numbers_in-entries rs in
     record {
@@ -142,7 +139,6 @@ changed-end s how course course' request queue begun ongoing told numbers before
       ended = by (request_at rs request) ongoing told ∙ sym (ended_of-ending request how rs queue.ascending);
       numbers = same ∙ sym (numbers_in-ending request how rs);
       rising = ap is_rising same ∙ rising-numbers rs ∙ queue.ascending;
-      before = ap (λ x. x.items) before ∙ begun.before;
       old = ap (λ (ns : List ℕ). flat_map (λ n. listed (request_at rs n)) ns) (ap (λ x. x.items) numbers) ∙ begun.old;
       noted = noted;
     }
@@ -157,9 +153,9 @@ pub changed-release : (s : State) (course course' : Course) (n request : ℕ) �
     IsQueue s.requests → IsChanged (conference_of s) (no_change (conference_of s)) (conference_of s) course →
     IsSome (request_at s.requests.ongoing request) →
     IfSome (request_at s.requests.ongoing request) (λ r. course'.ended.items ≡ course.ended.items ++ record { request = r; ending = released r } ∷ []) →
-    course'.numbers ≡ course.numbers → course'.before ≡ course.before →
+    course'.numbers ≡ course.numbers →
     AreNoted s.config.floors s.requests.ongoing (after_end s.requests request).ongoing course'.marks.items →
-    IsChanged (conference_of s) (asked_change (conference_of s) n (FloorRelease request)) (conference_of (record s { requests = after_end s.requests request })) course'
+    IsChanged (conference_of s) (asked_change (conference_of s) n (FloorRelease request)) (with_requests (conference_of s) (after_end s.requests request)) course'
 changed-release s course course' n request = changed-end s released course course' request
 
 -- the requests after verdicts that end none
@@ -169,11 +165,11 @@ words_change s request verdicts = record (no_change s) { entries = map (λ r. en
 -- verdicts that end no request have left their words
 changed-words : (s : State) (course course' : Course) (request : ℕ) (verdicts : List (ℕ × Verdict)) →
     IsQueue s.requests → IsChanged (conference_of s) (no_change (conference_of s)) (conference_of s) course →
-    course'.ended.items ≡ course.ended.items ++ [] → course'.numbers ≡ course.numbers → course'.before ≡ course.before →
+    course'.ended.items ≡ course.ended.items ++ [] → course'.numbers ≡ course.numbers →
     AreNoted s.config.floors s.requests.ongoing (map (decided_at request verdicts) s.requests.ongoing) course'.marks.items →
     IsChanged (conference_of s) (words_change (conference_of s) request verdicts)
-    (conference_of (record s { requests = record s.requests { ongoing = map (decided_at request verdicts) s.requests.ongoing } })) course'
-changed-words s course course' request verdicts queue begun ended numbers before noted =
+    (with_requests (conference_of s) (record s.requests { ongoing = map (decided_at request verdicts) s.requests.ongoing })) course'
+changed-words s course course' request verdicts queue begun ended numbers noted =
     let rs = s.requests.ongoing in
     let same : course'.numbers.items ≡ numbers_of rs = ap (λ x. x.items) numbers ∙ begun.numbers ∙ numbers_in-entries rs in
     record {
@@ -185,7 +181,6 @@ changed-words s course course' request verdicts queue begun ended numbers before
       ended = ap (map entry_of_ended) (ended ∙ append-nil course.ended.items ∙ none-ended (conference_of s) course begun) ∙ sym (ended_of-decided request verdicts rs);
       numbers = same ∙ sym (numbers_in-decided request verdicts rs);
       rising = ap is_rising same ∙ rising-numbers rs ∙ queue.ascending;
-      before = ap (λ x. x.items) before ∙ begun.before;
       old = ap (λ (ns : List ℕ). flat_map (λ n. listed (request_at rs n)) ns) (ap (λ x. x.items) numbers) ∙ begun.old;
       noted = noted;
     }
@@ -199,10 +194,10 @@ decide_change b s request verdicts =
 pub changed-decide : (s : State) (course course' : Course) (n request : ℕ) (verdicts : List (ℕ × Verdict)) →
     IsQueue s.requests → IsChanged (conference_of s) (no_change (conference_of s)) (conference_of s) course →
     MayDecide s.requests.ongoing request verdicts →
-    course'.ended.items ≡ course.ended.items ++ ended_by s.requests request verdicts → course'.numbers ≡ course.numbers → course'.before ≡ course.before →
+    course'.ended.items ≡ course.ended.items ++ ended_by s.requests request verdicts → course'.numbers ≡ course.numbers →
     AreNoted s.config.floors s.requests.ongoing (after_decide s.requests request verdicts).ongoing course'.marks.items →
-    IsChanged (conference_of s) (asked_change (conference_of s) n (ChairAction request verdicts)) (conference_of (record s { requests = after_decide s.requests request verdicts })) course'
-changed-decide s course course' n request verdicts queue begun may ended numbers before noted = by (list_any (λ v. is_final v.1) verdicts) ended noted
+    IsChanged (conference_of s) (asked_change (conference_of s) n (ChairAction request verdicts)) (with_requests (conference_of s) (after_decide s.requests request verdicts)) course'
+changed-decide s course course' n request verdicts queue begun may ended numbers noted = by (list_any (λ v. is_final v.1) verdicts) ended noted
   where
     found : (P : Request → Type 0) (o : Option Request) → IsSomeAnd o P → IsSome o
     found P None h = absurd h
@@ -216,7 +211,7 @@ changed-decide s course course' n request verdicts queue begun may ended numbers
     by : (b : Bool) → course'.ended.items ≡ course.ended.items ++ cond b (option_map_or (λ r. record { request = r; ending = dismissed r } ∷ []) (request_at s.requests.ongoing request) []) [] →
         AreNoted s.config.floors s.requests.ongoing (cond b (after_end s.requests request) (record s.requests { ongoing = map (decided_at request verdicts) s.requests.ongoing })).ongoing course'.marks.items →
         IsChanged (conference_of s) (decide_change b (conference_of s) request verdicts)
-        (conference_of (record s { requests = cond b (after_end s.requests request) (record s.requests { ongoing = map (decided_at request verdicts) s.requests.ongoing }) })) course'
+        (with_requests (conference_of s) (cond b (after_end s.requests request) (record s.requests { ongoing = map (decided_at request verdicts) s.requests.ongoing }))) course'
     by true h noted =
-        changed-end s dismissed course course' request queue begun (found _ (request_at s.requests.ongoing request) may) (told (request_at s.requests.ongoing request) h) numbers before noted
-    by false h noted = changed-words s course course' request verdicts queue begun h numbers before noted
+        changed-end s dismissed course course' request queue begun (found _ (request_at s.requests.ongoing request) may) (told (request_at s.requests.ongoing request) h) numbers noted
+    by false h noted = changed-words s course course' request verdicts queue begun h numbers noted

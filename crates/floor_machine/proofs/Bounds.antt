@@ -21,7 +21,7 @@ use Rattle.floor_machine.specs.declared.tell.changed.Update.{Update}
 use Rattle.floor_machine.specs.declared.conference.State.{State}
 use Rattle.floor_machine.specs.Conference.{Conference, member_with}
 use Rattle.floor_machine.specs.Change.{change, next, shown}
-use Rattle.floor_machine.specs.steps.Serving.{IsChanged, IsState, conference_of, ended_of, is_rising, numbers_in}
+use Rattle.floor_machine.specs.steps.Serving.{IsChanged, conference_of, ended_of, is_rising, numbers_in, with_requests}
 use Rattle.floor_machine.specs.Fitting.{ToldFits}
 use Rattle.floor_machine.specs.steps.Fitting.{AreFloorsShown, AreMessagesShown, AreUpdatesShown, IsReplyShown, IsToldShown}
 use Rattle.floor_machine.specs.Outgoing.{Outgoing, notice}
@@ -103,12 +103,12 @@ served-shown s e t course o telling is same numbers rising before replied reply 
 
 -- the same for an event without a reply
 pub changed-shown : (s : Conference) (e : Event) (t : State) (course : Course) (q : Queue) → is_telling e ≡ true → ((k : ℕ) → reply_to s e k ≡ []) →
-    IsChanged s (change s e) (conference_of t) course → IsState t → q ≡ after_settle t.requests →
+    IsChanged s (change s e) (conference_of t) course → course.before.items ≡ infos s → q ≡ after_settle t.requests →
     AreUpdatesShown (updates t.config q.ongoing course.ended.items course.before.items course.numbers.items) →
     AreFloorsShown (filter (is_watched_by t.members) (floor_updates course.before.items (infos_of t.config q.ongoing) t.config.floors)) → IsToldShown s e
-changed-shown s e t course q telling unsent changed state settled =
-    served-shown s e (conference_of (record t { requests = q })) course None telling (settled-state s e (change s e) t course q refl changed state settled)
-    (ended-shown s e (change s e) (conference_of t) course refl changed) (numbers-shown s e (change s e) (conference_of t) course refl changed) changed.rising changed.before
+changed-shown s e t course q telling unsent changed before settled =
+    served-shown s e (with_requests (conference_of t) q) course None telling (settled-state s e (change s e) t course q refl changed settled)
+    (ended-shown s e (change s e) (conference_of t) course refl changed) (numbers-shown s e (change s e) (conference_of t) course refl changed) changed.rising before
     (λ k. sym (unsent k)) tt
 
 -- a close tells nobody anything

@@ -14,6 +14,7 @@ use Rattle.floor_machine.specs.declared.course.Ended.{Ended}
 use Rattle.floor_machine.specs.declared.status.RequestStatus.{RequestStatus}
 use Rattle.floor_machine.specs.Change.{Change}
 use Rattle.floor_machine.specs.Conference.{Conference}
+use Rattle.floor_machine.specs.Reply.{infos}
 use Rattle.floor_machine.specs.Shown.{Entry, entry_of, ongoing_of}
 use Rattle.floor_machine.specs.steps.Marks.{AreNoted, marks_waiting}
 use Rattle.floor_machine.specs.steps.Renewing.{IsCourse, left_at}
@@ -58,12 +59,12 @@ left-numbers ended es ongoing ns left gone numbered rising =
     ∙ sym left
 
 -- what the course of a changed event knows
-pub course-changed : (s t : Conference) (c : Change) (course : Course) → IsChanged s c t course → IsCourse t.config t.ongoing course.before.items course
-course-changed s t c course changed =
+pub course-changed : (s t : Conference) (c : Change) (course : Course) → IsChanged s c t course → course.before.items ≡ infos s → IsCourse t.config t.ongoing course.before.items course
+course-changed s t c course changed before =
     let C : Configuration → Type 0 = λ config. IsCourse config t.ongoing course.before.items course in
     subst C (sym changed.config) record {
       requests = s.ongoing;
-      before = changed.before;
+      before = before;
       noted = changed.noted;
       rising = changed.rising;
       old = changed.old;

@@ -15,7 +15,7 @@ use Rattle.floor_machine.specs.Conference.{Conference, user_of, is_present}
 use Rattle.floor_machine.specs.Change.{Change, no_change, change, ending, ends_at, ends_without, leaving, released, dismissed}
 use Rattle.floor_machine.specs.steps.Telling.{entry_of_ended, listed}
 use Rattle.floor_machine.specs.steps.Marks.{AreNoted}
-use Rattle.floor_machine.specs.steps.Serving.{IsChanged, conference_of, after_release_for, is_rising, released_for}
+use Rattle.floor_machine.specs.steps.Serving.{IsChanged, conference_of, after_release_for, is_rising, released_for, with_requests}
 use Rattle.floor_machine.proofs.Entries.{numbers_in-entries}
 use Rattle.floor_machine.proofs.Changing.{rising-numbers, ongoing_of-ending, ended_of-ending, numbers_in-ending}
 use Rattle.floor_machine.proofs.Asked.{none-ended}
@@ -79,7 +79,6 @@ changed-present s course n user members is_user queue begun left present =
       ended = begun.ended;
       numbers = begun.numbers;
       rising = begun.rising;
-      before = begun.before;
       old = begun.old;
       noted = begun.noted;
     }
@@ -88,13 +87,13 @@ changed-present s course n user members is_user queue begun left present =
 pub changed-absent : (s : State) (course course' : Course) (n user : ℕ) (members : List Member) → user ≡ user_of (conference_of s) n → IsQueue s.requests →
     IsChanged (conference_of s) (no_change (conference_of s)) (conference_of s) course →
     members ≡ map (leaving n) s.members → false ≡ is_present members user →
-    course'.ended.items ≡ course.ended.items ++ released_for s.requests user → course'.numbers ≡ course.numbers → course'.before ≡ course.before →
+    course'.ended.items ≡ course.ended.items ++ released_for s.requests user → course'.numbers ≡ course.numbers →
     AreNoted s.config.floors s.requests.ongoing (after_release_for s.requests user).ongoing course'.marks.items →
-    IsChanged (conference_of s) (change (conference_of s) (Leave n)) (conference_of (record s { members = members; requests = after_release_for s.requests user })) course'
-changed-absent s course course' n user members is_user queue begun left absent told numbers before noted =
+    IsChanged (conference_of s) (change (conference_of s) (Leave n)) (with_requests (conference_of (record s { members = members })) (after_release_for s.requests user)) course'
+changed-absent s course course' n user members is_user queue begun left absent told numbers noted =
     let rs = s.requests.ongoing in
     let p : Request → Bool = λ r. r.beneficiary == user in
-    let C : Change → Type 0 = λ c. IsChanged (conference_of s) c (conference_of (record s { members = members; requests = after_release_for s.requests user })) course' in
+    let C : Change → Type 0 = λ c. IsChanged (conference_of s) c (with_requests (conference_of (record s { members = members })) (after_release_for s.requests user)) course' in
     let gone : is_present (map (leaving n) s.members) user ≡ false = ap (λ (ms : List Member). is_present ms user) (sym left) ∙ sym absent in
     let all : map (ending_if p released) rs ≡ ending (conference_of s) (ends_without (map (leaving n) s.members) (user_of (conference_of s) n)) =
     sym (all-without user rs)
@@ -113,7 +112,6 @@ changed-absent s course course' n user members is_user queue begun left absent t
           ∙ sym (ended_of-ends p released rs);
       numbers = same ∙ sym (numbers_in-ends p released rs);
       rising = ap is_rising same ∙ rising-numbers rs ∙ queue.ascending;
-      before = ap (λ x. x.items) before ∙ begun.before;
       old = ap (λ (ns : List ℕ). flat_map (λ n. listed (request_at rs n)) ns) (ap (λ x. x.items) numbers) ∙ begun.old;
       noted = noted;
     }
@@ -131,12 +129,12 @@ pub changed-revoke : (s : State) (course course' : Course) (request : ℕ) →
     IsQueue s.requests → IsChanged (conference_of s) (no_change (conference_of s)) (conference_of s) course →
     IsSome (request_at s.requests.ongoing request) →
     IfSome (request_at s.requests.ongoing request) (λ r. course'.ended.items ≡ course.ended.items ++ record { request = r; ending = dismissed r } ∷ []) →
-    course'.numbers ≡ course.numbers → course'.before ≡ course.before →
+    course'.numbers ≡ course.numbers →
     AreNoted s.config.floors s.requests.ongoing (after_end s.requests request).ongoing course'.marks.items →
-    IsChanged (conference_of s) (change (conference_of s) (Revoke request)) (conference_of (record s { requests = after_end s.requests request })) course'
-changed-revoke s course course' request queue begun ongoing told numbers before noted =
+    IsChanged (conference_of s) (change (conference_of s) (Revoke request)) (with_requests (conference_of s) (after_end s.requests request)) course'
+changed-revoke s course course' request queue begun ongoing told numbers noted =
     let rs = s.requests.ongoing in
-    let C : Change → Type 0 = λ c. IsChanged (conference_of s) c (conference_of (record s { requests = after_end s.requests request })) course' in
+    let C : Change → Type 0 = λ c. IsChanged (conference_of s) c (with_requests (conference_of s) (after_end s.requests request)) course' in
     let same : course'.numbers.items ≡ numbers_of rs = ap (λ x. x.items) numbers ∙ begun.numbers ∙ numbers_in-entries rs in
     subst C (sym (change-revoke (conference_of s) request)) record {
       config = refl;
@@ -147,7 +145,6 @@ changed-revoke s course course' request queue begun ongoing told numbers before 
       ended = by (request_at rs request) ongoing told ∙ sym (ended_of-ending request dismissed rs queue.ascending);
       numbers = same ∙ sym (numbers_in-ending request dismissed rs);
       rising = ap is_rising same ∙ rising-numbers rs ∙ queue.ascending;
-      before = ap (λ x. x.items) before ∙ begun.before;
       old = ap (λ (ns : List ℕ). flat_map (λ n. listed (request_at rs n)) ns) (ap (λ x. x.items) numbers) ∙ begun.old;
       noted = noted;
     }

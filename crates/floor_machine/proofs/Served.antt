@@ -36,8 +36,9 @@ use Rattle.floor_machine.specs.Reply.{infos, infos_of_user, request_answer, answ
 use Rattle.floor_machine.specs.Told.{changed_of, changed_requests, changed_floors, is_changed, reply_to}
 use Rattle.floor_machine.specs.Journal.{parcels_of}
 use Rattle.floor_machine.specs.steps.Telling.{entry_of_ended, entry_at, shown_of, infos_of, updates, floor_update, floor_updates, answered, answered_to, parcels_to_all}
-use Rattle.floor_machine.specs.steps.Serving.{IsChanged, IsState, conference_of, judged, judged_change, judged_tells, accepted_tells, status_tells, ended_of, numbers_in, is_rising}
+use Rattle.floor_machine.specs.steps.Serving.{IsChanged, conference_of, judged, judged_change, judged_tells, accepted_tells, status_tells, ended_of, numbers_in, is_rising, with_requests}
 use Rattle.floor_machine.proofs.Entries.{ongoing_of-settled, ended_of-settled, numbers_in-settled, entry_with, filter-number}
+use Rattle.floor_machine.proofs.Sent.{numbered-next}
 use Rattle.floor_machine.proofs.Telling.{is_telling, finds, update_for, updates-changed, headed-answered, parcels-told}
 
 -- a message changes what it changes once it is judged
@@ -185,14 +186,13 @@ floors-message s e before now b n =
 
 -- the parcels that the steps put are those that the event calls for
 pub parcels-served : (s : Conference) (e : Event) (t : Conference) (course : Course) (reply : Option Reply) → is_telling e ≡ true → t ≡ next s e →
-    is_numbered_from 1 t.members ≡ true →
+    is_numbered_from 1 s.members ≡ true →
     map entry_of_ended course.ended.items ≡ ended_of (shown s e) → course.numbers.items ≡ numbers_in (shown s e) →
     is_rising course.numbers.items ≡ true → course.before.items ≡ infos s → ((k : ℕ) → answered_to reply k ≡ reply_to s e k) →
     parcels_to_all t.config.conference reply (updates t.config t.ongoing course.ended.items course.before.items course.numbers.items)
     (floor_updates course.before.items (infos_of t.config t.ongoing) t.config.floors) t.members
     ≡ parcels_of s e
 parcels-served s e t course reply telling is numbered same numbers rising before replied =
-    let N : Conference → Type 0 = λ x. is_numbered_from 1 x.members ≡ true in
     let all : Conference → Configuration → List Parcel = λ x config.
     parcels_to_all config.conference reply (updates config x.ongoing course.ended.items course.before.items course.numbers.items) (floor_updates course.before.items (infos_of config x.ongoing) config.floors) x.members in
     ap (λ (x : Conference). all x x.config) is
@@ -201,24 +201,24 @@ parcels-served s e t course reply telling is numbered same numbers rising before
     (updates-message s e course same numbers rising before)
     ∙ ap (λ (us : List FloorUpdate). parcels_to_all s.config.conference reply (map update_for (changed_requests s e)) us (next s e).members)
     (floors-message s e course.before.items (infos_of s.config (next s e).ongoing) before (ap (λ (config : Configuration). infos_of config (next s e).ongoing) (sym (next-config s e))))
-    ∙ parcels-told s e reply telling (subst N is numbered) replied
+    ∙ parcels-told s e reply telling (numbered-next s e numbered) replied
 
 -- the state after the change, settled, is the next conference
-pub settled-state : (s : Conference) (e : Event) (c : Change) (t : State) (course : Course) (q : Queue) → change s e ≡ c → IsChanged s c (conference_of t) course → IsState t →
-    q ≡ after_settle t.requests → conference_of (record t { requests = q }) ≡ next s e
-settled-state s e c t course q same changed state settled =
-    ap (λ (x : Queue). conference_of (record t { requests = x })) settled
+pub settled-state : (s : Conference) (e : Event) (c : Change) (t : State) (course : Course) (q : Queue) → change s e ≡ c → IsChanged s c (conference_of t) course →
+    q ≡ after_settle t.requests → with_requests (conference_of t) q ≡ next s e
+settled-state s e c t course q same changed settled =
+    ap (λ (x : Queue). with_requests (conference_of t) x) settled
     ∙ ap (λ (fs : List Floor). made t.config t.requests.given (settle fs t.requests.ongoing) t.members t.is_open)
-    (state.floors ∙ ap (λ (config : Configuration). config.floors) changed.config)
+    (t.same_floors ∙ ap (λ (config : Configuration). config.floors) changed.config)
     ∙ settled-next s e c (conference_of t) course same changed
 
 -- what the steps that reply to nobody put is what a changed event calls for that nobody sent
 pub parcels-changed : (s : Conference) (e : Event) (t : State) (course : Course) (q : Queue) → is_telling e ≡ true → ((k : ℕ) → reply_to s e k ≡ []) →
-    IsChanged s (change s e) (conference_of t) course → IsState t → q ≡ after_settle t.requests →
+    IsChanged s (change s e) (conference_of t) course → course.before.items ≡ infos s → is_numbered_from 1 s.members ≡ true → q ≡ after_settle t.requests →
     parcels_to_all t.config.conference None (updates t.config q.ongoing course.ended.items course.before.items course.numbers.items)
     (floor_updates course.before.items (infos_of t.config q.ongoing) t.config.floors) t.members
     ≡ parcels_of s e
-parcels-changed s e t course q telling unsent changed state settled =
-    parcels-served s e (conference_of (record t { requests = q })) course None telling (settled-state s e (change s e) t course q refl changed state settled) state.numbered
-    (ended-shown s e (change s e) (conference_of t) course refl changed) (numbers-shown s e (change s e) (conference_of t) course refl changed) changed.rising changed.before
+parcels-changed s e t course q telling unsent changed before numbered settled =
+    parcels-served s e (with_requests (conference_of t) q) course None telling (settled-state s e (change s e) t course q refl changed settled) numbered
+    (ended-shown s e (change s e) (conference_of t) course refl changed) (numbers-shown s e (change s e) (conference_of t) course refl changed) changed.rising before
     (λ k. sym (unsent k))

@@ -12,12 +12,14 @@ use Rattle.floor_machine.specs.declared.tell.changed.FloorUpdate.{FloorUpdate}
 use Rattle.floor_machine.specs.declared.change.reply.Reply.{Reply}
 use Rattle.floor_machine.specs.declared.tell.changed.Update.{Update}
 use Rattle.floor_machine.specs.declared.conference.State.{State}
+use Rattle.floor_machine.specs.Conference.{Conference}
 use Rattle.floor_machine.specs.steps.Fitting.{AreFloorsShown}
+use Rattle.floor_machine.specs.steps.Serving.{conference_of, with_requests}
 use Rattle.floor_machine.specs.steps.Telling.{AreChanged, AreInfos, floor_update, floor_updates, floors_changed, infos_of, is_floor_changed, is_one_of, is_watched_by, parcels_to_all, updates}
 
 -- What settling made of t: u, of which all is shown, and what changed.
 pub record IsSettledTo (t u : State) (course : Course) (changes : Changes) : Type 0 where
-  pub next : u ≡ record t { requests = after_settle t.requests; shown = u.shown }
+  pub next : conference_of u ≡ with_requests (conference_of t) (after_settle t.requests)
   pub shows : AreInfos u.config u.requests.ongoing u.shown.items
   pub updates : changes.updates.items ≡ updates t.config (settle t.requests.floors t.requests.ongoing) course.ended.items course.before.items course.numbers.items
   pub floors : AreChanged course.before.items (infos_of t.config (settle t.requests.floors t.requests.ongoing)) changes.floors.items
@@ -30,8 +32,8 @@ pub floors-settled : (t u : State) (course : Course) (changes : Changes) → IsS
     floors_changed u.shown.items changes.floors.items u.config.floors ≡ floor_updates course.before.items (infos_of t.config (after_settle t.requests).ongoing) t.config.floors
 floors-settled t u course changes h =
     let now : List Info = infos_of t.config (after_settle t.requests).ongoing in
-    ap (λ (is : List Info). floors_changed is changes.floors.items u.config.floors) (h.shows.infos ∙ ap (λ (x : State). infos_of x.config x.requests.ongoing) h.next)
-    ∙ ap (λ (x : State). floors_changed now changes.floors.items x.config.floors) h.next
+    ap (λ (is : List Info). floors_changed is changes.floors.items u.config.floors) (h.shows.infos ∙ ap (λ (x : Conference). infos_of x.config x.ongoing) h.next)
+    ∙ ap (λ (x : Conference). floors_changed now changes.floors.items x.config.floors) h.next
     ∙ changed-floors course.before.items now changes.floors.items t.config.floors h.floors
 
 -- the parcels are those of the changes
@@ -43,7 +45,7 @@ parcels-settled t u course changes reply h =
     let fs : List FloorUpdate = floor_updates course.before.items (infos_of t.config (after_settle t.requests).ongoing) t.config.floors in
     ap (λ (gs : List FloorUpdate). parcels_to_all u.config.conference reply changes.updates.items gs u.members) (floors-settled t u course changes h)
     ∙ ap (λ (us : List Update). parcels_to_all u.config.conference reply us fs u.members) h.updates
-    ∙ ap (λ (x : State). parcels_to_all x.config.conference reply (updates t.config (after_settle t.requests).ongoing course.ended.items course.before.items course.numbers.items) fs x.members) h.next
+    ∙ ap (λ (x : Conference). parcels_to_all x.config.conference reply (updates t.config (after_settle t.requests).ongoing course.ended.items course.before.items course.numbers.items) fs x.members) h.next
 
 -- the floors that are told of show no more than a conference has
 pub floors-shown : (t u : State) (course : Course) (changes : Changes) → IsSettledTo t u course changes →
@@ -52,5 +54,5 @@ pub floors-shown : (t u : State) (course : Course) (changes : Changes) → IsSet
 floors-shown t u course changes h shown =
     let fs : List FloorUpdate = floor_updates course.before.items (infos_of t.config (after_settle t.requests).ongoing) t.config.floors in
     subst AreFloorsShown
-    (ap (filter (is_watched_by u.members)) (floors-settled t u course changes h) ∙ ap (λ (x : State). filter (is_watched_by x.members) fs) h.next)
+    (ap (filter (is_watched_by u.members)) (floors-settled t u course changes h) ∙ ap (λ (x : Conference). filter (is_watched_by x.members) fs) h.next)
     shown

@@ -6,3 +6,4 @@ pub mod Renewing
 pub mod Serving
 pub mod Events
 pub mod Live
+pub mod Outcomes

@@ -3,69 +3,28 @@
 
 ghost use Rattle.std.specs.Prelude.{◌≡◌, ◌++◌, All, IfOk, IsSome, OnErr, OnOk};
 ghost use Rattle.floor_queue.specs.Order.{settle};
-ghost use Rattle.floor_queue.specs.Queue.{IsSettled, after_settle, request_at};
+ghost use Rattle.floor_queue.specs.Queue.{after_settle, request_at};
 ghost use Rattle.floor_wire.specs.Message.{IsMessage};
 ghost use Rattle.floor_message.specs.Shown.{IsShownInfo};
 ghost use Rattle.floor_machine.specs.Change as change;
-ghost use Rattle.floor_machine.specs.Change.{IsLawful};
-ghost use Rattle.floor_machine.specs.Fitting.{ToldFits};
 ghost use Rattle.floor_machine.specs.Journal.{parcels_of};
 ghost use Rattle.floor_machine.specs.declared.event.Event.TheVariants.{Leave, Message, Revoke};
-ghost use Rattle.floor_machine.specs.steps.Events.{HasNumber, IsSilent, event_of};
 ghost use Rattle.floor_machine.specs.steps.Fitting.{AreAddable, AreUpdatesShown, IsToldShown};
 ghost use Rattle.floor_machine.specs.steps.Renewing.{IsCourse};
-ghost use Rattle.floor_machine.specs.steps.Serving.{IsState, conference_of};
-ghost use Rattle.floor_machine.specs.steps.Telling.{AreChanged, AreInfos, infos_of, updates};
+ghost use Rattle.floor_machine.specs.steps.Serving.{IsAtRest, conference_of, with_requests};
+ghost use Rattle.floor_machine.specs.steps.Telling.{AreChanged, infos_of, updates};
 
 use crate::conference::State;
 use crate::course::{Course, begin};
-use crate::event::{Act, BorrowedEvent};
 use crate::marks::mark_granted;
+use crate::outcome::Outcome;
 use crate::parcel::Parcel;
 use crate::tell::renewing::{Changes, renew};
-use floor_message::what_is_shown_fits;
 use floor_wire::Frame;
 use std::alloc::{AllocError, Global};
 use std::mem;
 
 impl State {
-    /// Does the event, and puts what it tells each live member. After an error `out` is as it was.
-    pub(crate) fn apply(
-        &mut self,
-        event: BorrowedEvent<'_>,
-        out: &mut Vec<Parcel>,
-    ) -> Result<(), AllocError>
-        requires lawful { IsLawful (conference_of self.old) (event_of event) }
-        requires few { HasNumber (conference_of self.old) (event_of event) }
-        requires state { IsState self.old }
-        requires settled { IsSettled self.old.requests }
-        requires shows { AreInfos self.old.config
-            self.old.requests.ongoing self.old.shown.items }
-        ensures next { OnOk result (conference_of self.new
-            ≡ change.next (conference_of self.old) (event_of event.entry)) }
-        ensures out { OnOk result (out.new.items ≡ out.old.items
-            ++ parcels_of (conference_of self.old) (event_of event.entry)) }
-        ensures fits { OnOk result (ToldFits (conference_of self.old) (event_of event.entry)) }
-        ensures silent { OnOk result (IsSilent (conference_of self.old) (event_of event.entry)) }
-        ensures left { OnErr result (out.new.items ≡ out.old.items) }
-        ensures state { OnOk result (IsState self.new) }
-        ensures settled { OnOk result (IsSettled self.new.requests) }
-        ensures shows { OnOk result (AreInfos self.new.config
-            self.new.requests.ongoing self.new.shown.items) }
-    {
-        what_is_shown_fits();
-        match event {
-            BorrowedEvent::Join(user) => {
-                let _n = self.join(user)?;
-            }
-            BorrowedEvent::Message(n, frame) => self.message(n, frame, out)?,
-            BorrowedEvent::Leave(n) => self.leave(n, out)?,
-            BorrowedEvent::Admin(Act::Revoke(request)) => self.revoke(request, out)?,
-            BorrowedEvent::Admin(Act::Close) => self.close(),
-        }
-        Ok(())
-    }
-
     /// Serves the message of a member. After an error `out` is as it was.
     pub(crate) fn message(
         &mut self,
@@ -73,20 +32,14 @@ impl State {
         frame: &Frame,
         out: &mut Vec<Parcel>,
     ) -> Result<(), AllocError>
-        requires state { IsState self.old }
-        requires settled { IsSettled self.old.requests }
-        requires shows { AreInfos self.old.config
-            self.old.requests.ongoing self.old.shown.items }
+        requires rest { IsAtRest self.old }
         ensures next { OnOk result (conference_of self.new
             ≡ change.next (conference_of self.old) (Message n frame.now)) }
         ensures out { OnOk result (out.new.items ≡ out.old.items
             ++ parcels_of (conference_of self.old) (Message n frame.now)) }
         ensures shown { OnOk result (IsToldShown (conference_of self.old) (Message n frame.now)) }
         ensures left { OnErr result (out.new.items ≡ out.old.items) }
-        ensures state { OnOk result (IsState self.new) }
-        ensures settled { OnOk result (IsSettled self.new.requests) }
-        ensures shows { OnOk result (AreInfos self.new.config
-            self.new.requests.ongoing self.new.shown.items) }
+        ensures rest { OnOk result (IsAtRest self.new) }
         ensures message { IsMessage frame.now }
     {
         let alloc = self.members.allocator();
@@ -99,66 +52,69 @@ impl State {
         match self.change(alloc, n, user, &judged)? {
             Some(mut course) => {
                 let changes = self.settle(alloc, &mut course)?;
-                let reply = self.reply(alloc, &course.ended, n, user, frame, &judged)?;
-                self.tell(alloc, &changes, &Some(reply), out)
+                let outcome = Outcome {
+                    state: self,
+                    ended: &course.ended,
+                };
+                let reply = outcome.reply(alloc, n, user, frame, &judged)?;
+                outcome.tell(alloc, &changes, &Some(reply), out)
             }
             // Its sender alone is told anything, and nothing that is shown is looked at.
             None => {
-                let reply = self.reply(alloc, &[], n, user, frame, &judged)?;
-                self.tell_reply(alloc, &Some(reply), out)
+                let outcome = Outcome {
+                    state: self,
+                    ended: &[],
+                };
+                let reply = outcome.reply(alloc, n, user, frame, &judged)?;
+                outcome.tell_reply(alloc, &Some(reply), out)
             }
         }
     }
 
     /// A member leaves, and what that ends and grants is told. After an error `out` is as it was.
     pub(crate) fn leave(&mut self, n: u32, out: &mut Vec<Parcel>) -> Result<(), AllocError>
-        requires state { IsState self.old }
-        requires settled { IsSettled self.old.requests }
-        requires shows { AreInfos self.old.config
-            self.old.requests.ongoing self.old.shown.items }
+        requires rest { IsAtRest self.old }
         ensures next { OnOk result (conference_of self.new
             ≡ change.next (conference_of self.old) (Leave n)) }
         ensures out { OnOk result (out.new.items ≡ out.old.items
             ++ parcels_of (conference_of self.old) (Leave n)) }
         ensures shown { OnOk result (IsToldShown (conference_of self.old) (Leave n)) }
         ensures left { OnErr result (out.new.items ≡ out.old.items) }
-        ensures state { OnOk result (IsState self.new) }
-        ensures settled { OnOk result (IsSettled self.new.requests) }
-        ensures shows { OnOk result (AreInfos self.new.config
-            self.new.requests.ongoing self.new.shown.items) }
+        ensures rest { OnOk result (IsAtRest self.new) }
     {
         let alloc = self.members.allocator();
-        let user = self.user_of(n);
         let mut course = begin(alloc, &self.requests, &mut self.shown)?;
-        self.change_left(&mut course, n, user)?;
+        self.change_left(&mut course, n)?;
         let changes = self.settle(alloc, &mut course)?;
-        self.tell(alloc, &changes, &None, out)
+        let outcome = Outcome {
+            state: self,
+            ended: &course.ended,
+        };
+        outcome.tell(alloc, &changes, &None, out)
     }
 
     /// The request is taken away or denied, and what that ends and grants is told. After an error
     /// `out` is as it was.
     pub(crate) fn revoke(&mut self, request: u16, out: &mut Vec<Parcel>) -> Result<(), AllocError>
         requires ongoing { IsSome (request_at self.old.requests.ongoing request) }
-        requires state { IsState self.old }
-        requires settled { IsSettled self.old.requests }
-        requires shows { AreInfos self.old.config
-            self.old.requests.ongoing self.old.shown.items }
+        requires rest { IsAtRest self.old }
         ensures next { OnOk result (conference_of self.new
             ≡ change.next (conference_of self.old) (Revoke request)) }
         ensures out { OnOk result (out.new.items ≡ out.old.items
             ++ parcels_of (conference_of self.old) (Revoke request)) }
         ensures shown { OnOk result (IsToldShown (conference_of self.old) (Revoke request)) }
         ensures left { OnErr result (out.new.items ≡ out.old.items) }
-        ensures state { OnOk result (IsState self.new) }
-        ensures settled { OnOk result (IsSettled self.new.requests) }
-        ensures shows { OnOk result (AreInfos self.new.config
-            self.new.requests.ongoing self.new.shown.items) }
+        ensures rest { OnOk result (IsAtRest self.new) }
     {
         let alloc = self.members.allocator();
         let mut course = begin(alloc, &self.requests, &mut self.shown)?;
         self.change_revoked(&mut course, request)?;
         let changes = self.settle(alloc, &mut course)?;
-        self.tell(alloc, &changes, &None, out)
+        let outcome = Outcome {
+            state: self,
+            ended: &course.ended,
+        };
+        outcome.tell(alloc, &changes, &None, out)
     }
 
     /// Grants the requests that are due, shows anew those that the event may have moved, and gives
@@ -168,18 +124,13 @@ impl State {
         alloc: Global,
         course: &mut Course,
     ) -> Result<Changes, AllocError>
-        requires floors { self.old.requests.floors ≡ self.old.config.floors }
         requires ended { AreAddable self.old.config.floors course.old.ended.items }
         requires course { IsCourse self.old.config self.old.requests.ongoing
             course.old.before.items course.old }
         requires fit { All IsShownInfo course.old.before.items }
-        ensures next { OnOk result (self.new ≡ record self.old {
-          requests = after_settle self.old.requests;
-          shown = self.new.shown;
-        }) }
-        ensures settled { OnOk result (IsSettled self.new.requests) }
-        ensures shows { OnOk result (AreInfos self.new.config
-            self.new.requests.ongoing self.new.shown.items) }
+        ensures next { OnOk result (conference_of self.new
+            ≡ with_requests (conference_of self.old) (after_settle self.old.requests)) }
+        ensures rest { OnOk result (IsAtRest self.new) }
         ensures ended { course.new.ended ≡ course.old.ended }
         ensures updates { IfOk result (λ changes. changes.updates.items
             ≡ updates self.old.config (settle self.old.requests.floors self.old.requests.ongoing)

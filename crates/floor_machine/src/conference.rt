@@ -2,10 +2,6 @@
 
 ghost use Rattle.std.specs.Prelude.{◌≡◌, IfOk, is_some};
 ghost use Rattle.floor_config.specs.Configuration.{user_ids};
-ghost use Rattle.floor_queue.specs.Queue.{IsSettled, request_at};
-ghost use Rattle.floor_machine.specs.Conference.{is_live, opening, user_of};
-ghost use Rattle.floor_machine.specs.steps.Serving.{IsState, conference_of};
-ghost use Rattle.floor_machine.specs.steps.Telling.{AreInfos};
 
 use crate::members::Members;
 use floor_config::{Config, User};
@@ -28,6 +24,8 @@ pub(crate) struct State {
     pub shown: Vec<Info>,
     /// Whether it has not ended.
     pub is_open: bool,
+    ghost same_users: { users.items ≡ user_ids config.users },
+    ghost same_floors: { requests.floors ≡ config.floors },
 }
 
 fn user_ids(alloc: Global, users: &[User]) -> Result<Vec<u16>, AllocError>
@@ -37,13 +35,14 @@ fn user_ids(alloc: Global, users: &[User]) -> Result<Vec<u16>, AllocError>
 }
 
 impl State {
+    ghost use Rattle.floor_queue.specs.Queue.{request_at};
+    ghost use Rattle.floor_machine.specs.Conference.{is_live, opening, user_of};
+    ghost use Rattle.floor_machine.specs.steps.Serving.{IsAtRest, conference_of};
+
     /// The conference as it opens.
     pub(crate) fn new(alloc: Global, config: Config) -> Result<State, AllocError>
         ensures state { IfOk result (λ state. conference_of state ≡ opening config) }
-        ensures kept { IfOk result IsState }
-        ensures settled { IfOk result (λ state. IsSettled state.requests) }
-        ensures shows { IfOk result (λ state. AreInfos state.config
-            state.requests.ongoing state.shown.items) }
+        ensures rest { IfOk result IsAtRest }
     {
         let users = user_ids(alloc, config.users())?;
         let requests = Requests::new(alloc, &config)?;

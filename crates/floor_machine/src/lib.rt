@@ -14,6 +14,7 @@ mod machine;
 mod marks;
 mod member;
 mod members;
+mod outcome;
 mod parcel;
 mod running;
 mod status;

@@ -3,15 +3,15 @@
 ghost use Rattle.std.specs.Prelude.{◌≡◌, ◌+◌, ◌<◌, ◌≤◌, [], IfOk, IfErr, OnOk, length, count_by};
 ghost use Rattle.floor_machine.specs.Conference.{opening};
 ghost use Rattle.floor_machine.specs.declared.event.Event.TheVariants.{Join, Message, Leave};
-ghost use Rattle.floor_machine.specs.steps.Events.{IsSilent};
 ghost use Rattle.floor_machine.specs.Machine.{IsRefusedBy, Left, Took, act_refusal, event_of_act, event_refusal, join_refusal, member_refusal, whole};
-ghost use Rattle.floor_machine.specs.steps.Events.{HasNumber, event_of};
+ghost use Rattle.floor_machine.specs.steps.Events.{HasNumber, IsSilent, event_of};
 
 use crate::conference::State;
 use crate::event::{Act, BorrowedEvent, Event};
 use crate::lookup::is_user;
 use crate::parcel::Parcel;
 use floor_config::Config;
+use floor_message::what_is_shown_fits;
 use floor_wire::Frame;
 use std::alloc::{AllocError, Global};
 use std::marker::Model;
@@ -222,9 +222,18 @@ impl Machine {
             None => {}
         }
         event.is_whole();
+        what_is_shown_fits();
         // Whatever breaks the event off leaves it so.
         self.is_broken = true;
-        self.state.apply(event, out)?;
+        match event {
+            BorrowedEvent::Join(user) => {
+                let _n = self.state.join(user)?;
+            }
+            BorrowedEvent::Message(n, frame) => self.state.message(n, frame, out)?,
+            BorrowedEvent::Leave(n) => self.state.leave(n, out)?,
+            BorrowedEvent::Admin(Act::Revoke(request)) => self.state.revoke(request, out)?,
+            BorrowedEvent::Admin(Act::Close) => self.state.close(),
+        }
         self.is_broken = false;
         Ok(())
     }

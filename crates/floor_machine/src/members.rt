@@ -43,7 +43,9 @@ impl Members {
         }
     }
 
-    pub(crate) fn allocator(&self) -> Global {
+    pub(crate) fn allocator(&self) -> Global
+        ensures kept { is_numbered_from 1 self.now ≡ true }
+    {
         *self.joined.allocator()
     }
 

@@ -2,7 +2,6 @@
 use Rattle.std.specs.Prelude.{◌≡◌, ◌≢◌, ◌≤◌, ◌<◌, ℕ, ◌==◌, ◌&&◌, Bool, true, false, not, List, [], ◌∷◌, length, map, filter, Option, option_map, unwrap_or, is_some, nat_lt, Some, None, IsSome, IsSomeAnd, if◌then◌else◌}
 use Rattle.std.specs.List.{flat_map, list_any, list_all}
 use Rattle.std.specs.Option.{option_map_or}
-use Rattle.floor_config.specs.Configuration.{user_ids}
 use Rattle.floor_queue.specs.declared.request.New.{New}
 use Rattle.floor_queue.specs.declared.request.Request.{Request}
 use Rattle.floor_queue.specs.Order.{names}
@@ -20,11 +19,11 @@ use Rattle.floor_machine.specs.declared.change.judged.Judged.{Judged}
 use Rattle.floor_machine.specs.declared.change.judged.Judged.TheVariants.{Accepted, Refused, Unanswered}
 use Rattle.floor_machine.specs.declared.member.Member.{Member}
 use Rattle.floor_machine.specs.declared.conference.State.{State}
-use Rattle.floor_machine.specs.Conference.{Conference, binding, is_numbered_from, user_of}
+use Rattle.floor_machine.specs.Conference.{Conference, binding, user_of}
 use Rattle.floor_machine.specs.Shown.{Entry, ongoing_of, described}
 use Rattle.floor_machine.specs.Checks.{refusal, beneficiary_of, is_allowed}
 use Rattle.floor_machine.specs.Change.{Change, no_change, asked_change, is_final, decided_at, released, dismissed, watching}
-use Rattle.floor_machine.specs.Reply.{infos, infos_of_user, floor_answers, supported_primitives, supported_attributes}
+use Rattle.floor_machine.specs.Reply.{infos_of_user, floor_answers, supported_primitives, supported_attributes}
 use Rattle.floor_machine.specs.steps.Marks.{AreNoted}
 use Rattle.floor_machine.specs.steps.Telling.{AreInfos, entry_of_ended, listed, shown_at}
 
@@ -33,18 +32,18 @@ abbrev pub conference_of : State → Conference
 conference_of s =
     record { config = s.config; given = s.requests.given; ongoing = s.requests.ongoing; members = s.members; is_open = s.is_open }
 
--- What every state keeps: the users of the binding are those of the configuration; the floors of the requests are its floors; and
--- the members are numbered from 1 on.
-pub record IsState (s : State) : Type 0 where
-  pub users : s.users.items ≡ user_ids s.config.users
-  pub floors : s.requests.floors ≡ s.config.floors
-  pub numbered : is_numbered_from 1 s.members ≡ true
+-- the conference with these requests
+abbrev pub with_requests : Conference → Queue → Conference
+with_requests s q = record s { given = q.given; ongoing = q.ongoing }
 
--- what a machine keeps: unless it is broken, its state is one, and settled, and has what is shown of its ongoing requests
-pub record IsMachine (s : State) (is_broken : Bool) : Type 0 where
-  pub state : is_broken ≡ false → IsState s
-  pub settled : is_broken ≡ false → IsSettled s.requests
-  pub shows : is_broken ≡ false → AreInfos s.config s.requests.ongoing s.shown.items
+-- A conference between two events: no request is due any more, and what is shown is that of the ongoing requests.
+pub record IsAtRest (s : State) : Type 0 where
+  pub settled : IsSettled s.requests
+  pub shows : AreInfos s.config s.requests.ongoing s.shown.items
+
+-- what a machine keeps: unless it is broken, its conference is at rest
+abbrev pub IsMachine : State → Bool → Type 0
+IsMachine s is_broken = is_broken ≡ false → IsAtRest s
 
 -- the message after the own checks
 abbrev pub judged : Conference → ℕ → Answer → Judged
@@ -102,7 +101,6 @@ pub record IsChanged (s : Conference) (c : Change) (t : Conference) (course : Co
   pub ended : map entry_of_ended course.ended.items ≡ ended_of c.entries
   pub numbers : course.numbers.items ≡ numbers_in c.entries
   pub rising : is_rising course.numbers.items ≡ true
-  pub before : course.before.items ≡ infos s
   pub old : flat_map (λ n. listed (request_at s.ongoing n)) course.numbers.items ≡ s.ongoing
   pub noted : AreNoted s.config.floors s.ongoing t.ongoing course.marks.items
 
@@ -113,7 +111,8 @@ IsBegun s course = IsChanged s (no_change s) s course
 -- What a judged message of n has made of s: t, which isn't settled yet, where it changes requests, with the course that has noted
 -- what it changed. Any other has changed the members alone.
 abbrev pub IsTaken : State → ℕ → Judged → State → Option Course → Type 0
-IsTaken s n j t (Some course) = IsChanged (conference_of s) (judged_change (conference_of s) n j) (conference_of t) course
+IsTaken s n j t (Some course) =
+    IsChanged (conference_of s) (judged_change (conference_of s) n j) (conference_of t) course × (course.before.items ≡ s.shown.items)
 IsTaken s n j t None = (changes_requests j ≡ false) × (t ≡ record s { members = members_judged s.members n j })
 
 -- the request that a FloorRequest of this user asks for

@@ -1,13 +1,12 @@
 //! What the administrator changes in a conference.
 
 ghost use Rattle.std.specs.Prelude.{◌≡◌, [], IsSome, OnOk};
-ghost use Rattle.floor_queue.specs.Queue.{IsQueue, IsSettled, request_at};
+ghost use Rattle.floor_queue.specs.Queue.{IsQueue, request_at};
 ghost use Rattle.floor_machine.specs.Change as change;
 ghost use Rattle.floor_machine.specs.Journal.{parcels_of};
 ghost use Rattle.floor_machine.specs.declared.event.Event.TheVariants.{Close, Revoke};
 ghost use Rattle.floor_machine.specs.steps.Fitting.{IsToldShown};
-ghost use Rattle.floor_machine.specs.steps.Serving.{IsBegun, IsChanged, IsState, conference_of};
-ghost use Rattle.floor_machine.specs.steps.Telling.{AreInfos};
+ghost use Rattle.floor_machine.specs.steps.Serving.{IsAtRest, IsBegun, IsChanged, conference_of};
 
 use crate::change::chair_action::dismiss_request;
 use crate::conference::State;
@@ -23,13 +22,12 @@ impl State {
         request: u16,
     ) -> Result<(), AllocError>
         requires ongoing { IsSome (request_at self.old.requests.ongoing request) }
-        requires state { IsState self.old }
         requires queue { IsQueue self.old.requests }
         requires begun { IsBegun (conference_of self.old) course.old }
         ensures changed { OnOk result (IsChanged (conference_of self.old)
             (change.change (conference_of self.old) (Revoke request))
             (conference_of self.new) course.new) }
-        ensures state { OnOk result (IsState self.new) }
+        ensures before { course.new.before ≡ course.old.before }
     {
         dismiss_request(
             &mut self.requests,
@@ -41,14 +39,10 @@ impl State {
 
     /// The conference ends: no request is ongoing any more, and nobody is told. Takes no memory.
     pub(crate) fn close(&mut self)
-        requires state { IsState self.old }
         ensures next { conference_of self.new ≡ change.next (conference_of self.old) Close }
         ensures told { parcels_of (conference_of self.old) Close ≡ [] }
         ensures shown { IsToldShown (conference_of self.old) Close }
-        ensures state { IsState self.new }
-        ensures settled { IsSettled self.new.requests }
-        ensures shows { AreInfos self.new.config
-            self.new.requests.ongoing self.new.shown.items }
+        ensures rest { IsAtRest self.new }
     {
         self.requests.clear();
         self.shown.clear();

@@ -11,8 +11,7 @@ ghost use Rattle.floor_machine.specs.Checks as checks;
 ghost use Rattle.floor_machine.specs.Checks.{chair_checks, first_of, on_request};
 ghost use Rattle.floor_machine.specs.Conference.{chair_is};
 ghost use Rattle.floor_machine.specs.steps.Marks.{KeepsNoted};
-ghost use Rattle.floor_machine.specs.steps.Serving.{IsChanged, IsState, MayDecide, after_decide, conference_of, ended_by};
-ghost use Rattle.floor_machine.specs.steps.Telling.{AreInfos};
+ghost use Rattle.floor_machine.specs.steps.Serving.{IsChanged, MayDecide, after_decide, conference_of, ended_by};
 
 use crate::conference::State;
 use crate::course::{Course, Ended, begin};
@@ -50,13 +49,10 @@ impl State {
         verdicts: &[(u16, Verdict)],
     ) -> Result<Course, AllocError>
         requires decide { MayDecide self.old.requests.ongoing request verdicts.now }
-        requires state { IsState self.old }
-        requires shows { AreInfos self.old.config
-            self.old.requests.ongoing self.old.shown.items }
         ensures changed { IfOk result (λ course. IsChanged (conference_of self.old)
             (change.asked_change (conference_of self.old) n (Ask.ChairAction request verdicts.now))
             (conference_of self.new) course) }
-        ensures state { OnOk result (IsState self.new) }
+        ensures before { IfOk result (λ course. course.before.items ≡ self.old.shown.items) }
     {
         let mut course = begin(alloc, &self.requests, &mut self.shown)?;
         decide(

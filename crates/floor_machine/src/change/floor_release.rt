@@ -6,8 +6,7 @@ ghost use Rattle.floor_queue.specs.Queue.{after_end, request_at};
 ghost use Rattle.floor_machine.specs.Change as change;
 ghost use Rattle.floor_machine.specs.Checks.{on_request, release_checks};
 ghost use Rattle.floor_machine.specs.steps.Marks.{KeepsNoted};
-ghost use Rattle.floor_machine.specs.steps.Serving.{IsChanged, IsState, conference_of};
-ghost use Rattle.floor_machine.specs.steps.Telling.{AreInfos};
+ghost use Rattle.floor_machine.specs.steps.Serving.{IsChanged, conference_of};
 
 use crate::conference::State;
 use crate::course::{Course, Ended, begin};
@@ -42,13 +41,10 @@ impl State {
         request: u16,
     ) -> Result<Course, AllocError>
         requires ongoing { IsSome (request_at self.old.requests.ongoing request) }
-        requires state { IsState self.old }
-        requires shows { AreInfos self.old.config
-            self.old.requests.ongoing self.old.shown.items }
         ensures changed { IfOk result (λ course. IsChanged (conference_of self.old)
             (change.asked_change (conference_of self.old) n (Ask.FloorRelease request))
             (conference_of self.new) course) }
-        ensures state { OnOk result (IsState self.new) }
+        ensures before { IfOk result (λ course. course.before.items ≡ self.old.shown.items) }
     {
         let mut course = begin(alloc, &self.requests, &mut self.shown)?;
         release_request(

@@ -9,8 +9,7 @@ ghost use Rattle.floor_machine.specs.Checks.{first_of, request_checks};
 ghost use Rattle.floor_machine.specs.Conference.{user_of};
 ghost use Rattle.floor_machine.specs.steps.Marks.{KeepsNoted};
 ghost use Rattle.floor_machine.specs.steps.Serving as serving;
-ghost use Rattle.floor_machine.specs.steps.Serving.{HasRoom, IsChanged, IsState, conference_of};
-ghost use Rattle.floor_machine.specs.steps.Telling.{AreInfos};
+ghost use Rattle.floor_machine.specs.steps.Serving.{HasRoom, IsChanged, conference_of, with_requests};
 
 use crate::conference::State;
 use crate::course::{Course, begin};
@@ -74,14 +73,11 @@ impl State {
             (serving.new_of_ask user beneficiary floors.now priority info.now) }
         requires room { HasRoom self.old.requests.ongoing self.old.requests.given }
         requires user { user ≡ user_of (conference_of self.old) n }
-        requires state { IsState self.old }
-        requires shows { AreInfos self.old.config
-            self.old.requests.ongoing self.old.shown.items }
         ensures changed { IfOk result (λ course. IsChanged (conference_of self.old)
             (change.asked_change (conference_of self.old) n
             (Ask.FloorRequest beneficiary floors.now priority info.now))
             (conference_of self.new) course) }
-        ensures state { OnOk result (IsState self.new) }
+        ensures before { IfOk result (λ course. course.before.items ≡ self.old.shown.items) }
     {
         let mut course = begin(alloc, &self.requests, &mut self.shown)?;
         self.request(
@@ -110,17 +106,15 @@ impl State {
         requires addable { IsAddable self.old.requests.floors
             (serving.new_of_ask user beneficiary floors.now priority info.now) }
         requires room { HasRoom self.old.requests.ongoing self.old.requests.given }
-        ensures next { OnOk result (self.new ≡ record self.old {
-          requests = after_add self.old.requests
-              (serving.new_of_ask user beneficiary floors.now priority info.now);
-        }) }
+        ensures next { OnOk result (conference_of self.new
+            ≡ with_requests (conference_of self.old) (after_add self.old.requests
+            (serving.new_of_ask user beneficiary floors.now priority info.now))) }
         ensures course { OnOk result (course.new.numbers.items ≡ course.old.numbers.items
             ++ (self.old.requests.given + 1) ∷ []) }
         ensures noted { OnOk result (KeepsNoted self.old.requests.ongoing course.old.marks.items
             self.new.requests.ongoing course.new.marks.items) }
         ensures before { course.new.before ≡ course.old.before }
         ensures ended { course.new.ended ≡ course.old.ended }
-        ensures kept { IsState self.old → IsState self.new }
     {
         let new = New {
             requester: user,

@@ -2,15 +2,13 @@
 //! 13.4, for the requests that are given back).
 
 ghost use Rattle.std.specs.Prelude.{◌≡◌, ◌++◌, ◌+◌, ◌<◌, ◌==◌, [], IfOk, OnOk, find, length, option_map};
-ghost use Rattle.floor_queue.specs.Queue.{IsQueue, IsSettled};
+ghost use Rattle.floor_queue.specs.Queue.{IsQueue};
 ghost use Rattle.floor_machine.specs.Change as change;
-ghost use Rattle.floor_machine.specs.Conference.{user_of};
 ghost use Rattle.floor_machine.specs.Journal.{parcels_of};
 ghost use Rattle.floor_machine.specs.declared.event.Event.TheVariants.{Join, Leave};
 ghost use Rattle.floor_machine.specs.steps.Fitting.{IsToldShown};
 ghost use Rattle.floor_machine.specs.steps.Marks.{KeepsNoted};
-ghost use Rattle.floor_machine.specs.steps.Serving.{IsBegun, IsChanged, IsState, after_release_for, conference_of, released_for};
-ghost use Rattle.floor_machine.specs.steps.Telling.{AreInfos};
+ghost use Rattle.floor_machine.specs.steps.Serving.{IsAtRest, IsBegun, IsChanged, after_release_for, conference_of, released_for};
 
 use crate::change::floor_release::release_request;
 use crate::conference::State;
@@ -22,43 +20,33 @@ use std::alloc::AllocError;
 impl State {
     /// Adds a live member. After an error nothing has changed.
     pub(crate) fn join(&mut self, user: u16) -> Result<u32, AllocError>
-        requires few { length self.old.members < 4294967295 }
-        requires state { IsState self.old }
-        requires settled { IsSettled self.old.requests }
-        requires shows { AreInfos self.old.config
-            self.old.requests.ongoing self.old.shown.items }
+        requires { length self.old.members < 4294967295 }
         ensures number { IfOk result (λ n. n ≡ length self.old.members + 1) }
-        ensures next { OnOk result (conference_of self.new
+        ensures next { IsAtRest self.old → OnOk result (conference_of self.new
             ≡ change.next (conference_of self.old) (Join user)) }
-        ensures told { OnOk result (parcels_of (conference_of self.old) (Join user) ≡ []) }
-        ensures shown { OnOk result (IsToldShown (conference_of self.old) (Join user)) }
-        ensures state { IsState self.new }
-        ensures settled { IsSettled self.new.requests }
-        ensures shows { AreInfos self.new.config
-            self.new.requests.ongoing self.new.shown.items }
+        ensures told { IsAtRest self.old
+            → OnOk result (parcels_of (conference_of self.old) (Join user) ≡ []) }
+        ensures shown { IsAtRest self.old
+            → OnOk result (IsToldShown (conference_of self.old) (Join user)) }
+        ensures rest { IsAtRest self.old → IsAtRest self.new }
     {
         // The ongoing requests ascend, so that each is shown as before, and nobody is told of it.
         let _ongoing = self.requests.ongoing();
+        let _alloc = self.members.allocator();
         self.members.join(user)
     }
 
     /// A member leaves, before the requests are settled: where it was the last of its user, the
     /// requests for that user end as they are given back.
-    pub(crate) fn change_left(
-        &mut self,
-        course: &mut Course,
-        n: u32,
-        user: u16,
-    ) -> Result<(), AllocError>
-        requires user { user ≡ user_of (conference_of self.old) n }
-        requires state { IsState self.old }
+    pub(crate) fn change_left(&mut self, course: &mut Course, n: u32) -> Result<(), AllocError>
         requires queue { IsQueue self.old.requests }
         requires begun { IsBegun (conference_of self.old) course.old }
         ensures changed { OnOk result (IsChanged (conference_of self.old)
             (change.change (conference_of self.old) (Leave n))
             (conference_of self.new) course.new) }
-        ensures state { OnOk result (IsState self.new) }
+        ensures before { course.new.before ≡ course.old.before }
     {
+        let user = self.user_of(n);
         self.members.leave(n);
         if self.members.is_present(user) {
             return Ok(());

@@ -2,7 +2,6 @@
 
 ghost use Rattle.std.specs.Prelude.{◌≡◌, All, IfOk, OnOk};
 ghost use Rattle.floor_config.specs.Configuration.{user_ids};
-ghost use Rattle.floor_queue.specs.Queue.{IsSettled};
 ghost use Rattle.floor_message.specs.Ask.{Answer, ask, asks};
 ghost use Rattle.floor_message.specs.Fits.{AskFits};
 ghost use Rattle.floor_message.specs.Laws.{CountsFit};
@@ -10,16 +9,16 @@ ghost use Rattle.floor_message.specs.Shown.{IsShown};
 ghost use Rattle.floor_machine.specs.Checks as checks;
 ghost use Rattle.floor_machine.specs.Conference.{user_of};
 ghost use Rattle.floor_machine.specs.Outgoing.{response_head};
-ghost use Rattle.floor_machine.specs.steps.Fitting.{AreAddable, DetailsFit};
+ghost use Rattle.floor_machine.specs.steps.Fitting.{DetailsFit};
 ghost use Rattle.floor_machine.specs.steps.Serving as serving;
-ghost use Rattle.floor_machine.specs.steps.Serving.{IsState, IsTaken, MayServe, conference_of};
-ghost use Rattle.floor_machine.specs.steps.Telling.{AreInfos};
+ghost use Rattle.floor_machine.specs.steps.Serving.{IsTaken, MayServe, conference_of};
 
 use crate::change::judged::Judged;
 use crate::change::queries::hello_tells;
 use crate::change::reply::{Reply, one, response_head};
 use crate::conference::State;
-use crate::course::{Course, Ended};
+use crate::course::Course;
+use crate::outcome::Outcome;
 use floor_message::{Ask, AskFault, Binding, ErrorCode, Tell, read_ask, what_is_asked_fits};
 use floor_wire::{Frame, Octets};
 use std::alloc::{AllocError, Global};
@@ -32,7 +31,6 @@ impl State {
         user: u16,
         frame: &Frame,
     ) -> Result<Judged, AllocError>
-        requires { self.now.users.items ≡ user_ids self.now.config.users }
         ensures judged { IfOk result (λ judged. (a : Answer)
             → a ≡ ask frame.now record {
               conference = self.now.config.conference;
@@ -104,11 +102,7 @@ impl State {
     ) -> Result<Option<Course>, AllocError>
         requires may { MayServe (conference_of self.old) user judged.now }
         requires user { user ≡ user_of (conference_of self.old) n }
-        requires state { IsState self.old }
-        requires shows { AreInfos self.old.config
-            self.old.requests.ongoing self.old.shown.items }
         ensures taken { IfOk result (IsTaken self.old n judged.now self.new) }
-        ensures state { OnOk result (IsState self.new) }
     {
         match judged {
             Judged::Accepted(ask) => self.change_asked(alloc, n, user, ask),
@@ -126,11 +120,7 @@ impl State {
     ) -> Result<Option<Course>, AllocError>
         requires may { MayServe (conference_of self.old) user (Judged.Accepted ask.now) }
         requires user { user ≡ user_of (conference_of self.old) n }
-        requires state { IsState self.old }
-        requires shows { AreInfos self.old.config
-            self.old.requests.ongoing self.old.shown.items }
         ensures taken { IfOk result (IsTaken self.old n (Judged.Accepted ask.now) self.new) }
-        ensures state { OnOk result (IsState self.new) }
     {
         match ask {
             Ask::FloorRequest {
@@ -162,30 +152,26 @@ impl State {
             Ask::FloorRequestQuery { .. } | Ask::UserQuery { .. } | Ask::Hello => Ok(None),
         }
     }
+}
 
+impl Outcome<'_> {
     /// What the sender of a judged message is answered, after the event.
     pub(crate) fn reply(
         &self,
         alloc: Global,
-        ended: &[Ended],
         n: u32,
         user: u16,
         frame: &Frame,
         judged: &Judged,
     ) -> Result<Reply, AllocError>
-        requires floors { self.now.requests.floors ≡ self.now.config.floors }
-        requires settled { IsSettled self.now.requests }
-        requires ended { AreAddable self.now.config.floors ended.now }
         requires details { DetailsFit judged.now }
-        requires shows { AreInfos self.now.config
-            self.now.requests.ongoing self.now.shown.items }
         ensures to { IfOk result (λ reply. reply.n ≡ n) }
         ensures head { IfOk result (λ reply. reply.head ≡ response_head frame.now) }
         ensures tells { IfOk result (λ reply. reply.tells.items
-            ≡ serving.judged_tells (conference_of self.now) ended.now user judged.now) }
+            ≡ serving.judged_tells self.now.conference self.now.ended user judged.now) }
         ensures shown { IfOk result (λ reply. All IsShown reply.tells.items) }
     {
-        let tells = self.answer(alloc, ended, user, judged)?;
+        let tells = self.answer(alloc, user, judged)?;
         Ok(Reply {
             n,
             head: response_head(frame),
@@ -194,25 +180,14 @@ impl State {
     }
 
     /// What a judged message is answered by, after the event.
-    fn answer(
-        &self,
-        alloc: Global,
-        ended: &[Ended],
-        user: u16,
-        judged: &Judged,
-    ) -> Result<Vec<Tell>, AllocError>
-        requires floors { self.now.requests.floors ≡ self.now.config.floors }
-        requires settled { IsSettled self.now.requests }
-        requires ended { AreAddable self.now.config.floors ended.now }
+    fn answer(&self, alloc: Global, user: u16, judged: &Judged) -> Result<Vec<Tell>, AllocError>
         requires details { DetailsFit judged.now }
-        requires shows { AreInfos self.now.config
-            self.now.requests.ongoing self.now.shown.items }
         ensures value { IfOk result (λ tells. tells.items
-            ≡ serving.judged_tells (conference_of self.now) ended.now user judged.now) }
+            ≡ serving.judged_tells self.now.conference self.now.ended user judged.now) }
         ensures shown { IfOk result (λ tells. All IsShown tells.items) }
     {
         match judged {
-            Judged::Accepted(ask) => self.accepted_tells(alloc, ended, user, ask),
+            Judged::Accepted(ask) => self.accepted_tells(alloc, user, ask),
             Judged::Refused { code, details } => one(
                 alloc,
                 Tell::Error {
@@ -225,26 +200,15 @@ impl State {
     }
 
     /// What an accepted message is answered by, after the event.
-    fn accepted_tells(
-        &self,
-        alloc: Global,
-        ended: &[Ended],
-        user: u16,
-        ask: &Ask,
-    ) -> Result<Vec<Tell>, AllocError>
-        requires floors { self.now.requests.floors ≡ self.now.config.floors }
-        requires settled { IsSettled self.now.requests }
-        requires ended { AreAddable self.now.config.floors ended.now }
-        requires shows { AreInfos self.now.config
-            self.now.requests.ongoing self.now.shown.items }
+    fn accepted_tells(&self, alloc: Global, user: u16, ask: &Ask) -> Result<Vec<Tell>, AllocError>
         ensures value { IfOk result (λ tells. tells.items
-            ≡ serving.accepted_tells (conference_of self.now) ended.now user ask.now) }
+            ≡ serving.accepted_tells self.now.conference self.now.ended user ask.now) }
         ensures shown { IfOk result (λ tells. All IsShown tells.items) }
     {
         match ask {
-            Ask::FloorRequest { .. } => self.status_tells(alloc, ended, self.requests.given()),
-            Ask::FloorRelease { request } => self.status_tells(alloc, ended, *request),
-            Ask::FloorRequestQuery { request } => self.status_tells(alloc, ended, *request),
+            Ask::FloorRequest { .. } => self.status_tells(alloc, self.state.requests.given()),
+            Ask::FloorRelease { request } => self.status_tells(alloc, *request),
+            Ask::FloorRequestQuery { request } => self.status_tells(alloc, *request),
             Ask::UserQuery { beneficiary } => self.user_tells(alloc, user, *beneficiary),
             Ask::Hello => hello_tells(alloc),
             Ask::FloorQuery { floors } => self.floor_tells(alloc, floors.as_slice()),

@@ -10,13 +10,14 @@ ghost use Rattle.floor_machine.specs.Conference.{is_user};
 ghost use Rattle.floor_machine.specs.Reply as reply;
 ghost use Rattle.floor_machine.specs.Shown as shown;
 ghost use Rattle.floor_machine.specs.steps.Serving.{conference_of};
-ghost use Rattle.floor_machine.specs.steps.Telling.{AreInfos, infos_with_user};
+ghost use Rattle.floor_machine.specs.steps.Telling.{infos_with_user};
 
 use crate::change::reply::one;
 use crate::conference::State;
 use crate::information::copying::{floor_status, infos_with_user};
 use crate::information::showing::described;
 use crate::lookup::{are_floors, is_user};
+use crate::outcome::Outcome;
 use floor_config::Config;
 use floor_message::{ErrorCode, Info, Infos, Tell, Who};
 use floor_wire::Octets;
@@ -63,7 +64,9 @@ impl State {
             Some(ErrorCode::InvalidFloorId)
         }
     }
+}
 
+impl Outcome<'_> {
     /// The user, where one is asked about, and the requests of one.
     pub(crate) fn user_tells(
         &self,
@@ -71,35 +74,33 @@ impl State {
         user: u16,
         beneficiary: Option<u16>,
     ) -> Result<Vec<Tell>, AllocError>
-        requires shows { AreInfos self.now.config
-            self.now.requests.ongoing self.now.shown.items }
         ensures value { IfOk result (λ tells. tells.items
-            ≡ Tell.UserStatus (option_map (shown.described self.now.config) beneficiary)
-            (reply.infos_of_user (unwrap_or beneficiary user) (conference_of self.now)) ∷ []) }
+            ≡ Tell.UserStatus (option_map (shown.described self.now.conference.config) beneficiary)
+            (reply.infos_of_user (unwrap_or beneficiary user) self.now.conference) ∷ []) }
         ensures shown { IfOk result (λ tells. All IsShown tells.items) }
     {
+        let state = self.state;
         // At most 256 requests are ongoing.
-        let _ongoing = self.requests.ongoing();
-        let who = described_if(alloc, &self.config, beneficiary)?;
-        let tell = user_status(alloc, who, beneficiary.unwrap_or(user), &self.shown)?;
+        let _ongoing = state.requests.ongoing();
+        let who = described_if(alloc, &state.config, beneficiary)?;
+        let tell = user_status(alloc, who, beneficiary.unwrap_or(user), &state.shown)?;
         one(alloc, tell)
     }
 
     /// The statuses of floors, or one that names none where none is asked about.
     pub(crate) fn floor_tells(&self, alloc: Global, floors: &[u16]) -> Result<Vec<Tell>, AllocError>
-        requires shows { AreInfos self.now.config
-            self.now.requests.ongoing self.now.shown.items }
         ensures value { IfOk result (λ tells. tells.items
-            ≡ reply.floor_answers (conference_of self.now) floors.now) }
+            ≡ reply.floor_answers self.now.conference floors.now) }
         ensures shown { IfOk result (λ tells. All IsShown tells.items) }
     {
         if floors.is_empty() {
             let infos = Infos::from_vec(Vec::new(alloc));
             return one(alloc, Tell::FloorStatus { floor: None, infos });
         }
+        let state = self.state;
         // At most 256 requests are ongoing.
-        let _ongoing = self.requests.ongoing();
-        floor_statuses(alloc, &self.shown, floors)
+        let _ongoing = state.requests.ongoing();
+        floor_statuses(alloc, &state.shown, floors)
     }
 }
 

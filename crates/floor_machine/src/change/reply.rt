@@ -1,16 +1,12 @@
 //! What the sender of a message is answered (RFC 8855, section 13).
 
 ghost use Rattle.std.specs.Prelude.{◌≡◌, ◌∷◌, [], All, IfOk};
-ghost use Rattle.floor_queue.specs.Queue.{IsSettled};
 ghost use Rattle.floor_message.specs.Shown.{IsShown};
 ghost use Rattle.floor_machine.specs.Outgoing.{response_head};
-ghost use Rattle.floor_machine.specs.steps.Fitting.{AreAddable};
 ghost use Rattle.floor_machine.specs.steps.Serving as serving;
-ghost use Rattle.floor_machine.specs.steps.Serving.{conference_of};
 
-use crate::conference::State;
-use crate::course::Ended;
 use crate::information::shown::shown_at;
+use crate::outcome::Outcome;
 use floor_message::{Head, Tell};
 use floor_wire::Frame;
 use std::alloc::{AllocError, Global};
@@ -26,22 +22,15 @@ pub(crate) struct Reply {
     pub tells: Vec<Tell>,
 }
 
-impl State {
+impl Outcome<'_> {
     /// The status of the request with this number.
-    pub(crate) fn status_tells(
-        &self,
-        alloc: Global,
-        ended: &[Ended],
-        number: u16,
-    ) -> Result<Vec<Tell>, AllocError>
-        requires floors { self.now.requests.floors ≡ self.now.config.floors }
-        requires settled { IsSettled self.now.requests }
-        requires ended { AreAddable self.now.config.floors ended.now }
+    pub(crate) fn status_tells(&self, alloc: Global, number: u16) -> Result<Vec<Tell>, AllocError>
         ensures value { IfOk result (λ tells. tells.items
-            ≡ serving.status_tells (conference_of self.now) ended.now number) }
+            ≡ serving.status_tells self.now.conference self.now.ended number) }
         ensures shown { IfOk result (λ tells. All IsShown tells.items) }
     {
-        match shown_at(alloc, &self.config, &self.requests, ended, number)? {
+        let state = self.state;
+        match shown_at(alloc, &state.config, &state.requests, self.ended, number)? {
             None => Ok(Vec::new(alloc)),
             Some(shown) => one(alloc, Tell::FloorRequestStatus { info: shown.info }),
         }

@@ -8,12 +8,12 @@ ghost use Rattle.floor_machine.specs.Conference.{member_with};
 ghost use Rattle.floor_machine.specs.Journal.{parcel};
 ghost use Rattle.floor_machine.specs.Told.{is_status_of};
 ghost use Rattle.floor_machine.specs.steps.Fitting.{AreFloorsShown, AreUpdatesShown, IsReplyShown};
-ghost use Rattle.floor_machine.specs.steps.Telling.{AreInfos, answered, answered_to, floor_notice, floor_notice_to, floors_changed, is_answered, is_due_to, is_noticed, is_watched_by, noticed_to, noticed_to_all, parcels_to_all, update_to, updates};
+ghost use Rattle.floor_machine.specs.steps.Telling.{answered, answered_to, floor_notice, floor_notice_to, floors_changed, is_answered, is_due_to, is_noticed, is_watched_by, noticed_to, noticed_to_all, parcels_to_all, update_to, updates};
 
 use crate::change::reply::Reply;
-use crate::conference::State;
 use crate::member::Member;
 use crate::members::Members;
+use crate::outcome::Outcome;
 use crate::parcel::Parcel;
 use crate::tell::changed::{FloorUpdate, Update, floor_updates};
 use crate::tell::renewing::Changes;
@@ -32,7 +32,7 @@ struct FloorNotice {
     message: SharedFrame,
 }
 
-impl State {
+impl Outcome<'_> {
     /// Puts what the event tells each live member. After an error `out` is as it was.
     pub(crate) fn tell(
         &self,
@@ -41,28 +41,31 @@ impl State {
         reply: &Option<Reply>,
         out: &mut Vec<Parcel>,
     ) -> Result<(), AllocError>
-        requires shows { AreInfos self.now.config
-            self.now.requests.ongoing self.now.shown.items }
         requires updates { AreUpdatesShown changes.now.updates.items }
         requires reply { IsReplyShown reply.now }
         ensures told { OnOk result (out.new.items ≡ out.old.items
-            ++ parcels_to_all self.now.config.conference reply.now changes.now.updates.items
-            (floors_changed self.now.shown.items changes.now.floors.items self.now.config.floors)
-            self.now.members) }
-        ensures floors_shown { OnOk result (AreFloorsShown (filter (is_watched_by self.now.members)
-            (floors_changed self.now.shown.items changes.now.floors.items self.now.config.floors))) }
+            ++ parcels_to_all self.now.conference.config.conference reply.now
+            changes.now.updates.items
+            (floors_changed self.now.shown changes.now.floors.items
+            self.now.conference.config.floors)
+            self.now.conference.members) }
+        ensures floors_shown { OnOk result
+            (AreFloorsShown (filter (is_watched_by self.now.conference.members)
+            (floors_changed self.now.shown changes.now.floors.items
+            self.now.conference.config.floors))) }
         ensures left { OnErr result (out.new.items ≡ out.old.items) }
     {
+        let state = self.state;
         // At most 256 requests are ongoing.
-        let _ongoing = self.requests.ongoing();
-        let floors = watched_floors(alloc, &self.config, &self.members)?;
-        let floor_updates = floor_updates(alloc, &floors, &changes.floors, &self.shown)?;
+        let _ongoing = state.requests.ongoing();
+        let floors = watched_floors(alloc, &state.config, &state.members)?;
+        let floor_updates = floor_updates(alloc, &floors, &changes.floors, &state.shown)?;
         let mut parcels = Vec::new(alloc);
         put_all(
             alloc,
             &mut parcels,
-            self.config.conference(),
-            &self.members,
+            state.config.conference(),
+            &state.members,
             reply,
             &changes.updates,
             &floor_updates,
@@ -81,15 +84,17 @@ impl State {
     ) -> Result<(), AllocError>
         requires { IsReplyShown reply.now }
         ensures told { OnOk result (out.new.items ≡ out.old.items
-            ++ parcels_to_all self.now.config.conference reply.now [] [] self.now.members) }
+            ++ parcels_to_all self.now.conference.config.conference reply.now [] []
+            self.now.conference.members) }
         ensures left { OnErr result (out.new.items ≡ out.old.items) }
     {
+        let state = self.state;
         let mut parcels = Vec::new(alloc);
         put_all(
             alloc,
             &mut parcels,
-            self.config.conference(),
-            &self.members,
+            state.config.conference(),
+            &state.members,
             reply,
             &[],
             &[],

@@ -5,7 +5,7 @@ use Rattle.floor_machine.specs.declared.course.Course.{Course}
 use Rattle.floor_machine.specs.declared.conference.State.{State}
 use Rattle.floor_machine.specs.Change.{asked_change, no_change}
 use Rattle.floor_machine.specs.steps.Marks.{AreNoted}
-use Rattle.floor_machine.specs.steps.Serving.{IsChanged, conference_of}
+use Rattle.floor_machine.specs.steps.Serving.{IsChanged, conference_of, with_requests}
 use Rattle.floor_machine.proofs.Asked.{begun, changed-decide}
 use Rattle.floor_machine.proofs.conference.State.chair_action.Goals as goal
 
@@ -14,10 +14,10 @@ returns-clause-changed c =
     let n = c.args.n in
     let s : State = c.args.self.now in
     let course = c.in_ok-course.course in
-    let begins : IsChanged (conference_of s) (no_change (conference_of s)) (conference_of s) course = begun (conference_of s) c.in_ok-course.course c.in_ok-course.ensures.queue.ascending (c.in_ok-course.ensures.before ∙ c.requires.shows.infos) c.in_ok-course.ensures.numbers c.in_ok-course.ensures.ended in
+    let begins : IsChanged (conference_of s) (no_change (conference_of s)) (conference_of s) course = begun (conference_of s) c.in_ok-course.course c.in_ok-course.ensures.queue.ascending c.in_ok-course.ensures.numbers c.in_ok-course.ensures.ended in
     let done = c.in_ok-decide.ensures in
     let after : Course = record course { ended = c.decide.new.ended; marks = c.decide.new.marks } in
-    let Q : Queue → Type 0 = λ q. IsChanged (conference_of s) (asked_change (conference_of s) n (ChairAction c.args.request c.args.verdicts.now)) (conference_of (record s { requests = q })) after in
+    let Q : Queue → Type 0 = λ q. IsChanged (conference_of s) (asked_change (conference_of s) n (ChairAction c.args.request c.args.verdicts.now)) (with_requests (conference_of s) q) after in
     let N : Queue → Type 0 = λ q. AreNoted s.config.floors s.requests.ongoing q.ongoing c.decide.new.marks.items in
     subst Q (sym done.next)
-    (changed-decide s course after n c.args.request c.args.verdicts.now c.in_ok-course.ensures.queue begins c.requires.decide done.ended refl refl (subst N done.next (done.noted s.config.floors s.requests.ongoing begins.noted)))
+    (changed-decide s course after n c.args.request c.args.verdicts.now c.in_ok-course.ensures.queue begins c.requires.decide done.ended refl (subst N done.next (done.noted s.config.floors s.requests.ongoing begins.noted)))

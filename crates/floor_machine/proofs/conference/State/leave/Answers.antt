@@ -1,13 +1,16 @@
-use Rattle.std.proofs.Common.{List, None, ◌++◌, ap, refl, subst, ◌∙◌}
+use Rattle.std.proofs.Common.{List, None, ◌++◌, ap, refl, subst, sym, ◌∙◌}
+use Rattle.floor_config.specs.declared.config.Floor.{Floor}
 use Rattle.floor_queue.specs.Queue.{after_settle}
 use Rattle.floor_machine.specs.declared.course.Course.{Course}
+use Rattle.floor_machine.specs.declared.course.Ended.{Ended}
 use Rattle.floor_machine.specs.declared.event.Event.{Event}
 use Rattle.floor_machine.specs.declared.event.Event.TheVariants.{Leave}
 use Rattle.floor_machine.specs.declared.tell.renewing.Changes.{Changes}
 use Rattle.floor_machine.specs.declared.conference.State.{State}
 use Rattle.floor_machine.specs.Parcel.{Parcel}
+use Rattle.floor_machine.specs.Conference.{Conference}
 use Rattle.floor_machine.specs.Change.{change}
-use Rattle.floor_machine.specs.steps.Fitting.{AreUpdatesShown}
+use Rattle.floor_machine.specs.steps.Fitting.{AreAddable, AreUpdatesShown}
 use Rattle.floor_machine.specs.steps.Serving.{conference_of}
 use Rattle.floor_machine.proofs.Addable.{left_addable, queue_addable}
 use Rattle.floor_machine.proofs.Asked.{begun, on_ok, on_ok_all}
@@ -19,18 +22,30 @@ use Rattle.floor_machine.proofs.conference.State.leave.Goals as goal
 
 pub change_left-requires-clause-begun : goal.change_left-requires-clause-begun
 change_left-requires-clause-begun c =
-    begun (conference_of c.args.self.now) c.in_ok-course.course c.in_ok-course.ensures.queue.ascending (c.in_ok-course.ensures.before ∙ c.requires.shows.infos) c.in_ok-course.ensures.numbers c.in_ok-course.ensures.ended
+    begun (conference_of c.args.self.now) c.in_ok-course.course c.in_ok-course.ensures.queue.ascending c.in_ok-course.ensures.numbers c.in_ok-course.ensures.ended
 
 pub settle-requires-clause-ended : goal.settle-requires-clause-ended
 settle-requires-clause-ended c =
     let s = c.args.self.now in
     left_addable (conference_of s) (conference_of c.change_left.new.self) c.args.n c.change_left.new.course
-    (queue_addable s c.requires.state c.in_ok-course.ensures.queue) c.in_ok-change_left.ensures.changed
+    (queue_addable s c.in_ok-course.ensures.queue) c.in_ok-change_left.ensures.changed
 
 pub settle-requires-clause-course : goal.settle-requires-clause-course
 settle-requires-clause-course c =
     let s = conference_of c.args.self.now in
-    course-changed s (conference_of c.change_left.new.self) (change s (Leave c.args.n)) c.change_left.new.course c.in_ok-change_left.ensures.changed
+    course-changed s (conference_of c.change_left.new.self) (change s (Leave c.args.n)) c.change_left.new.course c.in_ok-change_left.ensures.changed (ap (λ x. x.items) c.change_left.ensures.before ∙ c.in_ok-course.ensures.before ∙ c.requires.rest.shows.infos)
+
+pub invariant_of-outcome : goal.invariant_of-outcome
+invariant_of-outcome c =
+    let s = c.args.self.now in
+    let t : State = c.change_left.new.self in
+    let P : List Ended → Type 0 = λ ended. AreAddable t.config.floors ended in
+    let F : List Floor → Type 0 = λ fs. AreAddable fs c.deref.result.now in (
+      c.in_ok-changes.ensures.rest,
+      subst F (sym (ap (λ (x : Conference). x.config.floors) c.in_ok-changes.ensures.next))
+          (subst P (sym (c.deref.ensures.value ∙ ap (λ x. x.items) c.settle.ensures.ended))
+          (left_addable (conference_of s) (conference_of t) c.args.n c.change_left.new.course (queue_addable s c.in_ok-course.ensures.queue) c.in_ok-change_left.ensures.changed)),
+    )
 
 pub returns-clause-next : goal.returns-clause-next
 returns-clause-next c =
@@ -38,8 +53,8 @@ returns-clause-next c =
     let e : Event = Leave c.args.n in
     let t : State = c.change_left.new.self in
     on_ok_all c.tell.result
-    (ap (λ (x : State). conference_of x) c.in_ok-changes.ensures.next
-    ∙ settled-state s e (change s e) t c.change_left.new.course (after_settle t.requests) refl c.in_ok-change_left.ensures.changed c.in_ok-change_left.ensures.state refl)
+    (c.in_ok-changes.ensures.next
+    ∙ settled-state s e (change s e) t c.change_left.new.course (after_settle t.requests) refl c.in_ok-change_left.ensures.changed refl)
 
 pub returns-clause-out : goal.returns-clause-out
 returns-clause-out c =
@@ -48,10 +63,10 @@ returns-clause-out c =
     let course : Course = c.change_left.new.course in
     let changes : Changes = c.in_ok-changes.changes in
     let to : IsSettledTo t c.settle.new.self course changes =
-    record { next = c.in_ok-changes.ensures.next; shows = c.in_ok-changes.ensures.shows; updates = c.in_ok-changes.ensures.updates; floors = c.in_ok-changes.ensures.floors } in
+    record { next = c.in_ok-changes.ensures.next; shows = c.in_ok-changes.ensures.rest.shows; updates = c.in_ok-changes.ensures.updates; floors = c.in_ok-changes.ensures.floors } in
     on_ok c.tell.result (λ told. told ∙ ap (λ (ps : List Parcel). c.args.out.now.items ++ ps)
     (parcels-settled t c.settle.new.self course changes None to
-    ∙ parcels-changed s (Leave c.args.n) t course (after_settle t.requests) refl (λ k. refl) c.in_ok-change_left.ensures.changed c.in_ok-change_left.ensures.state refl))
+    ∙ parcels-changed s (Leave c.args.n) t course (after_settle t.requests) refl (λ k. refl) c.in_ok-change_left.ensures.changed (ap (λ x. x.items) c.change_left.ensures.before ∙ c.in_ok-course.ensures.before ∙ c.requires.rest.shows.infos) c.allocator-alloc.ensures.kept refl))
     c.tell.ensures.told
 
 pub returns-clause-shown : goal.returns-clause-shown
@@ -61,8 +76,8 @@ returns-clause-shown c =
     let course : Course = c.change_left.new.course in
     let changes : Changes = c.in_ok-changes.changes in
     let to : IsSettledTo t c.settle.new.self course changes =
-    record { next = c.in_ok-changes.ensures.next; shows = c.in_ok-changes.ensures.shows; updates = c.in_ok-changes.ensures.updates; floors = c.in_ok-changes.ensures.floors } in
+    record { next = c.in_ok-changes.ensures.next; shows = c.in_ok-changes.ensures.rest.shows; updates = c.in_ok-changes.ensures.updates; floors = c.in_ok-changes.ensures.floors } in
     on_ok c.tell.result (λ floors.
-    changed-shown s (Leave c.args.n) t course (after_settle t.requests) refl (λ k. refl) c.in_ok-change_left.ensures.changed c.in_ok-change_left.ensures.state refl
+    changed-shown s (Leave c.args.n) t course (after_settle t.requests) refl (λ k. refl) c.in_ok-change_left.ensures.changed (ap (λ x. x.items) c.change_left.ensures.before ∙ c.in_ok-course.ensures.before ∙ c.requires.rest.shows.infos) refl
     (subst AreUpdatesShown to.updates c.in_ok-changes.ensures.shown) (floors-shown t c.settle.new.self course changes to floors))
     c.tell.ensures.floors_shown

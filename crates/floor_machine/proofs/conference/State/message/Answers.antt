@@ -16,7 +16,7 @@ use Rattle.floor_machine.specs.Conference.{Conference, binding, user_of}
 use Rattle.floor_machine.specs.Change.{change, next}
 use Rattle.floor_machine.specs.Told.{reply_to}
 use Rattle.floor_machine.specs.steps.Fitting.{AreAddable, AreUpdatesShown}
-use Rattle.floor_machine.specs.steps.Serving.{IsChanged, IsTaken, conference_of, is_rising, judged, judged_change, judged_tells}
+use Rattle.floor_machine.specs.steps.Serving.{IsChanged, IsTaken, conference_of, is_rising, judged, judged_change, judged_tells, with_requests}
 use Rattle.floor_machine.specs.steps.Telling.{answered_to, parcels_to_all}
 use Rattle.floor_machine.proofs.Addable.{judged_addable, queue_addable}
 use Rattle.floor_machine.proofs.Asked.{on_ok, on_ok_all}
@@ -36,8 +36,9 @@ settle-requires-clause-ended c =
     let course : Course = c.in-Some.course in
     let before : State = c.change.new.self in
     let T : Option Course → Type 0 = λ o. IsTaken S n j before o in
-    let changed : IsChanged s (judged_change s n j) (conference_of before) course = subst T c.in-Some.is c.in_ok-course.ensures.taken in
-    judged_addable s (conference_of before) n j course (queue_addable S c.requires.state c.ongoing-ongoing.ensures.kept) changed
+    let taken : IsTaken S n j before (Some course) = subst T c.in-Some.is c.in_ok-course.ensures.taken in
+    let changed : IsChanged s (judged_change s n j) (conference_of before) course = taken.0 in
+    judged_addable s (conference_of before) n j course (queue_addable S c.ongoing-ongoing.ensures.kept) changed
 
 pub settle-requires-clause-course : goal.settle-requires-clause-course
 settle-requires-clause-course c =
@@ -48,11 +49,12 @@ settle-requires-clause-course c =
     let course : Course = c.in-Some.course in
     let before : State = c.change.new.self in
     let T : Option Course → Type 0 = λ o. IsTaken S n j before o in
-    let changed : IsChanged s (judged_change s n j) (conference_of before) course = subst T c.in-Some.is c.in_ok-course.ensures.taken in
-    course-changed s (conference_of before) (judged_change s n j) course changed
+    let taken : IsTaken S n j before (Some course) = subst T c.in-Some.is c.in_ok-course.ensures.taken in
+    let changed : IsChanged s (judged_change s n j) (conference_of before) course = taken.0 in
+    course-changed s (conference_of before) (judged_change s n j) course changed (taken.1 ∙ c.requires.rest.shows.infos)
 
-pub reply-requires-clause-ended : goal.reply-requires-clause-ended
-reply-requires-clause-ended c =
+pub invariant_of-outcome : goal.invariant_of-outcome
+invariant_of-outcome c =
     let S : State = c.args.self.now in
     let s = conference_of S in
     let n = c.args.n in
@@ -60,12 +62,14 @@ reply-requires-clause-ended c =
     let course : Course = c.in-Some.course in
     let before : State = c.change.new.self in
     let T : Option Course → Type 0 = λ o. IsTaken S n j before o in
-    let changed : IsChanged s (judged_change s n j) (conference_of before) course = subst T c.in-Some.is c.in_ok-course.ensures.taken in
+    let taken : IsTaken S n j before (Some course) = subst T c.in-Some.is c.in_ok-course.ensures.taken in
     let P : List Ended → Type 0 = λ ended. AreAddable before.config.floors ended in
-    let F : List Floor → Type 0 = λ fs. AreAddable fs c.deref.result.now in
-    subst F (sym (ap (λ (x : State). x.config.floors) c.in_ok-changes-in-Some.ensures.next))
-    (subst P (sym (c.deref.ensures.value ∙ ap (λ x. x.items) c.settle.ensures.ended))
-    (judged_addable s (conference_of before) n j course (queue_addable S c.requires.state c.ongoing-ongoing.ensures.kept) changed))
+    let F : List Floor → Type 0 = λ fs. AreAddable fs c.deref.result.now in (
+      c.in_ok-changes-in-Some.ensures.rest,
+      subst F (sym (ap (λ (x : Conference). x.config.floors) c.in_ok-changes-in-Some.ensures.next))
+          (subst P (sym (c.deref.ensures.value ∙ ap (λ x. x.items) c.settle.ensures.ended))
+          (judged_addable s (conference_of before) n j course (queue_addable S c.ongoing-ongoing.ensures.kept) taken.0)),
+    )
 
 pub returns-in-Some-clause-next : goal.returns-in-Some-clause-next
 returns-in-Some-clause-next c =
@@ -84,13 +88,14 @@ returns-in-Some-clause-next c =
     let before : State = c.change.new.self in
     let after : State = c.settle.new.self in
     let T : Option Course → Type 0 = λ o. IsTaken S n j before o in
-    let changed : IsChanged s (judged_change s n j) (conference_of before) course = subst T c.in-Some.is c.in_ok-course.ensures.taken in
+    let taken : IsTaken S n j before (Some course) = subst T c.in-Some.is c.in_ok-course.ensures.taken in
+    let changed : IsChanged s (judged_change s n j) (conference_of before) course = taken.0 in
     let changes : change s e ≡ judged_change s n j = change-judged s n bytes a refl ∙ ap (judged_change s n) (sym is_judged) in
-    let t : Conference = conference_of (record before { requests = after_settle before.requests }) in
-    let is_next : t ≡ next s e = settled-state s e (judged_change s n j) before course (after_settle before.requests) changes changed c.in_ok-course.ensures.state refl in
+    let t : Conference = with_requests (conference_of before) (after_settle before.requests) in
+    let is_next : t ≡ next s e = settled-state s e (judged_change s n j) before course (after_settle before.requests) changes changed refl in
     let done = c.in_ok-changes-in-Some.ensures in
-    let to : IsSettledTo before after course c.in_ok-changes-in-Some.changes = record { next = done.next; shows = done.shows; updates = done.updates; floors = done.floors } in
-    on_ok_all c.tell.result (ap (λ (x : State). conference_of x) to.next ∙ is_next)
+    let to : IsSettledTo before after course c.in_ok-changes-in-Some.changes = record { next = done.next; shows = done.rest.shows; updates = done.updates; floors = done.floors } in
+    on_ok_all c.tell.result (to.next ∙ is_next)
 
 pub returns-in-Some-clause-out : goal.returns-in-Some-clause-out
 returns-in-Some-clause-out c =
@@ -109,18 +114,19 @@ returns-in-Some-clause-out c =
     let before : State = c.change.new.self in
     let after : State = c.settle.new.self in
     let T : Option Course → Type 0 = λ o. IsTaken S n j before o in
-    let changed : IsChanged s (judged_change s n j) (conference_of before) course = subst T c.in-Some.is c.in_ok-course.ensures.taken in
+    let taken : IsTaken S n j before (Some course) = subst T c.in-Some.is c.in_ok-course.ensures.taken in
+    let changed : IsChanged s (judged_change s n j) (conference_of before) course = taken.0 in
     let changes : change s e ≡ judged_change s n j = change-judged s n bytes a refl ∙ ap (judged_change s n) (sym is_judged) in
-    let t : Conference = conference_of (record before { requests = after_settle before.requests }) in
-    let is_next : t ≡ next s e = settled-state s e (judged_change s n j) before course (after_settle before.requests) changes changed c.in_ok-course.ensures.state refl in
+    let t : Conference = with_requests (conference_of before) (after_settle before.requests) in
+    let is_next : t ≡ next s e = settled-state s e (judged_change s n j) before course (after_settle before.requests) changes changed refl in
     let done = c.in_ok-changes-in-Some.ensures in
-    let to : IsSettledTo before after course c.in_ok-changes-in-Some.changes = record { next = done.next; shows = done.shows; updates = done.updates; floors = done.floors } in
+    let to : IsSettledTo before after course c.in_ok-changes-in-Some.changes = record { next = done.next; shows = done.rest.shows; updates = done.updates; floors = done.floors } in
     let ended = ended-shown s e (judged_change s n j) (conference_of before) course changes changed in
     let numbers = numbers-shown s e (judged_change s n j) (conference_of before) course changes changed in
     let r : Reply = c.in_ok-reply-in-Some.reply in
     let tells : r.tells.items ≡ judged_tells (next s e) course.ended.items (user_of s n) (judged s (user_of s n) a) =
     c.in_ok-reply-in-Some.ensures.tells
-    ∙ ap (λ (x : State). judged_tells (conference_of x) c.deref.result.now user j) to.next
+    ∙ ap (λ (x : Conference). judged_tells x c.deref.result.now user j) to.next
     ∙ ap (λ (d : List Ended). judged_tells t d user j) (c.deref.ensures.value ∙ ap (λ x. x.items) c.settle.ensures.ended)
     ∙ ap (λ (x : Conference). judged_tells x course.ended.items user j) is_next
     ∙ ap (λ (u : ℕ). judged_tells (next s e) course.ended.items u j) is_user
@@ -128,7 +134,7 @@ returns-in-Some-clause-out c =
     let answered = reply-answered s n bytes r a course.ended.items refl ended (ap is_rising (sym numbers) ∙ changed.rising) c.in_ok-reply-in-Some.ensures.to c.in_ok-reply-in-Some.ensures.head tells in
     on_ok c.tell.result (λ told. told ∙ ap (λ (ps : List Parcel). c.args.out.now.items ++ ps)
     (parcels-settled before after course c.in_ok-changes-in-Some.changes (Some r) to
-    ∙ parcels-served s e t course (Some r) refl is_next c.in_ok-course.ensures.state.numbered ended numbers changed.rising changed.before answered))
+    ∙ parcels-served s e t course (Some r) refl is_next c.allocator-alloc.ensures.kept ended numbers changed.rising (taken.1 ∙ c.requires.rest.shows.infos) answered))
     c.tell.ensures.told
 
 pub returns-in-Some-clause-shown : goal.returns-in-Some-clause-shown
@@ -148,25 +154,26 @@ returns-in-Some-clause-shown c =
     let before : State = c.change.new.self in
     let after : State = c.settle.new.self in
     let T : Option Course → Type 0 = λ o. IsTaken S n j before o in
-    let changed : IsChanged s (judged_change s n j) (conference_of before) course = subst T c.in-Some.is c.in_ok-course.ensures.taken in
+    let taken : IsTaken S n j before (Some course) = subst T c.in-Some.is c.in_ok-course.ensures.taken in
+    let changed : IsChanged s (judged_change s n j) (conference_of before) course = taken.0 in
     let changes : change s e ≡ judged_change s n j = change-judged s n bytes a refl ∙ ap (judged_change s n) (sym is_judged) in
-    let t : Conference = conference_of (record before { requests = after_settle before.requests }) in
-    let is_next : t ≡ next s e = settled-state s e (judged_change s n j) before course (after_settle before.requests) changes changed c.in_ok-course.ensures.state refl in
+    let t : Conference = with_requests (conference_of before) (after_settle before.requests) in
+    let is_next : t ≡ next s e = settled-state s e (judged_change s n j) before course (after_settle before.requests) changes changed refl in
     let done = c.in_ok-changes-in-Some.ensures in
-    let to : IsSettledTo before after course c.in_ok-changes-in-Some.changes = record { next = done.next; shows = done.shows; updates = done.updates; floors = done.floors } in
+    let to : IsSettledTo before after course c.in_ok-changes-in-Some.changes = record { next = done.next; shows = done.rest.shows; updates = done.updates; floors = done.floors } in
     let ended = ended-shown s e (judged_change s n j) (conference_of before) course changes changed in
     let numbers = numbers-shown s e (judged_change s n j) (conference_of before) course changes changed in
     let r : Reply = c.in_ok-reply-in-Some.reply in
     let tells : r.tells.items ≡ judged_tells (next s e) course.ended.items (user_of s n) (judged s (user_of s n) a) =
     c.in_ok-reply-in-Some.ensures.tells
-    ∙ ap (λ (x : State). judged_tells (conference_of x) c.deref.result.now user j) to.next
+    ∙ ap (λ (x : Conference). judged_tells x c.deref.result.now user j) to.next
     ∙ ap (λ (d : List Ended). judged_tells t d user j) (c.deref.ensures.value ∙ ap (λ x. x.items) c.settle.ensures.ended)
     ∙ ap (λ (x : Conference). judged_tells x course.ended.items user j) is_next
     ∙ ap (λ (u : ℕ). judged_tells (next s e) course.ended.items u j) is_user
     ∙ ap (judged_tells (next s e) course.ended.items (user_of s n)) is_judged in
     let answered = reply-answered s n bytes r a course.ended.items refl ended (ap is_rising (sym numbers) ∙ changed.rising) c.in_ok-reply-in-Some.ensures.to c.in_ok-reply-in-Some.ensures.head tells in
     on_ok c.tell.result (λ floors.
-    served-shown s e t course (Some r) refl is_next ended numbers changed.rising changed.before answered c.in_ok-reply-in-Some.ensures.shown
+    served-shown s e t course (Some r) refl is_next ended numbers changed.rising (taken.1 ∙ c.requires.rest.shows.infos) answered c.in_ok-reply-in-Some.ensures.shown
     (subst AreUpdatesShown to.updates done.shown) (floors-shown before after course c.in_ok-changes-in-Some.changes to floors))
     c.tell.ensures.floors_shown
 
@@ -186,7 +193,7 @@ returns-clause-next c =
     let T : Option Course → Type 0 = λ o. IsTaken S n j after o in
     let taken = subst T c.in-None.is c.in_ok-course.ensures.taken in
     let F : List Floor → Type 0 = λ fs. settle fs s.ongoing ≡ s.ongoing in
-    let settled : settle s.config.floors s.ongoing ≡ s.ongoing = subst F c.requires.state.floors c.requires.settled in
+    let settled : settle s.config.floors s.ongoing ≡ s.ongoing = subst F S.same_floors c.requires.rest.settled in
     let is_next : conference_of after ≡ next s e = ap (λ (x : State). conference_of x) taken.1 ∙ next-message s n bytes j is_judged taken.0 settled in
     on_ok_all c.tell_reply.result is_next
 
@@ -206,7 +213,7 @@ returns-clause-out c =
     let T : Option Course → Type 0 = λ o. IsTaken S n j after o in
     let taken = subst T c.in-None.is c.in_ok-course.ensures.taken in
     let F : List Floor → Type 0 = λ fs. settle fs s.ongoing ≡ s.ongoing in
-    let settled : settle s.config.floors s.ongoing ≡ s.ongoing = subst F c.requires.state.floors c.requires.settled in
+    let settled : settle s.config.floors s.ongoing ≡ s.ongoing = subst F S.same_floors c.requires.rest.settled in
     let is_next : conference_of after ≡ next s e = ap (λ (x : State). conference_of x) taken.1 ∙ next-message s n bytes j is_judged taken.0 settled in
     let r : Reply = c.in_ok-reply-in-None.reply in
     let tells : r.tells.items ≡ judged_tells (next s e) [] (user_of s n) j =
@@ -219,7 +226,7 @@ returns-clause-out c =
     on_ok c.tell_reply.result (λ told. told ∙ ap (λ (ps : List Parcel). c.args.out.now.items ++ ps)
     (ap (λ (x : Conference). parcels_to_all x.config.conference (Some r) [] [] x.members) is_next
     ∙ ap (λ (config : Configuration). parcels_to_all config.conference (Some r) [] [] (next s e).members) (next-config s e)
-    ∙ parcels-message s n bytes j r is_judged taken.0 settled ascending c.requires.state.numbered replied))
+    ∙ parcels-message s n bytes j r is_judged taken.0 settled ascending c.allocator-alloc.ensures.kept replied))
     c.tell_reply.ensures.told
 
 pub returns-clause-shown : goal.returns-clause-shown
@@ -238,7 +245,7 @@ returns-clause-shown c =
     let T : Option Course → Type 0 = λ o. IsTaken S n j after o in
     let taken = subst T c.in-None.is c.in_ok-course.ensures.taken in
     let F : List Floor → Type 0 = λ fs. settle fs s.ongoing ≡ s.ongoing in
-    let settled : settle s.config.floors s.ongoing ≡ s.ongoing = subst F c.requires.state.floors c.requires.settled in
+    let settled : settle s.config.floors s.ongoing ≡ s.ongoing = subst F S.same_floors c.requires.rest.settled in
     let is_next : conference_of after ≡ next s e = ap (λ (x : State). conference_of x) taken.1 ∙ next-message s n bytes j is_judged taken.0 settled in
     let r : Reply = c.in_ok-reply-in-None.reply in
     let tells : r.tells.items ≡ judged_tells (next s e) [] (user_of s n) j =

@@ -27,4 +27,4 @@ renew-requires-clause-course c =
     let Q : Queue → Type 0 = λ x. IsCourse config x.ongoing c.swap.new.x.items course' in
     subst Q (sym c.in_ok-granted.ensures.next)
     (subst S (sym (ap (λ x. x.items) c.swap.ensures.x_after))
-    (course-settled config q.floors q.ongoing course.before.items course course' c.requires.floors c.ongoing-ongoing.ensures.kept.ascending c.requires.course refl refl marked))
+    (course-settled config q.floors q.ongoing course.before.items course course' c.args.self.now.same_floors c.ongoing-ongoing.ensures.kept.ascending c.requires.course refl refl marked))
