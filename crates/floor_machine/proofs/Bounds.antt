@@ -16,7 +16,7 @@ use Rattle.floor_machine.specs.declared.event.Event.{Event}
 use Rattle.floor_machine.specs.declared.event.Event.TheVariants.{Close}
 use Rattle.floor_machine.specs.declared.member.Member.{Member}
 use Rattle.floor_machine.specs.declared.tell.changed.FloorUpdate.{FloorUpdate}
-use Rattle.floor_machine.specs.declared.change.reply.Reply.{Reply}
+use Rattle.floor_machine.specs.declared.reply.Reply.{Reply}
 use Rattle.floor_machine.specs.declared.tell.changed.Update.{Update}
 use Rattle.floor_machine.specs.declared.conference.State.{State}
 use Rattle.floor_machine.specs.Conference.{Conference, member_with}
@@ -57,8 +57,8 @@ reply_all : (o : Option Reply) (k : ℕ) → IsReplyShown o → AreMessagesShown
 reply_all None k h = All-nil (λ message. IsShown message.tell)
 reply_all (Some r) k h = by (is_to k r)
   where
-    by : (b : Bool) → AreMessagesShown (cond b (answered r.head r.tells.items) [])
-    by true = answered_all r.head r.tells.items h
+    by : (b : Bool) → AreMessagesShown (cond b (answered r.head r.tells) [])
+    by true = answered_all r.head r.tells h
     by false = All-nil (λ message. IsShown message.tell)
 
 -- what a live member is told

@@ -14,7 +14,7 @@ use Rattle.floor_machine.specs.declared.change.judged.Judged.{Judged}
 use Rattle.floor_machine.specs.declared.change.judged.Judged.TheVariants.{Accepted, Refused, Unanswered}
 use Rattle.floor_machine.specs.declared.member.Member.{Member}
 use Rattle.floor_machine.specs.declared.tell.changed.FloorUpdate.{FloorUpdate}
-use Rattle.floor_machine.specs.declared.change.reply.Reply.{Reply}
+use Rattle.floor_machine.specs.declared.reply.Reply.{Reply}
 use Rattle.floor_machine.specs.declared.tell.changed.Update.{Update}
 use Rattle.floor_machine.specs.Conference.{Conference, binding, user_of, is_numbered_from}
 use Rattle.floor_machine.specs.Shown.{Entry, entry_of}
@@ -69,7 +69,7 @@ next-message s n bytes j is keeps settled =
 -- the reply to it
 pub replied-message : (s : Conference) (n : ℕ) (bytes : List ℕ) (j : Judged) (r : Reply) → IsJudged s n bytes j → changes_requests j ≡ false →
     settle s.config.floors s.ongoing ≡ s.ongoing → is_ascending s.ongoing ≡ true →
-    r.n ≡ n → r.head ≡ response_head bytes → r.tells.items ≡ judged_tells (next s (Message n bytes)) [] (user_of s n) j →
+    r.n ≡ n → r.head ≡ response_head bytes → r.tells ≡ judged_tells (next s (Message n bytes)) [] (user_of s n) j →
     (k : ℕ) → answered_to (Some r) k ≡ reply_to s (Message n bytes) k
 replied-message s n bytes j r is keeps settled ascending to head tells =
     let e : Event = Message n bytes in

@@ -21,7 +21,7 @@ use Rattle.floor_machine.specs.declared.course.Ended.{Ended}
 use Rattle.floor_machine.specs.declared.change.judged.Judged.TheVariants.{Accepted, Refused}
 use Rattle.floor_machine.specs.declared.member.Member.{Member}
 use Rattle.floor_machine.specs.Parcel.{Parcel}
-use Rattle.floor_machine.specs.declared.change.reply.Reply.{Reply}
+use Rattle.floor_machine.specs.declared.reply.Reply.{Reply}
 use Rattle.floor_machine.specs.declared.conference.State.{State}
 use Rattle.floor_machine.specs.declared.tell.changed.Update.{Update}
 use Rattle.floor_machine.specs.declared.tell.changed.FloorUpdate.{FloorUpdate}
@@ -159,12 +159,12 @@ tells-judged s n bytes (asks a) ended read same rising = by (refusal s (user_of 
 -- the reply that the steps put is the reply to the message
 pub reply-answered : (s : Conference) (n : ℕ) (bytes : List ℕ) (r : Reply) (a : Answer) (ended : List Ended) → a ≡ ask bytes (binding s n) →
     map entry_of_ended ended ≡ ended_of (shown s (Message n bytes)) → is_rising (numbers_in (shown s (Message n bytes))) ≡ true →
-    r.n ≡ n → r.head ≡ response_head bytes → r.tells.items ≡ judged_tells (next s (Message n bytes)) ended (user_of s n) (judged s (user_of s n) a) →
+    r.n ≡ n → r.head ≡ response_head bytes → r.tells ≡ judged_tells (next s (Message n bytes)) ended (user_of s n) (judged s (user_of s n) a) →
     (k : ℕ) → answered_to (Some r) k ≡ reply_to s (Message n bytes) k
 unfolding reply
 reply-answered s n bytes r a ended read same rising to head tells k =
-    ap (λ (m : ℕ). cond (m == k) (answered r.head r.tells.items) []) to
-    ∙ ap (λ (h : Head). cond (n == k) (answered h r.tells.items) []) head
+    ap (λ (m : ℕ). cond (m == k) (answered r.head r.tells) []) to
+    ∙ ap (λ (h : Head). cond (n == k) (answered h r.tells) []) head
     ∙ ap (λ (ts : List Tell). cond (n == k) (answered (response_head bytes) ts) []) (tells ∙ sym (tells-judged s n bytes a ended read same rising))
     ∙ ap (λ (ms : List Outgoing). cond (n == k) ms []) (sym (headed-answered (response_head bytes) (reply_tells s (Message n bytes) (user_of s n) a)))
     ∙ ap (λ (x : Answer). cond (n == k) (headed (response_head bytes) (reply_tells s (Message n bytes) (user_of s n) x)) []) read

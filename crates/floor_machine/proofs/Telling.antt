@@ -15,7 +15,7 @@ use Rattle.floor_message.specs.declared.tell.Tell.TheVariants.{FloorRequestStatu
 use Rattle.floor_machine.specs.declared.member.Member.{Member}
 use Rattle.floor_machine.specs.Parcel.{Parcel}
 use Rattle.floor_machine.specs.declared.course.Ended.{Ended}
-use Rattle.floor_machine.specs.declared.change.reply.Reply.{Reply}
+use Rattle.floor_machine.specs.declared.reply.Reply.{Reply}
 use Rattle.floor_machine.specs.declared.tell.changed.Update.{Update}
 use Rattle.floor_machine.specs.Conference.{Conference, member_with, is_numbered_from}
 use Rattle.floor_machine.specs.declared.event.Event.{Event}
@@ -104,8 +104,8 @@ is_answered-any : (reply : Option Reply) (n k : ℕ) → list_any (λ message. i
 is_answered-any None n k = refl
 is_answered-any (Some r) n k = by (is_to n r)
   where
-    by : (b : Bool) → list_any (λ message. is_status_of k message.tell) (cond b (answered r.head r.tells.items) []) ≡ (b && list_any (is_status_of k) r.tells.items)
-    by true = any-answered k r.head r.tells.items
+    by : (b : Bool) → list_any (λ message. is_status_of k message.tell) (cond b (answered r.head r.tells) []) ≡ (b && list_any (is_status_of k) r.tells)
+    by true = any-answered k r.head r.tells
     by false = refl
 
 -- the steps' parcels of the changed requests, to a member

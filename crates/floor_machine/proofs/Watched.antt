@@ -11,7 +11,7 @@ use Rattle.floor_machine.specs.declared.member.Member.{Member}
 use Rattle.floor_machine.specs.Conference.{member_with}
 use Rattle.floor_machine.specs.Parcel.{Parcel}
 use Rattle.floor_machine.specs.declared.tell.changed.FloorUpdate.{FloorUpdate}
-use Rattle.floor_machine.specs.declared.change.reply.Reply.{Reply}
+use Rattle.floor_machine.specs.declared.reply.Reply.{Reply}
 use Rattle.floor_machine.specs.declared.tell.changed.Update.{Update}
 use Rattle.floor_machine.specs.Journal.{parcel}
 use Rattle.floor_machine.specs.steps.Telling.{answered_to, floor_update, floor_update_to, floors_changed, has_watcher, is_due_to, is_floor_watched, is_one_of, is_watched, is_watched_by, parcels_to, parcels_to_all, update_to}

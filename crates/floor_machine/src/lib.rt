@@ -16,6 +16,7 @@ mod member;
 mod members;
 mod outcome;
 mod parcel;
+mod reply;
 mod running;
 mod status;
 mod tell;

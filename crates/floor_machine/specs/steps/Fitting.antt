@@ -7,7 +7,7 @@ use Rattle.floor_message.specs.Shown.{IsShown}
 use Rattle.floor_machine.specs.declared.course.Ended.{Ended}
 use Rattle.floor_machine.specs.declared.change.judged.Judged.{Judged}
 use Rattle.floor_machine.specs.declared.change.judged.Judged.TheVariants.{Accepted, Refused, Unanswered}
-use Rattle.floor_machine.specs.declared.change.reply.Reply.{Reply}
+use Rattle.floor_machine.specs.declared.reply.Reply.{Reply}
 use Rattle.floor_machine.specs.declared.tell.changed.Update.{Update}
 use Rattle.floor_machine.specs.declared.tell.changed.FloorUpdate.{FloorUpdate}
 use Rattle.floor_machine.specs.declared.event.Event.{Event}
@@ -33,7 +33,7 @@ DetailsFit Unanswered = Unit {0}
 
 -- the messages of the reply, if there is one, show no more than a conference has
 abbrev pub IsReplyShown : Option Reply → Type 0
-IsReplyShown reply = IfSome reply (λ r. All IsShown r.tells.items)
+IsReplyShown reply = IfSome reply (λ r. All IsShown r.tells)
 
 -- so do the statuses of the changed requests
 abbrev pub AreUpdatesShown : List Update → Type 0

@@ -1,6 +1,8 @@
--- What an event has made of a conference, for those who answer it and tell of it.
-use Rattle.std.specs.Prelude.{List}
+-- What an event has made of a conference, and what its sender is answered.
+use Rattle.std.specs.Prelude.{ℕ, List}
+use Rattle.floor_message.specs.declared.head.Head.{Head}
 use Rattle.floor_message.specs.declared.tell.Info.{Info}
+use Rattle.floor_message.specs.declared.tell.Tell.{Tell}
 use Rattle.floor_machine.specs.declared.course.Ended.{Ended}
 use Rattle.floor_machine.specs.Conference.{Conference}
 
@@ -9,3 +11,9 @@ pub record Outcome : Type 0 where
   pub conference : Conference
   pub shown : List Info
   pub ended : List Ended
+
+-- what the sender of a message is answered: its number, the head of the first message, and the messages
+pub record Reply : Type 0 where
+  pub n : ℕ
+  pub head : Head
+  pub tells : List Tell

@@ -18,7 +18,7 @@ use Rattle.floor_machine.specs.declared.member.Member.{Member}
 use Rattle.floor_machine.specs.Parcel.{Parcel}
 use Rattle.floor_machine.specs.declared.course.Ended.{Ended}
 use Rattle.floor_machine.specs.declared.information.shown.Shown.{Shown}
-use Rattle.floor_machine.specs.declared.change.reply.Reply.{Reply}
+use Rattle.floor_machine.specs.declared.reply.Reply.{Reply}
 use Rattle.floor_machine.specs.declared.tell.changed.Update.{Update}
 use Rattle.floor_machine.specs.declared.tell.parcels.FloorNotice.{FloorNotice}
 use Rattle.floor_machine.specs.declared.tell.changed.FloorUpdate.{FloorUpdate}
@@ -154,11 +154,11 @@ is_to n reply = reply.n == n
 
 -- what the reply tells n
 abbrev pub answered_to : Option Reply → ℕ → List Outgoing
-answered_to reply n = option_map_or (λ r. if is_to n r then answered r.head r.tells.items else []) reply []
+answered_to reply n = option_map_or (λ r. if is_to n r then answered r.head r.tells else []) reply []
 
 -- the reply to n is already the status of this request
 abbrev pub is_answered : Option Reply → ℕ → ℕ → Bool
-is_answered reply n number = option_map_or (λ r. is_to n r && list_any (is_status_of number) r.tells.items) reply false
+is_answered reply n number = option_map_or (λ r. is_to n r && list_any (is_status_of number) r.tells) reply false
 
 -- a changed request is told to its requester and its beneficiary, unless the reply to the member is its status already
 abbrev pub is_due_to : Option Reply → Member → Update → Bool

@@ -15,10 +15,11 @@ ghost use Rattle.floor_machine.specs.steps.Serving.{IsTaken, MayServe, conferenc
 
 use crate::change::judged::Judged;
 use crate::change::queries::hello_tells;
-use crate::change::reply::{Reply, one, response_head};
+use crate::change::reply::{one, response_head};
 use crate::conference::State;
 use crate::course::Course;
 use crate::outcome::Outcome;
+use crate::reply::Reply;
 use floor_message::{Ask, AskFault, Binding, ErrorCode, Tell, read_ask, what_is_asked_fits};
 use floor_wire::{Frame, Octets};
 use std::alloc::{AllocError, Global};
@@ -167,9 +168,9 @@ impl Outcome<'_> {
         requires details { DetailsFit judged.now }
         ensures to { IfOk result (λ reply. reply.n ≡ n) }
         ensures head { IfOk result (λ reply. reply.head ≡ response_head frame.now) }
-        ensures tells { IfOk result (λ reply. reply.tells.items
+        ensures tells { IfOk result (λ reply. reply.tells
             ≡ serving.judged_tells self.now.conference self.now.ended user judged.now) }
-        ensures shown { IfOk result (λ reply. All IsShown reply.tells.items) }
+        ensures shown { IfOk result (λ reply. All IsShown reply.tells) }
     {
         let tells = self.answer(alloc, user, judged)?;
         Ok(Reply {

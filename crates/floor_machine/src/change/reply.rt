@@ -11,17 +11,6 @@ use floor_message::{Head, Tell};
 use floor_wire::Frame;
 use std::alloc::{AllocError, Global};
 
-/// What the sender of a message is answered.
-#[derive(Debug, Drop)]
-pub(crate) struct Reply {
-    /// The number of the member that sent it.
-    pub n: u32,
-    /// The head of the first message.
-    pub head: Head,
-    /// The messages.
-    pub tells: Vec<Tell>,
-}
-
 impl Outcome<'_> {
     /// The status of the request with this number.
     pub(crate) fn status_tells(&self, alloc: Global, number: u16) -> Result<Vec<Tell>, AllocError>

@@ -7,14 +7,14 @@ ghost use Rattle.floor_message.specs.Shown.{IsShown};
 ghost use Rattle.floor_machine.specs.Conference.{member_with};
 ghost use Rattle.floor_machine.specs.Journal.{parcel};
 ghost use Rattle.floor_machine.specs.Told.{is_status_of};
-ghost use Rattle.floor_machine.specs.steps.Fitting.{AreFloorsShown, AreUpdatesShown, IsReplyShown};
+ghost use Rattle.floor_machine.specs.steps.Fitting.{AreFloorsShown, AreUpdatesShown};
 ghost use Rattle.floor_machine.specs.steps.Telling.{answered, answered_to, floor_notice, floor_notice_to, floors_changed, is_answered, is_due_to, is_noticed, is_watched_by, noticed_to, noticed_to_all, parcels_to_all, update_to, updates};
 
-use crate::change::reply::Reply;
 use crate::member::Member;
 use crate::members::Members;
 use crate::outcome::Outcome;
 use crate::parcel::Parcel;
+use crate::reply::Reply;
 use crate::tell::changed::{FloorUpdate, Update, floor_updates};
 use crate::tell::renewing::Changes;
 use crate::tell::watching::{is_watched, watched_floors, watches};
@@ -42,7 +42,6 @@ impl Outcome<'_> {
         out: &mut Vec<Parcel>,
     ) -> Result<(), AllocError>
         requires updates { AreUpdatesShown changes.now.updates.items }
-        requires reply { IsReplyShown reply.now }
         ensures told { OnOk result (out.new.items ≡ out.old.items
             ++ parcels_to_all self.now.conference.config.conference reply.now
             changes.now.updates.items
@@ -82,7 +81,6 @@ impl Outcome<'_> {
         reply: &Option<Reply>,
         out: &mut Vec<Parcel>,
     ) -> Result<(), AllocError>
-        requires { IsReplyShown reply.now }
         ensures told { OnOk result (out.new.items ≡ out.old.items
             ++ parcels_to_all self.now.conference.config.conference reply.now [] []
             self.now.conference.members) }
@@ -114,7 +112,6 @@ pub(crate) fn put_all(
     updates: &[Update],
     floor_updates: &[FloorUpdate],
 ) -> Result<(), AllocError>
-    requires reply { IsReplyShown reply.now }
     requires requests { AreUpdatesShown updates.now }
     requires floors { AreFloorsShown floor_updates.now }
     ensures { OnOk result (out.new.items ≡ out.old.items
@@ -146,7 +143,6 @@ fn put_members(
     updates: &[Update],
     notices: &[FloorNotice],
 ) -> Result<(), AllocError>
-    requires reply { IsReplyShown reply.now }
     requires requests { AreUpdatesShown updates.now }
     ensures { OnOk result (out.new.items ≡ out.old.items
         ++ noticed_to_all conference reply.now updates.now notices.now members.now) }
@@ -169,7 +165,6 @@ fn put_live(
     updates: &[Update],
     notices: &[FloorNotice],
 ) -> Result<(), AllocError>
-    requires reply { IsReplyShown reply.now }
     requires requests { AreUpdatesShown updates.now }
     ensures { OnOk result (out.new.items ≡ out.old.items ++ option_map_or
         (noticed_to conference reply.now updates.now notices.now)
@@ -191,7 +186,6 @@ fn put_member(
     updates: &[Update],
     notices: &[FloorNotice],
 ) -> Result<(), AllocError>
-    requires reply { IsReplyShown reply.now }
     requires requests { AreUpdatesShown updates.now }
     ensures { OnOk result (out.new.items ≡ out.old.items
         ++ noticed_to conference reply.now updates.now notices.now member.now) }
@@ -208,7 +202,6 @@ fn put_reply(
     n: u32,
     reply: &Option<Reply>,
 ) -> Result<(), AllocError>
-    requires { IsReplyShown reply.now }
     ensures { OnOk result (out.new.items ≡ out.old.items
         ++ map (parcel n) (answered_to reply.now n)) }
 {

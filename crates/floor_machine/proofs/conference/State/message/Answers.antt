@@ -5,7 +5,7 @@ use Rattle.floor_queue.specs.Order.{settle}
 use Rattle.floor_queue.specs.Queue.{after_settle}
 use Rattle.floor_message.specs.Ask.{Answer, ask}
 use Rattle.floor_machine.specs.declared.change.judged.Judged.{Judged}
-use Rattle.floor_machine.specs.declared.change.reply.Reply.{Reply}
+use Rattle.floor_machine.specs.declared.reply.Reply.{Reply}
 use Rattle.floor_machine.specs.declared.conference.State.{State}
 use Rattle.floor_machine.specs.declared.course.Course.{Course}
 use Rattle.floor_machine.specs.declared.course.Ended.{Ended}
@@ -124,7 +124,7 @@ returns-in-Some-clause-out c =
     let ended = ended-shown s e (judged_change s n j) (conference_of before) course changes changed in
     let numbers = numbers-shown s e (judged_change s n j) (conference_of before) course changes changed in
     let r : Reply = c.in_ok-reply-in-Some.reply in
-    let tells : r.tells.items ≡ judged_tells (next s e) course.ended.items (user_of s n) (judged s (user_of s n) a) =
+    let tells : r.tells ≡ judged_tells (next s e) course.ended.items (user_of s n) (judged s (user_of s n) a) =
     c.in_ok-reply-in-Some.ensures.tells
     ∙ ap (λ (x : Conference). judged_tells x c.deref.result.now user j) to.next
     ∙ ap (λ (d : List Ended). judged_tells t d user j) (c.deref.ensures.value ∙ ap (λ x. x.items) c.settle.ensures.ended)
@@ -164,7 +164,7 @@ returns-in-Some-clause-shown c =
     let ended = ended-shown s e (judged_change s n j) (conference_of before) course changes changed in
     let numbers = numbers-shown s e (judged_change s n j) (conference_of before) course changes changed in
     let r : Reply = c.in_ok-reply-in-Some.reply in
-    let tells : r.tells.items ≡ judged_tells (next s e) course.ended.items (user_of s n) (judged s (user_of s n) a) =
+    let tells : r.tells ≡ judged_tells (next s e) course.ended.items (user_of s n) (judged s (user_of s n) a) =
     c.in_ok-reply-in-Some.ensures.tells
     ∙ ap (λ (x : Conference). judged_tells x c.deref.result.now user j) to.next
     ∙ ap (λ (d : List Ended). judged_tells t d user j) (c.deref.ensures.value ∙ ap (λ x. x.items) c.settle.ensures.ended)
@@ -216,7 +216,7 @@ returns-clause-out c =
     let settled : settle s.config.floors s.ongoing ≡ s.ongoing = subst F S.same_floors c.requires.rest.settled in
     let is_next : conference_of after ≡ next s e = ap (λ (x : State). conference_of x) taken.1 ∙ next-message s n bytes j is_judged taken.0 settled in
     let r : Reply = c.in_ok-reply-in-None.reply in
-    let tells : r.tells.items ≡ judged_tells (next s e) [] (user_of s n) j =
+    let tells : r.tells ≡ judged_tells (next s e) [] (user_of s n) j =
     c.in_ok-reply-in-None.ensures.tells
     ∙ ap (λ (x : Conference). judged_tells x [] user j) is_next
     ∙ ap (λ (u : ℕ). judged_tells (next s e) [] u j) is_user in
@@ -248,7 +248,7 @@ returns-clause-shown c =
     let settled : settle s.config.floors s.ongoing ≡ s.ongoing = subst F S.same_floors c.requires.rest.settled in
     let is_next : conference_of after ≡ next s e = ap (λ (x : State). conference_of x) taken.1 ∙ next-message s n bytes j is_judged taken.0 settled in
     let r : Reply = c.in_ok-reply-in-None.reply in
-    let tells : r.tells.items ≡ judged_tells (next s e) [] (user_of s n) j =
+    let tells : r.tells ≡ judged_tells (next s e) [] (user_of s n) j =
     c.in_ok-reply-in-None.ensures.tells
     ∙ ap (λ (x : Conference). judged_tells x [] user j) is_next
     ∙ ap (λ (u : ℕ). judged_tells (next s e) [] u j) is_user in
