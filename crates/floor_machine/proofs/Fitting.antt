@@ -1,5 +1,5 @@
 -- What the machine tells shows no more than a conference has.
-use Rattle.std.proofs.Common.{◌≡◌, ℕ, zero, suc, ◌^◌, ◌<◌, ◌≤◌, Bool, true, false, cond, List, [], ◌∷◌, ◌++◌, length, get_or, take, map, Option, Some, None, refl, sym, subst, arith}
+use Rattle.std.proofs.Common.{◌≡◌, ℕ, zero, suc, ◌^◌, ◌<◌, ◌≤◌, Bool, true, false, cond, List, [], ◌∷◌, ◌++◌, length, get_or, take, map, Option, Some, None, refl, sym, ap, subst, arith}
 use Rattle.std.specs.Prelude.{◌==◌, ◌||◌, All, filter, find, IfOk, IfSome, OnOk, IsTrue, Result, Ok, Err, option_and_then}
 use Rattle.std.specs.List.{list_any}
 use Rattle.std.proofs.lemmas.Bool.{eqb-true}
@@ -15,9 +15,9 @@ use Rattle.floor_message.specs.Shown.{AreShown, IsDescribed, IsNamed, IsShown, I
 use Rattle.floor_message.specs.declared.tell.Info.{Info}
 use Rattle.floor_machine.specs.declared.tell.changed.FloorUpdate.{FloorUpdate}
 use Rattle.floor_machine.specs.Conference.{user_with}
-use Rattle.floor_machine.specs.Shown.{Entry, info_of, named, described, floor_shown}
+use Rattle.floor_machine.specs.Shown.{Entry, info, info_of, named, described, floor_shown}
 use Rattle.floor_machine.specs.Reply.{infos_on}
-use Rattle.floor_machine.specs.steps.Telling.{floor_update, floors_changed, is_one_of}
+use Rattle.floor_machine.specs.steps.Telling.{AreInfos, floor_update, floors_changed, is_one_of}
 use Rattle.floor_machine.specs.steps.Fitting.{AreFloorsShown, HasNumbers}
 
 -- what holds of all holds of the one that is found
@@ -135,6 +135,13 @@ pub some_fit : (p : Info → Bool) (infos : List Info) → AreShown infos → Ar
 some_fit p infos h = record {
   each = All-filter p IsShownInfo infos h.each;
   few = omega (arith, h.few, length-filter_le p infos);
+}
+
+-- what is shown of the ongoing requests is no more than a conference has
+pub infos_shown : (config : Configuration) (ongoing : List Request) (shown : List Info) → AreInfos config ongoing shown → length ongoing ≤ 256 → AreShown shown
+infos_shown config ongoing shown h few = record {
+  each = h.fit;
+  few = omega (arith, ap length h.infos, length-map ongoing (info config ongoing), few);
 }
 
 pub infos_on_fit : (floor : ℕ) (infos : List Info) → AreShown infos → AreShown (infos_on floor infos)

@@ -8,6 +8,7 @@ mod conference;
 mod course;
 mod event;
 mod information;
+mod joined;
 mod laws;
 mod lookup;
 mod machine;

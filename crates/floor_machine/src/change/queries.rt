@@ -83,8 +83,9 @@ impl Outcome<'_> {
         // At most 256 requests are ongoing.
         let _ongoing = state.requests.ongoing();
         let who = described_if(alloc, &state.config, beneficiary)?;
-        let tell = user_status(alloc, who, beneficiary.unwrap_or(user), &state.shown)?;
-        one(alloc, tell)
+        let infos = infos_with_user(alloc, beneficiary.unwrap_or(user), &state.shown)?;
+        let infos = Infos::from_vec(infos);
+        one(alloc, Tell::UserStatus { who, infos })
     }
 
     /// The statuses of floors, or one that names none where none is asked about.
@@ -117,20 +118,6 @@ fn described_if(
         None => Ok(None),
         Some(user) => Ok(Some(described(alloc, config, user)?)),
     }
-}
-
-/// The requests of the user, behind who it is where that is asked.
-fn user_status(alloc: Global, who: Option<Who>, user: u16, now: &[Info]) -> Result<Tell, AllocError>
-    requires who { IfSome who IsDescribed }
-    requires shown { AreShown now.now }
-    ensures value { IfOk result (λ tell. tell ≡ Tell.UserStatus who (infos_with_user user now.now)) }
-    ensures shown { IfOk result IsShown }
-{
-    let infos = infos_with_user(alloc, user, now)?;
-    Ok(Tell::UserStatus {
-        who,
-        infos: Infos::from_vec(infos),
-    })
 }
 
 /// The statuses of floors, in their order.

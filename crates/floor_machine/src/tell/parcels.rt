@@ -249,7 +249,12 @@ fn put_updates(
 {
     for update in updates {
         if is_due_to(reply, member, update) {
-            put_notice(alloc, out, conference, member, &update.tell)?;
+            let head = Head {
+                conference,
+                transaction: 0,
+                user: member.user,
+            };
+            put(alloc, out, member.n, &head, &update.tell)?;
         }
     }
     Ok(())
@@ -329,28 +334,6 @@ fn write_floor_notice(
         message: SharedFrame::of(frame),
     })?;
     Ok(())
-}
-
-/// Puts a message that the server starts.
-fn put_notice(
-    alloc: Global,
-    out: &mut Vec<Parcel>,
-    conference: u32,
-    member: &Member,
-    tell: &Tell,
-) -> Result<(), AllocError>
-    requires { IsShown tell.now }
-    ensures { OnOk result (out.new.items ≡ out.old.items ++ parcel member.now.n record {
-      head = record { conference = conference; transaction = 0; user = member.now.user };
-      tell = tell.now;
-    } ∷ []) }
-{
-    let head = Head {
-        conference,
-        transaction: 0,
-        user: member.user,
-    };
-    put(alloc, out, member.n, &head, tell)
 }
 
 /// Puts one message to the member with this number.

@@ -9,11 +9,11 @@ use Rattle.floor_machine.proofs.members.is_present.Goals as goal
 
 pub returns : goal.returns
 returns c =
-    let ms = c.args.joined.now in
+    let ms = c.args.joined.now.members.items in
     let p : Member → Bool = λ m. m.user == c.args.user in
     c.is_of_any.ensures
-    ∙ ap (list_any (λ n. option_map_or p (member_with ms n) false)) c.requires.listed
-    ∙ any-live p ms c.requires.numbered
+    ∙ ap (list_any (λ n. option_map_or p (member_with ms n) false)) c.requires
+    ∙ any-live p ms c.args.joined.now.numbered
     ∙ any-same (λ m. m.is_live && p m) (λ m. p m && m.is_live) (λ m. swapped m.is_live (p m)) ms
   where
     swapped : (a b : Bool) → (a && b) ≡ (b && a)

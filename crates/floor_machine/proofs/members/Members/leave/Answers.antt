@@ -1,17 +1,11 @@
 use Rattle.std.proofs.Common.{ap, ◌∙◌, sym}
 use Rattle.std.specs.Prelude.{◌==◌, filter, not}
-use Rattle.floor_machine.specs.Conference.{is_numbered_from}
 use Rattle.floor_machine.specs.steps.Live.{live_numbers}
 use Rattle.floor_machine.proofs.Live.{live-leaving}
-use Rattle.floor_machine.proofs.Sent.{numbered-leaving}
 use Rattle.floor_machine.proofs.members.Members.leave.Goals as goal
 
 pub invariant_of-self : goal.invariant_of-self
 invariant_of-self c =
-    let ms = c.self.inside.joined.items in
-    record {
-      numbered = ap (is_numbered_from 1) c.leave_in.ensures ∙ numbered-leaving c.args.n 1 ms c.self.invariant.numbered;
-      listed =
-          c.take_number.ensures ∙ ap (filter (λ k. not (k == c.args.n))) c.self.invariant.listed
-          ∙ sym (live-leaving c.args.n ms) ∙ ap live_numbers (sym c.leave_in.ensures);
-    }
+    let ms = c.self.inside.joined.members.items in
+    c.take_number.ensures ∙ ap (filter (λ k. not (k == c.args.n))) c.self.invariant
+    ∙ sym (live-leaving c.args.n ms) ∙ ap live_numbers (sym c.leave.ensures)
