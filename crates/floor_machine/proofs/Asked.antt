@@ -148,16 +148,6 @@ changed-end s how course course' request queue begun ongoing told numbers noted 
     by None some h = cc
     by (Some r) some h = ap (map entry_of_ended) (h ∙ ap (λ (es : List Ended). es ++ record { request = r; ending = how r } ∷ []) (none-ended (conference_of s) course begun))
 
--- a FloorRelease has ended its request
-pub changed-release : (s : State) (course course' : Course) (n request : ℕ) →
-    IsQueue s.requests → IsChanged (conference_of s) (no_change (conference_of s)) (conference_of s) course →
-    IsSome (request_at s.requests.ongoing request) →
-    IfSome (request_at s.requests.ongoing request) (λ r. course'.ended.items ≡ course.ended.items ++ record { request = r; ending = released r } ∷ []) →
-    course'.numbers ≡ course.numbers →
-    AreNoted s.config.floors s.requests.ongoing (after_end s.requests request).ongoing course'.marks.items →
-    IsChanged (conference_of s) (asked_change (conference_of s) n (FloorRelease request)) (with_requests (conference_of s) (after_end s.requests request)) course'
-changed-release s course course' n request = changed-end s released course course' request
-
 -- the requests after verdicts that end none
 abbrev words_change : Conference → ℕ → List (ℕ × Verdict) → Change
 words_change s request verdicts = record (no_change s) { entries = map (λ r. entry_of (decided_at request verdicts r)) s.ongoing }

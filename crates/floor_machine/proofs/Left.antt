@@ -15,6 +15,8 @@ use Rattle.floor_machine.specs.Conference.{Conference, user_of, is_present}
 use Rattle.floor_machine.specs.Change.{Change, no_change, change, ending, ends_at, ends_without, leaving, released, dismissed}
 use Rattle.floor_machine.specs.steps.Telling.{entry_of_ended, listed}
 use Rattle.floor_machine.specs.steps.Marks.{AreNoted}
+use Rattle.floor_machine.specs.declared.change.ending.EndedBy.TheVariants.{Chair}
+use Rattle.floor_machine.specs.steps.Ending.{change_ending}
 use Rattle.floor_machine.specs.steps.Serving.{IsChanged, conference_of, after_release_for, is_rising, released_for, with_requests}
 use Rattle.floor_machine.proofs.Entries.{numbers_in-entries}
 use Rattle.floor_machine.proofs.Changing.{rising-numbers, ongoing_of-ending, ended_of-ending, numbers_in-ending}
@@ -124,32 +126,8 @@ change-revoke : (s : Conference) (request : ℕ) → change s (Revoke request) �
 unfolding change
 change-revoke s request = refl
 
--- a request is revoked
-pub changed-revoke : (s : State) (course course' : Course) (request : ℕ) →
-    IsQueue s.requests → IsChanged (conference_of s) (no_change (conference_of s)) (conference_of s) course →
-    IsSome (request_at s.requests.ongoing request) →
-    IfSome (request_at s.requests.ongoing request) (λ r. course'.ended.items ≡ course.ended.items ++ record { request = r; ending = dismissed r } ∷ []) →
-    course'.numbers ≡ course.numbers →
-    AreNoted s.config.floors s.requests.ongoing (after_end s.requests request).ongoing course'.marks.items →
-    IsChanged (conference_of s) (change (conference_of s) (Revoke request)) (with_requests (conference_of s) (after_end s.requests request)) course'
-changed-revoke s course course' request queue begun ongoing told numbers noted =
-    let rs = s.requests.ongoing in
-    let C : Change → Type 0 = λ c. IsChanged (conference_of s) c (with_requests (conference_of s) (after_end s.requests request)) course' in
-    let same : course'.numbers.items ≡ numbers_of rs = ap (λ x. x.items) numbers ∙ begun.numbers ∙ numbers_in-entries rs in
-    subst C (sym (change-revoke (conference_of s) request)) record {
-      config = refl;
-      given = refl;
-      members = refl;
-      is_open = refl;
-      ongoing = sym (ongoing_of-ending request dismissed rs);
-      ended = by (request_at rs request) ongoing told ∙ sym (ended_of-ending request dismissed rs queue.ascending);
-      numbers = same ∙ sym (numbers_in-ending request dismissed rs);
-      rising = ap is_rising same ∙ rising-numbers rs ∙ queue.ascending;
-      old = ap (λ (ns : List ℕ). flat_map (λ n. listed (request_at rs n)) ns) (ap (λ x. x.items) numbers) ∙ begun.old;
-      noted = noted;
-    }
-  where
-    by : (o : Option Request) → IsSome o → IfSome o (λ r. course'.ended.items ≡ course.ended.items ++ record { request = r; ending = dismissed r } ∷ []) →
-        map entry_of_ended course'.ended.items ≡ option_map_or (λ r. entry_of_ended record { request = r; ending = dismissed r } ∷ []) o []
-    by None some h = cc
-    by (Some r) some h = ap (map entry_of_ended) (h ∙ ap (λ (es : List Ended). es ++ record { request = r; ending = dismissed r } ∷ []) (none-ended (conference_of s) course begun))
+-- what a chair's ending changes is what a revoke does
+pub revoked : (s t : Conference) (request : ℕ) (course : Course) → IsChanged s (change_ending s request Chair) t course → IsChanged s (change s (Revoke request)) t course
+revoked s t request course changed =
+    let C : Change → Type 0 = λ c. IsChanged s c t course in
+    subst C (sym (change-revoke s request)) changed

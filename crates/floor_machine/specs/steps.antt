@@ -2,6 +2,7 @@
 pub mod Fitting
 pub mod Telling
 pub mod Marks
+pub mod Ending
 pub mod Renewing
 pub mod Serving
 pub mod Events

@@ -14,6 +14,7 @@ ghost use Rattle.floor_machine.specs.steps.Renewing.{IsCourse};
 ghost use Rattle.floor_machine.specs.steps.Serving.{IsAtRest, conference_of, with_requests};
 ghost use Rattle.floor_machine.specs.steps.Telling.{AreChanged, infos_of, updates};
 
+use crate::change::ending::EndedBy;
 use crate::conference::State;
 use crate::course::{Course, begin};
 use crate::marks::mark_granted;
@@ -93,8 +94,8 @@ impl State {
         outcome.tell(alloc, &changes, &None, out)
     }
 
-    /// The request is taken away or denied, and what that ends and grants is told. After an error
-    /// `out` is as it was.
+    /// The administrator takes the request away where it was Granted, and denies it else: that ends
+    /// it, and what that grants is told. After an error `out` is as it was.
     pub(crate) fn revoke(&mut self, request: u16, out: &mut Vec<Parcel>) -> Result<(), AllocError>
         requires ongoing { IsSome (request_at self.old.requests.ongoing request) }
         requires rest { IsAtRest self.old }
@@ -107,8 +108,9 @@ impl State {
         ensures rest { OnOk result (IsAtRest self.new) }
     {
         let alloc = self.members.allocator();
-        let mut course = begin(alloc, &self.requests, &mut self.shown)?;
-        self.change_revoked(&mut course, request)?;
+        // Each ongoing request is one that could be added, which bounds what is shown of it.
+        let _ongoing = self.requests.ongoing();
+        let mut course = self.end_ongoing(alloc, request, EndedBy::Chair)?;
         let changes = self.settle(alloc, &mut course)?;
         let outcome = Outcome {
             state: self,

@@ -3,6 +3,7 @@
 
 pub(crate) mod administrator;
 pub(crate) mod chair_action;
+pub(crate) mod ending;
 pub(crate) mod floor_release;
 pub(crate) mod floor_request;
 pub(crate) mod judged;

@@ -84,11 +84,11 @@ impl Joined {
         requires { n ≡ length self.old.members.items + 1 }
         ensures next { OnOk result
             (self.new.members.items ≡ self.old.members.items ++ record {
-          n = n;
-          user = user;
-          watched = [];
-          is_live = true;
-        } ∷ []) }
+              n = n;
+              user = user;
+              watched = [];
+              is_live = true;
+            } ∷ []) }
         ensures left { OnErr result (self.new.members.items ≡ self.old.members.items) }
     {
         self.members.push(Member {

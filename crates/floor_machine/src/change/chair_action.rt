@@ -13,10 +13,10 @@ ghost use Rattle.floor_machine.specs.Conference.{chair_is};
 ghost use Rattle.floor_machine.specs.steps.Marks.{KeepsNoted};
 ghost use Rattle.floor_machine.specs.steps.Serving.{IsChanged, MayDecide, after_decide, conference_of, ended_by};
 
+use crate::change::ending::{EndedBy, end_request};
 use crate::conference::State;
 use crate::course::{Course, Ended, begin};
-use crate::marks::{Mark, mark_ongoing, mark_request};
-use crate::status::RequestStatus;
+use crate::marks::{Mark, mark_ongoing};
 use floor_config::{Config, Floor};
 use floor_message::{Ask, ErrorCode, Verdict};
 use floor_queue::{Request, Requests, Word};
@@ -162,7 +162,7 @@ pub(crate) fn decide(
     ensures floors { requests.new.floors ≡ requests.old.floors }
 {
     if has_final(verdicts) {
-        return dismiss_request(requests, ended, marks, request);
+        return end_request(requests, ended, marks, request, EndedBy::Chair);
     }
     leave_words(requests, marks, request, verdicts)
 }
@@ -231,41 +231,5 @@ fn set_words(requests: &mut Requests, request: u16, verdicts: &[(u16, Verdict)])
     for place in 0..verdicts.len() {
         let verdict = verdicts[verdicts.len() - 1 - place];
         requests.set_floor(request, verdict.0, word_of(verdict.1));
-    }
-}
-
-/// Ends a request that a chair or the administrator refuses, and notes it.
-pub(crate) fn dismiss_request(
-    requests: &mut Requests,
-    ended: &mut Vec<Ended>,
-    marks: &mut Vec<Mark>,
-    request: u16,
-) -> Result<(), AllocError>
-    requires { IsSome (request_at requests.old.ongoing request) }
-    ensures next { OnOk result (requests.new ≡ after_end requests.old request) }
-    ensures ended { OnOk result (IfSome (request_at requests.old.ongoing request)
-        (λ r. ended.new.items ≡ ended.old.items
-        ++ record { request = r; ending = change.dismissed r } ∷ [])) }
-    ensures noted { OnOk result (KeepsNoted requests.old.ongoing marks.old.items
-        requests.new.ongoing marks.new.items) }
-    ensures floors { requests.new.floors ≡ requests.old.floors }
-{
-    // The requests ascend, so that no other has the number.
-    let _ongoing = requests.ongoing();
-    let request = requests.end(request);
-    mark_request(marks, &request)?;
-    let ending = dismissed(&request);
-    ended.push(Ended { request, ending })?;
-    Ok(())
-}
-
-/// How a request ends that is refused.
-fn dismissed(request: &Request) -> RequestStatus
-    ensures { result ≡ change.dismissed request.now }
-{
-    if request.is_granted {
-        RequestStatus::Revoked
-    } else {
-        RequestStatus::Denied
     }
 }

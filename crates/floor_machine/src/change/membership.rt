@@ -10,7 +10,7 @@ ghost use Rattle.floor_machine.specs.steps.Fitting.{IsToldShown};
 ghost use Rattle.floor_machine.specs.steps.Marks.{KeepsNoted};
 ghost use Rattle.floor_machine.specs.steps.Serving.{IsAtRest, IsBegun, IsChanged, after_release_for, conference_of, released_for};
 
-use crate::change::floor_release::release_request;
+use crate::change::ending::{EndedBy, end_request};
 use crate::conference::State;
 use crate::course::{Course, Ended};
 use crate::marks::Mark;
@@ -92,7 +92,7 @@ pub(crate) fn release_all_for(
     ensures floors { requests.new.floors ≡ requests.old.floors }
 {
     while let Some(request) = first_for(requests, beneficiary) {
-        release_request(requests, ended, marks, request)?;
+        end_request(requests, ended, marks, request, EndedBy::Participant)?;
     }
     Ok(())
 }

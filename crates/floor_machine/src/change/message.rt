@@ -13,6 +13,7 @@ ghost use Rattle.floor_machine.specs.steps.Fitting.{DetailsFit};
 ghost use Rattle.floor_machine.specs.steps.Serving as serving;
 ghost use Rattle.floor_machine.specs.steps.Serving.{IsTaken, MayServe, conference_of};
 
+use crate::change::ending::EndedBy;
 use crate::change::judged::Judged;
 use crate::change::queries::hello_tells;
 use crate::change::reply::{one, response_head};
@@ -141,7 +142,10 @@ impl State {
                 )?;
                 Ok(Some(course))
             }
-            Ask::FloorRelease { request } => Ok(Some(self.floor_release(alloc, n, *request)?)),
+            Ask::FloorRelease { request } => {
+                let course = self.end_ongoing(alloc, *request, EndedBy::Participant)?;
+                Ok(Some(course))
+            }
             Ask::ChairAction { request, verdicts } => {
                 let course = self.chair_action(alloc, n, *request, verdicts.as_slice())?;
                 Ok(Some(course))

@@ -12,8 +12,8 @@ use Rattle.floor_machine.proofs.change.membership.release_all_for.Goals as goal
 abbrev given_back : Request → Ended
 given_back r = record { request = r; ending = released r }
 
-pub release_request-requires : goal.release_request-requires
-release_request-requires c =
+pub end_request-requires : goal.end_request-requires
+end_request-requires c =
     let first = first-passing (λ r. r.beneficiary == c.args.beneficiary) c.loop-request.requests.ongoing c.in-Some.request c.in-Some.ensures.kept.ascending c.in-Some.ensures.found in
     subst (λ o. IsSome o) (sym first.found) refl
 
@@ -22,7 +22,7 @@ loop-request-smaller c =
     let q : Queue = c.loop-request.requests in
     let first = first-passing (λ r. r.beneficiary == c.args.beneficiary) q.ongoing c.in-Some.request c.in-Some.ensures.kept.ascending c.in-Some.ensures.found in
     let W : Queue → Type 0 = λ x. length x.ongoing < length q.ongoing in
-    subst W (sym c.in_ok-release_request.ensures.next) first.fewer
+    subst W (sym c.in_ok-end_request.ensures.next) first.fewer
 
 pub loop-request-preserved : goal.loop-request-preserved
 loop-request-preserved c =
@@ -30,21 +30,21 @@ loop-request-preserved c =
     let b = c.args.beneficiary in
     let k = c.in-Some.request in
     let first = first-passing (λ r. r.beneficiary == b) q.ongoing k c.in-Some.ensures.kept.ascending c.in-Some.ensures.found in
-    let I : Option Request → Type 0 = λ o. IfSome o (λ r. c.release_request.new.ended.items ≡ c.loop-request.ended.items ++ given_back r ∷ []) in
-    let noted : c.release_request.new.ended.items ≡ c.loop-request.ended.items ++ given_back first.request ∷ [] =
-    subst I first.found c.in_ok-release_request.ensures.ended in
+    let I : Option Request → Type 0 = λ o. IfSome o (λ r. c.end_request.new.ended.items ≡ c.loop-request.ended.items ++ given_back r ∷ []) in
+    let noted : c.end_request.new.ended.items ≡ c.loop-request.ended.items ++ given_back first.request ∷ [] =
+    subst I first.found c.in_ok-end_request.ensures.ended in
     record {
       next =
-          ap (λ (x : Queue). after_release_for x b) c.in_ok-release_request.ensures.next
+          ap (λ (x : Queue). after_release_for x b) c.in_ok-end_request.ensures.next
           ∙ ap (λ (rs : List Request). record q { ongoing = rs }) (sym first.others)
           ∙ c.loop-request.invariant.next;
       told =
-          ap (λ (x : Queue). c.release_request.new.ended.items ++ released_for x b) c.in_ok-release_request.ensures.next
+          ap (λ (x : Queue). c.end_request.new.ended.items ++ released_for x b) c.in_ok-end_request.ensures.next
           ∙ ap (λ (es : List Ended). es ++ released_for (after_end q k) b) noted
           ∙ append_assoc c.loop-request.ended.items (given_back first.request ∷ []) (released_for (after_end q k) b)
           ∙ ap (λ (rs : List Request). c.loop-request.ended.items ++ map given_back rs) (sym first.passing)
           ∙ c.loop-request.invariant.told;
-      noted = λ floors before noted. c.in_ok-release_request.ensures.noted floors before (c.loop-request.invariant.noted floors before noted);
+      noted = λ floors before noted. c.in_ok-end_request.ensures.noted floors before (c.loop-request.invariant.noted floors before noted);
     }
 
 pub returns-clause-next : goal.returns-clause-next

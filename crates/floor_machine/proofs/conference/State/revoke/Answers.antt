@@ -13,71 +13,68 @@ use Rattle.floor_machine.specs.Change.{change}
 use Rattle.floor_machine.specs.steps.Fitting.{AreAddable, AreUpdatesShown}
 use Rattle.floor_machine.specs.steps.Serving.{conference_of}
 use Rattle.floor_machine.proofs.Addable.{revoked_addable, queue_addable}
-use Rattle.floor_machine.proofs.Asked.{begun, on_ok, on_ok_all}
+use Rattle.floor_machine.proofs.Asked.{on_ok, on_ok_all}
 use Rattle.floor_machine.proofs.Bounds.{changed-shown}
 use Rattle.floor_machine.proofs.Courses.{course-changed}
+use Rattle.floor_machine.proofs.Left.{revoked}
 use Rattle.floor_machine.proofs.Served.{parcels-changed, settled-state}
 use Rattle.floor_machine.proofs.Settled.{IsSettledTo, floors-shown, parcels-settled}
 use Rattle.floor_machine.proofs.conference.State.revoke.Goals as goal
 
-pub change_revoked-requires-clause-begun : goal.change_revoked-requires-clause-begun
-change_revoked-requires-clause-begun c =
-    begun (conference_of c.args.self.now) c.in_ok-course.course c.in_ok-course.ensures.queue.ascending c.in_ok-course.ensures.numbers c.in_ok-course.ensures.ended
-
 pub settle-requires-clause-ended : goal.settle-requires-clause-ended
 settle-requires-clause-ended c =
     let s = c.args.self.now in
-    revoked_addable (conference_of s) (conference_of c.change_revoked.new.self) c.args.request c.change_revoked.new.course
-    (queue_addable s c.in_ok-course.ensures.queue) c.in_ok-change_revoked.ensures.changed
+    revoked_addable (conference_of s) (conference_of c.end_ongoing.new.self) c.args.request c.in_ok-course.course
+    (queue_addable s c.ongoing-ongoing.ensures.kept) (revoked (conference_of c.args.self.now) (conference_of c.end_ongoing.new.self) c.args.request c.in_ok-course.course c.in_ok-course.ensures.changed)
 
 pub settle-requires-clause-course : goal.settle-requires-clause-course
 settle-requires-clause-course c =
     let s = conference_of c.args.self.now in
-    course-changed s (conference_of c.change_revoked.new.self) (change s (Revoke c.args.request)) c.change_revoked.new.course c.in_ok-change_revoked.ensures.changed (ap (λ x. x.items) c.change_revoked.ensures.before ∙ c.in_ok-course.ensures.before ∙ c.requires.rest.shows.infos)
+    course-changed s (conference_of c.end_ongoing.new.self) (change s (Revoke c.args.request)) c.in_ok-course.course (revoked (conference_of c.args.self.now) (conference_of c.end_ongoing.new.self) c.args.request c.in_ok-course.course c.in_ok-course.ensures.changed) (c.in_ok-course.ensures.before ∙ c.requires.rest.shows.infos)
 
 pub invariant_of-outcome : goal.invariant_of-outcome
 invariant_of-outcome c =
     let s = c.args.self.now in
-    let t : State = c.change_revoked.new.self in
+    let t : State = c.end_ongoing.new.self in
     let P : List Ended → Type 0 = λ ended. AreAddable t.config.floors ended in
     let F : List Floor → Type 0 = λ fs. AreAddable fs c.deref.result.now in (
       c.in_ok-changes.ensures.rest,
       subst F (sym (ap (λ (x : Conference). x.config.floors) c.in_ok-changes.ensures.next))
           (subst P (sym (c.deref.ensures.value ∙ ap (λ x. x.items) c.settle.ensures.ended))
-          (revoked_addable (conference_of s) (conference_of t) c.args.request c.change_revoked.new.course (queue_addable s c.in_ok-course.ensures.queue) c.in_ok-change_revoked.ensures.changed)),
+          (revoked_addable (conference_of s) (conference_of t) c.args.request c.in_ok-course.course (queue_addable s c.ongoing-ongoing.ensures.kept) (revoked (conference_of c.args.self.now) (conference_of c.end_ongoing.new.self) c.args.request c.in_ok-course.course c.in_ok-course.ensures.changed))),
     )
 
 pub returns-clause-next : goal.returns-clause-next
 returns-clause-next c =
     let s = conference_of c.args.self.now in
     let e : Event = Revoke c.args.request in
-    let t : State = c.change_revoked.new.self in
+    let t : State = c.end_ongoing.new.self in
     on_ok_all c.tell.result
     (c.in_ok-changes.ensures.next
-    ∙ settled-state s e (change s e) t c.change_revoked.new.course (after_settle t.requests) refl c.in_ok-change_revoked.ensures.changed refl)
+    ∙ settled-state s e (change s e) t c.in_ok-course.course (after_settle t.requests) refl (revoked (conference_of c.args.self.now) (conference_of c.end_ongoing.new.self) c.args.request c.in_ok-course.course c.in_ok-course.ensures.changed) refl)
 
 pub returns-clause-out : goal.returns-clause-out
 returns-clause-out c =
     let s = conference_of c.args.self.now in
-    let t : State = c.change_revoked.new.self in
-    let course : Course = c.change_revoked.new.course in
+    let t : State = c.end_ongoing.new.self in
+    let course : Course = c.in_ok-course.course in
     let changes : Changes = c.in_ok-changes.changes in
     let to : IsSettledTo t c.settle.new.self course changes =
     record { next = c.in_ok-changes.ensures.next; shows = c.in_ok-changes.ensures.rest.shows; updates = c.in_ok-changes.ensures.updates; floors = c.in_ok-changes.ensures.floors } in
     on_ok c.tell.result (λ told. told ∙ ap (λ (ps : List Parcel). c.args.out.now.items ++ ps)
     (parcels-settled t c.settle.new.self course changes None to
-    ∙ parcels-changed s (Revoke c.args.request) t course (after_settle t.requests) refl (λ k. refl) c.in_ok-change_revoked.ensures.changed (ap (λ x. x.items) c.change_revoked.ensures.before ∙ c.in_ok-course.ensures.before ∙ c.requires.rest.shows.infos) c.allocator-alloc.ensures.kept refl))
+    ∙ parcels-changed s (Revoke c.args.request) t course (after_settle t.requests) refl (λ k. refl) (revoked (conference_of c.args.self.now) (conference_of c.end_ongoing.new.self) c.args.request c.in_ok-course.course c.in_ok-course.ensures.changed) (c.in_ok-course.ensures.before ∙ c.requires.rest.shows.infos) c.allocator-alloc.ensures.kept refl))
     c.tell.ensures.told
 
 pub returns-clause-shown : goal.returns-clause-shown
 returns-clause-shown c =
     let s = conference_of c.args.self.now in
-    let t : State = c.change_revoked.new.self in
-    let course : Course = c.change_revoked.new.course in
+    let t : State = c.end_ongoing.new.self in
+    let course : Course = c.in_ok-course.course in
     let changes : Changes = c.in_ok-changes.changes in
     let to : IsSettledTo t c.settle.new.self course changes =
     record { next = c.in_ok-changes.ensures.next; shows = c.in_ok-changes.ensures.rest.shows; updates = c.in_ok-changes.ensures.updates; floors = c.in_ok-changes.ensures.floors } in
     on_ok c.tell.result (λ floors.
-    changed-shown s (Revoke c.args.request) t course (after_settle t.requests) refl (λ k. refl) c.in_ok-change_revoked.ensures.changed (ap (λ x. x.items) c.change_revoked.ensures.before ∙ c.in_ok-course.ensures.before ∙ c.requires.rest.shows.infos) refl
+    changed-shown s (Revoke c.args.request) t course (after_settle t.requests) refl (λ k. refl) (revoked (conference_of c.args.self.now) (conference_of c.end_ongoing.new.self) c.args.request c.in_ok-course.course c.in_ok-course.ensures.changed) (c.in_ok-course.ensures.before ∙ c.requires.rest.shows.infos) refl
     (subst AreUpdatesShown to.updates c.in_ok-changes.ensures.shown) (floors-shown t c.settle.new.self course changes to floors))
     c.tell.ensures.floors_shown

@@ -2,7 +2,7 @@ use Rattle.std.proofs.Common.{sym, subst}
 use Rattle.floor_queue.specs.Queue.{Queue}
 use Rattle.floor_machine.specs.steps.Marks.{KeepsNoted}
 use Rattle.floor_machine.proofs.Noting.{noted-ended}
-use Rattle.floor_machine.proofs.change.floor_release.release_request.Goals as goal
+use Rattle.floor_machine.proofs.change.ending.end_request.Goals as goal
 
 pub returns-clause-noted : goal.returns-clause-noted
 returns-clause-noted c =

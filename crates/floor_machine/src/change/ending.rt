@@ -1,0 +1,108 @@
+//! How a floor request ends, before the others are settled (RFC 8855, sections 10.2 and 11.1).
+
+ghost use Rattle.std.specs.Prelude.{◌≡◌, ◌++◌, ◌∷◌, [], IfOk, IfSome, IsSome, OnOk};
+ghost use Rattle.floor_queue.specs.Queue.{after_end, request_at};
+ghost use Rattle.floor_machine.specs.Change as change;
+ghost use Rattle.floor_machine.specs.steps.Ending.{change_ending, ending_by};
+ghost use Rattle.floor_machine.specs.steps.Marks.{KeepsNoted};
+ghost use Rattle.floor_machine.specs.steps.Serving.{IsChanged, conference_of};
+
+use crate::conference::State;
+use crate::course::{Course, Ended, begin};
+use crate::marks::{Mark, mark_request};
+use crate::status::RequestStatus;
+use floor_queue::{Request, Requests};
+use std::alloc::{AllocError, Global};
+
+/// Who ends a floor request.
+#[derive(Clone, Copy, Debug)]
+pub(crate) enum EndedBy {
+    /// Its requester or its beneficiary, who gives it back.
+    Participant,
+    /// A chair, or the administrator.
+    Chair,
+}
+
+/// How a request ends that is given back.
+fn released(request: &Request) -> RequestStatus
+    ensures { result ≡ change.released request.now }
+{
+    if request.is_granted {
+        RequestStatus::Released
+    } else {
+        RequestStatus::Cancelled
+    }
+}
+
+/// How a request ends that a chair or the administrator refuses.
+fn dismissed(request: &Request) -> RequestStatus
+    ensures { result ≡ change.dismissed request.now }
+{
+    if request.is_granted {
+        RequestStatus::Revoked
+    } else {
+        RequestStatus::Denied
+    }
+}
+
+/// How the request ends.
+fn ending_by(by: EndedBy, request: &Request) -> RequestStatus
+    ensures { result ≡ ending_by by request.now }
+{
+    match by {
+        EndedBy::Participant => released(request),
+        EndedBy::Chair => dismissed(request),
+    }
+}
+
+impl State {
+    /// Begins the course of an event, and ends an ongoing request, before the others are settled.
+    pub(crate) fn end_ongoing(
+        &mut self,
+        alloc: Global,
+        request: u16,
+        by: EndedBy,
+    ) -> Result<Course, AllocError>
+        requires { IsSome (request_at self.old.requests.ongoing request) }
+        ensures changed { IfOk result (λ course. IsChanged (conference_of self.old)
+            (change_ending (conference_of self.old) request by)
+            (conference_of self.new) course) }
+        ensures before { IfOk result (λ course. course.before.items ≡ self.old.shown.items) }
+    {
+        let mut course = begin(alloc, &self.requests, &mut self.shown)?;
+        end_request(
+            &mut self.requests,
+            &mut course.ended,
+            &mut course.marks,
+            request,
+            by,
+        )?;
+        Ok(course)
+    }
+}
+
+/// Ends an ongoing request, and notes it.
+pub(crate) fn end_request(
+    requests: &mut Requests,
+    ended: &mut Vec<Ended>,
+    marks: &mut Vec<Mark>,
+    request: u16,
+    by: EndedBy,
+) -> Result<(), AllocError>
+    requires { IsSome (request_at requests.old.ongoing request) }
+    ensures next { OnOk result (requests.new ≡ after_end requests.old request) }
+    ensures ended { OnOk result (IfSome (request_at requests.old.ongoing request)
+        (λ r. ended.new.items ≡ ended.old.items
+        ++ record { request = r; ending = ending_by by r } ∷ [])) }
+    ensures noted { OnOk result (KeepsNoted requests.old.ongoing marks.old.items
+        requests.new.ongoing marks.new.items) }
+    ensures floors { requests.new.floors ≡ requests.old.floors }
+{
+    // The requests ascend, so that no other has the number.
+    let _ongoing = requests.ongoing();
+    let request = requests.end(request);
+    mark_request(marks, &request)?;
+    let ending = ending_by(by, &request);
+    ended.push(Ended { request, ending })?;
+    Ok(())
+}
