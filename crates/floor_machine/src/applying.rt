@@ -20,6 +20,7 @@ ghost use Rattle.floor_machine.specs.steps.Telling.{AreChanged, AreInfos, infos_
 use crate::conference::State;
 use crate::course::{Course, begin};
 use crate::event::{Act, BorrowedEvent};
+use crate::information::settled::Settled;
 use crate::marks::mark_granted;
 use crate::parcel::Parcel;
 use crate::tell::renewing::{Changes, renew};
@@ -181,19 +182,23 @@ impl State {
         ensures shows { OnOk result (AreInfos self.new.config
             self.new.requests.ongoing self.new.shown.items) }
         ensures ended { course.new.ended ≡ course.old.ended }
-        ensures updates { IfOk result (λ changes. changes.updates.items
+        ensures updates { IfOk result (λ changes. changes.updates
             ≡ updates self.old.config (settle self.old.requests.floors self.old.requests.ongoing)
             course.old.ended.items course.old.before.items course.old.numbers.items) }
         ensures floors { IfOk result (λ changes. AreChanged course.old.before.items
             (infos_of self.old.config
             (settle self.old.requests.floors self.old.requests.ongoing)) changes.floors.items) }
-        ensures shown { IfOk result (λ changes. AreUpdatesShown changes.updates.items) }
+        ensures shown { IfOk result (λ changes. AreUpdatesShown changes.updates) }
     {
         // The requests ascend, so that each is found by its number.
         let _ongoing = self.requests.ongoing();
         let granted = self.requests.settle()?;
         mark_granted(&mut course.marks, &self.requests, granted.as_slice())?;
         mem::swap(&mut self.shown, &mut course.before);
-        renew(alloc, &self.config, &self.requests, course, &mut self.shown)
+        let settled = Settled {
+            config: &self.config,
+            requests: &self.requests,
+        };
+        renew(alloc, &settled, course, &mut self.shown)
     }
 }

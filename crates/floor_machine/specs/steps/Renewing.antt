@@ -65,7 +65,7 @@ update_from old shown = option_map_or (λ s. if differs old s.info then update_o
 -- What is done at one number: its info in the stead of the old one, and what that changed.
 pub record IsRenewed (place : ℕ) (old now : Option Info) (shown : Option Shown) (before after : List Info) (changes changes' : Changes) : Type 0 where
   pub infos : after ≡ take place before ++ listed now ++ drop (place + length (listed old)) before
-  pub updates : changes'.updates.items ≡ changes.updates.items ++ update_from old shown
+  pub updates : changes'.updates ≡ changes.updates ++ update_from old shown
   pub floors : changes'.floors.items ≡ changes.floors.items ++ floors_moved old now
 
 -- What the course of an event knows: there were some requests, which were shown, and of which its marks have noted what became of them;

@@ -10,7 +10,7 @@ ghost use Rattle.floor_machine.specs.steps.Serving.{conference_of};
 
 use crate::conference::State;
 use crate::course::Ended;
-use crate::information::shown::shown_at;
+use crate::information::settled::Settled;
 use floor_message::{Head, Tell};
 use floor_wire::Frame;
 use std::alloc::{AllocError, Global};
@@ -41,7 +41,11 @@ impl State {
             ≡ serving.status_tells (conference_of self.now) ended.now number) }
         ensures shown { IfOk result (λ tells. All IsShown tells.items) }
     {
-        match shown_at(alloc, &self.config, &self.requests, ended, number)? {
+        let settled = Settled {
+            config: &self.config,
+            requests: &self.requests,
+        };
+        match settled.shown_at(alloc, ended, number)? {
             None => Ok(Vec::new(alloc)),
             Some(shown) => one(alloc, Tell::FloorRequestStatus { info: shown.info }),
         }

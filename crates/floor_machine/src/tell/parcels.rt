@@ -7,7 +7,7 @@ ghost use Rattle.floor_message.specs.Shown.{IsShown};
 ghost use Rattle.floor_machine.specs.Conference.{member_with};
 ghost use Rattle.floor_machine.specs.Journal.{parcel};
 ghost use Rattle.floor_machine.specs.Told.{is_status_of};
-ghost use Rattle.floor_machine.specs.steps.Fitting.{AreFloorsShown, AreUpdatesShown, IsReplyShown};
+ghost use Rattle.floor_machine.specs.steps.Fitting.{AreFloorsShown, IsReplyShown};
 ghost use Rattle.floor_machine.specs.steps.Telling.{AreInfos, answered, answered_to, floor_notice, floor_notice_to, floors_changed, is_answered, is_due_to, is_noticed, is_watched_by, noticed_to, noticed_to_all, parcels_to_all, update_to, updates};
 
 use crate::change::reply::Reply;
@@ -15,7 +15,7 @@ use crate::conference::State;
 use crate::member::Member;
 use crate::members::Members;
 use crate::parcel::Parcel;
-use crate::tell::changed::{FloorUpdate, Update, floor_updates};
+use crate::tell::changed::{FloorUpdate, Update, Updates, floor_updates};
 use crate::tell::renewing::Changes;
 use crate::tell::watching::{is_watched, watched_floors, watches};
 use floor_message::{Head, Tell, what_is_shown_fits, write_tell};
@@ -43,10 +43,9 @@ impl State {
     ) -> Result<(), AllocError>
         requires shows { AreInfos self.now.config
             self.now.requests.ongoing self.now.shown.items }
-        requires updates { AreUpdatesShown changes.now.updates.items }
         requires reply { IsReplyShown reply.now }
         ensures told { OnOk result (out.new.items ≡ out.old.items
-            ++ parcels_to_all self.now.config.conference reply.now changes.now.updates.items
+            ++ parcels_to_all self.now.config.conference reply.now changes.now.updates
             (floors_changed self.now.shown.items changes.now.floors.items self.now.config.floors)
             self.now.members) }
         ensures floors_shown { OnOk result (AreFloorsShown (filter (is_watched_by self.now.members)
@@ -91,7 +90,7 @@ impl State {
             self.config.conference(),
             &self.members,
             reply,
-            &[],
+            &Updates::new(alloc),
             &[],
         )?;
         put_behind(out, parcels)
@@ -106,11 +105,10 @@ pub(crate) fn put_all(
     conference: u32,
     members: &Members,
     reply: &Option<Reply>,
-    updates: &[Update],
+    updates: &Updates,
     floor_updates: &[FloorUpdate],
 ) -> Result<(), AllocError>
     requires reply { IsReplyShown reply.now }
-    requires requests { AreUpdatesShown updates.now }
     requires floors { AreFloorsShown floor_updates.now }
     ensures { OnOk result (out.new.items ≡ out.old.items
         ++ parcels_to_all conference reply.now updates.now floor_updates.now members.now) }
@@ -138,11 +136,10 @@ fn put_members(
     conference: u32,
     members: &Members,
     reply: &Option<Reply>,
-    updates: &[Update],
+    updates: &Updates,
     notices: &[FloorNotice],
 ) -> Result<(), AllocError>
     requires reply { IsReplyShown reply.now }
-    requires requests { AreUpdatesShown updates.now }
     ensures { OnOk result (out.new.items ≡ out.old.items
         ++ noticed_to_all conference reply.now updates.now notices.now members.now) }
 {
@@ -161,11 +158,10 @@ fn put_live(
     members: &Members,
     n: u32,
     reply: &Option<Reply>,
-    updates: &[Update],
+    updates: &Updates,
     notices: &[FloorNotice],
 ) -> Result<(), AllocError>
     requires reply { IsReplyShown reply.now }
-    requires requests { AreUpdatesShown updates.now }
     ensures { OnOk result (out.new.items ≡ out.old.items ++ option_map_or
         (noticed_to conference reply.now updates.now notices.now)
         (member_with members.now n) []) }
@@ -183,11 +179,10 @@ fn put_member(
     conference: u32,
     member: &Member,
     reply: &Option<Reply>,
-    updates: &[Update],
+    updates: &Updates,
     notices: &[FloorNotice],
 ) -> Result<(), AllocError>
     requires reply { IsReplyShown reply.now }
-    requires requests { AreUpdatesShown updates.now }
     ensures { OnOk result (out.new.items ≡ out.old.items
         ++ noticed_to conference reply.now updates.now notices.now member.now) }
 {
@@ -242,14 +237,13 @@ fn put_updates(
     conference: u32,
     member: &Member,
     reply: &Option<Reply>,
-    updates: &[Update],
+    updates: &Updates,
 ) -> Result<(), AllocError>
-    requires { AreUpdatesShown updates.now }
     ensures { OnOk result (out.new.items ≡ out.old.items
         ++ map (λ u. parcel member.now.n (update_to conference member.now u))
         (filter (is_due_to reply.now member.now) updates.now)) }
 {
-    for update in updates {
+    for update in updates.as_slice() {
         if is_due_to(reply, member, update) {
             put_notice(alloc, out, conference, member, &update.tell)?;
         }
