@@ -8,7 +8,8 @@ ghost use Rattle.floor_queue.specs.Queue.{IsSettled, request_at};
 use floor_config::Config;
 use floor_queue::{Request, Requests};
 
-/// The floor requests of a conference, none of which is due any more, with its configuration.
+/// The floor requests of a conference, none of which is due any more, with the configuration that
+/// has their floors.
 #[derive(Clone, Copy, Debug)]
 pub(crate) struct Settled<'a> {
     /// The configuration.
@@ -19,10 +20,10 @@ pub(crate) struct Settled<'a> {
     ghost settled: { IsSettled requests.now } by { Prim.hlevel props },
 }
 
-/// An ongoing floor request of settled ones.
+/// One of the settled floor requests.
 #[derive(Clone, Copy, Debug)]
 pub(crate) struct OngoingRequest<'a> {
-    /// The settled requests, of which it is one.
+    /// All of them.
     pub settled: Settled<'a>,
     /// The request.
     pub request: &'a Request,

@@ -294,7 +294,7 @@ pub(crate) fn renew(
         (infos_of settled.now.config.now settled.now.requests.now.ongoing)
         changes.floors.items) }
     ensures fit { OnOk result (All IsShownInfo infos.new.items) }
-    ensures shown { IfOk result (λ changes. AreUpdatesShown changes.updates) }
+    ensures kept { IfOk result (λ changes. AreUpdatesShown changes.updates) }
 {
     let mut changes = Changes {
         updates: Updates::new(alloc),
@@ -304,7 +304,7 @@ pub(crate) fn renew(
     for number in &course.numbers {
         place = renew_at(alloc, settled, course, *number, place, infos, &mut changes)?;
     }
-    // Hands out that each status shows no more than a conference has.
+    // The type hands out that each status shows no more than a conference has.
     let _updates = changes.updates.as_slice();
     Ok(changes)
 }
