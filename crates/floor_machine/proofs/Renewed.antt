@@ -38,7 +38,7 @@ update-same old s us h = sym (append-nil us) ∙ ap (λ (b : Bool). us ++ cond b
 pub renewed-differing : (config : Configuration) (ongoing : List Request) (r : Request) (i : Info) (place : ℕ) (before after : List Info) (changes changes' : Changes) →
     i ≡ info config ongoing r → differs (info_here before place i.request) i ≡ true →
     after ≡ take place before ++ i ∷ drop (place + length (listed (info_here before place i.request))) before →
-    changes'.updates.items ≡ changes.updates.items ++ update_of (shown_of config ongoing (entry_of r)) ∷ [] →
+    changes'.updates ≡ changes.updates ++ update_of (shown_of config ongoing (entry_of r)) ∷ [] →
     changes'.floors.items ≡ (changes.floors.items ++ floors_before (info_here before place r.number)) ++ floors_shown i →
     IsRenewed place (info_here before place r.number) (Some (info config ongoing r)) (Some (shown_of config ongoing (entry_of r))) before after changes changes'
 renewed-differing config ongoing r i place before after changes changes' same otherwise put updates floors =
@@ -53,7 +53,7 @@ renewed-differing config ongoing r i place before after changes changes' same ot
           ∙ ap (λ (n : ℕ). take place before ++ i ∷ drop (place + length (listed (info_here before place n))) before) number
           ∙ ap (λ (x : Info). take place before ++ x ∷ drop (place + length (listed old)) before) same
           ∙ sym (append_assoc (take place before) (now ∷ []) (drop (place + length (listed old)) before));
-      updates = update-differing old (shown_of config ongoing (entry_of r)) changes.updates.items changes'.updates.items otherwise' updates;
+      updates = update-differing old (shown_of config ongoing (entry_of r)) changes.updates changes'.updates otherwise' updates;
       floors =
           floors
           ∙ ap (λ (x : Info). (changes.floors.items ++ floors_before old) ++ floors_shown x) same
@@ -89,7 +89,7 @@ renewed-standing config ongoing r place before changes stands =
       infos =
           at-place (λ x. x.request == r.number) before place now stands
           ∙ sym (append_assoc (take place before) (now ∷ []) (drop (place + length (listed old)) before));
-      updates = update-same old (shown_of config ongoing (entry_of r)) changes.updates.items same;
+      updates = update-same old (shown_of config ongoing (entry_of r)) changes.updates same;
       floors = sym (append-nil changes.floors.items) ∙ ap (λ (b : Bool). changes.floors.items ++ cond b (floors_before old ++ floors_shown now) []) (sym same);
     }
 

@@ -21,7 +21,7 @@ use Rattle.floor_machine.specs.steps.Telling.{AreChanged, AreInfos, floor_update
 pub record IsSettledTo (t u : State) (course : Course) (changes : Changes) : Type 0 where
   pub next : conference_of u ≡ with_requests (conference_of t) (after_settle t.requests)
   pub shows : AreInfos u.config u.requests.ongoing u.shown.items
-  pub updates : changes.updates.items ≡ updates t.config (settle t.requests.floors t.requests.ongoing) course.ended.items course.before.items course.numbers.items
+  pub updates : changes.updates ≡ updates t.config (settle t.requests.floors t.requests.ongoing) course.ended.items course.before.items course.numbers.items
   pub floors : AreChanged course.before.items (infos_of t.config (settle t.requests.floors t.requests.ongoing)) changes.floors.items
 
 -- the statuses of the floors among the changed ones are those of the floors whose requests are shown otherwise
@@ -38,12 +38,12 @@ floors-settled t u course changes h =
 
 -- the parcels are those of the changes
 pub parcels-settled : (t u : State) (course : Course) (changes : Changes) (reply : Option Reply) → IsSettledTo t u course changes →
-    parcels_to_all u.config.conference reply changes.updates.items (floors_changed u.shown.items changes.floors.items u.config.floors) u.members
+    parcels_to_all u.config.conference reply changes.updates (floors_changed u.shown.items changes.floors.items u.config.floors) u.members
     ≡ parcels_to_all t.config.conference reply (updates t.config (after_settle t.requests).ongoing course.ended.items course.before.items course.numbers.items)
     (floor_updates course.before.items (infos_of t.config (after_settle t.requests).ongoing) t.config.floors) t.members
 parcels-settled t u course changes reply h =
     let fs : List FloorUpdate = floor_updates course.before.items (infos_of t.config (after_settle t.requests).ongoing) t.config.floors in
-    ap (λ (gs : List FloorUpdate). parcels_to_all u.config.conference reply changes.updates.items gs u.members) (floors-settled t u course changes h)
+    ap (λ (gs : List FloorUpdate). parcels_to_all u.config.conference reply changes.updates gs u.members) (floors-settled t u course changes h)
     ∙ ap (λ (us : List Update). parcels_to_all u.config.conference reply us fs u.members) h.updates
     ∙ ap (λ (x : Conference). parcels_to_all x.config.conference reply (updates t.config (after_settle t.requests).ongoing course.ended.items course.before.items course.numbers.items) fs x.members) h.next
 

@@ -9,7 +9,7 @@ ghost use Rattle.floor_message.specs.Shown.{IsShownInfo};
 ghost use Rattle.floor_machine.specs.Change as change;
 ghost use Rattle.floor_machine.specs.Journal.{parcels_of};
 ghost use Rattle.floor_machine.specs.declared.event.Event.TheVariants.{Leave, Message, Revoke};
-ghost use Rattle.floor_machine.specs.steps.Fitting.{AreAddable, AreUpdatesShown, IsToldShown};
+ghost use Rattle.floor_machine.specs.steps.Fitting.{AreUpdatesShown, IsToldShown};
 ghost use Rattle.floor_machine.specs.steps.Renewing.{IsCourse};
 ghost use Rattle.floor_machine.specs.steps.Serving.{IsAtRest, conference_of, with_requests};
 ghost use Rattle.floor_machine.specs.steps.Telling.{AreChanged, infos_of, updates};
@@ -17,6 +17,7 @@ ghost use Rattle.floor_machine.specs.steps.Telling.{AreChanged, infos_of, update
 use crate::change::ending::EndedBy;
 use crate::conference::State;
 use crate::course::{Course, begin};
+use crate::information::settled::Settled;
 use crate::marks::mark_granted;
 use crate::outcome::Outcome;
 use crate::parcel::Parcel;
@@ -126,7 +127,6 @@ impl State {
         alloc: Global,
         course: &mut Course,
     ) -> Result<Changes, AllocError>
-        requires ended { AreAddable self.old.config.floors course.old.ended.items }
         requires course { IsCourse self.old.config self.old.requests.ongoing
             course.old.before.items course.old }
         requires fit { All IsShownInfo course.old.before.items }
@@ -134,19 +134,23 @@ impl State {
             ≡ with_requests (conference_of self.old) (after_settle self.old.requests)) }
         ensures rest { OnOk result (IsAtRest self.new) }
         ensures ended { course.new.ended ≡ course.old.ended }
-        ensures updates { IfOk result (λ changes. changes.updates.items
+        ensures updates { IfOk result (λ changes. changes.updates
             ≡ updates self.old.config (settle self.old.requests.floors self.old.requests.ongoing)
             course.old.ended.items course.old.before.items course.old.numbers.items) }
         ensures floors { IfOk result (λ changes. AreChanged course.old.before.items
             (infos_of self.old.config
             (settle self.old.requests.floors self.old.requests.ongoing)) changes.floors.items) }
-        ensures shown { IfOk result (λ changes. AreUpdatesShown changes.updates.items) }
+        ensures shown { IfOk result (λ changes. AreUpdatesShown changes.updates) }
     {
         // The requests ascend, so that each is found by its number.
         let _ongoing = self.requests.ongoing();
         let granted = self.requests.settle()?;
         mark_granted(&mut course.marks, &self.requests, granted.as_slice())?;
         mem::swap(&mut self.shown, &mut course.before);
-        renew(alloc, &self.config, &self.requests, course, &mut self.shown)
+        let settled = Settled {
+            config: &self.config,
+            requests: &self.requests,
+        };
+        renew(alloc, &settled, course, &mut self.shown)
     }
 }

@@ -13,6 +13,7 @@ use Rattle.floor_machine.specs.declared.tell.renewing.Changes.{Changes}
 use Rattle.floor_machine.specs.declared.tell.changed.Update.{Update}
 use Rattle.floor_machine.specs.Shown.{info}
 use Rattle.floor_machine.specs.Same.{same_info}
+use Rattle.floor_machine.specs.steps.Fitting.{AreAddable}
 use Rattle.floor_machine.specs.steps.Marks.{AreNoted}
 use Rattle.floor_machine.specs.steps.Serving.{is_rising}
 use Rattle.floor_machine.specs.steps.Telling.{infos_of, listed, update_of}
@@ -65,11 +66,11 @@ update_from old shown = option_map_or (λ s. if differs old s.info then update_o
 -- What is done at one number: its info in the stead of the old one, and what that changed.
 pub record IsRenewed (place : ℕ) (old now : Option Info) (shown : Option Shown) (before after : List Info) (changes changes' : Changes) : Type 0 where
   pub infos : after ≡ take place before ++ listed now ++ drop (place + length (listed old)) before
-  pub updates : changes'.updates.items ≡ changes.updates.items ++ update_from old shown
+  pub updates : changes'.updates ≡ changes.updates ++ update_from old shown
   pub floors : changes'.floors.items ≡ changes.floors.items ++ floors_moved old now
 
 -- What the course of an event knows: there were some requests, which were shown, and of which its marks have noted what became of them;
--- and its numbers rise, and are those of the requests before and after.
+-- its numbers rise, and are those of the requests before and after; and each that ended could be added once.
 pub record IsCourse (config : Configuration) (ongoing : List Request) (shown : List Info) (course : Course) : Type 0 where
   pub requests : List Request
   pub before : shown ≡ infos_of config requests
@@ -77,6 +78,7 @@ pub record IsCourse (config : Configuration) (ongoing : List Request) (shown : L
   pub rising : is_rising course.numbers.items ≡ true
   pub old : flat_map (λ n. listed (request_at requests n)) course.numbers.items ≡ requests
   pub left : flat_map (λ n. listed (left_at course.ended.items ongoing n)) course.numbers.items ≡ ongoing
+  pub addable : AreAddable config.floors course.ended.items
 
 -- the floors that the requests with these numbers named or name, of each that is shown otherwise than before, or no more
 abbrev pub moved : Configuration → List Request → List Ended → List Info → List ℕ → List ℕ

@@ -5,7 +5,7 @@ ghost use Rattle.floor_message.specs.Shown.{IsShown};
 ghost use Rattle.floor_machine.specs.Outgoing.{response_head};
 ghost use Rattle.floor_machine.specs.steps.Serving as serving;
 
-use crate::information::shown::shown_at;
+use crate::information::settled::Settled;
 use crate::outcome::Outcome;
 use floor_message::{Head, Tell};
 use floor_wire::Frame;
@@ -19,7 +19,11 @@ impl Outcome<'_> {
         ensures shown { IfOk result (λ tells. All IsShown tells.items) }
     {
         let state = self.state;
-        match shown_at(alloc, &state.config, &state.requests, self.ended, number)? {
+        let settled = Settled {
+            config: &state.config,
+            requests: &state.requests,
+        };
+        match settled.shown_at(alloc, self.ended, number)? {
             None => Ok(Vec::new(alloc)),
             Some(shown) => one(alloc, Tell::FloorRequestStatus { info: shown.info }),
         }

@@ -3,7 +3,7 @@
 ghost use Rattle.std.specs.Prelude.{◌≡◌, ◌<◌, ◌==◌, ◌^◌, [], IfOk, None, OnOk, Some, fold, if◌then◌else◌, map, max, true};
 ghost use Rattle.floor_config.specs.Configuration.{IsConfiguration};
 ghost use Rattle.floor_queue.specs.Order.{names};
-ghost use Rattle.floor_queue.specs.Queue.{IsAddable, IsSettled, new_of, request_at};
+ghost use Rattle.floor_queue.specs.Queue.{IsAddable, new_of};
 ghost use Rattle.floor_message.specs.Shown.{IsShownInfo};
 ghost use Rattle.floor_machine.specs.Shown as spec;
 ghost use Rattle.floor_machine.specs.Shown.{entry_of, info, info_of, overall_status};
@@ -11,13 +11,64 @@ ghost use Rattle.floor_machine.specs.steps.Fitting.{HasNumbers};
 ghost use Rattle.floor_machine.specs.steps.Telling.{ended_floor_shown, entry_of_ended, info_with, position_shown};
 
 use crate::course::Ended;
+use crate::information::settled::OngoingRequest;
 use crate::lookup::find_user;
 use crate::status::RequestStatus;
 use floor_config::{Config, Text};
 use floor_message::{FloorStatuses, Info, Who};
-use floor_queue::{FloorStatus, Request, RequestedFloor, Requests};
+use floor_queue::{FloorStatus, Request, RequestedFloor};
 use floor_wire::Octets;
 use std::alloc::{AllocError, Global};
+
+impl OngoingRequest<'_> {
+    /// What is shown of the request.
+    pub(crate) fn info(&self, alloc: Global) -> Result<Info, AllocError>
+        ensures value { IfOk result (λ shown. shown
+            ≡ info self.now.settled.config.now self.now.settled.requests.now.ongoing
+            self.now.request.now) }
+        ensures shown { IfOk result IsShownInfo }
+    {
+        // Each ongoing request is one that could be added, which bounds what is shown of it.
+        let _ongoing = self.settled.requests.ongoing();
+        let floors = self.floors_shown(alloc)?;
+        info_with(
+            alloc,
+            self.settled.config,
+            self.request,
+            ongoing_status(self.request).number(),
+            floors,
+        )
+    }
+
+    /// The floors of the request, each with its status and queue position.
+    fn floors_shown(&self, alloc: Global) -> Result<Vec<(u16, Option<(u8, u8)>)>, AllocError>
+        ensures { IfOk result (λ shown. shown.items
+            ≡ map (spec.floor_shown self.now.settled.requests.now.floors
+            self.now.settled.requests.now.ongoing (entry_of self.now.request.now))
+            self.now.request.now.floors) }
+    {
+        let mut shown = Vec::new(alloc);
+        for requested in self.request.floors.as_slice() {
+            shown.push(self.floor_shown(requested))?;
+        }
+        Ok(shown)
+    }
+
+    /// A floor of the request, with its status and queue position.
+    fn floor_shown(&self, requested: &RequestedFloor) -> (u16, Option<(u8, u8)>)
+        requires { names self.now.request.now requested.now.floor ≡ true }
+        ensures { result
+            ≡ spec.floor_shown self.now.settled.requests.now.floors
+            self.now.settled.requests.now.ongoing (entry_of self.now.request.now) requested.now }
+    {
+        let status = floor_status(self.request, requested).number();
+        let position = self
+            .settled
+            .requests
+            .position(self.request.number, requested.floor);
+        (requested.floor, Some((status, position)))
+    }
+}
 
 /// The octets of a text, where there is one.
 fn octets_of(alloc: Global, text: &Option<Text>) -> Result<Option<Octets>, AllocError>
@@ -131,43 +182,6 @@ fn floor_status(request: &Request, requested: &RequestedFloor) -> RequestStatus
     }
 }
 
-/// A floor of an ongoing request, with its status and queue position.
-fn floor_shown(
-    requests: &Requests,
-    request: &Request,
-    requested: &RequestedFloor,
-) -> (u16, Option<(u8, u8)>)
-    requires settled { IsSettled requests.now }
-    requires found { request_at requests.now.ongoing request.now.number ≡ Some request.now }
-    requires named { names request.now requested.now.floor ≡ true }
-    ensures { result
-        ≡ spec.floor_shown requests.now.floors requests.now.ongoing
-        (entry_of request.now) requested.now }
-{
-    let status = floor_status(request, requested).number();
-    let position = requests.position(request.number, requested.floor);
-    (requested.floor, Some((status, position)))
-}
-
-/// The floors of an ongoing request, each with its status and queue position.
-fn floors_shown(
-    alloc: Global,
-    requests: &Requests,
-    request: &Request,
-) -> Result<Vec<(u16, Option<(u8, u8)>)>, AllocError>
-    requires settled { IsSettled requests.now }
-    requires found { request_at requests.now.ongoing request.now.number ≡ Some request.now }
-    ensures { IfOk result (λ shown. shown.items
-        ≡ map (spec.floor_shown requests.now.floors requests.now.ongoing
-        (entry_of request.now)) request.now.floors) }
-{
-    let mut shown = Vec::new(alloc);
-    for requested in request.floors.as_slice() {
-        shown.push(floor_shown(requests, request, requested))?;
-    }
-    Ok(shown)
-}
-
 /// A floor of a request that ended, with the status of the request.
 fn ended_floor_shown(status: u8, requested: &RequestedFloor) -> (u16, Option<(u8, u8)>)
     ensures { result ≡ ended_floor_shown status requested.now }
@@ -238,32 +252,6 @@ fn info_with(
         priority: Some(request.priority),
         info: text,
     })
-}
-
-/// What is shown of an ongoing request.
-pub(crate) fn info(
-    alloc: Global,
-    config: &Config,
-    requests: &Requests,
-    request: &Request,
-) -> Result<Info, AllocError>
-    requires floors { requests.now.floors ≡ config.now.floors }
-    requires settled { IsSettled requests.now }
-    requires found { request_at requests.now.ongoing request.now.number ≡ Some request.now }
-    ensures value { IfOk result (λ shown. shown
-        ≡ info config.now requests.now.ongoing request.now) }
-    ensures shown { IfOk result IsShownInfo }
-{
-    // Each ongoing request is one that could be added, which bounds what is shown of it.
-    let _ongoing = requests.ongoing();
-    let floors = floors_shown(alloc, requests, request)?;
-    info_with(
-        alloc,
-        config,
-        request,
-        ongoing_status(request).number(),
-        floors,
-    )
 }
 
 /// What is shown of a request that ended.

@@ -1,10 +1,10 @@
 //! What an event changed, with the statuses that tell of it (RFC 8855, sections 10.1.2 and 12.1).
 
 ghost use Rattle.std.specs.List.{list_any};
-ghost use Rattle.std.specs.Prelude.{◌≡◌, ◌==◌, All, IfOk};
+ghost use Rattle.std.specs.Prelude.{◌≡◌, ◌==◌, ◌++◌, ◌∷◌, [], All, IfOk, OnOk};
 ghost use Rattle.floor_config.specs.Configuration.{IsFloor};
-ghost use Rattle.floor_message.specs.Shown.{AreShown};
-ghost use Rattle.floor_machine.specs.steps.Fitting.{AreFloorsShown};
+ghost use Rattle.floor_message.specs.Shown.{AreShown, IsShownInfo};
+ghost use Rattle.floor_machine.specs.steps.Fitting.{AreFloorsShown, AreUpdatesShown};
 ghost use Rattle.floor_machine.specs.steps.Telling as telling;
 
 use crate::information::copying::floor_status;
@@ -12,6 +12,7 @@ use crate::information::shown::Shown;
 use floor_config::Floor;
 use floor_message::{Info, Tell};
 use std::alloc::{AllocError, Global};
+use std::marker::Model;
 
 /// A floor request that an event changed, with the status that tells of it.
 #[derive(Debug, Drop)]
@@ -26,6 +27,53 @@ pub(crate) struct Update {
     pub tell: Tell,
 }
 
+/// The statuses of the floor requests that an event changed. Each shows no more than a conference
+/// has.
+#[derive(Debug, Drop)]
+pub(crate) struct Updates {
+    items: Vec<Update>,
+}
+
+impl Model for Updates {
+    ghost use Rattle.std.specs.Prelude.{List};
+    ghost use Rattle.floor_machine.specs.declared.tell.changed.Update.{Update};
+    ghost use Rattle.floor_machine.specs.steps.Fitting.{AreUpdatesShown};
+
+    ghost Value = { List Update };
+
+    ghost view = { λ u. u.items.items };
+
+    ghost invariant = { λ u. AreUpdatesShown u.items.items };
+}
+
+impl Updates {
+    /// No status. Takes no memory.
+    pub(crate) fn new(alloc: Global) -> Updates
+        ensures { result ≡ [] }
+    {
+        Updates {
+            items: Vec::new(alloc),
+        }
+    }
+
+    /// Adds the status that tells of a changed request.
+    pub(crate) fn push(&mut self, shown: Shown) -> Result<(), AllocError>
+        requires { IsShownInfo shown.info }
+        ensures { OnOk result (self.new ≡ self.old ++ telling.update_of shown ∷ []) }
+    {
+        self.items.push(update_of(shown))?;
+        Ok(())
+    }
+
+    /// The statuses, in their order.
+    pub(crate) fn as_slice(&self) -> &[Update]
+        ensures value { result.now ≡ self.now }
+        ensures kept { AreUpdatesShown self.now }
+    {
+        self.items.as_slice()
+    }
+}
+
 /// A floor that an event changed, with the status that tells of it.
 #[derive(Debug, Drop)]
 pub(crate) struct FloorUpdate {
@@ -36,7 +84,7 @@ pub(crate) struct FloorUpdate {
 }
 
 /// The status that tells of a changed request.
-pub(crate) fn update_of(shown: Shown) -> Update
+fn update_of(shown: Shown) -> Update
     ensures { result ≡ telling.update_of shown }
 {
     Update {

@@ -7,7 +7,7 @@ ghost use Rattle.floor_message.specs.Shown.{IsShown};
 ghost use Rattle.floor_machine.specs.Conference.{member_with};
 ghost use Rattle.floor_machine.specs.Journal.{parcel};
 ghost use Rattle.floor_machine.specs.Told.{is_status_of};
-ghost use Rattle.floor_machine.specs.steps.Fitting.{AreFloorsShown, AreUpdatesShown};
+ghost use Rattle.floor_machine.specs.steps.Fitting.{AreFloorsShown};
 ghost use Rattle.floor_machine.specs.steps.Telling.{answered, answered_to, floor_notice, floor_notice_to, floors_changed, is_answered, is_due_to, is_noticed, is_watched_by, noticed_to, noticed_to_all, parcels_to_all, update_to, updates};
 
 use crate::member::Member;
@@ -15,7 +15,7 @@ use crate::members::Members;
 use crate::outcome::Outcome;
 use crate::parcel::Parcel;
 use crate::reply::Reply;
-use crate::tell::changed::{FloorUpdate, Update, floor_updates};
+use crate::tell::changed::{FloorUpdate, Update, Updates, floor_updates};
 use crate::tell::renewing::Changes;
 use crate::tell::watching::{is_watched, watched_floors, watches};
 use floor_message::{Head, Tell, what_is_shown_fits, write_tell};
@@ -41,10 +41,9 @@ impl Outcome<'_> {
         reply: &Option<Reply>,
         out: &mut Vec<Parcel>,
     ) -> Result<(), AllocError>
-        requires updates { AreUpdatesShown changes.now.updates.items }
         ensures told { OnOk result (out.new.items ≡ out.old.items
             ++ parcels_to_all self.now.conference.config.conference reply.now
-            changes.now.updates.items
+            changes.now.updates
             (floors_changed self.now.shown changes.now.floors.items
             self.now.conference.config.floors)
             self.now.conference.members) }
@@ -94,7 +93,7 @@ impl Outcome<'_> {
             state.config.conference(),
             &state.members,
             reply,
-            &[],
+            &Updates::new(alloc),
             &[],
         )?;
         put_behind(out, parcels)
@@ -109,10 +108,9 @@ pub(crate) fn put_all(
     conference: u32,
     members: &Members,
     reply: &Option<Reply>,
-    updates: &[Update],
+    updates: &Updates,
     floor_updates: &[FloorUpdate],
 ) -> Result<(), AllocError>
-    requires requests { AreUpdatesShown updates.now }
     requires floors { AreFloorsShown floor_updates.now }
     ensures { OnOk result (out.new.items ≡ out.old.items
         ++ parcels_to_all conference reply.now updates.now floor_updates.now members.now) }
@@ -140,10 +138,9 @@ fn put_members(
     conference: u32,
     members: &Members,
     reply: &Option<Reply>,
-    updates: &[Update],
+    updates: &Updates,
     notices: &[FloorNotice],
 ) -> Result<(), AllocError>
-    requires requests { AreUpdatesShown updates.now }
     ensures { OnOk result (out.new.items ≡ out.old.items
         ++ noticed_to_all conference reply.now updates.now notices.now members.now) }
 {
@@ -162,10 +159,9 @@ fn put_live(
     members: &Members,
     n: u32,
     reply: &Option<Reply>,
-    updates: &[Update],
+    updates: &Updates,
     notices: &[FloorNotice],
 ) -> Result<(), AllocError>
-    requires requests { AreUpdatesShown updates.now }
     ensures { OnOk result (out.new.items ≡ out.old.items ++ option_map_or
         (noticed_to conference reply.now updates.now notices.now)
         (member_with members.now n) []) }
@@ -183,10 +179,9 @@ fn put_member(
     conference: u32,
     member: &Member,
     reply: &Option<Reply>,
-    updates: &[Update],
+    updates: &Updates,
     notices: &[FloorNotice],
 ) -> Result<(), AllocError>
-    requires requests { AreUpdatesShown updates.now }
     ensures { OnOk result (out.new.items ≡ out.old.items
         ++ noticed_to conference reply.now updates.now notices.now member.now) }
 {
@@ -240,14 +235,13 @@ fn put_updates(
     conference: u32,
     member: &Member,
     reply: &Option<Reply>,
-    updates: &[Update],
+    updates: &Updates,
 ) -> Result<(), AllocError>
-    requires { AreUpdatesShown updates.now }
     ensures { OnOk result (out.new.items ≡ out.old.items
         ++ map (λ u. parcel member.now.n (update_to conference member.now u))
         (filter (is_due_to reply.now member.now) updates.now)) }
 {
-    for update in updates {
+    for update in updates.as_slice() {
         if is_due_to(reply, member, update) {
             let head = Head {
                 conference,

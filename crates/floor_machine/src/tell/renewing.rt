@@ -3,7 +3,7 @@
 
 ghost use Rattle.std.specs.Prelude.{◌≡◌, ◌==◌, ◌+◌, ◌++◌, ◌∷◌, ◌≤◌, [], false, All, drop, find, length, take, IfOk, OnOk, Some, None};
 ghost use Rattle.std.specs.Option.{option_copied};
-ghost use Rattle.floor_queue.specs.Queue.{IsAddable, IsSettled, new_of, request_at};
+ghost use Rattle.floor_queue.specs.Queue.{IsAddable, new_of, request_at};
 ghost use Rattle.floor_message.specs.Shown.{IsShownInfo};
 ghost use Rattle.floor_machine.specs.Same.{same_info};
 ghost use Rattle.floor_machine.specs.Shown.{entry_of, info};
@@ -14,19 +14,20 @@ ghost use Rattle.floor_machine.specs.steps.Renewing.{IsCourse, IsRenewed, info_h
 ghost use Rattle.floor_machine.specs.steps.Telling.{AreChanged, entry_of_ended, infos_of, listed, shown_at, shown_of, updates};
 
 use crate::course::{Course, Ended, find_ended};
-use crate::information::shown::{shown_ended, shown_request};
+use crate::information::settled::{OngoingRequest, Settled};
+use crate::information::shown::shown_ended;
 use crate::marks::{Mark, is_marked};
-use crate::tell::changed::{Update, update_of};
+use crate::tell::changed::Updates;
 use floor_config::Config;
 use floor_message::Info;
-use floor_queue::{Request, Requests};
+use floor_queue::Request;
 use std::alloc::{AllocError, Global};
 
 /// What an event changed in what is shown.
 #[derive(Debug, Drop)]
 pub(crate) struct Changes {
     /// The statuses of the requests that are shown otherwise than before.
-    pub updates: Vec<Update>,
+    pub updates: Updates,
     /// The floors that they named before it or name after it, as often as they name them.
     pub floors: Vec<u16>,
 }
@@ -138,64 +139,6 @@ fn take_info(infos: &mut Vec<Info>, place: usize, number: u16)
     }
 }
 
-/// Shows an ongoing request anew, and notes what changed.
-fn renew_marked(
-    alloc: Global,
-    config: &Config,
-    requests: &Requests,
-    request: &Request,
-    place: usize,
-    infos: &mut Vec<Info>,
-    changes: &mut Changes,
-) -> Result<(), AllocError>
-    requires floors { requests.now.floors ≡ config.now.floors }
-    requires settled { IsSettled requests.now }
-    requires found { request_at requests.now.ongoing request.now.number ≡ Some request.now }
-    requires place { place ≤ length infos.old.items }
-    ensures renewed { OnOk result (IsRenewed place
-        (info_here infos.old.items place request.now.number)
-        (Some (info config.now requests.now.ongoing request.now))
-        (Some (shown_of config.now requests.now.ongoing (entry_of request.now)))
-        infos.old.items infos.new.items changes.old changes.new) }
-    ensures fit { OnOk result
-        (All IsShownInfo infos.old.items → All IsShownInfo infos.new.items) }
-    ensures shown { OnOk result
-        (AreUpdatesShown changes.old.updates.items → AreUpdatesShown changes.new.updates.items) }
-{
-    let shown = shown_request(alloc, config, requests, request)?;
-    if differs(infos, place, &shown.info) {
-        note_floors_at(&mut changes.floors, infos, place, request.number)?;
-        note_floors(&mut changes.floors, &shown.info)?;
-        let info = shown.info.copy(alloc)?;
-        changes.updates.push(update_of(shown))?;
-        put_info(infos, place, info)?;
-    }
-    Ok(())
-}
-
-/// Puts the status of a request that ended, if it is shown otherwise than before.
-fn put_ended(
-    alloc: Global,
-    config: &Config,
-    ended: &Ended,
-    place: usize,
-    infos: &[Info],
-    updates: &mut Vec<Update>,
-) -> Result<(), AllocError>
-    requires { IsAddable config.now.floors (new_of ended.now.request) }
-    ensures put { OnOk result (updates.new.items ≡ updates.old.items
-        ++ spec.update_from (info_here infos.now place ended.now.request.number)
-        (Some (shown_of config.now [] (entry_of_ended ended.now)))) }
-    ensures shown { OnOk result
-        (AreUpdatesShown updates.old.items → AreUpdatesShown updates.new.items) }
-{
-    let shown = shown_ended(alloc, config, ended)?;
-    if differs(infos, place, &shown.info) {
-        updates.push(update_of(shown))?;
-    }
-    Ok(())
-}
-
 /// Shows the request with this number no more, and notes its floors.
 fn forget(
     infos: &mut Vec<Info>,
@@ -214,36 +157,41 @@ fn forget(
     Ok(())
 }
 
-/// Shows an ongoing request as it is after the event: anew, if some mark concerns it.
+/// Shows an ongoing request as it is after the event: anew, if some mark concerns it. Notes what
+/// changed.
 fn renew_ongoing(
     alloc: Global,
-    config: &Config,
-    requests: &Requests,
+    ongoing: &OngoingRequest<'_>,
     marks: &[Mark],
-    request: &Request,
     place: usize,
     infos: &mut Vec<Info>,
     changes: &mut Changes,
 ) -> Result<(), AllocError>
-    requires floors { requests.now.floors ≡ config.now.floors }
-    requires settled { IsSettled requests.now }
-    requires found { request_at requests.now.ongoing request.now.number ≡ Some request.now }
     requires place { place ≤ length infos.old.items }
-    requires unmarked { is_marked marks.now request.now ≡ false
-        → info_here infos.old.items place request.now.number
-        ≡ Some (info config.now requests.now.ongoing request.now) }
+    requires unmarked { is_marked marks.now ongoing.now.request.now ≡ false
+        → info_here infos.old.items place ongoing.now.request.now.number
+        ≡ Some (info ongoing.now.settled.config.now ongoing.now.settled.requests.now.ongoing
+        ongoing.now.request.now) }
     ensures renewed { OnOk result (IsRenewed place
-        (info_here infos.old.items place request.now.number)
-        (Some (info config.now requests.now.ongoing request.now))
-        (Some (shown_of config.now requests.now.ongoing (entry_of request.now)))
+        (info_here infos.old.items place ongoing.now.request.now.number)
+        (Some (info ongoing.now.settled.config.now ongoing.now.settled.requests.now.ongoing
+        ongoing.now.request.now))
+        (Some (shown_of ongoing.now.settled.config.now
+        ongoing.now.settled.requests.now.ongoing (entry_of ongoing.now.request.now)))
         infos.old.items infos.new.items changes.old changes.new) }
     ensures fit { OnOk result
         (All IsShownInfo infos.old.items → All IsShownInfo infos.new.items) }
-    ensures shown { OnOk result
-        (AreUpdatesShown changes.old.updates.items → AreUpdatesShown changes.new.updates.items) }
 {
-    if is_marked(marks, request) {
-        return renew_marked(alloc, config, requests, request, place, infos, changes);
+    if !is_marked(marks, ongoing.request) {
+        return Ok(());
+    }
+    let shown = ongoing.shown(alloc)?;
+    if differs(infos, place, &shown.info) {
+        note_floors_at(&mut changes.floors, infos, place, ongoing.request.number)?;
+        note_floors(&mut changes.floors, &shown.info)?;
+        let info = shown.info.copy(alloc)?;
+        changes.updates.push(shown)?;
+        put_info(infos, place, info)?;
     }
     Ok(())
 }
@@ -264,57 +212,57 @@ fn renew_ended(
         infos.old.items infos.new.items changes.old changes.new) }
     ensures fit { OnOk result
         (All IsShownInfo infos.old.items → All IsShownInfo infos.new.items) }
-    ensures shown { OnOk result
-        (AreUpdatesShown changes.old.updates.items → AreUpdatesShown changes.new.updates.items) }
 {
-    put_ended(alloc, config, ended, place, infos, &mut changes.updates)?;
+    let shown = shown_ended(alloc, config, ended)?;
+    if differs(infos, place, &shown.info) {
+        changes.updates.push(shown)?;
+    }
     forget(infos, place, ended.request.number, &mut changes.floors)
 }
 
 /// Shows the request with this number as it is after the event. Gives the place behind it.
 fn renew_at(
     alloc: Global,
-    config: &Config,
-    requests: &Requests,
+    settled: &Settled<'_>,
     course: &Course,
     number: u16,
     place: usize,
     infos: &mut Vec<Info>,
     changes: &mut Changes,
 ) -> Result<usize, AllocError>
-    requires floors { requests.now.floors ≡ config.now.floors }
-    requires settled { IsSettled requests.now }
-    requires ended { AreAddable config.now.floors course.now.ended.items }
+    requires ended { AreAddable settled.now.config.now.floors course.now.ended.items }
     requires place { place ≤ length infos.old.items }
     requires here { find (λ d. d.request.number == number) course.now.ended.items ≡ None
-        → request_here requests.now.ongoing place number
-        ≡ request_at requests.now.ongoing number }
+        → request_here settled.now.requests.now.ongoing place number
+        ≡ request_at settled.now.requests.now.ongoing number }
     requires unmarked { (r : Request)
-        → left_at course.now.ended.items requests.now.ongoing number ≡ Some r
+        → left_at course.now.ended.items settled.now.requests.now.ongoing number ≡ Some r
         → is_marked course.now.marks.items r ≡ false
-        → info_here infos.old.items place number ≡ Some (info config.now requests.now.ongoing r) }
+        → info_here infos.old.items place number
+        ≡ Some (info settled.now.config.now settled.now.requests.now.ongoing r) }
     ensures place { IfOk result (λ behind. behind ≡ place + length
-        (listed (left_at course.now.ended.items requests.now.ongoing number))) }
+        (listed (left_at course.now.ended.items settled.now.requests.now.ongoing number))) }
     ensures renewed { OnOk result (IsRenewed place (info_here infos.old.items place number)
-        (now_at config.now course.now.ended.items requests.now.ongoing number)
-        (shown_at config.now requests.now.ongoing course.now.ended.items number)
+        (now_at settled.now.config.now course.now.ended.items
+        settled.now.requests.now.ongoing number)
+        (shown_at settled.now.config.now settled.now.requests.now.ongoing
+        course.now.ended.items number)
         infos.old.items infos.new.items changes.old changes.new) }
     ensures fit { OnOk result
         (All IsShownInfo infos.old.items → All IsShownInfo infos.new.items) }
-    ensures shown { OnOk result
-        (AreUpdatesShown changes.old.updates.items → AreUpdatesShown changes.new.updates.items) }
 {
     match find_ended(&course.ended, number) {
         Some(ended) => {
-            renew_ended(alloc, config, ended, place, infos, changes)?;
+            renew_ended(alloc, settled.config, ended, place, infos, changes)?;
             Ok(place)
         }
-        None => match request_at(requests.ongoing(), place, number) {
+        None => match request_at(settled.requests.ongoing(), place, number) {
             Some(request) => {
-                let marks = course.marks.as_slice();
-                renew_ongoing(
-                    alloc, config, requests, marks, request, place, infos, changes,
-                )?;
+                let ongoing = OngoingRequest {
+                    settled: *settled,
+                    request,
+                };
+                renew_ongoing(alloc, &ongoing, &course.marks, place, infos, changes)?;
                 Ok(place + 1)
             }
             None => {
@@ -329,42 +277,33 @@ fn renew_at(
 /// some mark concerns are shown anew.
 pub(crate) fn renew(
     alloc: Global,
-    config: &Config,
-    requests: &Requests,
+    settled: &Settled<'_>,
     course: &Course,
     infos: &mut Vec<Info>,
 ) -> Result<Changes, AllocError>
-    requires floors { requests.now.floors ≡ config.now.floors }
-    requires settled { IsSettled requests.now }
-    requires ended { AreAddable config.now.floors course.now.ended.items }
-    requires course { IsCourse config.now requests.now.ongoing infos.old.items course.now }
+    requires course { IsCourse settled.now.config.now settled.now.requests.now.ongoing
+        infos.old.items course.now }
     requires fit { All IsShownInfo infos.old.items }
-    ensures infos { OnOk result
-        (infos.new.items ≡ infos_of config.now requests.now.ongoing) }
-    ensures updates { IfOk result (λ changes. changes.updates.items
-        ≡ updates config.now requests.now.ongoing course.now.ended.items infos.old.items
-        course.now.numbers.items) }
+    ensures infos { OnOk result (infos.new.items
+        ≡ infos_of settled.now.config.now settled.now.requests.now.ongoing) }
+    ensures updates { IfOk result (λ changes. changes.updates
+        ≡ updates settled.now.config.now settled.now.requests.now.ongoing
+        course.now.ended.items infos.old.items course.now.numbers.items) }
     ensures floors { IfOk result (λ changes. AreChanged infos.old.items
-        (infos_of config.now requests.now.ongoing) changes.floors.items) }
+        (infos_of settled.now.config.now settled.now.requests.now.ongoing)
+        changes.floors.items) }
     ensures fit { OnOk result (All IsShownInfo infos.new.items) }
-    ensures shown { IfOk result (λ changes. AreUpdatesShown changes.updates.items) }
+    ensures kept { IfOk result (λ changes. AreUpdatesShown changes.updates) }
 {
     let mut changes = Changes {
-        updates: Vec::new(alloc),
+        updates: Updates::new(alloc),
         floors: Vec::new(alloc),
     };
     let mut place = 0;
     for number in &course.numbers {
-        place = renew_at(
-            alloc,
-            config,
-            requests,
-            course,
-            *number,
-            place,
-            infos,
-            &mut changes,
-        )?;
+        place = renew_at(alloc, settled, course, *number, place, infos, &mut changes)?;
     }
+    // The type hands out that each status shows no more than a conference has.
+    let _updates = changes.updates.as_slice();
     Ok(changes)
 }

@@ -24,16 +24,11 @@ pub change_left-requires-clause-begun : goal.change_left-requires-clause-begun
 change_left-requires-clause-begun c =
     begun (conference_of c.args.self.now) c.in_ok-course.course c.in_ok-course.ensures.queue.ascending c.in_ok-course.ensures.numbers c.in_ok-course.ensures.ended
 
-pub settle-requires-clause-ended : goal.settle-requires-clause-ended
-settle-requires-clause-ended c =
-    let s = c.args.self.now in
-    left_addable (conference_of s) (conference_of c.change_left.new.self) c.args.n c.change_left.new.course
-    (queue_addable s c.in_ok-course.ensures.queue) c.in_ok-change_left.ensures.changed
-
 pub settle-requires-clause-course : goal.settle-requires-clause-course
 settle-requires-clause-course c =
-    let s = conference_of c.args.self.now in
-    course-changed s (conference_of c.change_left.new.self) (change s (Leave c.args.n)) c.change_left.new.course c.in_ok-change_left.ensures.changed (ap (λ x. x.items) c.change_left.ensures.before ∙ c.in_ok-course.ensures.before ∙ c.requires.rest.shows.infos)
+    let s = c.args.self.now in
+    course-changed (conference_of s) (conference_of c.change_left.new.self) (change (conference_of s) (Leave c.args.n)) c.change_left.new.course c.in_ok-change_left.ensures.changed (ap (λ x. x.items) c.change_left.ensures.before ∙ c.in_ok-course.ensures.before ∙ c.requires.rest.shows.infos)
+    (left_addable (conference_of s) (conference_of c.change_left.new.self) c.args.n c.change_left.new.course (queue_addable s c.in_ok-course.ensures.queue) c.in_ok-change_left.ensures.changed)
 
 pub invariant_of-outcome : goal.invariant_of-outcome
 invariant_of-outcome c =

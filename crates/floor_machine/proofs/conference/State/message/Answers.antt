@@ -27,19 +27,6 @@ use Rattle.floor_machine.proofs.Served.{change-judged, settled-state, ended-show
 use Rattle.floor_machine.proofs.Settled.{IsSettledTo, floors-shown, parcels-settled}
 use Rattle.floor_machine.proofs.conference.State.message.Goals as goal
 
-pub settle-requires-clause-ended : goal.settle-requires-clause-ended
-settle-requires-clause-ended c =
-    let S : State = c.args.self.now in
-    let s = conference_of S in
-    let n = c.args.n in
-    let j : Judged = c.in_ok-judged.judged in
-    let course : Course = c.in-Some.course in
-    let before : State = c.change.new.self in
-    let T : Option Course → Type 0 = λ o. IsTaken S n j before o in
-    let taken : IsTaken S n j before (Some course) = subst T c.in-Some.is c.in_ok-course.ensures.taken in
-    let changed : IsChanged s (judged_change s n j) (conference_of before) course = taken.0 in
-    judged_addable s (conference_of before) n j course (queue_addable S c.ongoing-ongoing.ensures.kept) changed
-
 pub settle-requires-clause-course : goal.settle-requires-clause-course
 settle-requires-clause-course c =
     let S : State = c.args.self.now in
@@ -52,6 +39,7 @@ settle-requires-clause-course c =
     let taken : IsTaken S n j before (Some course) = subst T c.in-Some.is c.in_ok-course.ensures.taken in
     let changed : IsChanged s (judged_change s n j) (conference_of before) course = taken.0 in
     course-changed s (conference_of before) (judged_change s n j) course changed (taken.1 ∙ c.requires.rest.shows.infos)
+    (judged_addable s (conference_of before) n j course (queue_addable S c.ongoing-ongoing.ensures.kept) changed)
 
 pub invariant_of-outcome : goal.invariant_of-outcome
 invariant_of-outcome c =

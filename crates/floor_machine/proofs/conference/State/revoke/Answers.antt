@@ -21,16 +21,11 @@ use Rattle.floor_machine.proofs.Served.{parcels-changed, settled-state}
 use Rattle.floor_machine.proofs.Settled.{IsSettledTo, floors-shown, parcels-settled}
 use Rattle.floor_machine.proofs.conference.State.revoke.Goals as goal
 
-pub settle-requires-clause-ended : goal.settle-requires-clause-ended
-settle-requires-clause-ended c =
-    let s = c.args.self.now in
-    revoked_addable (conference_of s) (conference_of c.end_ongoing.new.self) c.args.request c.in_ok-course.course
-    (queue_addable s c.ongoing-ongoing.ensures.kept) (revoked (conference_of c.args.self.now) (conference_of c.end_ongoing.new.self) c.args.request c.in_ok-course.course c.in_ok-course.ensures.changed)
-
 pub settle-requires-clause-course : goal.settle-requires-clause-course
 settle-requires-clause-course c =
-    let s = conference_of c.args.self.now in
-    course-changed s (conference_of c.end_ongoing.new.self) (change s (Revoke c.args.request)) c.in_ok-course.course (revoked (conference_of c.args.self.now) (conference_of c.end_ongoing.new.self) c.args.request c.in_ok-course.course c.in_ok-course.ensures.changed) (c.in_ok-course.ensures.before ∙ c.requires.rest.shows.infos)
+    let s = c.args.self.now in
+    course-changed (conference_of s) (conference_of c.end_ongoing.new.self) (change (conference_of s) (Revoke c.args.request)) c.in_ok-course.course (revoked (conference_of c.args.self.now) (conference_of c.end_ongoing.new.self) c.args.request c.in_ok-course.course c.in_ok-course.ensures.changed) (c.in_ok-course.ensures.before ∙ c.requires.rest.shows.infos)
+    (revoked_addable (conference_of s) (conference_of c.end_ongoing.new.self) c.args.request c.in_ok-course.course (queue_addable s c.ongoing-ongoing.ensures.kept) (revoked (conference_of c.args.self.now) (conference_of c.end_ongoing.new.self) c.args.request c.in_ok-course.course c.in_ok-course.ensures.changed))
 
 pub invariant_of-outcome : goal.invariant_of-outcome
 invariant_of-outcome c =

@@ -1,13 +1,10 @@
-use Rattle.std.proofs.Common.{◌≡◌, ℕ, ◌+◌, ◌<◌, false, List, [], Option, Some, None, length, get_or, refl, sym, ap, subst, ◌∙◌, arith}
+use Rattle.std.proofs.Common.{◌≡◌, ℕ, ◌+◌, ◌<◌, false, List, Option, Some, None, length, get_or, refl, sym, ap, subst, ◌∙◌, arith}
 use Rattle.std.specs.Prelude.{◌==◌, find}
 use Rattle.std.specs.Option.{option_map_or}
-use Rattle.std.proofs.lemmas.List.Elements.{All-nil, All-same}
 use Rattle.floor_queue.specs.declared.request.Request.{Request}
 use Rattle.floor_queue.specs.Queue.{request_at}
-use Rattle.floor_message.specs.Shown.{IsShown}
 use Rattle.floor_machine.specs.declared.course.Ended.{Ended}
 use Rattle.floor_machine.specs.declared.tell.renewing.Changes.{Changes}
-use Rattle.floor_machine.specs.declared.tell.changed.Update.{Update}
 use Rattle.floor_machine.specs.Shown.{info}
 use Rattle.floor_machine.specs.steps.Marks.{is_marked}
 use Rattle.floor_machine.specs.steps.Renewing.{IsRenewed, info_here, info_with, left_at, now_at, request_here}
@@ -18,26 +15,25 @@ use Rattle.floor_machine.proofs.tell.renewing.renew.Goals as goal
 pub loop-number-init : goal.loop-number-init
 loop-number-init c =
     let known = c.requires.course in
-    let at = begun-at c.args.config.now c.args.course.now.ended.items c.args.requests.now.ongoing known.requests c.args.infos.now.items c.args.course.now.numbers.items known.before known.old in
+    let at = begun-at c.args.settled.now.config.now c.args.course.now.ended.items c.args.settled.now.requests.now.ongoing known.requests c.args.infos.now.items c.args.course.now.numbers.items known.before known.old in
     record {
       infos = at.infos;
       place = refl;
-      updates = c.new.ensures.items;
+      updates = c.new.ensures;
       floors = c.new-2.ensures.items;
       fit = c.requires.fit;
-      shown = All-same (λ (u : Update). IsShown u.tell) c.new.result.items [] c.new.ensures.items (All-nil (λ (u : Update). IsShown u.tell));
     }
 
 pub renew_at-requires-clause-place : goal.renew_at-requires-clause-place
 renew_at-requires-clause-place c =
-    place-within c.args.config.now c.args.course.now.ended.items c.args.requests.now.ongoing c.args.infos.now.items c.args.course.now.numbers.items c.loop-number.number-index c.loop-number.place c.loop-number.infos.items
+    place-within c.args.settled.now.config.now c.args.course.now.ended.items c.args.settled.now.requests.now.ongoing c.args.infos.now.items c.args.course.now.numbers.items c.loop-number.number-index c.loop-number.place c.loop-number.infos.items
     (record { infos = c.loop-number.invariant.infos; place = c.loop-number.invariant.place })
 
 pub renew_at-requires-clause-here : goal.renew_at-requires-clause-here
 renew_at-requires-clause-here c =
     let known = c.requires.course in
     let ended = c.args.course.now.ended.items in
-    let ongoing = c.args.requests.now.ongoing in
+    let ongoing = c.args.settled.now.requests.now.ongoing in
     let ns = c.args.course.now.numbers.items in
     let k = c.loop-number.number-index in
     let place = c.loop-number.place in
@@ -50,9 +46,9 @@ renew_at-requires-clause-here c =
 pub renew_at-requires-clause-unmarked : goal.renew_at-requires-clause-unmarked
 renew_at-requires-clause-unmarked c =
     let known = c.requires.course in
-    let config = c.args.config.now in
+    let config = c.args.settled.now.config.now in
     let ended = c.args.course.now.ended.items in
-    let ongoing = c.args.requests.now.ongoing in
+    let ongoing = c.args.settled.now.requests.now.ongoing in
     let before = c.args.infos.now.items in
     let infos = c.loop-number.infos.items in
     let ns = c.args.course.now.numbers.items in
@@ -69,9 +65,9 @@ renew_at-requires-clause-unmarked c =
 pub loop-number-preserved : goal.loop-number-preserved
 loop-number-preserved c =
     let known = c.requires.course in
-    let config = c.args.config.now in
+    let config = c.args.settled.now.config.now in
     let ended = c.args.course.now.ended.items in
-    let ongoing = c.args.requests.now.ongoing in
+    let ongoing = c.args.settled.now.requests.now.ongoing in
     let before = c.args.infos.now.items in
     let infos = c.loop-number.infos.items in
     let infos' = c.renew_at.new.infos.items in
@@ -96,20 +92,19 @@ loop-number-preserved c =
     record {
       infos = further.infos;
       place = further.place;
-      updates = updates-more config ongoing ended before ns k 0 changes.updates.items changes'.updates.items (info_here infos place n) within c.loop-number.invariant.updates there renewed.updates;
+      updates = updates-more config ongoing ended before ns k 0 changes.updates changes'.updates (info_here infos place n) within c.loop-number.invariant.updates there renewed.updates;
       floors = floors-more config ongoing ended before ns k 0 changes.floors.items changes'.floors.items (info_here infos place n) within c.loop-number.invariant.floors there renewed.floors;
       fit = c.in_ok-place.ensures.fit c.loop-number.invariant.fit;
-      shown = c.in_ok-place.ensures.shown c.loop-number.invariant.shown;
     }
 
 pub returns-clause-infos : goal.returns-clause-infos
 returns-clause-infos c =
     let ns = c.args.course.now.numbers.items in
-    ended-at c.args.config.now c.args.course.now.ended.items c.args.requests.now.ongoing c.args.infos.now.items ns c.loop-number.number-index c.loop-number.place c.loop-number.infos.items
+    ended-at c.args.settled.now.config.now c.args.course.now.ended.items c.args.settled.now.requests.now.ongoing c.args.infos.now.items ns c.loop-number.number-index c.loop-number.place c.loop-number.infos.items
     (omega (arith, ap (λ (zs : List ℕ). length zs) c.deref-number-items.ensures.value)) c.requires.course.left
     (record { infos = c.loop-number.invariant.infos; place = c.loop-number.invariant.place })
 
 pub returns-clause-floors : goal.returns-clause-floors
 returns-clause-floors c =
-    floors-changed c.args.config.now c.args.course.now c.args.requests.now.ongoing c.args.infos.now.items c.loop-number.number-index c.loop-number.changes.floors.items c.requires.course
+    floors-changed c.args.settled.now.config.now c.args.course.now c.args.settled.now.requests.now.ongoing c.args.infos.now.items c.loop-number.number-index c.loop-number.changes.floors.items c.requires.course
     (omega (arith, ap (λ (zs : List ℕ). length zs) c.deref-number-items.ensures.value)) c.loop-number.invariant.floors

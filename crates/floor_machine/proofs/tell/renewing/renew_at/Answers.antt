@@ -11,13 +11,13 @@ use Rattle.floor_machine.proofs.tell.renewing.renew_at.Goals as goal
 pub renew_ended-requires : goal.renew_ended-requires
 renew_ended-requires c =
     let ended = c.args.course.now.ended.items in
-    found_all (λ (d : Ended). IsAddable c.args.config.now.floors (new_of d.request)) (λ d. d.request.number == c.args.number) ended c.in-Some.ended.now c.requires.ended
+    found_all (λ (d : Ended). IsAddable c.args.settled.now.config.now.floors (new_of d.request)) (λ d. d.request.number == c.args.number) ended c.in-Some.ended.now c.requires.ended
     (ap (λ (ds : List Ended). find (λ d. d.request.number == c.args.number) ds) (sym c.deref.ensures.value) ∙ sym c.in-Some.ensures)
 
 pub returns-in_ok-renew_ended-in-Some-clause-renewed : goal.returns-in_ok-renew_ended-in-Some-clause-renewed
 returns-in_ok-renew_ended-in-Some-clause-renewed c =
     let ended = c.args.course.now.ended.items in
-    renewed-ended c.args.config.now c.args.requests.now.ongoing ended c.in-Some.ended.now c.args.number c.args.place c.args.infos.now.items c.renew_ended.new.infos.items c.args.changes.now c.renew_ended.new.changes
+    renewed-ended c.args.settled.now.config.now c.args.settled.now.requests.now.ongoing ended c.in-Some.ended.now c.args.number c.args.place c.args.infos.now.items c.renew_ended.new.infos.items c.args.changes.now c.renew_ended.new.changes
     (ap (λ (ds : List Ended). find (λ d. d.request.number == c.args.number) ds) (sym c.deref.ensures.value) ∙ sym c.in-Some.ensures)
     c.in_ok-renew_ended-in-Some.ensures.renewed
 

@@ -1,9 +1,48 @@
-use Rattle.std.proofs.Common.{◌+◌, length}
-use Rattle.floor_machine.specs.steps.Renewing.{info_here}
-use Rattle.floor_machine.specs.steps.Telling.{listed}
-use Rattle.floor_machine.proofs.Asked.{on_ok}
-use Rattle.floor_machine.proofs.Renewed.{fit-taken}
+use Rattle.std.proofs.Common.{◌≡◌, ℕ, List, [], ◌∷◌, ◌++◌, ◌+◌, length, drop, take, ap, sym, ◌∙◌, append-nil}
+use Rattle.std.specs.Prelude.{Some}
+use Rattle.floor_message.specs.declared.tell.Info.{Info}
+use Rattle.floor_machine.specs.declared.information.shown.Shown.{Shown}
+use Rattle.floor_machine.specs.declared.tell.renewing.Changes.{Changes}
+use Rattle.floor_machine.specs.steps.Renewing.{differs, floors_before, info_here, update_from}
+use Rattle.floor_machine.specs.steps.Telling.{entry_of_ended, listed, shown_of, update_of}
+use Rattle.floor_machine.proofs.Asked.{on_ok, on_ok_both}
+use Rattle.floor_machine.proofs.Renewed.{differs-ended, fit-taken, update-differing, update-same}
 use Rattle.floor_machine.proofs.tell.renewing.renew_ended.Goals as goal
+use Rattle.floor_machine.proofs.tell.renewing.renew_ended.Goals.{then-differs+in_ok-push, else-differs}
+
+pub returns-clause-renewed : goal.returns-clause-renewed
+returns-clause-renewed c =
+    let config = c.args.config.now in
+    let d = c.args.ended.now in
+    let number = d.request.number in
+    let place = c.args.place in
+    let before = c.args.infos.now.items in
+    let updates = c.args.changes.now.updates in
+    let s = c.in_ok-shown.shown in
+    let otherwise : differs (info_here before place number) (shown_of config [] (entry_of_ended d)).info ≡ c.differs.result =
+    differs-ended config d s place before c.in_ok-shown.ensures.value
+    ∙ sym (c.differs.ensures ∙ ap (λ is. differs (info_here is place s.info.request) s.info) c.deref.ensures.value) in
+    let put : c.if-differs.changes.updates ≡ updates ++ update_from (info_here before place number) (Some (shown_of config [] (entry_of_ended d))) =
+    elim c.if-differs.branch [
+      | then-differs+in_ok-push w ↦
+          update-differing (info_here before place number) (shown_of config [] (entry_of_ended d)) updates c.if-differs.changes.updates
+          (otherwise ∙ w.if-differs.true)
+          (ap (λ (x : Changes). x.updates) w.changes-is ∙ w.in_ok-push.ensures ∙ ap (λ (x : Shown). updates ++ update_of x ∷ []) c.in_ok-shown.ensures.value)
+      | else-differs w ↦
+          ap (λ (x : Changes). x.updates) w.changes-is
+          ∙ update-same (info_here before place number) (shown_of config [] (entry_of_ended d)) updates (otherwise ∙ w.if-differs.false)
+    ] in
+    let floors : c.if-differs.changes.floors.items ≡ c.args.changes.now.floors.items =
+    elim c.if-differs.branch [
+      | then-differs+in_ok-push w ↦ ap (λ (x : Changes). x.floors.items) w.changes-is
+      | else-differs w ↦ ap (λ (x : Changes). x.floors.items) w.changes-is
+    ] in
+    let behind = drop (place + length (listed (info_here before place number))) before in
+    on_ok_both c.forget.result (λ infos noted. record {
+      infos = infos ∙ ap (λ (is : List Info). is ++ behind) (sym (append-nil (take place before)));
+      updates = put;
+      floors = noted ∙ ap (λ (fs : List ℕ). fs ++ floors_before (info_here before place number)) floors;
+    }) c.forget.ensures.infos c.forget.ensures.floors
 
 pub returns-clause-fit : goal.returns-clause-fit
 returns-clause-fit c =

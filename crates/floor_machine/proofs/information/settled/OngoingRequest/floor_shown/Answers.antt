@@ -4,21 +4,21 @@ use Rattle.std.specs.Option.{option_map_or}
 use Rattle.floor_queue.specs.declared.request.Request.{Request}
 use Rattle.floor_queue.specs.Order.{names, position}
 use Rattle.floor_machine.specs.Shown.{status_number, entry_of, floor_status}
-use Rattle.floor_machine.proofs.information.showing.floor_shown.Goals as goal
+use Rattle.floor_machine.proofs.information.settled.OngoingRequest.floor_shown.Goals as goal
 
 pub position-position-requires-clause-asked : goal.position-position-requires-clause-asked
 position-position-requires-clause-asked c =
     let P : Option Request → Type 0 = λ o. IsSomeAnd o (λ r. IsTrue (names r c.args.requested.now.floor)) in
-    subst P (sym c.requires.found) c.requires.named
+    subst P (sym c.args.self.now.found) c.requires
 
 pub returns : goal.returns
 returns c =
     let floor = c.args.requested.now.floor in
-    let q = c.args.requests.now in
-    let status : c.number-status.result ≡ status_number (floor_status (entry_of c.args.request.now) c.args.requested.now) =
+    let q = c.args.self.now.settled.requests.now in
+    let status : c.number-status.result ≡ status_number (floor_status (entry_of c.args.self.now.request.now) c.args.requested.now) =
     c.number-status.ensures ∙ ap status_number c.floor_status.ensures in
-    let place : c.position-position.result ≡ position q.floors q.ongoing c.args.request.now floor =
-    c.position-position.ensures ∙ ap (λ (o : Option Request). option_map_or (λ r. position q.floors q.ongoing r floor) o 0) c.requires.found in
+    let place : c.position-position.result ≡ position q.floors q.ongoing c.args.self.now.request.now floor =
+    c.position-position.ensures ∙ ap (λ (o : Option Request). option_map_or (λ r. position q.floors q.ongoing r floor) o 0) c.args.self.now.found in
     let made : ℕ → ℕ → ℕ × Option (ℕ × ℕ) = λ s p. (floor, Some (s, p)) in
     ap (λ (s : ℕ). made s c.position-position.result) status
-    ∙ ap (made (status_number (floor_status (entry_of c.args.request.now) c.args.requested.now))) place
+    ∙ ap (made (status_number (floor_status (entry_of c.args.self.now.request.now) c.args.requested.now))) place
