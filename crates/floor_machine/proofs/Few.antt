@@ -32,12 +32,12 @@ use Rattle.floor_message.specs.declared.code.ErrorCode.TheVariants.{InvalidFloor
 use Rattle.floor_message.specs.declared.head.Head.{Head}
 use Rattle.floor_message.specs.declared.tell.Tell.{Tell}
 use Rattle.floor_message.specs.declared.tell.Tell.TheVariants.{FloorRequestStatus, Error}
+use Rattle.floor_message.specs.declared.status.RequestStatus.{RequestStatus}
 use Rattle.floor_machine.specs.declared.event.Event.{Event}
 use Rattle.floor_machine.specs.declared.event.Event.TheVariants.{Join, Message, Leave, Revoke, Close}
 use Rattle.floor_machine.specs.declared.change.judged.Judged.{Judged}
 use Rattle.floor_machine.specs.declared.change.judged.Judged.TheVariants.{Accepted, Refused}
 use Rattle.floor_machine.specs.declared.member.Member.{Member}
-use Rattle.floor_machine.specs.declared.status.RequestStatus.{RequestStatus}
 use Rattle.floor_machine.specs.Amount.{MessageIsShort}
 use Rattle.floor_machine.specs.Conference.{Conference, binding, member_with, opening, user_of}
 use Rattle.floor_machine.specs.Shown.{Entry, entry_of, info_of, ongoing_of}

@@ -14,9 +14,9 @@ use Rattle.floor_message.specs.declared.ask.Ask.{Ask}
 use Rattle.floor_message.specs.declared.ask.Ask.TheVariants.{FloorRequest, FloorRelease, FloorRequestQuery, UserQuery, FloorQuery, ChairAction, Hello}
 use Rattle.floor_message.specs.declared.ask.Verdict.{Verdict}
 use Rattle.floor_message.specs.declared.ask.Verdict.TheVariants.{Accepted, Granted, Denied, Revoked}
+use Rattle.floor_message.specs.declared.status.RequestStatus.{RequestStatus}
+use Rattle.floor_message.specs.declared.status.RequestStatus.TheVariants as status
 use Rattle.floor_machine.specs.declared.member.Member.{Member}
-use Rattle.floor_machine.specs.declared.status.RequestStatus.{RequestStatus}
-use Rattle.floor_machine.specs.declared.status.RequestStatus.TheVariants as status
 use Rattle.floor_machine.specs.Conference.{Conference, is_user, is_live, is_present, user_of, binding}
 use Rattle.floor_machine.specs.declared.event.Event.{Event}
 use Rattle.floor_machine.specs.declared.event.Event.TheVariants.{Join, Message, Leave, Revoke, Close}

@@ -1,6 +1,7 @@
 -- What a reader has to believe, in the order of reading.
 pub mod Primitive
 pub mod Code
+pub mod Status
 pub mod Binding
 pub mod Text
 pub mod Picked

@@ -17,9 +17,8 @@ ghost use Rattle.floor_machine.specs.steps.Telling.{AreInfos};
 use crate::conference::State;
 use crate::course::{Course, Ended, begin};
 use crate::marks::{Mark, mark_ongoing, mark_request};
-use crate::status::RequestStatus;
 use floor_config::{Config, Floor};
-use floor_message::{Ask, ErrorCode, Verdict};
+use floor_message::{Ask, ErrorCode, RequestStatus, Verdict};
 use floor_queue::{Request, Requests, Word};
 use std::alloc::{AllocError, Global};
 

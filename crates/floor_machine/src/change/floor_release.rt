@@ -12,8 +12,7 @@ ghost use Rattle.floor_machine.specs.steps.Telling.{AreInfos};
 use crate::conference::State;
 use crate::course::{Course, Ended, begin};
 use crate::marks::{Mark, mark_request};
-use crate::status::RequestStatus;
-use floor_message::{Ask, ErrorCode};
+use floor_message::{Ask, ErrorCode, RequestStatus};
 use floor_queue::{Request, Requests};
 use std::alloc::{AllocError, Global};
 

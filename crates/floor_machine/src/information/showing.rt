@@ -12,9 +12,8 @@ ghost use Rattle.floor_machine.specs.steps.Telling.{ended_floor_shown, entry_of_
 
 use crate::course::Ended;
 use crate::lookup::find_user;
-use crate::status::RequestStatus;
 use floor_config::{Config, Text};
-use floor_message::{FloorStatuses, Info, Who};
+use floor_message::{FloorStatuses, Info, RequestStatus, Who};
 use floor_queue::{FloorStatus, Request, RequestedFloor, Requests};
 use floor_wire::Octets;
 use std::alloc::{AllocError, Global};
