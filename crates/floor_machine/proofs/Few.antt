@@ -33,6 +33,7 @@ use Rattle.floor_message.specs.declared.head.Head.{Head}
 use Rattle.floor_message.specs.declared.tell.Tell.{Tell}
 use Rattle.floor_message.specs.declared.tell.Tell.TheVariants.{FloorRequestStatus, Error}
 use Rattle.floor_message.specs.declared.status.RequestStatus.{RequestStatus}
+use Rattle.floor_message.specs.Head.{response_head}
 use Rattle.floor_machine.specs.declared.event.Event.{Event}
 use Rattle.floor_machine.specs.declared.event.Event.TheVariants.{Join, Message, Leave, Revoke, Close}
 use Rattle.floor_machine.specs.declared.change.judged.Judged.{Judged}
@@ -45,7 +46,7 @@ use Rattle.floor_machine.specs.Checks.{first_of, refusal, when}
 use Rattle.floor_machine.specs.Change.{asked_change, change, decided_at, dismissed, ending, ends_at, ends_without, entries_after, is_final, leaving, message_change, next, no_change, released, shown}
 use Rattle.floor_machine.specs.Same.{same_infos}
 use Rattle.floor_machine.specs.Reply.{answer_tells, floor_answers, floor_status_tell, headed, infos, infos_on, reply, reply_tells, request_answer}
-use Rattle.floor_machine.specs.Outgoing.{Outgoing, notice, outgoing_bytes, response_head}
+use Rattle.floor_machine.specs.Outgoing.{Outgoing, notice, outgoing_bytes}
 use Rattle.floor_machine.specs.Told.{Changed, changed_floors, changed_of, changed_requests, floor_notices, is_changed, is_sender, is_told, reply_to, request_notices, told, told_to}
 use Rattle.floor_machine.specs.Journal.{after_from, told_from, IsLawfulFrom}
 use Rattle.floor_machine.specs.steps.Serving.{MayServe, is_rising, judged, members_judged, numbers_in}

@@ -2,6 +2,7 @@
 pub mod Primitive
 pub mod Code
 pub mod Status
+pub mod Head
 pub mod Binding
 pub mod Text
 pub mod Picked

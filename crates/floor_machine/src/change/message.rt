@@ -5,11 +5,11 @@ ghost use Rattle.floor_config.specs.Configuration.{user_ids};
 ghost use Rattle.floor_queue.specs.Queue.{IsSettled};
 ghost use Rattle.floor_message.specs.Ask.{Answer, ask, asks};
 ghost use Rattle.floor_message.specs.Fits.{AskFits};
+ghost use Rattle.floor_message.specs.Head.{response_head};
 ghost use Rattle.floor_message.specs.Laws.{CountsFit};
 ghost use Rattle.floor_message.specs.Shown.{IsShown};
 ghost use Rattle.floor_machine.specs.Checks as checks;
 ghost use Rattle.floor_machine.specs.Conference.{user_of};
-ghost use Rattle.floor_machine.specs.Outgoing.{response_head};
 ghost use Rattle.floor_machine.specs.steps.Fitting.{AreAddable, DetailsFit};
 ghost use Rattle.floor_machine.specs.steps.Serving as serving;
 ghost use Rattle.floor_machine.specs.steps.Serving.{IsState, IsTaken, MayServe, conference_of};
@@ -17,10 +17,10 @@ ghost use Rattle.floor_machine.specs.steps.Telling.{AreInfos};
 
 use crate::change::judged::Judged;
 use crate::change::queries::hello_tells;
-use crate::change::reply::{Reply, one, response_head};
+use crate::change::reply::{Reply, one};
 use crate::conference::State;
 use crate::course::{Course, Ended};
-use floor_message::{Ask, AskFault, Binding, ErrorCode, Tell, read_ask, what_is_asked_fits};
+use floor_message::{Ask, AskFault, Binding, ErrorCode, Head, Tell, read_ask, what_is_asked_fits};
 use floor_wire::{Frame, Octets};
 use std::alloc::{AllocError, Global};
 
@@ -188,7 +188,7 @@ impl State {
         let tells = self.answer(alloc, ended, user, judged)?;
         Ok(Reply {
             n,
-            head: response_head(frame),
+            head: Head::response(frame),
             tells,
         })
     }

@@ -3,7 +3,6 @@
 ghost use Rattle.std.specs.Prelude.{◌≡◌, ◌∷◌, [], All, IfOk};
 ghost use Rattle.floor_queue.specs.Queue.{IsSettled};
 ghost use Rattle.floor_message.specs.Shown.{IsShown};
-ghost use Rattle.floor_machine.specs.Outgoing.{response_head};
 ghost use Rattle.floor_machine.specs.steps.Fitting.{AreAddable};
 ghost use Rattle.floor_machine.specs.steps.Serving as serving;
 ghost use Rattle.floor_machine.specs.steps.Serving.{conference_of};
@@ -12,7 +11,6 @@ use crate::conference::State;
 use crate::course::Ended;
 use crate::information::shown::shown_at;
 use floor_message::{Head, Tell};
-use floor_wire::Frame;
 use std::alloc::{AllocError, Global};
 
 /// What the sender of a message is answered.
@@ -57,16 +55,4 @@ pub(crate) fn one(alloc: Global, tell: Tell) -> Result<Vec<Tell>, AllocError>
     let mut tells = Vec::with_capacity(alloc, 1)?;
     tells.push(tell)?;
     Ok(tells)
-}
-
-/// The head of a response: the ids of the message that it answers (section 8.1).
-pub(crate) fn response_head(frame: &Frame) -> Head
-    ensures { result ≡ response_head frame.now }
-{
-    let header = frame.header();
-    Head {
-        conference: header.conference(),
-        transaction: header.transaction(),
-        user: header.user(),
-    }
 }

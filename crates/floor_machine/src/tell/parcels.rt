@@ -320,11 +320,7 @@ fn write_floor_notice(
         ≡ notices.old.items ++ floor_notice conference update.now ∷ []) }
 {
     what_is_shown_fits();
-    let head = Head {
-        conference,
-        transaction: 0,
-        user: 0,
-    };
+    let head = Head::notice(conference, 0);
     let frame = write_tell(alloc, &head, &update.tell)?;
     notices.push(FloorNotice {
         floor: update.floor,
@@ -347,11 +343,7 @@ fn put_notice(
       tell = tell.now;
     } ∷ []) }
 {
-    let head = Head {
-        conference,
-        transaction: 0,
-        user: member.user,
-    };
+    let head = Head::notice(conference, member.user);
     put(alloc, out, member.n, &head, tell)
 }
 
