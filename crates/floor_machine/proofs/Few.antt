@@ -12,7 +12,7 @@ use Rattle.std.proofs.lemmas.Map.Made.{length-le_from_is_member}
 use Rattle.floor_config.specs.Configuration.{Configuration, IsConfiguration}
 use Rattle.floor_config.specs.declared.config.Floor.{Floor}
 use Rattle.floor_queue.specs.declared.request.Request.{Request}
-use Rattle.floor_queue.specs.Queue.{is_floor, numbers_of}
+use Rattle.floor_queue.specs.Queue.{numbers_of}
 use Rattle.floor_message.specs.Ask.{Answer, asks, refused, unanswered, ask}
 use Rattle.floor_wire.specs.Header.{header_bytes}
 use Rattle.floor_wire.specs.Spelling.{canon}
@@ -21,6 +21,7 @@ use Rattle.floor_message.specs.Written.{message_bytes, tell_attrs, tell_primitiv
 use Rattle.floor_message.specs.Primitive.{primitive_number}
 use Rattle.floor_message.specs.declared.primitive.Primitive.{Primitive}
 use Rattle.floor_wire.specs.declared.attribute.Attr.{Attr}
+use Rattle.floor_config.specs.Lookup.{is_floor}
 use Rattle.floor_message.specs.Code.{code_number}
 use Rattle.floor_message.specs.Fits.{AskFits}
 use Rattle.floor_message.specs.Laws.{CountsFit, WhatIsAskedFits}

@@ -4,6 +4,7 @@ use Rattle.std.specs.List.{list_all}
 use Rattle.std.specs.Option.{option_map_or}
 use Rattle.floor_config.specs.Configuration.{Configuration}
 use Rattle.floor_config.specs.declared.config.Floor.{Floor}
+use Rattle.floor_config.specs.Lookup.{user_with}
 use Rattle.floor_queue.specs.declared.request.Request.{Request}
 use Rattle.floor_queue.specs.declared.requested_floor.RequestedFloor.{RequestedFloor}
 use Rattle.floor_queue.specs.Requested.{is_accepted}
@@ -13,7 +14,6 @@ use Rattle.floor_message.specs.declared.status.RequestStatus.{RequestStatus}
 use Rattle.floor_message.specs.declared.status.RequestStatus.TheVariants.{Pending, Accepted, Granted}
 use Rattle.floor_message.specs.declared.tell.Who.{Who}
 use Rattle.floor_message.specs.declared.tell.Info.{Info}
-use Rattle.floor_machine.specs.Conference.{user_with}
 
 -- a floor request as an event leaves it: ongoing, or ended with a status
 pub record Entry : Type 0 where

@@ -9,7 +9,6 @@ mod course;
 mod event;
 mod information;
 mod laws;
-mod lookup;
 mod machine;
 mod marks;
 mod member;
