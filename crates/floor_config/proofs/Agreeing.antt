@@ -1,18 +1,18 @@
 -- A table is read as what is built of its parts.
-use Rattle.std.proofs.Common.{◌≡◌, ℕ, suc, ◌≤◌, Bool, true, false, not, cond, ◌&&◌, ◌||◌, ◌==◌, nat_le, List, [], ◌∷◌, length, map, Option, Some, None, Result, Ok, Err, option_and_then, refl, sym, ap, ◌∙◌, arith}
+use Rattle.std.proofs.Common.{◌≡◌, ℕ, suc, Bool, true, false, not, cond, ◌&&◌, ◌||◌, ◌==◌, nat_le, List, [], ◌∷◌, length, map, Option, Some, None, Result, Ok, Err, option_and_then, refl, sym, ap, ◌∙◌}
 use Rattle.std.specs.Prelude.{ℤ, pos, negsuc, codes, unwrap_or}
 use Rattle.std.specs.List.{list_any, list_all}
 use Rattle.std.proofs.lemmas.Bool.{and_parts}
-use Rattle.toml.specs.Data.{Data, Members, Items, as_integer, as_str, as_array, get_member}
+use Rattle.toml.specs.Data.{Data, Members, as_integer, get_member}
 use Rattle.floor_config.specs.declared.fault.ConfigFault.{ConfigFault}
-use Rattle.floor_config.specs.declared.fault.ConfigFault.TheVariants.{WrongType, OutOfRange, DoubleUser, DoubleFloor, UnknownChair}
+use Rattle.floor_config.specs.declared.fault.ConfigFault.TheVariants.{OutOfRange, DoubleUser, DoubleFloor, UnknownChair}
 use Rattle.floor_config.specs.declared.config.User.{User}
 use Rattle.floor_config.specs.declared.config.Floor.{Floor}
 use Rattle.floor_config.specs.Doubles.{has_double}
 use Rattle.floor_config.specs.Configuration.{Configuration, user_ids, floor_ids}
 use Rattle.floor_config.specs.Limits.{is_within, unless_empty, is_known, chairs_are_known}
 use Rattle.floor_config.specs.Outcome.{◌>>=◌}
-use Rattle.floor_config.specs.Values.{of_kind, within, number_of, text_of, flag_of, tables_of, few_tables_of, needed, optional, optional_text}
+use Rattle.floor_config.specs.Values.{of_kind, within, number_of, flag_of, tables_of, needed, optional, optional_text}
 use Rattle.floor_config.specs.Reading.{user_of, floor_of, all_of, unless_double, users_of, floors_of, conference_of}
 use Rattle.floor_config.specs.Building.{text_fits, port_fits, user_fits, users_fit, floor_fits, floors_fit, without_empty_texts, unless, built}
 use Rattle.floor_config.specs.Parts.{any_text, short, user_part, floor_part, parts_at, parts_of, ReadIsBuilt}

@@ -1,5 +1,6 @@
 pub mod Doubles
 pub mod Configuration
+pub mod Lookup
 pub mod Names
 pub mod Outcome
 pub mod Limits

@@ -7,9 +7,10 @@ use Rattle.floor_machine.specs.declared.event.Event.TheVariants.{Join, Message, 
 use Rattle.floor_machine.specs.declared.machine.Refusal.TheVariants.{Broken, Ended, NoMember, NoUser, Full, NoRequest, Memory}
 use Rattle.floor_machine.specs.Parcel.{Parcel}
 use Rattle.floor_machine.specs.declared.machine.Refusal.{Refusal}
-use Rattle.floor_machine.specs.Conference.{Conference, is_live, is_user}
+use Rattle.floor_machine.specs.Conference.{Conference, is_live}
 use Rattle.floor_machine.specs.Machine.{event_refusal, whole}
 use Rattle.std.specs.Option.{option_map}
+use Rattle.floor_config.specs.Lookup.{is_user}
 use Rattle.floor_machine.specs.Journal.{parcels_of, sent_to}
 use Rattle.floor_room.specs.declared.refusal.RoomRefusal.{RoomRefusal}
 use Rattle.floor_room.specs.declared.refusal.RoomRefusal.TheVariants.{JournalFull, Refused as ByMachine}

@@ -9,12 +9,12 @@ use Rattle.floor_queue.specs.declared.request.Request.{Request}
 use Rattle.floor_queue.specs.Queue.{IsAddable, IsQueue, first_request, new_of}
 use Rattle.floor_message.specs.declared.ask.Ask.{Ask}
 use Rattle.floor_message.specs.declared.ask.Ask.TheVariants.{FloorRequest, FloorRelease, FloorRequestQuery, UserQuery, FloorQuery, ChairAction, Hello}
+use Rattle.floor_message.specs.declared.status.RequestStatus.{RequestStatus}
 use Rattle.floor_machine.specs.declared.course.Course.{Course}
 use Rattle.floor_machine.specs.declared.course.Ended.{Ended}
 use Rattle.floor_machine.specs.declared.change.judged.Judged.{Judged}
 use Rattle.floor_machine.specs.declared.change.judged.Judged.TheVariants.{Accepted, Refused, Unanswered}
 use Rattle.floor_machine.specs.declared.conference.State.{State}
-use Rattle.floor_machine.specs.declared.status.RequestStatus.{RequestStatus}
 use Rattle.floor_machine.specs.declared.event.Event.TheVariants.{Leave, Revoke}
 use Rattle.floor_machine.specs.Conference.{Conference, user_of}
 use Rattle.floor_machine.specs.Shown.{Entry, entry_of}

@@ -6,9 +6,10 @@ use Rattle.std.specs.Option.{option_map_or}
 use Rattle.std.proofs.lemmas.Bool.Decides.{nat_tests}
 use Rattle.std.proofs.lemmas.List.Elements.{All-nil, All-cons}
 use Rattle.floor_config.specs.Doubles.{AllDiffer}
+use Rattle.floor_config.specs.Lookup.{is_floor, is_user, has_proxy, chair_is}
 use Rattle.floor_queue.specs.declared.request.Request.{Request}
 use Rattle.floor_queue.specs.Order.{names}
-use Rattle.floor_queue.specs.Queue.{is_floor, request_at}
+use Rattle.floor_queue.specs.Queue.{request_at}
 use Rattle.floor_message.specs.Picked.{IsOnceBy}
 use Rattle.floor_message.specs.Fits.{AskFits, FloorRequestFits, TextFits}
 use Rattle.floor_message.specs.Laws.{CountsFit}
@@ -18,7 +19,7 @@ use Rattle.floor_message.specs.declared.ask.Ask.TheVariants.{FloorRequest, Floor
 use Rattle.floor_message.specs.declared.code.ErrorCode.{ErrorCode}
 use Rattle.floor_message.specs.declared.code.ErrorCode.TheVariants.{FloorRequestIdDoesNotExist, UnauthorizedOperation, UserDoesNotExist, InvalidFloorId, GenericError, MaximumFloorRequestsReached}
 use Rattle.floor_machine.specs.declared.change.judged.Judged.TheVariants.{Accepted}
-use Rattle.floor_machine.specs.Conference.{Conference, is_user, has_proxy, chair_is}
+use Rattle.floor_machine.specs.Conference.{Conference}
 use Rattle.floor_machine.specs.Checks.{Check, when, first_of, beneficiary_of, requests_for, release_checks, chair_checks, is_allowed, refusal}
 use Rattle.floor_machine.specs.steps.Serving.{HasRoom, MayServe}
 use Rattle.floor_machine.proofs.Found.{and_left, and_right}

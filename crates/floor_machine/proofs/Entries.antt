@@ -8,8 +8,8 @@ use Rattle.floor_config.specs.declared.config.Floor.{Floor}
 use Rattle.floor_queue.specs.declared.request.Request.{Request}
 use Rattle.floor_queue.specs.Order.{settle, is_due, granted_if}
 use Rattle.floor_queue.specs.Queue.{request_at, numbers_of}
+use Rattle.floor_message.specs.declared.status.RequestStatus.{RequestStatus}
 use Rattle.floor_machine.specs.declared.course.Ended.{Ended}
-use Rattle.floor_machine.specs.declared.status.RequestStatus.{RequestStatus}
 use Rattle.floor_machine.specs.Shown.{Entry, entry_of, ongoing_of, settle_entries}
 use Rattle.floor_machine.specs.steps.Telling.{entry_of_ended, entry_at}
 use Rattle.floor_machine.specs.steps.Serving.{ended_of, numbers_in, is_rising}

@@ -12,7 +12,7 @@ use Rattle.std.proofs.lemmas.Map.Made.{length-le_from_is_member}
 use Rattle.floor_config.specs.Configuration.{Configuration, IsConfiguration}
 use Rattle.floor_config.specs.declared.config.Floor.{Floor}
 use Rattle.floor_queue.specs.declared.request.Request.{Request}
-use Rattle.floor_queue.specs.Queue.{is_floor, numbers_of}
+use Rattle.floor_queue.specs.Queue.{numbers_of}
 use Rattle.floor_message.specs.Ask.{Answer, asks, refused, unanswered, ask}
 use Rattle.floor_wire.specs.Header.{header_bytes}
 use Rattle.floor_wire.specs.Spelling.{canon}
@@ -21,6 +21,7 @@ use Rattle.floor_message.specs.Written.{message_bytes, tell_attrs, tell_primitiv
 use Rattle.floor_message.specs.Primitive.{primitive_number}
 use Rattle.floor_message.specs.declared.primitive.Primitive.{Primitive}
 use Rattle.floor_wire.specs.declared.attribute.Attr.{Attr}
+use Rattle.floor_config.specs.Lookup.{is_floor}
 use Rattle.floor_message.specs.Code.{code_number}
 use Rattle.floor_message.specs.Fits.{AskFits}
 use Rattle.floor_message.specs.Laws.{CountsFit, WhatIsAskedFits}
@@ -32,12 +33,13 @@ use Rattle.floor_message.specs.declared.code.ErrorCode.TheVariants.{InvalidFloor
 use Rattle.floor_message.specs.declared.head.Head.{Head}
 use Rattle.floor_message.specs.declared.tell.Tell.{Tell}
 use Rattle.floor_message.specs.declared.tell.Tell.TheVariants.{FloorRequestStatus, Error}
+use Rattle.floor_message.specs.declared.status.RequestStatus.{RequestStatus}
+use Rattle.floor_message.specs.Head.{response_head}
 use Rattle.floor_machine.specs.declared.event.Event.{Event}
 use Rattle.floor_machine.specs.declared.event.Event.TheVariants.{Join, Message, Leave, Revoke, Close}
 use Rattle.floor_machine.specs.declared.change.judged.Judged.{Judged}
 use Rattle.floor_machine.specs.declared.change.judged.Judged.TheVariants.{Accepted, Refused}
 use Rattle.floor_machine.specs.declared.member.Member.{Member}
-use Rattle.floor_machine.specs.declared.status.RequestStatus.{RequestStatus}
 use Rattle.floor_machine.specs.Amount.{MessageIsShort}
 use Rattle.floor_machine.specs.Conference.{Conference, binding, member_with, opening, user_of}
 use Rattle.floor_machine.specs.Shown.{Entry, entry_of, info_of, ongoing_of}
@@ -45,7 +47,7 @@ use Rattle.floor_machine.specs.Checks.{first_of, refusal, when}
 use Rattle.floor_machine.specs.Change.{asked_change, change, decided_at, dismissed, ending, ends_at, ends_without, entries_after, is_final, leaving, message_change, next, no_change, released, shown}
 use Rattle.floor_machine.specs.Same.{same_infos}
 use Rattle.floor_machine.specs.Reply.{answer_tells, floor_answers, floor_status_tell, headed, infos, infos_on, reply, reply_tells, request_answer}
-use Rattle.floor_machine.specs.Outgoing.{Outgoing, notice, outgoing_bytes, response_head}
+use Rattle.floor_machine.specs.Outgoing.{Outgoing, notice, outgoing_bytes}
 use Rattle.floor_machine.specs.Told.{Changed, changed_floors, changed_of, changed_requests, floor_notices, is_changed, is_sender, is_told, reply_to, request_notices, told, told_to}
 use Rattle.floor_machine.specs.Journal.{after_from, told_from, IsLawfulFrom}
 use Rattle.floor_machine.specs.steps.Serving.{MayServe, is_rising, judged, members_judged, numbers_in}

@@ -8,13 +8,13 @@ use Rattle.std.proofs.lemmas.List.Elements.{All-nil, All-cons, All-append, All-f
 use Rattle.floor_config.specs.Configuration.{Configuration, IsConfiguration, IsUser, IsFloor}
 use Rattle.floor_config.specs.declared.config.Floor.{Floor}
 use Rattle.floor_config.specs.declared.config.User.{User}
+use Rattle.floor_config.specs.Lookup.{is_floor, user_with}
 use Rattle.floor_queue.specs.declared.request.Request.{Request}
 use Rattle.floor_queue.specs.declared.requested_floor.RequestedFloor.{RequestedFloor}
-use Rattle.floor_queue.specs.Queue.{Queue, IsAddable, IsQueue, is_floor, new_of, request_at}
+use Rattle.floor_queue.specs.Queue.{Queue, IsAddable, IsQueue, new_of, request_at}
 use Rattle.floor_message.specs.Shown.{AreShown, IsDescribed, IsNamed, IsShown, IsShownInfo}
 use Rattle.floor_message.specs.declared.tell.Info.{Info}
 use Rattle.floor_machine.specs.declared.tell.changed.FloorUpdate.{FloorUpdate}
-use Rattle.floor_machine.specs.Conference.{user_with}
 use Rattle.floor_machine.specs.Shown.{Entry, info, info_of, named, described, floor_shown}
 use Rattle.floor_machine.specs.Reply.{infos_on}
 use Rattle.floor_machine.specs.steps.Telling.{AreInfos, floor_update, floors_changed, is_one_of}

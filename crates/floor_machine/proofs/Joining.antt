@@ -5,9 +5,10 @@ use Rattle.std.proofs.lemmas.Bool.Decides.{nat_tests}
 use Rattle.floor_queue.specs.declared.request.Request.{Request}
 use Rattle.floor_queue.specs.Order.{settle}
 use Rattle.floor_wire.specs.Message.{IsMessage}
+use Rattle.floor_config.specs.Lookup.{is_user}
 use Rattle.floor_machine.specs.declared.machine.Refusal.TheVariants.{Broken, Ended, NoMember, NoUser, Full}
 use Rattle.floor_machine.specs.declared.member.Member.{Member}
-use Rattle.floor_machine.specs.Conference.{Conference, is_user, is_live, is_numbered_from}
+use Rattle.floor_machine.specs.Conference.{Conference, is_live, is_numbered_from}
 use Rattle.floor_machine.specs.declared.event.Event.TheVariants.{Join, Message}
 use Rattle.floor_machine.specs.Shown.{entry_of}
 use Rattle.floor_machine.specs.Change.{change, shown, next, IsLawful}

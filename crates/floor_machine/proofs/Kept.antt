@@ -8,6 +8,7 @@ use Rattle.floor_queue.specs.Queue.{is_ascending}
 use Rattle.floor_message.specs.Ask.{ask}
 use Rattle.floor_message.specs.Shown.{IsShown}
 use Rattle.floor_message.specs.declared.ask.Ask.TheVariants.{FloorRequest, FloorRelease, FloorRequestQuery, UserQuery, FloorQuery, ChairAction, Hello}
+use Rattle.floor_message.specs.Head.{response_head}
 use Rattle.floor_machine.specs.declared.event.Event.{Event}
 use Rattle.floor_machine.specs.declared.event.Event.TheVariants.{Message}
 use Rattle.floor_machine.specs.declared.change.judged.Judged.{Judged}
@@ -21,7 +22,6 @@ use Rattle.floor_machine.specs.Shown.{Entry, entry_of}
 use Rattle.floor_machine.specs.Change.{Change, change, next, shown}
 use Rattle.floor_machine.specs.steps.Fitting.{AreFloorsShown, AreUpdatesShown, IsReplyShown, IsToldShown}
 use Rattle.floor_machine.specs.Journal.{parcels_of}
-use Rattle.floor_machine.specs.Outgoing.{response_head}
 use Rattle.floor_machine.specs.Reply.{infos}
 use Rattle.floor_machine.specs.steps.Serving.{IsJudged, changes_requests, ended_of, is_rising, judged_change, judged_tells, members_judged, numbers_in}
 use Rattle.floor_machine.specs.steps.Telling.{answered_to, floor_update, is_watched_by, parcels_to_all}

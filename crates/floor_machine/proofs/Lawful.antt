@@ -2,13 +2,14 @@
 use Rattle.std.proofs.Common.{◌≡◌, ◌≢◌, ℕ, ◌<◌, Bool, true, false, cond, Some, None, refl, sym, ap, arith}
 use Rattle.std.specs.Prelude.{not, nat_le, count_by, is_some}
 use Rattle.std.proofs.lemmas.Bool.Decides.{nat_tests}
+use Rattle.floor_config.specs.Lookup.{is_user}
 use Rattle.floor_queue.specs.Queue.{request_at}
 use Rattle.floor_machine.specs.declared.event.Act.{Act}
 use Rattle.floor_machine.specs.declared.event.Event.{Event}
 use Rattle.floor_machine.specs.declared.event.Event.TheVariants.{Join, Message, Leave, Revoke, Close}
 use Rattle.floor_machine.specs.declared.machine.Refusal.{Refusal}
 use Rattle.floor_machine.specs.declared.machine.Refusal.TheVariants.{Broken, Ended, NoMember, NoUser, Full, NoRequest, Memory}
-use Rattle.floor_machine.specs.Conference.{Conference, is_user, is_live}
+use Rattle.floor_machine.specs.Conference.{Conference, is_live}
 use Rattle.floor_machine.specs.Change.{IsLawful}
 use Rattle.floor_machine.specs.Laws.{IsWhole, TakenIsLawful}
 use Rattle.floor_machine.specs.Machine.{Machine, whole, act_refusal, event_of_act, event_refusal, member_refusal}

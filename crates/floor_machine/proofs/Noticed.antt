@@ -5,13 +5,14 @@ use Rattle.std.proofs.lemmas.Bool.{or_left, or_right}
 use Rattle.floor_wire.specs.Header.{addressed}
 use Rattle.floor_message.specs.Written.{tell_bytes}
 use Rattle.floor_message.specs.declared.tell.Tell.{Tell}
+use Rattle.floor_message.specs.Head.{notice_head}
 use Rattle.floor_machine.specs.declared.member.Member.{Member}
 use Rattle.floor_machine.specs.Parcel.{Parcel}
 use Rattle.floor_machine.specs.declared.tell.changed.FloorUpdate.{FloorUpdate}
 use Rattle.floor_machine.specs.declared.reply.Reply.{Reply}
 use Rattle.floor_machine.specs.declared.tell.changed.Update.{Update}
 use Rattle.floor_machine.specs.Journal.{parcel}
-use Rattle.floor_machine.specs.Outgoing.{notice, notice_head, outgoing_bytes}
+use Rattle.floor_machine.specs.Outgoing.{notice, outgoing_bytes}
 use Rattle.floor_machine.specs.steps.Telling.{answered_to, floor_notice, floor_notice_to, floor_update_to, is_due_to, is_noticed, is_watched, is_watched_by, noticed_to, noticed_to_all, parcels_to, parcels_to_all, update_to}
 
 -- a message that is written for nobody and then addressed is the message to the user

@@ -15,9 +15,10 @@ use Rattle.floor_queue.specs.Order.{ahead, due_numbers, earlier, earlier_by_prio
 use Rattle.floor_queue.specs.Queue.{is_ascending, request_at, without}
 use Rattle.floor_queue.specs.Requested.{is_granting}
 use Rattle.floor_message.specs.declared.ask.Verdict.{Verdict}
+use Rattle.floor_message.specs.Status.{status_number}
 use Rattle.floor_machine.specs.declared.marks.Mark.{Mark}
 use Rattle.floor_machine.specs.Change.{decided, decided_at}
-use Rattle.floor_machine.specs.Shown.{entry_of, floor_shown, floor_status, info, overall_status, status_number}
+use Rattle.floor_machine.specs.Shown.{entry_of, floor_shown, floor_status, info, overall_status}
 use Rattle.floor_machine.specs.steps.Marks.{AreNoted, KeepsNoted, concerns, is_before, is_marked, is_noted, has_granting_chair, mark_of, marks_at, marks_waiting, precedes, waiting_mark}
 use Rattle.floor_machine.specs.steps.Telling.{info_with}
 use Rattle.floor_machine.proofs.Found.{and_left, and_right, or_right, request_at_place, same_number}

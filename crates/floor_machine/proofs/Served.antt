@@ -16,6 +16,7 @@ use Rattle.floor_message.specs.declared.head.Head.{Head}
 use Rattle.floor_message.specs.declared.tell.Info.{Info}
 use Rattle.floor_message.specs.declared.tell.Tell.{Tell}
 use Rattle.floor_message.specs.declared.tell.Tell.TheVariants.{FloorRequestStatus, UserStatus, Error}
+use Rattle.floor_message.specs.Head.{response_head}
 use Rattle.floor_machine.specs.declared.course.Course.{Course}
 use Rattle.floor_machine.specs.declared.course.Ended.{Ended}
 use Rattle.floor_machine.specs.declared.change.judged.Judged.TheVariants.{Accepted, Refused}
@@ -31,7 +32,7 @@ use Rattle.floor_machine.specs.declared.event.Event.TheVariants.{Message}
 use Rattle.floor_machine.specs.Shown.{Entry, ongoing_of, settle_entries, info_of, described}
 use Rattle.floor_machine.specs.Checks.{refusal}
 use Rattle.floor_machine.specs.Change.{Change, change, message_change, no_change, asked_change, given_after, shown, next}
-use Rattle.floor_machine.specs.Outgoing.{Outgoing, response_head}
+use Rattle.floor_machine.specs.Outgoing.{Outgoing}
 use Rattle.floor_machine.specs.Reply.{infos, infos_of_user, request_answer, answer_tells, reply_tells, headed, reply}
 use Rattle.floor_machine.specs.Told.{changed_of, changed_requests, changed_floors, is_changed, reply_to}
 use Rattle.floor_machine.specs.Journal.{parcels_of}

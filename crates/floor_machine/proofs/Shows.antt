@@ -7,9 +7,10 @@ use Rattle.floor_queue.specs.declared.request.Request.{Request}
 use Rattle.floor_queue.specs.declared.requested_floor.RequestedFloor.{RequestedFloor}
 use Rattle.floor_queue.specs.Order.{names}
 use Rattle.floor_message.specs.declared.tell.Info.{Info}
+use Rattle.floor_message.specs.Status.{status_number}
 use Rattle.floor_machine.specs.declared.course.Ended.{Ended}
 use Rattle.floor_machine.specs.declared.information.shown.Shown.{Shown}
-use Rattle.floor_machine.specs.Shown.{Entry, entry_of, info, info_of, overall_status, status_number, floor_shown}
+use Rattle.floor_machine.specs.Shown.{Entry, entry_of, info, info_of, overall_status, floor_shown}
 use Rattle.floor_machine.specs.Reply.{infos_on}
 use Rattle.floor_machine.specs.steps.Telling.{ended_floor_shown, entry_of_ended, info_with, position_shown, shown_of}
 

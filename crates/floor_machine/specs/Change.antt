@@ -3,6 +3,7 @@ use Rattle.std.specs.Prelude.{◌≡◌, ℕ, ◌+◌, ◌<◌, ◌==◌, ◌&&�
 use Rattle.std.specs.List.{list_any}
 use Rattle.std.specs.Option.{option_map_or}
 use Rattle.floor_wire.specs.Message.{IsMessage}
+use Rattle.floor_config.specs.Lookup.{is_user}
 use Rattle.floor_queue.specs.declared.request.Request.{Request}
 use Rattle.floor_queue.specs.declared.requested_floor.FloorStatus.TheVariants.{Accepted as AcceptedFloor}
 use Rattle.floor_queue.specs.declared.requested_floor.RequestedFloor.{RequestedFloor}
@@ -14,10 +15,10 @@ use Rattle.floor_message.specs.declared.ask.Ask.{Ask}
 use Rattle.floor_message.specs.declared.ask.Ask.TheVariants.{FloorRequest, FloorRelease, FloorRequestQuery, UserQuery, FloorQuery, ChairAction, Hello}
 use Rattle.floor_message.specs.declared.ask.Verdict.{Verdict}
 use Rattle.floor_message.specs.declared.ask.Verdict.TheVariants.{Accepted, Granted, Denied, Revoked}
+use Rattle.floor_message.specs.declared.status.RequestStatus.{RequestStatus}
+use Rattle.floor_message.specs.declared.status.RequestStatus.TheVariants as status
 use Rattle.floor_machine.specs.declared.member.Member.{Member}
-use Rattle.floor_machine.specs.declared.status.RequestStatus.{RequestStatus}
-use Rattle.floor_machine.specs.declared.status.RequestStatus.TheVariants as status
-use Rattle.floor_machine.specs.Conference.{Conference, is_user, is_live, is_present, user_of, binding}
+use Rattle.floor_machine.specs.Conference.{Conference, is_live, is_present, user_of, binding}
 use Rattle.floor_machine.specs.declared.event.Event.{Event}
 use Rattle.floor_machine.specs.declared.event.Event.TheVariants.{Join, Message, Leave, Revoke, Close}
 use Rattle.floor_machine.specs.Shown.{Entry, entry_of, ongoing_of, settle_entries}

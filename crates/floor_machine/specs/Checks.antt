@@ -2,16 +2,17 @@
 use Rattle.std.specs.Prelude.{ℕ, ◌==◌, ◌&&◌, ◌||◌, not, nat_lt, nat_le, if◌then◌else◌, Bool, true, List, [], ◌∷◌, length, count_by, Option, Some, None, unwrap_or}
 use Rattle.std.specs.List.{list_any, list_all}
 use Rattle.std.specs.Option.{option_map_or}
+use Rattle.floor_config.specs.Lookup.{is_floor, is_user, has_proxy, chair_is}
 use Rattle.floor_queue.specs.declared.request.Request.{Request}
 use Rattle.floor_queue.specs.Order.{names}
-use Rattle.floor_queue.specs.Queue.{request_at, involves, is_floor}
+use Rattle.floor_queue.specs.Queue.{request_at, involves}
 use Rattle.floor_message.specs.declared.ask.Ask.{Ask}
 use Rattle.floor_message.specs.declared.ask.Ask.TheVariants.{FloorRequest, FloorRelease, FloorRequestQuery, UserQuery, FloorQuery, ChairAction, Hello}
 use Rattle.floor_message.specs.declared.ask.Verdict.{Verdict}
 use Rattle.floor_message.specs.declared.ask.Verdict.TheVariants.{Accepted, Granted, Denied, Revoked}
 use Rattle.floor_message.specs.declared.code.ErrorCode.{ErrorCode}
 use Rattle.floor_message.specs.declared.code.ErrorCode.TheVariants.{UserDoesNotExist, UnauthorizedOperation, InvalidFloorId, FloorRequestIdDoesNotExist, MaximumFloorRequestsReached, GenericError}
-use Rattle.floor_machine.specs.Conference.{Conference, is_user, has_proxy, chair_is}
+use Rattle.floor_machine.specs.Conference.{Conference}
 
 -- a check: it applies, and then this error code answers
 pub record Check : Type 0 where

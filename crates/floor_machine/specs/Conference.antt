@@ -1,9 +1,8 @@
 -- The state of one conference (RFC 8855, sections 3 and 4).
-use Rattle.std.specs.Prelude.{ℕ, ◌+◌, ◌==◌, ◌&&◌, Bool, true, false, List, [], ◌∷◌, find, Option, is_some}
+use Rattle.std.specs.Prelude.{ℕ, ◌+◌, ◌==◌, ◌&&◌, Bool, true, List, [], ◌∷◌, find, Option, is_some}
 use Rattle.std.specs.List.{list_any}
 use Rattle.std.specs.Option.{option_map_or}
 use Rattle.floor_config.specs.Configuration.{Configuration, user_ids}
-use Rattle.floor_config.specs.declared.config.User.{User}
 use Rattle.floor_queue.specs.declared.request.Request.{Request}
 use Rattle.floor_message.specs.Binding.{Binding}
 use Rattle.floor_machine.specs.declared.member.Member.{Member}
@@ -20,22 +19,6 @@ pub record Conference : Type 0 where
 -- a conference as it opens: nobody has joined, and nothing is requested
 abbrev pub opening : Configuration → Conference
 opening config = record { config = config; given = 0; ongoing = []; members = []; is_open = true }
-
--- the user with this User ID
-abbrev pub user_with : Configuration → ℕ → Option User
-user_with config id = find (λ user. user.id == id) config.users
-
--- the configuration has a user with this User ID
-abbrev pub is_user : Configuration → ℕ → Bool
-is_user config id = is_some (user_with config id)
-
--- the user may ask for others (section 10.1.1: on behalf of a third party)
-abbrev pub has_proxy : Configuration → ℕ → Bool
-has_proxy config id = option_map_or (λ user. user.proxy) (user_with config id) false
-
--- the floor has this chair (section 11)
-abbrev pub chair_is : Configuration → ℕ → ℕ → Bool
-chair_is config floor user = list_any (λ f. f.id == floor && option_map_or (λ chair. chair == user) f.chair false) config.floors
 
 -- the live member with this number
 abbrev pub member_with : List Member → ℕ → Option Member

@@ -1,11 +1,12 @@
 -- The floor machine of one conference, as contracts see it.
 use Rattle.std.specs.Prelude.{◌≡◌, ◌≢◌, ℕ, ◌<◌, List, [], ◌∷◌, ◌++◌, true, length, take, drop, not, nat_le, if◌then◌else◌, Bool, false, count_by, Option, Some, None, is_some, Result, Ok, Err}
+use Rattle.floor_config.specs.Lookup.{is_user}
 use Rattle.floor_machine.specs.declared.machine.Refusal.{Refusal}
 use Rattle.floor_machine.specs.declared.machine.Refusal.TheVariants.{Broken, Ended, NoMember, NoUser, Full, NoRequest, Memory}
 use Rattle.floor_machine.specs.declared.event.Act.{Act}
 use Rattle.floor_machine.specs.declared.event.Event.{Event}
 use Rattle.floor_queue.specs.Queue.{request_at}
-use Rattle.floor_machine.specs.Conference.{Conference, is_user, is_live}
+use Rattle.floor_machine.specs.Conference.{Conference, is_live}
 use Rattle.floor_machine.specs.Change.{IsLawful, next}
 use Rattle.floor_machine.specs.Fitting.{ToldFits}
 use Rattle.floor_machine.specs.Parcel.{Parcel}

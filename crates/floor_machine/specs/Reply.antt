@@ -12,13 +12,14 @@ use Rattle.floor_message.specs.declared.head.Head.{Head}
 use Rattle.floor_message.specs.declared.tell.Info.{Info}
 use Rattle.floor_message.specs.declared.tell.Tell.{Tell}
 use Rattle.floor_message.specs.declared.tell.Tell.TheVariants.{FloorRequestStatus, UserStatus, FloorStatus, ChairActionAck, HelloAck, Error}
+use Rattle.floor_message.specs.Head.{response_head}
 use Rattle.floor_machine.specs.Conference.{Conference, user_of, binding}
 use Rattle.floor_machine.specs.declared.event.Event.{Event}
 use Rattle.floor_machine.specs.declared.event.Event.TheVariants.{Message}
 use Rattle.floor_machine.specs.Shown.{Entry, ongoing_of, info, info_of, described}
 use Rattle.floor_machine.specs.Checks.{refusal}
 use Rattle.floor_machine.specs.Change.{shown, next}
-use Rattle.floor_machine.specs.Outgoing.{Outgoing, response_head, notice}
+use Rattle.floor_machine.specs.Outgoing.{Outgoing, notice}
 
 -- the primitives that the server supports: all that are sent over a reliable transport
 abbrev pub supported_primitives : List ℕ

@@ -4,15 +4,16 @@ use Rattle.std.specs.List.{list_all}
 use Rattle.std.specs.Option.{option_map_or}
 use Rattle.floor_config.specs.Configuration.{Configuration}
 use Rattle.floor_config.specs.declared.config.Floor.{Floor}
+use Rattle.floor_config.specs.Lookup.{user_with}
 use Rattle.floor_queue.specs.declared.request.Request.{Request}
 use Rattle.floor_queue.specs.declared.requested_floor.RequestedFloor.{RequestedFloor}
 use Rattle.floor_queue.specs.Requested.{is_accepted}
 use Rattle.floor_queue.specs.Order.{is_due, granted_if, position}
+use Rattle.floor_message.specs.Status.{status_number}
+use Rattle.floor_message.specs.declared.status.RequestStatus.{RequestStatus}
+use Rattle.floor_message.specs.declared.status.RequestStatus.TheVariants.{Pending, Accepted, Granted}
 use Rattle.floor_message.specs.declared.tell.Who.{Who}
 use Rattle.floor_message.specs.declared.tell.Info.{Info}
-use Rattle.floor_machine.specs.declared.status.RequestStatus.{RequestStatus}
-use Rattle.floor_machine.specs.declared.status.RequestStatus.TheVariants.{Pending, Accepted, Granted, Denied, Cancelled, Released, Revoked}
-use Rattle.floor_machine.specs.Conference.{user_with}
 
 -- a floor request as an event leaves it: ongoing, or ended with a status
 pub record Entry : Type 0 where
@@ -33,16 +34,6 @@ settle_entries floors entries =
     map {A = Entry} (λ e. if is_none e.ending
     then record e { request = granted_if (is_due floors (ongoing_of entries) e.request) e.request }
     else e) entries
-
--- the number that tells a status (section 5.2.5)
-abbrev pub status_number : RequestStatus → ℕ
-status_number Pending = 1
-status_number Accepted = 2
-status_number Granted = 3
-status_number Denied = 4
-status_number Cancelled = 5
-status_number Released = 6
-status_number Revoked = 7
 
 -- the status of a request: how it ended; else Granted; else Accepted where all its floors are, and Pending where one isn't
 abbrev pub overall_status : Entry → RequestStatus

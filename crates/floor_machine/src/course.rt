@@ -6,8 +6,7 @@ ghost use Rattle.std.specs.Prelude.{◌≡◌, ◌==◌, [], IfOk, find};
 ghost use Rattle.floor_queue.specs.Queue.{IsQueue, numbers_of};
 
 use crate::marks::Mark;
-use crate::status::RequestStatus;
-use floor_message::Info;
+use floor_message::{Info, RequestStatus};
 use floor_queue::{Request, Requests};
 use std::alloc::{AllocError, Global};
 use std::mem;

@@ -10,7 +10,6 @@ mod event;
 mod information;
 mod joined;
 mod laws;
-mod lookup;
 mod machine;
 mod marks;
 mod member;
@@ -19,12 +18,11 @@ mod outcome;
 mod parcel;
 mod reply;
 mod running;
-mod status;
 mod tell;
 
 pub use event::{Act, Event, MAX_EVENTS};
 pub use floor_config::{Config, Floor, User};
-pub use floor_message::{Ask, Head, Info, Tell};
+pub use floor_message::{Ask, Head, Info, RequestStatus, Tell};
 pub use floor_wire::{Frame, Numbers, Octets};
 pub use laws::{
     events_tell_few, journals_keep, members_come_and_stay, refusals_are_quiet, runs_add_up,
@@ -34,4 +32,3 @@ pub use machine::{Machine, Refusal};
 pub use member::Member;
 pub use parcel::Parcel;
 pub use running::Stopped;
-pub use status::RequestStatus;

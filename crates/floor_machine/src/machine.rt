@@ -8,7 +8,6 @@ ghost use Rattle.floor_machine.specs.steps.Events.{HasNumber, IsSilent, event_of
 
 use crate::conference::State;
 use crate::event::{Act, BorrowedEvent, Event};
-use crate::lookup::is_user;
 use crate::parcel::Parcel;
 use floor_config::Config;
 use floor_message::what_is_shown_fits;
@@ -147,7 +146,7 @@ impl Machine {
             Some(Refusal::Broken)
         } else if !self.state.is_open {
             Some(Refusal::Ended)
-        } else if !is_user(&self.state.config, user) {
+        } else if !self.state.config.is_user(user) {
             Some(Refusal::NoUser)
         } else if self.state.members.live() >= MAX_LIVE {
             Some(Refusal::Full)

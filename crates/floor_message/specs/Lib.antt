@@ -1,6 +1,8 @@
 -- What a reader has to believe, in the order of reading.
 pub mod Primitive
 pub mod Code
+pub mod Status
+pub mod Head
 pub mod Binding
 pub mod Text
 pub mod Picked

@@ -20,6 +20,7 @@ mod infos;
 mod kind;
 mod laws;
 mod primitive;
+mod status;
 mod tell;
 mod tell_reader;
 mod tell_writer;
@@ -39,6 +40,7 @@ pub use laws::{
     what_is_asked_fits, what_is_shown_fits, what_is_written_is_short,
 };
 pub use primitive::Primitive;
+pub use status::RequestStatus;
 pub use tell::{Info, Tell, TellFault, Who};
 pub use tell_reader::read_tell;
 pub use tell_writer::write_tell;

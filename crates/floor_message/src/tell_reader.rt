@@ -32,19 +32,8 @@ pub fn read_tell(alloc: Global, frame: &Frame) -> Result<(Head, Tell), TellFault
 {
     let header = frame.header();
     match told(alloc, &header, &frame.bytes()[12..])? {
-        Some(tell) => Ok((head_of(&header), tell)),
+        Some(tell) => Ok((Head::response(frame), tell)),
         None => Err(TellFault::BadMessage),
-    }
-}
-
-/// The fields of a header that a message is answered by.
-fn head_of(header: &Header) -> Head
-    ensures { result ≡ spec.head_of header.now }
-{
-    Head {
-        conference: header.conference(),
-        transaction: header.transaction(),
-        user: header.user(),
     }
 }
 

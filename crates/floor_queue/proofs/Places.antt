@@ -8,11 +8,12 @@ use Rattle.std.proofs.lemmas.Bool.{lt-ltb}
 use Rattle.std.proofs.lemmas.List.Elements.{All-head, All-tail, All-weaker}
 use Rattle.std.proofs.lemmas.List.Sums.{list_all-from_AllPass, AllPass-from_list_all}
 use Rattle.floor_config.specs.declared.config.Floor.{Floor}
+use Rattle.floor_config.specs.Lookup.{is_floor}
 use Rattle.floor_queue.specs.declared.request.Request.{Request}
 use Rattle.floor_queue.specs.declared.requested_floor.RequestedFloor.{RequestedFloor}
 use Rattle.floor_queue.specs.Requested.{is_accepted}
 use Rattle.floor_queue.specs.Order.{names, waits, earlier, holders, ahead, room_of, is_due, granted_if, settle, position}
-use Rattle.floor_queue.specs.Queue.{Queue, IsQueue, IsSettled, IsAddable, is_floor, new_of, request_at}
+use Rattle.floor_queue.specs.Queue.{Queue, IsQueue, IsSettled, IsAddable, new_of, request_at}
 use Rattle.floor_queue.proofs.Counts.{one, count_le, count_none, counted, three_le, and_left, and_right, and_both, list_all_mono}
 use Rattle.floor_queue.proofs.Earlier.{earlier_irreflexive, earlier_trans, IsAmong, skip, skip_right, none_then, back}
 use Rattle.floor_queue.proofs.Settling.{due_waits}

@@ -1,9 +1,9 @@
-//! Which ongoing floor requests are due, and their queue positions, by the lines of their floors.
+//! Which ongoing floor requests are due, by the lines of their floors.
 
-ghost use Rattle.std.specs.Prelude.{◌≡◌, ◌≤◌, ◌==◌, ◌&&◌, ◌||◌, ℕ, IfOk, OnOk, IsSome, IsTrue, find};
+ghost use Rattle.std.specs.Prelude.{◌≡◌, ◌==◌, ◌&&◌, ◌||◌, ℕ, IfOk, OnOk};
 ghost use Rattle.std.specs.List.{list_any, list_all};
-ghost use Rattle.floor_queue.specs.Order.{due_numbers, position};
-ghost use Rattle.floor_queue.specs.steps.Lines.{AreLines, IsLined, has_place, is_due_in, is_number_due, line_has_due, line_shows, rank_shows};
+ghost use Rattle.floor_queue.specs.Order.{due_numbers};
+ghost use Rattle.floor_queue.specs.steps.Lines.{IsLined, has_place, is_due_in, is_number_due, line_has_due, line_shows, rank_shows};
 ghost use Rattle.floor_queue.specs.steps.Numbers.{is_in};
 
 use crate::index::line::Line;
@@ -16,29 +16,6 @@ use crate::request::Request;
 use crate::requested_floor::RequestedFloor;
 use floor_config::Floor;
 use std::alloc::{AllocError, Global};
-
-/// The queue position of the request for the floor: 0 where it doesn't wait.
-pub(crate) fn position(
-    floors: &[Floor],
-    lines: &Lines,
-    requests: &Ongoing,
-    request: &Request,
-    floor: u16,
-) -> u8
-    requires fits { position floors.now requests.now request.now floor ≤ 255 }
-    requires lines { AreLines floors.now requests.now lines.now }
-    requires named { IsSome (find (λ l. l.floor == floor) lines.now) }
-    ensures { result ≡ position floors.now requests.now request.now floor }
-{
-    if request.waits() {
-        match lines.of(floor) {
-            Some(line) => (line.place(rank_of(floors, request)) - line.holders() + 1) as u8,
-            None => 0,
-        }
-    } else {
-        0
-    }
-}
 
 /// Whether the floor has a place for the rank within its room.
 fn has_place(floors: &[Floor], lines: &Lines, rank: Rank, floor: u16) -> bool

@@ -16,8 +16,8 @@ mod request;
 mod requested_floor;
 mod requests;
 
-pub use addable::{MAX_FLOORS, is_floor};
-pub use floor_config::{Config, Floor};
+pub use addable::MAX_FLOORS;
+pub use floor_config::{Config, Floor, is_floor};
 pub use floor_wire::{Numbers, Octets};
 pub use laws::{
     finds_by_number, keeps_order, keeps_places, keeps_room, positions_fit, settles_once,

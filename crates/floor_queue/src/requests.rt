@@ -172,7 +172,11 @@ impl Requests {
         ensures { result ≡ position_of self.now request floor }
     {
         match self.get(request) {
-            Some(found) => { due::position(&self.floors, &self.lines, &self.ongoing, found, floor) }
+            Some(found) if found.waits() => match self.lines.of(floor) {
+                Some(line) => (line.place(rank_of(&self.floors, found)) - line.holders() + 1) as u8,
+                None => 0,
+            },
+            Some(_) => 0,
             None => 0,
         }
     }

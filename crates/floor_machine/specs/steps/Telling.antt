@@ -14,6 +14,7 @@ use Rattle.floor_message.specs.Shown.{IsShownInfo}
 use Rattle.floor_message.specs.declared.tell.Info.{Info}
 use Rattle.floor_message.specs.declared.tell.Tell.{Tell}
 use Rattle.floor_message.specs.declared.tell.Tell.TheVariants.{FloorRequestStatus, FloorStatus}
+use Rattle.floor_message.specs.Head.{notice_head}
 use Rattle.floor_machine.specs.declared.member.Member.{Member}
 use Rattle.floor_machine.specs.Parcel.{Parcel}
 use Rattle.floor_machine.specs.declared.course.Ended.{Ended}
@@ -24,7 +25,7 @@ use Rattle.floor_machine.specs.declared.tell.parcels.FloorNotice.{FloorNotice}
 use Rattle.floor_machine.specs.declared.tell.changed.FloorUpdate.{FloorUpdate}
 use Rattle.floor_machine.specs.Shown.{Entry, entry_of, info, info_of, named}
 use Rattle.floor_machine.specs.Same.{same_infos}
-use Rattle.floor_machine.specs.Outgoing.{Outgoing, notice, notice_head}
+use Rattle.floor_machine.specs.Outgoing.{Outgoing, notice}
 use Rattle.floor_machine.specs.Reply.{infos_on}
 use Rattle.floor_machine.specs.Told.{is_changed, is_status_of}
 use Rattle.floor_machine.specs.Journal.{parcel}

@@ -2,14 +2,13 @@
 //! 11.1 and 13.6).
 
 ghost use Rattle.std.specs.List.{list_all, list_any};
-ghost use Rattle.std.specs.Option.{option_map_or};
-ghost use Rattle.std.specs.Prelude.{◌≡◌, ◌&&◌, ◌++◌, ◌==◌, ◌∷◌, [], All, IfOk, IfSome, IsSome, OnOk, false, map};
+ghost use Rattle.std.specs.Prelude.{◌≡◌, ◌++◌, ◌∷◌, [], All, IfOk, IfSome, IsSome, OnOk, map};
+ghost use Rattle.floor_config.specs.Lookup.{chair_is};
 ghost use Rattle.floor_queue.specs.Order.{names};
 ghost use Rattle.floor_queue.specs.Queue.{MaySetFloor, after_end, request_at};
 ghost use Rattle.floor_machine.specs.Change as change;
 ghost use Rattle.floor_machine.specs.Checks as checks;
 ghost use Rattle.floor_machine.specs.Checks.{chair_checks, first_of, on_request};
-ghost use Rattle.floor_machine.specs.Conference.{chair_is};
 ghost use Rattle.floor_machine.specs.steps.Marks.{KeepsNoted};
 ghost use Rattle.floor_machine.specs.steps.Serving.{IsChanged, MayDecide, after_decide, conference_of, ended_by};
 
@@ -17,7 +16,7 @@ use crate::change::ending::{EndedBy, end_request};
 use crate::conference::State;
 use crate::course::{Course, Ended, begin};
 use crate::marks::{Mark, mark_ongoing};
-use floor_config::{Config, Floor};
+use floor_config::Config;
 use floor_message::{Ask, ErrorCode, Verdict};
 use floor_queue::{Request, Requests, Word};
 use std::alloc::{AllocError, Global};
@@ -94,36 +93,11 @@ fn are_named(request: &Request, verdicts: &[(u16, Verdict)]) -> bool
     verdicts.iter().all(|v| request.names(v.0))
 }
 
-/// Whether the user is the chair of the floor.
-fn is_chair(floor: &Floor, user: u16) -> bool
-    ensures { result ≡ option_map_or (λ chair. chair == user) floor.now.chair false }
-{
-    match floor.chair {
-        Some(chair) => chair == user,
-        None => false,
-    }
-}
-
-fn has_chair(floors: &[Floor], floor: u16, user: u16) -> bool
-    ensures { result
-        ≡ list_any (λ f. f.id == floor && option_map_or (λ chair. chair == user) f.chair false)
-        floors.now }
-{
-    floors.iter().any(|f| f.id == floor && is_chair(f, user))
-}
-
-/// Whether the user is the chair of the floor with this number.
-fn chair_is(config: &Config, floor: u16, user: u16) -> bool
-    ensures { result ≡ chair_is config.now floor user }
-{
-    has_chair(config.floors(), floor, user)
-}
-
 /// Whether the user is the chair of the floor of each verdict.
 fn are_chaired(config: &Config, user: u16, verdicts: &[(u16, Verdict)]) -> bool
     ensures { result ≡ list_all (λ v. chair_is config.now v.0 user) verdicts.now }
 {
-    verdicts.iter().all(|v| chair_is(config, v.0, user))
+    verdicts.iter().all(|v| config.has_chair(v.0, user))
 }
 
 /// Whether the verdict is one that the request's state allows.

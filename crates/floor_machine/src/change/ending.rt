@@ -10,7 +10,7 @@ ghost use Rattle.floor_machine.specs.steps.Serving.{IsChanged, conference_of};
 use crate::conference::State;
 use crate::course::{Course, Ended, begin};
 use crate::marks::{Mark, mark_request};
-use crate::status::RequestStatus;
+use floor_message::RequestStatus;
 use floor_queue::{Request, Requests};
 use std::alloc::{AllocError, Global};
 

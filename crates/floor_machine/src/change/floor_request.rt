@@ -14,7 +14,6 @@ ghost use Rattle.floor_machine.specs.steps.Serving.{HasRoom, IsChanged, conferen
 use crate::conference::State;
 use crate::course::{Course, begin};
 use crate::information::showing::copied;
-use crate::lookup::{are_floors, has_proxy, is_user};
 use crate::marks::{Mark, mark_ongoing};
 use floor_message::{Ask, ErrorCode};
 use floor_queue::{MAX_FLOORS, MAX_ONGOING, New, Request, Requests};
@@ -32,13 +31,13 @@ impl State {
         ensures { result
             ≡ first_of (request_checks (conference_of self.now) user beneficiary floors.now) }
     {
-        if beneficiary != user && !has_proxy(&self.config, user) {
+        if beneficiary != user && !self.config.has_proxy(user) {
             return Some(ErrorCode::UnauthorizedOperation);
         }
-        if !is_user(&self.config, beneficiary) {
+        if !self.config.is_user(beneficiary) {
             return Some(ErrorCode::UserDoesNotExist);
         }
-        if !are_floors(self.config.floors(), floors) {
+        if !self.config.has_floors(floors) {
             return Some(ErrorCode::InvalidFloorId);
         }
         if floors.len() > MAX_FLOORS {

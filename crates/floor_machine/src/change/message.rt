@@ -4,11 +4,11 @@ ghost use Rattle.std.specs.Prelude.{◌≡◌, All, IfOk, OnOk};
 ghost use Rattle.floor_config.specs.Configuration.{user_ids};
 ghost use Rattle.floor_message.specs.Ask.{Answer, ask, asks};
 ghost use Rattle.floor_message.specs.Fits.{AskFits};
+ghost use Rattle.floor_message.specs.Head.{response_head};
 ghost use Rattle.floor_message.specs.Laws.{CountsFit};
 ghost use Rattle.floor_message.specs.Shown.{IsShown};
 ghost use Rattle.floor_machine.specs.Checks as checks;
 ghost use Rattle.floor_machine.specs.Conference.{user_of};
-ghost use Rattle.floor_machine.specs.Outgoing.{response_head};
 ghost use Rattle.floor_machine.specs.steps.Fitting.{DetailsFit};
 ghost use Rattle.floor_machine.specs.steps.Serving as serving;
 ghost use Rattle.floor_machine.specs.steps.Serving.{IsTaken, MayServe, conference_of};
@@ -16,12 +16,12 @@ ghost use Rattle.floor_machine.specs.steps.Serving.{IsTaken, MayServe, conferenc
 use crate::change::ending::EndedBy;
 use crate::change::judged::Judged;
 use crate::change::queries::hello_tells;
-use crate::change::reply::{one, response_head};
+use crate::change::reply::one;
 use crate::conference::State;
 use crate::course::Course;
 use crate::outcome::Outcome;
 use crate::reply::Reply;
-use floor_message::{Ask, AskFault, Binding, ErrorCode, Tell, read_ask, what_is_asked_fits};
+use floor_message::{Ask, AskFault, Binding, ErrorCode, Head, Tell, read_ask, what_is_asked_fits};
 use floor_wire::{Frame, Octets};
 use std::alloc::{AllocError, Global};
 
@@ -179,7 +179,7 @@ impl Outcome<'_> {
         let tells = self.answer(alloc, user, judged)?;
         Ok(Reply {
             n,
-            head: response_head(frame),
+            head: Head::response(frame),
             tells,
         })
     }

@@ -3,10 +3,9 @@
 ghost use Rattle.std.specs.List.{list_all};
 ghost use Rattle.std.specs.Option.{option_map_or};
 ghost use Rattle.std.specs.Prelude.{◌≡◌, ◌∷◌, [], All, IfOk, IfSome, Some, map, not, option_map, true, unwrap_or};
-ghost use Rattle.floor_queue.specs.Queue.{is_floor};
+ghost use Rattle.floor_config.specs.Lookup.{is_floor, is_user};
 ghost use Rattle.floor_message.specs.Shown.{AreShown, IsDescribed, IsShown};
 ghost use Rattle.floor_machine.specs.Checks.{first_of, on_request, when};
-ghost use Rattle.floor_machine.specs.Conference.{is_user};
 ghost use Rattle.floor_machine.specs.Reply as reply;
 ghost use Rattle.floor_machine.specs.Shown as shown;
 ghost use Rattle.floor_machine.specs.steps.Serving.{conference_of};
@@ -16,7 +15,6 @@ use crate::change::reply::one;
 use crate::conference::State;
 use crate::information::copying::{floor_status, infos_with_user};
 use crate::information::showing::described;
-use crate::lookup::{are_floors, is_user};
 use crate::outcome::Outcome;
 use floor_config::Config;
 use floor_message::{ErrorCode, Info, Infos, Tell, Who};
@@ -43,7 +41,7 @@ impl State {
         match beneficiary {
             None => None,
             Some(user) => {
-                if is_user(&self.config, user) {
+                if self.config.is_user(user) {
                     None
                 } else {
                     Some(ErrorCode::UserDoesNotExist)
@@ -58,7 +56,7 @@ impl State {
             ≡ first_of (when (not (list_all (is_floor self.now.config.floors) floors.now))
             ErrorCode.InvalidFloorId ∷ []) }
     {
-        if are_floors(self.config.floors(), floors) {
+        if self.config.has_floors(floors) {
             None
         } else {
             Some(ErrorCode::InvalidFloorId)

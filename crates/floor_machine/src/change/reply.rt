@@ -2,13 +2,11 @@
 
 ghost use Rattle.std.specs.Prelude.{◌≡◌, ◌∷◌, [], All, IfOk};
 ghost use Rattle.floor_message.specs.Shown.{IsShown};
-ghost use Rattle.floor_machine.specs.Outgoing.{response_head};
 ghost use Rattle.floor_machine.specs.steps.Serving as serving;
 
 use crate::information::settled::Settled;
 use crate::outcome::Outcome;
 use floor_message::{Head, Tell};
-use floor_wire::Frame;
 use std::alloc::{AllocError, Global};
 
 impl Outcome<'_> {
@@ -39,16 +37,4 @@ pub(crate) fn one(alloc: Global, tell: Tell) -> Result<Vec<Tell>, AllocError>
     let mut tells = Vec::with_capacity(alloc, 1)?;
     tells.push(tell)?;
     Ok(tells)
-}
-
-/// The head of a response: the ids of the message that it answers (section 8.1).
-pub(crate) fn response_head(frame: &Frame) -> Head
-    ensures { result ≡ response_head frame.now }
-{
-    let header = frame.header();
-    Head {
-        conference: header.conference(),
-        transaction: header.transaction(),
-        user: header.user(),
-    }
 }

@@ -12,10 +12,8 @@ ghost use Rattle.floor_machine.specs.steps.Telling.{ended_floor_shown, entry_of_
 
 use crate::course::Ended;
 use crate::information::settled::OngoingRequest;
-use crate::lookup::find_user;
-use crate::status::RequestStatus;
 use floor_config::{Config, Text};
-use floor_message::{FloorStatuses, Info, Who};
+use floor_message::{FloorStatuses, Info, RequestStatus, Who};
 use floor_queue::{FloorStatus, Request, RequestedFloor};
 use floor_wire::Octets;
 use std::alloc::{AllocError, Global};
@@ -98,7 +96,7 @@ fn named(alloc: Global, config: &Config, id: u16) -> Result<Who, AllocError>
     ensures value { IfOk result (λ who. who ≡ spec.named config.now id) }
     ensures kept { IsConfiguration config.now }
 {
-    match find_user(config.users(), id) {
+    match config.user(id) {
         Some(user) => {
             let name = octets_of(alloc, &user.name)?;
             Ok(Who {
@@ -121,7 +119,7 @@ pub(crate) fn described(alloc: Global, config: &Config, id: u16) -> Result<Who, 
     ensures kept { IsConfiguration config.now }
     ensures range { id < 2 ^ 16 }
 {
-    match find_user(config.users(), id) {
+    match config.user(id) {
         Some(user) => {
             let name = octets_of(alloc, &user.name)?;
             let uri = octets_of(alloc, &user.uri)?;

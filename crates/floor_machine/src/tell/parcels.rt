@@ -243,11 +243,7 @@ fn put_updates(
 {
     for update in updates.as_slice() {
         if is_due_to(reply, member, update) {
-            let head = Head {
-                conference,
-                transaction: 0,
-                user: member.user,
-            };
+            let head = Head::notice(conference, member.user);
             put(alloc, out, member.n, &head, &update.tell)?;
         }
     }
@@ -317,11 +313,7 @@ fn write_floor_notice(
         ≡ notices.old.items ++ floor_notice conference update.now ∷ []) }
 {
     what_is_shown_fits();
-    let head = Head {
-        conference,
-        transaction: 0,
-        user: 0,
-    };
+    let head = Head::notice(conference, 0);
     let frame = write_tell(alloc, &head, &update.tell)?;
     notices.push(FloorNotice {
         floor: update.floor,

@@ -10,7 +10,7 @@ returns-in-Some-clause-value c =
     tell_is c.args.frame.now c.header-header.result _ c.in_ok-tell.field-0 c.header-header.ensures
     (rw (c.bytes.ensures.value, take_rest c.args.frame.now 12) refl) c.in_ok-tell.ensures
     ∙ ap (λ o. option_map (λ t. (head_of c.header-header.result, t)) o) c.in-Some.is
-    ∙ ap (λ h. Some (h, c.in-Some.tell)) (sym c.head_of.ensures)
+    ∙ ap (λ h. Some (h, c.in-Some.tell)) (ap head_of c.header-header.ensures ∙ sym c.response.ensures)
 
 pub returns-in-None-clause-bad_message : goal.returns-in-None-clause-bad_message
 returns-in-None-clause-bad_message c = λ _.

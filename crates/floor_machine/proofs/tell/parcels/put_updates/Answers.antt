@@ -16,7 +16,7 @@ loop-update-preserved c =
     elim c.if-is_due_to.branch [
       | then-is_due_to+in_ok-put w ↦
           let passes : is_due_to c.args.reply.now member c.update-item.result ≡ true = sym c.is_due_to.ensures ∙ w.if-is_due_to.true in
-          rw (w.out-is, w.in_ok-put.ensures, c.loop-update.invariant)
+          rw (w.out-is, w.in_ok-put.ensures, w.notice-head.ensures, c.loop-update.invariant)
           (step_yes (is_due_to c.args.reply.now member) (λ (u : Update). parcel member.n (update_to c.args.conference member u)) c.args.out.now.items c.args.updates.now c.loop-update.update-index c.update-item.result within is passes)
       | else-is_due_to w ↦
           let fails : is_due_to c.args.reply.now member c.update-item.result ≡ false = sym c.is_due_to.ensures ∙ w.if-is_due_to.false in

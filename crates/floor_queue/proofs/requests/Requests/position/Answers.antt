@@ -1,34 +1,67 @@
-use Rattle.std.proofs.Common.{◌≡◌, ◌∙◌, ap, sym, subst, refl, Option, Some}
-use Rattle.std.specs.Prelude.{IsSomeAnd, IsTrue}
+use Rattle.std.proofs.Common.{◌≡◌, ◌==◌, ◌∙◌, ◌+◌, ◌≤◌, Option, Some, ap, arith, false, refl, subst, sym, true}
+use Rattle.std.specs.Prelude.{IsSome, IsSomeAnd, IsTrue, find}
 use Rattle.floor_queue.specs.declared.request.Request.{Request}
-use Rattle.floor_queue.specs.Order.{names}
-use Rattle.floor_queue.specs.Queue.{Queue, IsSettled, request_at}
+use Rattle.floor_queue.specs.Order.{ahead, holders, names, waits}
+use Rattle.floor_queue.specs.Queue.{Queue, IsSettled, position_of, request_at}
+use Rattle.floor_queue.specs.steps.Lines.{place_in, rank_of}
+use Rattle.floor_queue.proofs.Changing.{IsPlaced, is_placed}
 use Rattle.floor_queue.proofs.Lining.{has_line}
 use Rattle.floor_queue.proofs.Places.{among_found, position_fits}
 use Rattle.floor_queue.proofs.requests.Requests.position.Goals as goal
 
-pub position-requires-clause-lines : goal.position-requires-clause-lines
-position-requires-clause-lines c = rw c.deref.ensures.value c.self.invariant.1
+abbrev queue : goal.After-holders → Queue
+queue c = record { floors = c.self.inside.floors.items; given = c.self.inside.given; ongoing = c.self.inside.ongoing }
 
-pub position-requires-clause-named : goal.position-requires-clause-named
-position-requires-clause-named c =
+found : (c : goal.After-holders) → request_at c.self.inside.ongoing c.args.request ≡ Some c.in-Some.found.now
+found c = subst (λ (q : Queue). request_at q.ongoing c.args.request ≡ Some c.in-Some.found.now) (sym c.self.view_is) (sym c.in-Some.ensures)
+
+it_waits : (c : goal.After-holders) → waits c.in-Some.found.now ≡ true
+it_waits c = sym c.waits.ensures ∙ c.if-waits.true
+
+value : (c : goal.After-holders) → position_of c.args.self.now c.args.request c.args.floor ≡ 1 + ahead c.self.inside.floors.items c.self.inside.ongoing c.in-Some.found.now c.args.floor
+value c =
+    ap (λ (q : Queue). position_of q c.args.request c.args.floor) (sym c.self.view_is)
+    ∙ rw (found c, it_waits c) refl
+
+fits : (c : goal.After-holders) → 1 + ahead c.self.inside.floors.items c.self.inside.ongoing c.in-Some.found.now c.args.floor ≤ 255
+fits c =
+    rw (it_waits c) at
+    (position_fits (queue c) c.self.invariant.0 (subst IsSettled (sym c.self.view_is) c.requires.settled) c.in-Some.found.now (among_found c.self.inside.ongoing c.args.request c.in-Some.found.now (found c)) c.args.floor)
+
+placed : (c : goal.After-holders) → IsPlaced c.self.inside.floors.items c.self.inside.ongoing c.in-Some.found.now c.args.floor c.in-Some-of.line.now
+placed c =
+    is_placed c.self.inside.floors.items c.self.inside.ongoing c.self.inside.lines c.in-Some.found.now c.args.floor c.in-Some-of.line.now c.self.invariant.1 (sym c.in-Some-of.ensures)
+    (sym c.waits.ensures ∙ c.if-waits.true)
+
+place : (c : goal.After-holders) → c.place.result ≡ c.holders.result + ahead c.self.inside.floors.items c.self.inside.ongoing c.in-Some.found.now c.args.floor
+place c =
+    let at : c.place.result ≡ holders c.self.inside.ongoing c.args.floor + ahead c.self.inside.floors.items c.self.inside.ongoing c.in-Some.found.now c.args.floor =
+    c.place.ensures
+    ∙ ap (λ x. place_in x c.in-Some-of.line.now.ranks) (c.rank_of.ensures ∙ ap (λ fs. rank_of fs c.in-Some.found.now) c.deref.ensures.value)
+    ∙ (placed c).placed in
+    let held : c.holders.result ≡ holders c.self.inside.ongoing c.args.floor = c.holders.ensures ∙ (placed c).held in
+    omega (arith, at, held)
+
+pub overflow_sub-result : goal.overflow_sub-result
+overflow_sub-result c = omega (arith, place c)
+
+pub overflow_add-result : goal.overflow_add-result
+overflow_add-result c = omega (arith, place c, fits c)
+
+pub overflow_cast-result : goal.overflow_cast-result
+overflow_cast-result c = omega (arith, place c, fits c)
+
+pub returns-in-Some-of : goal.returns-in-Some-of
+returns-in-Some-of c = omega (arith, place c, value c)
+
+pub returns-in-None-of : goal.returns-in-None-of
+returns-in-None-of c =
     let q : Queue = record { floors = c.self.inside.floors.items; given = c.self.inside.given; ongoing = c.self.inside.ongoing } in
     let found : request_at q.ongoing c.args.request ≡ Some c.in-Some.found.now =
     subst (λ (q : Queue). request_at q.ongoing c.args.request ≡ Some c.in-Some.found.now) (sym c.self.view_is) (sym c.in-Some.ensures) in
     let named : IsSomeAnd (Some c.in-Some.found.now) (λ r. IsTrue (names r c.args.floor)) =
     subst (λ (o : Option Request). IsSomeAnd o (λ r. IsTrue (names r c.args.floor))) (sym c.in-Some.ensures) c.requires.asked in
-    has_line q c.self.inside.lines c.in-Some.found.now c.args.floor c.self.invariant.0 c.self.invariant.1 (among_found q.ongoing c.args.request c.in-Some.found.now found) named
-
-pub position-requires-clause-fits : goal.position-requires-clause-fits
-position-requires-clause-fits c =
-    let q : Queue = record { floors = c.self.inside.floors.items; given = c.self.inside.given; ongoing = c.self.inside.ongoing } in
-    let found : request_at q.ongoing c.args.request ≡ Some c.in-Some.found.now =
-    subst (λ (q : Queue). request_at q.ongoing c.args.request ≡ Some c.in-Some.found.now) (sym c.self.view_is) (sym c.in-Some.ensures) in
-    rw c.deref.ensures.value
-    (position_fits q c.self.invariant.0 (subst IsSettled (sym c.self.view_is) c.requires.settled) c.in-Some.found.now (among_found q.ongoing c.args.request c.in-Some.found.now found) c.args.floor)
-
-pub returns-in-Some : goal.returns-in-Some
-returns-in-Some c =
-    let floors : c.deref.result.now ≡ c.args.self.now.floors = c.deref.ensures.value ∙ ap (λ (q : Queue). q.floors) c.self.view_is in
-    let ongoing : c.self.inside.ongoing ≡ c.args.self.now.ongoing = ap (λ (q : Queue). q.ongoing) c.self.view_is in
-    c.position.ensures ∙ rw (floors, ongoing, ← c.in-Some.ensures) refl
+    let line : IsSome (find (λ l. l.floor == c.args.floor) c.self.inside.lines) =
+    has_line q c.self.inside.lines c.in-Some.found.now c.args.floor c.self.invariant.0 c.self.invariant.1 (among_found q.ongoing c.args.request c.in-Some.found.now found) named in
+    let none : false ≡ true = subst IsSome (sym c.in-None-of.ensures) line in
+    cc

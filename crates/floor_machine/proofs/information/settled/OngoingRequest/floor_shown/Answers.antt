@@ -3,7 +3,8 @@ use Rattle.std.specs.Prelude.{IsSomeAnd, IsTrue}
 use Rattle.std.specs.Option.{option_map_or}
 use Rattle.floor_queue.specs.declared.request.Request.{Request}
 use Rattle.floor_queue.specs.Order.{names, position}
-use Rattle.floor_machine.specs.Shown.{status_number, entry_of, floor_status}
+use Rattle.floor_message.specs.Status.{status_number}
+use Rattle.floor_machine.specs.Shown.{entry_of, floor_status}
 use Rattle.floor_machine.proofs.information.settled.OngoingRequest.floor_shown.Goals as goal
 
 pub position-position-requires-clause-asked : goal.position-position-requires-clause-asked

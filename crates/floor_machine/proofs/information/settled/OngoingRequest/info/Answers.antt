@@ -2,7 +2,8 @@ use Rattle.std.proofs.Common.{◌≡◌, ◌∙◌, ap, subst, ℕ, List, Option
 use Rattle.std.specs.Prelude.{IfOk}
 use Rattle.floor_config.specs.declared.config.Floor.{Floor}
 use Rattle.floor_message.specs.declared.tell.Info.{Info}
-use Rattle.floor_machine.specs.Shown.{status_number, overall_status, entry_of, floor_shown}
+use Rattle.floor_message.specs.Status.{status_number}
+use Rattle.floor_machine.specs.Shown.{overall_status, entry_of, floor_shown}
 use Rattle.floor_machine.specs.steps.Telling.{info_with}
 use Rattle.floor_machine.proofs.Fitting.{info_given, ongoing_addable}
 use Rattle.floor_machine.proofs.Shows.{info_with-ongoing}

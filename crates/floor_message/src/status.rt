@@ -1,7 +1,7 @@
-//! How a floor request stands (RFC 8855, section 5.2.5).
+//! The statuses of a floor request (RFC 8855, section 5.2.5).
 
 ghost use Rattle.std.specs.Prelude.{◌≡◌};
-ghost use Rattle.floor_machine.specs.Shown.{status_number};
+ghost use Rattle.floor_message.specs.Status.{status_number};
 
 /// The status of a floor request, or of one of its floors.
 #[derive(Clone, Copy, Debug, PartialEq, Eq)]
