@@ -1,10 +1,9 @@
 -- What a state is after a member has left, or a request is revoked, before the requests are settled.
-use Rattle.std.proofs.Common.{◌≡◌, ℕ, Bool, true, false, cond, List, [], ◌∷◌, ◌++◌, map, Option, Some, None, refl, sym, ap, subst, ◌∙◌}
-use Rattle.std.specs.Prelude.{◌==◌, ◌&&◌, not, filter, IfSome, IsSome}
+use Rattle.std.proofs.Common.{◌≡◌, ℕ, Bool, true, false, cond, List, [], ◌∷◌, ◌++◌, map, Some, None, refl, sym, ap, subst, ◌∙◌}
+use Rattle.std.specs.Prelude.{◌==◌, ◌&&◌, not, filter}
 use Rattle.std.specs.List.{flat_map}
-use Rattle.std.specs.Option.{option_map_or}
 use Rattle.floor_queue.specs.declared.request.Request.{Request}
-use Rattle.floor_queue.specs.Queue.{IsQueue, request_at, numbers_of, after_end}
+use Rattle.floor_queue.specs.Queue.{IsQueue, request_at, numbers_of}
 use Rattle.floor_machine.specs.declared.course.Course.{Course}
 use Rattle.floor_machine.specs.declared.course.Ended.{Ended}
 use Rattle.floor_machine.specs.declared.event.Event.TheVariants.{Leave, Revoke}
@@ -19,7 +18,7 @@ use Rattle.floor_machine.specs.declared.change.ending.EndedBy.TheVariants.{Chair
 use Rattle.floor_machine.specs.steps.Ending.{change_ending}
 use Rattle.floor_machine.specs.steps.Serving.{IsChanged, conference_of, after_release_for, is_rising, released_for, with_requests}
 use Rattle.floor_machine.proofs.Entries.{numbers_in-entries}
-use Rattle.floor_machine.proofs.Changing.{rising-numbers, ongoing_of-ending, ended_of-ending, numbers_in-ending}
+use Rattle.floor_machine.proofs.Changing.{rising-numbers}
 use Rattle.floor_machine.proofs.Asked.{none-ended}
 use Rattle.floor_machine.proofs.Ended.{ended_entry, ending_if, ongoing_of-ends, ended_of-ends, numbers_in-ends}
 

@@ -226,7 +226,8 @@ impl Machine {
         self.is_broken = true;
         match event {
             BorrowedEvent::Join(user) => {
-                let _n = self.state.join(user)?;
+                let n = (self.state.members.len() + 1) as u32;
+                self.state.join(n, user)?;
             }
             BorrowedEvent::Message(n, frame) => self.state.message(n, frame, out)?,
             BorrowedEvent::Leave(n) => self.state.leave(n, out)?,

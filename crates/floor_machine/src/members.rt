@@ -1,8 +1,7 @@
 //! All members of a conference, and which of them are live.
 
-ghost use Rattle.std.specs.Prelude.{◌≡◌, ◌==◌, ◌<◌, ◌+◌, ◌∷◌, ◌++◌, [], true, false, IfOk, OnOk, OnErr, count_by, filter, find, length, map, not};
-ghost use Rattle.std.specs.List.{list_any, position_or_len, slice_get};
-ghost use Rattle.std.specs.Option.{option_copied, option_map_or};
+ghost use Rattle.std.specs.Prelude.{◌≡◌, ◌==◌, ◌<◌, ◌+◌, ◌∷◌, ◌++◌, [], true, OnOk, OnErr, count_by, filter, length, map, not};
+ghost use Rattle.std.specs.Option.{option_copied};
 ghost use Rattle.floor_machine.specs.Change as change;
 ghost use Rattle.floor_machine.specs.Conference.{is_numbered_from, is_present, member_with};
 ghost use Rattle.floor_machine.specs.steps.Live.{live_numbers};
@@ -88,12 +87,11 @@ impl Members {
         is_present(&self.joined, &self.live, user)
     }
 
-    /// Adds a live member, and gives its number. After an error nothing has changed.
-    pub(crate) fn join(&mut self, user: u16) -> Result<u32, AllocError>
-        requires { length self.old < 4294967295 }
-        ensures number { IfOk result (λ n. n ≡ length self.old + 1) }
+    /// Adds a live member, which gets the next number. After an error nothing has changed.
+    pub(crate) fn join(&mut self, n: u32, user: u16) -> Result<(), AllocError>
+        requires { n ≡ length self.old + 1 }
         ensures next { OnOk result (self.new ≡ self.old ++ record {
-          n = length self.old + 1;
+          n = n;
           user = user;
           watched = [];
           is_live = true;
@@ -101,11 +99,10 @@ impl Members {
         ensures left { OnErr result (self.new ≡ self.old) }
     {
         let alloc = *self.joined.members.allocator();
-        let n = (self.joined.members.len() + 1) as u32;
         self.live.reserve(1)?;
         self.joined.push(alloc, n, user)?;
         let _pushed = self.live.push(n);
-        Ok(n)
+        Ok(())
     }
 
     /// The member with this number watches these floors from now on.

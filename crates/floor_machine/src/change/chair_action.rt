@@ -2,10 +2,10 @@
 //! 11.1 and 13.6).
 
 ghost use Rattle.std.specs.List.{list_all, list_any};
-ghost use Rattle.std.specs.Prelude.{◌≡◌, ◌++◌, ◌∷◌, [], All, IfOk, IfSome, IsSome, OnOk, map};
+ghost use Rattle.std.specs.Prelude.{◌≡◌, ◌++◌, All, IfOk, OnOk, map};
 ghost use Rattle.floor_config.specs.Lookup.{chair_is};
 ghost use Rattle.floor_queue.specs.Order.{names};
-ghost use Rattle.floor_queue.specs.Queue.{MaySetFloor, after_end, request_at};
+ghost use Rattle.floor_queue.specs.Queue.{MaySetFloor};
 ghost use Rattle.floor_machine.specs.Change as change;
 ghost use Rattle.floor_machine.specs.Checks as checks;
 ghost use Rattle.floor_machine.specs.Checks.{chair_checks, first_of, on_request};

@@ -1,7 +1,7 @@
 //! A member joins or leaves, and what ends with the last connection of its user (RFC 8855, section
 //! 13.4, for the requests that are given back).
 
-ghost use Rattle.std.specs.Prelude.{◌≡◌, ◌++◌, ◌+◌, ◌<◌, ◌==◌, [], IfOk, OnOk, find, length, option_map};
+ghost use Rattle.std.specs.Prelude.{◌≡◌, ◌++◌, ◌+◌, ◌<◌, ◌==◌, [], OnOk, find, length, option_map};
 ghost use Rattle.floor_queue.specs.Queue.{IsQueue};
 ghost use Rattle.floor_machine.specs.Change as change;
 ghost use Rattle.floor_machine.specs.Journal.{parcels_of};
@@ -18,10 +18,9 @@ use floor_queue::Requests;
 use std::alloc::AllocError;
 
 impl State {
-    /// Adds a live member. After an error nothing has changed.
-    pub(crate) fn join(&mut self, user: u16) -> Result<u32, AllocError>
-        requires { length self.old.members < 4294967295 }
-        ensures number { IfOk result (λ n. n ≡ length self.old.members + 1) }
+    /// Adds a live member, which gets the next number. After an error nothing has changed.
+    pub(crate) fn join(&mut self, n: u32, user: u16) -> Result<(), AllocError>
+        requires { n ≡ length self.old.members + 1 }
         ensures next { IsAtRest self.old → OnOk result (conference_of self.new
             ≡ change.next (conference_of self.old) (Join user)) }
         ensures told { IsAtRest self.old
@@ -33,7 +32,7 @@ impl State {
         // The ongoing requests ascend, so that each is shown as before, and nobody is told of it.
         let _ongoing = self.requests.ongoing();
         let _alloc = self.members.allocator();
-        self.members.join(user)
+        self.members.join(n, user)
     }
 
     /// A member leaves, before the requests are settled: where it was the last of its user, the

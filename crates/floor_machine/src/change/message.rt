@@ -1,6 +1,6 @@
 //! What the message of a member changes, and what answers it (RFC 8855, section 13).
 
-ghost use Rattle.std.specs.Prelude.{◌≡◌, All, IfOk, OnOk};
+ghost use Rattle.std.specs.Prelude.{◌≡◌, All, IfOk};
 ghost use Rattle.floor_config.specs.Configuration.{user_ids};
 ghost use Rattle.floor_message.specs.Ask.{Answer, ask, asks};
 ghost use Rattle.floor_message.specs.Fits.{AskFits};

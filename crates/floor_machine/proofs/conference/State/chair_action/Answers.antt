@@ -1,4 +1,4 @@
-use Rattle.std.proofs.Common.{refl, sym, subst, ◌∙◌}
+use Rattle.std.proofs.Common.{refl, sym, subst}
 use Rattle.floor_queue.specs.Queue.{Queue}
 use Rattle.floor_message.specs.declared.ask.Ask.TheVariants.{ChairAction}
 use Rattle.floor_machine.specs.declared.course.Course.{Course}

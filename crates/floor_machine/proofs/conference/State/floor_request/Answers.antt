@@ -1,4 +1,4 @@
-use Rattle.std.proofs.Common.{sym, subst, ◌∙◌}
+use Rattle.std.proofs.Common.{sym, subst}
 use Rattle.floor_message.specs.declared.ask.Ask.TheVariants.{FloorRequest}
 use Rattle.floor_machine.specs.declared.conference.State.{State}
 use Rattle.floor_machine.specs.Conference.{Conference}

@@ -1,4 +1,4 @@
-use Rattle.std.proofs.Common.{◌≡◌, List, sym, ap, subst, ◌∙◌}
+use Rattle.std.proofs.Common.{◌≡◌, ℕ, true, List, [], ◌∷◌, ◌++◌, sym, ap, subst, ◌∙◌}
 use Rattle.std.proofs.lemmas.List.Elements.{All-nil}
 use Rattle.floor_config.specs.declared.config.Floor.{Floor}
 use Rattle.floor_queue.specs.Order.{settle}
@@ -16,7 +16,9 @@ pub returns-clause-next : goal.returns-clause-next
 returns-clause-next c rest =
     let s = conference_of c.args.self.now in
     let P : List Floor → Type 0 = λ fs. settle fs s.ongoing ≡ s.ongoing in
-    on_ok c.join.result (λ joins. ap (λ (ms : List Member). record s { members = ms }) joins ∙ next-join s c.args.user (subst P c.args.self.now.same_floors rest.settled)) c.join.ensures.next
+    on_ok c.join.result (λ joins. ap (λ (ms : List Member). record s { members = ms }) joins
+    ∙ ap (λ (k : ℕ). record s { members = s.members ++ record { n = k; user = c.args.user; watched = []; is_live = true } ∷ [] }) c.requires
+    ∙ next-join s c.args.user (subst P c.args.self.now.same_floors rest.settled)) c.join.ensures.next
 
 pub returns-clause-told : goal.returns-clause-told
 returns-clause-told c rest =

@@ -1,5 +1,4 @@
-use Rattle.std.proofs.Common.{◌≡◌, ◌<◌, ◌∙◌, false, ap, length, rules, sym}
-use Rattle.floor_machine.specs.declared.member.Member.{Member}
+use Rattle.std.proofs.Common.{◌<◌, ◌∙◌, false, ap, length, rules, sym}
 use Rattle.floor_machine.specs.Conference.{is_numbered_from}
 use Rattle.floor_machine.proofs.Live.{changed-there, none-changed}
 use Rattle.floor_machine.proofs.Sent.{numbered-leaving}
