@@ -211,7 +211,6 @@ impl Machine {
         ensures took { OnOk result
             (Took self.old (event_of event.entry) self.new out.old.items out.new.items) }
         ensures silent { OnOk result (IsSilent self.old.conference (event_of event.entry)) }
-
         ensures refused { IsRefusedBy (event_refusal self.old (event_of event.entry)) result }
         ensures left { IfErr result
             (Left self.old (event_of event.entry) self.new out.old.items out.new.items) }
