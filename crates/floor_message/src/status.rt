@@ -1,4 +1,15 @@
 //! The statuses of a floor request (RFC 8855, section 5.2.5).
+//!
+//! ```text
+//! Pending ---- each chair ----> Accepted ---- its floors ----> Granted
+//!   |          accepted it         |          are free            |
+//!   |                              |                              |
+//!   +-- given back --> Cancelled <-+         given back --> Released
+//!   |                              |                              |
+//!   +-- said no -----> Denied <----+         taken away --> Revoked
+//! ```
+//!
+//! A floor request begins Accepted where none of its floors has a chair. The last four end it.
 
 ghost use Rattle.std.specs.Prelude.{◌≡◌};
 ghost use Rattle.floor_message.specs.Status.{status_number};

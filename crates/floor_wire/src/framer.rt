@@ -1,4 +1,14 @@
 //! Dividing a stream of bytes into messages (RFC 8855, section 5.1).
+//!
+//! ```text
+//!          `next` takes off this one             `push` adds here
+//!          |                                                    |
+//!          v                                                    v
+//! taken    +------------------+------------------+--------------+
+//! off ...  | header | payload | header | payload | header | pay |
+//!          +------------------+------------------+--------------+
+//!          <--------------- `rest_len` bytes are held ---------->
+//! ```
 
 ghost use Rattle.std.specs.Prelude.{◌≡◌, ◌↔◌, [], ◌∷◌, ◌++◌, false, length, IfOk, OnOk, OnErr, List, ℕ, MatchOption};
 ghost use Rattle.floor_wire.specs.Message.{messages, rest};

@@ -1,4 +1,18 @@
 //! The header that every message begins with (RFC 8855, section 5.1).
+//!
+//! ```text
+//!  0                   1                   2                   3
+//!  0 1 2 3 4 5 6 7 8 9 0 1 2 3 4 5 6 7 8 9 0 1 2 3 4 5 6 7 8 9 0 1
+//! +-----+-+-+-----+---------------+-------------------------------+
+//! | Ver |R|F| Res |   Primitive   |        Payload Length         |
+//! +-----+-+-+-----+---------------+-------------------------------+
+//! |                         Conference ID                         |
+//! +-------------------------------+-------------------------------+
+//! |         Transaction ID        |            User ID            |
+//! +-------------------------------+-------------------------------+
+//! ```
+//!
+//! Payload Length counts units of 4 bytes behind the header.
 
 ghost use Rattle.std.specs.Prelude.{◌≡◌, ◌≤◌, length};
 
