@@ -11,7 +11,7 @@ use Rattle.floor_queue.specs.declared.request.Request.{Request}
 use Rattle.floor_queue.specs.Order.{names}
 use Rattle.floor_queue.specs.Queue.{request_at}
 use Rattle.floor_message.specs.Picked.{IsOnceBy}
-use Rattle.floor_message.specs.Fits.{AskFits, FloorRequestFits, TextFits}
+use Rattle.floor_message.specs.Fits.{AskPartsFit, FloorRequestFits, TextFits}
 use Rattle.floor_message.specs.Laws.{CountsFit}
 use Rattle.floor_message.specs.declared.ask.Ask.{Ask}
 use Rattle.floor_message.specs.declared.ask.Verdict.{Verdict}
@@ -112,7 +112,7 @@ decidable s user verdicts (Some r) h =
     (not_false (list_all (λ v. names r v.0) verdicts) free.0, not_false (list_all (λ v. is_allowed r.is_granted v.1) verdicts) free.1)
 
 -- what no own check refuses, and is read of a message, may be done
-pub may_serve : (s : Conference) (user : ℕ) (a : Ask) → (CountsFit a → AskFits a) → None ≡ refusal s user a → MayServe s user (Accepted a)
+pub may_serve : (s : Conference) (user : ℕ) (a : Ask) → (CountsFit a → AskPartsFit a) → None ≡ refusal s user a → MayServe s user (Accepted a)
 unfolding refusal
 may_serve s user (FloorRequest beneficiary floors priority info) fits none =
     let b = beneficiary_of user beneficiary in

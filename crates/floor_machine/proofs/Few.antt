@@ -23,7 +23,7 @@ use Rattle.floor_message.specs.declared.primitive.Primitive.{Primitive}
 use Rattle.floor_wire.specs.declared.attribute.Attr.{Attr}
 use Rattle.floor_config.specs.Lookup.{is_floor}
 use Rattle.floor_message.specs.Code.{code_number}
-use Rattle.floor_message.specs.Fits.{AskFits}
+use Rattle.floor_message.specs.Fits.{AskPartsFit}
 use Rattle.floor_message.specs.Laws.{CountsFit, WhatIsAskedFits}
 use Rattle.floor_message.specs.Picked.{IsOnceBy}
 use Rattle.floor_message.specs.declared.ask.Ask.{Ask}
@@ -112,7 +112,7 @@ few-asked s user (ChairAction request verdicts) k may = by (list_any (λ v. is_f
     by false = of_ongoing s _ k (numbers_in-decided request verdicts s.ongoing)
 few-asked s user Hello k may = of_ongoing s _ k (numbers_in-entries s.ongoing)
 
-few-message : (s : Conference) (n : ℕ) (a : Answer) → ((x : Ask) → a ≡ asks x → CountsFit x → AskFits x) → Keeps s → AreFew (message_change s n a).entries
+few-message : (s : Conference) (n : ℕ) (a : Answer) → ((x : Ask) → a ≡ asks x → CountsFit x → AskPartsFit x) → Keeps s → AreFew (message_change s n a).entries
 few-message s n unanswered fits k = of_ongoing s _ k (numbers_in-entries s.ongoing)
 few-message s n (refused code details) fits k = of_ongoing s _ k (numbers_in-entries s.ongoing)
 few-message s n (asks a) fits k = by (refusal s (user_of s n) a) refl

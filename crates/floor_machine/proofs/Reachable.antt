@@ -12,7 +12,7 @@ use Rattle.floor_queue.specs.Queue.{Queue, IsAddable, IsQueue, IsSettled, after_
 use Rattle.floor_queue.proofs.Counts.{count-cons, count_by-map, one}
 use Rattle.floor_queue.proofs.Kept.{IsQueue-add, IsQueue-end, IsQueue-filter, IsQueue-set_floor, IsQueue-settle}
 use Rattle.floor_message.specs.Ask.{Answer, asks, refused, unanswered, ask}
-use Rattle.floor_message.specs.Fits.{AskFits}
+use Rattle.floor_message.specs.Fits.{AskPartsFit}
 use Rattle.floor_message.specs.Laws.{CountsFit, WhatIsAskedFits}
 use Rattle.floor_message.specs.declared.ask.Ask.{Ask}
 use Rattle.floor_message.specs.declared.ask.Ask.TheVariants.{FloorRequest, FloorRelease, FloorRequestQuery, UserQuery, FloorQuery, ChairAction, Hello}
@@ -82,7 +82,7 @@ queue-asked s user (ChairAction request verdicts) may h = by (list_any (λ v. is
 queue-asked s user Hello may h = queue-unchanged s h
 
 -- after a message
-queue-message : (s : Conference) (n : ℕ) (a : Answer) → ((x : Ask) → a ≡ asks x → CountsFit x → AskFits x) → IsQueue (queue_of s) →
+queue-message : (s : Conference) (n : ℕ) (a : Answer) → ((x : Ask) → a ≡ asks x → CountsFit x → AskPartsFit x) → IsQueue (queue_of s) →
     IsQueue (queue_changed s (message_change s n a).given (ongoing_of (message_change s n a).entries))
 queue-message s n unanswered fits h = queue-unchanged s h
 queue-message s n (refused code details) fits h = queue-unchanged s h

@@ -1,5 +1,6 @@
-//! What an event changes in a conference: each primitive with its own checks and what it does, and the
-//! members and the administrator beside them. Nothing here knows what is told of the change.
+//! What an event changes in a conference: each primitive with its own checks, what it does, and what
+//! its sender is answered, and the members and the administrator beside them. Nothing here knows what
+//! others are told of the change.
 
 pub(crate) mod administrator;
 pub(crate) mod chair_action;

@@ -14,7 +14,9 @@ use Rattle.floor_message.specs.steps.Answering.{by_header, by_primitive, by_attr
 use Rattle.floor_message.proofs.Checked.{answer_by_steps}
 use Rattle.floor_message.specs.Binding.{Binding}
 use Rattle.floor_message.specs.Fields.{fields, floor_request, priority_asked, judged, given, chair_asked, chair_action, floors_judged}
-use Rattle.floor_message.specs.Fits.{HeadFits, AskFits, FloorRequestFits, VerdictsFit}
+use Rattle.floor_message.specs.Fits.{HeadFits, AskFits, AskPartsFit, FloorRequestFits, VerdictsFit}
+use Rattle.floor_message.specs.Room.{FitsRoom}
+use Rattle.floor_message.proofs.AskRooms.{ask_fits_room}
 use Rattle.floor_message.specs.Laws.{IsOwn}
 use Rattle.floor_message.specs.Picked.{first, numbers, pairs, octet_strings, groups, distinct, once_by, IsOnceBy, mandatory, if_kind, number_in, pair_in, group_in, octets_in}
 use Rattle.floor_message.specs.Primitive.{primitive_of, primitive_number}
@@ -152,7 +154,7 @@ beneficiary_alone None = refl
 beneficiary_alone (Some n) = refl
 
 -- the attributes of an Ask that fits ask it
-pub ask_back : (a : Ask) → AskFits a → fields (ask_primitive a) (ask_attrs a) ≡ Some a
+pub ask_back : (a : Ask) → AskPartsFit a → fields (ask_primitive a) (ask_attrs a) ≡ Some a
 ask_back (FloorRequest b floors p info) h = floor_request_back b floors p info h
 ask_back (FloorRelease r) h = refl
 ask_back (FloorRequestQuery r) h = refl
@@ -204,18 +206,19 @@ among_users : (user : ℕ) (users : List ℕ) → Contains users user → list_a
 among_users user users h = among_at user users h.0 h.1 h.2
 
 pub written_ask : ((a : Attributes) → IsWritable a → spelled (canon a) ≡ Some (cleared a)) → (head : Head) (b : Binding) (a : Ask) → HeadFits head → IsOwn head b → AskFits a
-    → IsWritable (attributes_of (ask_attrs a)) → ask (ask_bytes head a) b ≡ asks a
+    → ask (ask_bytes head a) b ≡ asks a
 unfolding ask
-written_ask read head b a h own fits writable =
+written_ask read head b a h own fits =
     let attrs = attributes_of (ask_attrs a) in
+    let room : FitsRoom (ask_attrs a) (4 * 65535) = ask_fits_room a fits in
     let p = primitive_number (ask_primitive a) in
     let units = length (canon attrs) / 4 in
     let m = header_of (headed p units head (canon attrs)) in
     let version : m.version ≡ 1 = refl in
     let user : m.user ≡ head.user = user_back p units head (canon attrs) h in
-    ap (λ s. answer m b s) (read_back read attrs writable (cleared_same attrs (plain_ask a)))
+    ap (λ s. answer m b s) (read_back read attrs room.writable (cleared_same attrs (plain_ask a)))
     ∙ answer_back m b a attrs
     (passes m b version (eq-eqb m.conference b.conference (conference_back p units head (canon attrs) h ∙ own.conference))
     (ap (λ u. list_any (λ x. x == u) b.users) user ∙ among_users head.user b.users own.among)
     (eq-eqb m.user b.user (user ∙ own.user)))
-    refl (mandatory_none attrs (plain_ask a)) (ap (λ l. fields (ask_primitive a) l) (items-attributes_of (ask_attrs a)) ∙ ask_back a fits)
+    refl (mandatory_none attrs (plain_ask a)) (ap (λ l. fields (ask_primitive a) l) (items-attributes_of (ask_attrs a)) ∙ ask_back a fits.parts)

@@ -6,12 +6,13 @@ use Rattle.floor_wire.specs.Attributes as wire
 use Rattle.floor_wire.specs.Spelling.{canon, IsWritable}
 use Rattle.floor_wire.specs.View.{attributes_of}
 use Rattle.floor_wire.specs.declared.attribute.Attr.{Attr}
-use Rattle.floor_message.specs.Fits.{TextFits, FloorsFit, FloorRequestFits, VerdictsFit}
+use Rattle.floor_message.specs.Fits.{AskFits, TextFits, FloorsFit, FloorRequestFits, VerdictsFit}
 use Rattle.floor_message.specs.Room.{FitsRoom}
 use Rattle.floor_message.specs.Written.{optional, number, octets, priority_attr, verdict_attr, ask_attrs}
 use Rattle.floor_message.specs.declared.ask.Verdict.{Verdict}
 use Rattle.floor_message.specs.declared.ask.Verdict.TheVariants.{Accepted}
-use Rattle.floor_message.specs.declared.ask.Ask.TheVariants.{FloorRequest, FloorQuery, ChairAction}
+use Rattle.floor_message.specs.declared.ask.Ask.{Ask}
+use Rattle.floor_message.specs.declared.ask.Ask.TheVariants.{FloorRequest, FloorRelease, FloorRequestQuery, UserQuery, FloorQuery, ChairAction, Hello}
 use Rattle.floor_message.proofs.Rooms.{length-one, length-group, length-canon-append, writable_append}
 
 -- attributes that can be written, in so many bytes
@@ -63,3 +64,12 @@ chair_action_fits request verdicts fits h range =
       writable = (omega arith, refl, omega (arith, inside.1, fits.few, length-append (to_be_bytes w16 request) (canon (attributes_of (map verdict_attr verdicts)))), (h, inside.0), tt);
       bytes = omega (arith, inside.1, fits.few, length-group 15 request (map verdict_attr verdicts));
     }
+
+pub ask_fits_room : (a : Ask) → AskFits a → FitsRoom (ask_attrs a) 262140
+ask_fits_room (FloorRequest b floors priority info) h = floor_request_fits b floors priority info h.parts h.numbers.0 h.numbers.1
+ask_fits_room (FloorRelease r) h = record { writable = (omega arith, refl, omega arith, h.numbers, tt); bytes = omega arith }
+ask_fits_room (FloorRequestQuery r) h = record { writable = (omega arith, refl, omega arith, h.numbers, tt); bytes = omega arith }
+ask_fits_room (UserQuery b) h = let written = beneficiary_takes b h.numbers in record { writable = written.0; bytes = omega (arith, written.1) }
+ask_fits_room (FloorQuery floors) h = floor_query_fits floors h.parts h.numbers
+ask_fits_room (ChairAction r verdicts) h = chair_action_fits r verdicts h.parts h.numbers.0 (λ k l. h.numbers.1 k (0, Accepted) l)
+ask_fits_room Hello h = record { writable = tt; bytes = omega arith }

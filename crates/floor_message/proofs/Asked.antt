@@ -12,7 +12,7 @@ use Rattle.floor_message.specs.steps.Answering.{by_header, by_primitive, by_attr
 use Rattle.floor_message.proofs.Checked.{answer_by_steps}
 use Rattle.floor_message.specs.Binding.{Binding}
 use Rattle.floor_message.specs.Fields.{is_ask, fields, floor_request, priority_asked, given, chair_action, chair_asked, floors_judged}
-use Rattle.floor_message.specs.Fits.{AskFits, TextFits}
+use Rattle.floor_message.specs.Fits.{AskPartsFit, TextFits}
 use Rattle.floor_message.specs.Laws.{CountsFit}
 use Rattle.floor_message.specs.Picked.{first, numbers, pairs, octet_strings, groups, distinct, IsOnceBy, mandatory}
 use Rattle.floor_message.specs.Primitive.{primitive_of}
@@ -28,7 +28,7 @@ use Rattle.floor_message.proofs.Once.{once_by-once}
 
 -- an Ask fits, where its counts fit
 abbrev Fitting : Ask → Type 0
-Fitting a = CountsFit a → AskFits a
+Fitting a = CountsFit a → AskPartsFit a
 
 priority_at_most : (p : Option (ℕ × ℕ)) → priority_asked p ≤ 4
 priority_at_most None = omega arith
@@ -49,7 +49,7 @@ pub record Given (floor : ℕ) (verdict : Option Verdict) (others : Option (List
   pub rest_is : others ≡ Some rest
   pub all_is : (floor, own) ∷ rest ≡ all
 
-given_front : (floor : ℕ) (verdict : Option Verdict) (others : Option (List (ℕ × Verdict))) (all : List (ℕ × Verdict))
+pub given_front : (floor : ℕ) (verdict : Option Verdict) (others : Option (List (ℕ × Verdict))) (all : List (ℕ × Verdict))
     → option_and_then (λ w. option_map (λ ws. (floor, w) ∷ ws) others) verdict ≡ Some all → Given floor verdict others all
 given_front floor None others all e = absurd (let no : ⊥ = cc in no)
 given_front floor (Some w) None all e = absurd (let no : ⊥ = cc in no)
@@ -117,36 +117,48 @@ fields_fitting primitive.ChairActionAck attrs a t e = absurd (let no : ⊥ = cc 
 fields_fitting primitive.HelloAck attrs a t e = absurd (let no : ⊥ = cc in no)
 fields_fitting primitive.Error attrs a t e = absurd (let no : ⊥ = cc in no)
 
-by_mandatory_fitting : (p : Primitive) (types : List ℕ) (attrs : List Attr) (o : Option Ask) (a : Ask) → is_ask p ≡ true → fields p attrs ≡ o → by_mandatory types o ≡ asks a → Fitting a
-by_mandatory_fitting p (t ∷ types) attrs o a k f e = absurd (let no : ⊥ = cc in no)
-by_mandatory_fitting p [] attrs None a k f e = absurd (let no : ⊥ = cc in no)
-by_mandatory_fitting p [] attrs (Some b) a k f e = fields_fitting p attrs a k (f ∙ (let same : Some b ≡ Some a = cc in same))
+-- what is asked stands in the attributes that the payload spells
+pub record Stands (attrs : Option Attributes) (a : Ask) : Type 0 where
+  pub primitive : Primitive
+  pub found : Attributes
+  pub attrs_are : attrs ≡ Some found
+  pub asks_so : is_ask primitive ≡ true
+  pub fields_are : fields primitive (items found) ≡ Some a
 
-by_attributes_fitting : (p : Primitive) (attrs : Option Attributes) (a : Ask) → is_ask p ≡ true → by_attributes p attrs ≡ asks a → Fitting a
-by_attributes_fitting p None a k e = absurd (let no : ⊥ = cc in no)
-by_attributes_fitting p (Some attrs) a k e = by_mandatory_fitting p (distinct (mandatory attrs)) (items attrs) (fields p (items attrs)) a k refl e
+by_mandatory_stands : (types : List ℕ) (o : Option Ask) (a : Ask) → by_mandatory types o ≡ asks a → o ≡ Some a
+by_mandatory_stands (t ∷ types) o a e = absurd (let no : ⊥ = cc in no)
+by_mandatory_stands [] None a e = absurd (let no : ⊥ = cc in no)
+by_mandatory_stands [] (Some b) a e = let same : Some b ≡ Some a = cc in same
 
-by_primitive_fitting : (o : Option Primitive) (attrs : Option Attributes) (a : Ask) → by_primitive o attrs ≡ asks a → Fitting a
-by_primitive_fitting None attrs a e = absurd (let no : ⊥ = cc in no)
-by_primitive_fitting (Some primitive.FloorRequest) attrs a e = by_attributes_fitting primitive.FloorRequest attrs a refl e
-by_primitive_fitting (Some primitive.FloorRelease) attrs a e = by_attributes_fitting primitive.FloorRelease attrs a refl e
-by_primitive_fitting (Some primitive.FloorRequestQuery) attrs a e = by_attributes_fitting primitive.FloorRequestQuery attrs a refl e
-by_primitive_fitting (Some primitive.UserQuery) attrs a e = by_attributes_fitting primitive.UserQuery attrs a refl e
-by_primitive_fitting (Some primitive.FloorQuery) attrs a e = by_attributes_fitting primitive.FloorQuery attrs a refl e
-by_primitive_fitting (Some primitive.ChairAction) attrs a e = by_attributes_fitting primitive.ChairAction attrs a refl e
-by_primitive_fitting (Some primitive.Hello) attrs a e = by_attributes_fitting primitive.Hello attrs a refl e
-by_primitive_fitting (Some primitive.FloorRequestStatus) attrs a e = absurd (let no : ⊥ = cc in no)
-by_primitive_fitting (Some primitive.UserStatus) attrs a e = absurd (let no : ⊥ = cc in no)
-by_primitive_fitting (Some primitive.FloorStatus) attrs a e = absurd (let no : ⊥ = cc in no)
-by_primitive_fitting (Some primitive.ChairActionAck) attrs a e = absurd (let no : ⊥ = cc in no)
-by_primitive_fitting (Some primitive.HelloAck) attrs a e = absurd (let no : ⊥ = cc in no)
-by_primitive_fitting (Some primitive.Error) attrs a e = absurd (let no : ⊥ = cc in no)
+by_attributes_stands : (p : Primitive) (attrs : Option Attributes) (a : Ask) → is_ask p ≡ true → by_attributes p attrs ≡ asks a → Stands attrs a
+by_attributes_stands p None a k e = absurd (let no : ⊥ = cc in no)
+by_attributes_stands p (Some attrs) a k e =
+    record { primitive = p; found = attrs; attrs_are = refl; asks_so = k; fields_are = by_mandatory_stands (distinct (mandatory attrs)) (fields p (items attrs)) a e }
 
-by_header_fitting : (r : Option ErrorCode) (o : Option Primitive) (attrs : Option Attributes) (a : Ask) → by_header r o attrs ≡ asks a → Fitting a
-by_header_fitting (Some code) o attrs a e = absurd (let no : ⊥ = cc in no)
-by_header_fitting None o attrs a e = by_primitive_fitting o attrs a e
+by_primitive_stands : (o : Option Primitive) (attrs : Option Attributes) (a : Ask) → by_primitive o attrs ≡ asks a → Stands attrs a
+by_primitive_stands None attrs a e = absurd (let no : ⊥ = cc in no)
+by_primitive_stands (Some primitive.FloorRequest) attrs a e = by_attributes_stands primitive.FloorRequest attrs a refl e
+by_primitive_stands (Some primitive.FloorRelease) attrs a e = by_attributes_stands primitive.FloorRelease attrs a refl e
+by_primitive_stands (Some primitive.FloorRequestQuery) attrs a e = by_attributes_stands primitive.FloorRequestQuery attrs a refl e
+by_primitive_stands (Some primitive.UserQuery) attrs a e = by_attributes_stands primitive.UserQuery attrs a refl e
+by_primitive_stands (Some primitive.FloorQuery) attrs a e = by_attributes_stands primitive.FloorQuery attrs a refl e
+by_primitive_stands (Some primitive.ChairAction) attrs a e = by_attributes_stands primitive.ChairAction attrs a refl e
+by_primitive_stands (Some primitive.Hello) attrs a e = by_attributes_stands primitive.Hello attrs a refl e
+by_primitive_stands (Some primitive.FloorRequestStatus) attrs a e = absurd (let no : ⊥ = cc in no)
+by_primitive_stands (Some primitive.UserStatus) attrs a e = absurd (let no : ⊥ = cc in no)
+by_primitive_stands (Some primitive.FloorStatus) attrs a e = absurd (let no : ⊥ = cc in no)
+by_primitive_stands (Some primitive.ChairActionAck) attrs a e = absurd (let no : ⊥ = cc in no)
+by_primitive_stands (Some primitive.HelloAck) attrs a e = absurd (let no : ⊥ = cc in no)
+by_primitive_stands (Some primitive.Error) attrs a e = absurd (let no : ⊥ = cc in no)
 
-pub asked_fits : (bytes : List ℕ) (b : Binding) (a : Ask) → ask bytes b ≡ asks a → CountsFit a → AskFits a
+by_header_stands : (r : Option ErrorCode) (o : Option Primitive) (attrs : Option Attributes) (a : Ask) → by_header r o attrs ≡ asks a → Stands attrs a
+by_header_stands (Some code) o attrs a e = absurd (let no : ⊥ = cc in no)
+by_header_stands None o attrs a e = by_primitive_stands o attrs a e
+
+pub asked_stands : (bytes : List ℕ) (b : Binding) (a : Ask) → ask bytes b ≡ asks a → Stands (spelled (drop 12 bytes)) a
 unfolding ask
-asked_fits bytes b a e = by_header_fitting (header_refusal (header_of bytes) b) (primitive_of (header_of bytes).primitive) (spelled (drop 12 bytes)) a
+asked_stands bytes b a e = by_header_stands (header_refusal (header_of bytes) b) (primitive_of (header_of bytes).primitive) (spelled (drop 12 bytes)) a
     (sym (answer_by_steps (header_of bytes) b (spelled (drop 12 bytes))) ∙ e)
+
+pub asked_fits : (bytes : List ℕ) (b : Binding) (a : Ask) → ask bytes b ≡ asks a → CountsFit a → AskPartsFit a
+asked_fits bytes b a e = let s = asked_stands bytes b a e in fields_fitting s.primitive (items s.found) a s.asks_so s.fields_are

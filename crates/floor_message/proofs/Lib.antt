@@ -3,6 +3,7 @@ pub mod AskBack
 pub mod AskRooms
 pub mod Asked
 pub mod AskedBytes
+pub mod AskedNumbers
 pub mod Checked
 pub mod Cutting
 pub mod Heads

@@ -54,15 +54,30 @@ pub record VerdictsFit (verdicts : List (ℕ × Verdict)) : Type 0 where
   pub few : length verdicts ≤ 31
   pub once : IsOnceBy (λ verdict. verdict.0) verdicts
 
+-- each number of the message from a client is one of 16 bits
+abbrev pub AskNumbersFit : Ask → Type 0
+AskNumbersFit (FloorRequest beneficiary floors priority info) = IfSome beneficiary (λ user. user < 2 ^ 16) × All (λ floor. floor < 2 ^ 16) floors
+AskNumbersFit (FloorRelease request) = request < 2 ^ 16
+AskNumbersFit (FloorRequestQuery request) = request < 2 ^ 16
+AskNumbersFit (UserQuery beneficiary) = IfSome beneficiary (λ user. user < 2 ^ 16)
+AskNumbersFit (FloorQuery floors) = All (λ floor. floor < 2 ^ 16) floors
+AskNumbersFit (ChairAction request verdicts) = (request < 2 ^ 16) × All (λ verdict. verdict.0 < 2 ^ 16) verdicts
+AskNumbersFit Hello = Unit {0}
+
+-- its floors, verdicts, priority and text are such as can be written
+abbrev pub AskPartsFit : Ask → Type 0
+AskPartsFit (FloorRequest beneficiary floors priority info) = FloorRequestFits floors priority info
+AskPartsFit (FloorRelease request) = Unit {0}
+AskPartsFit (FloorRequestQuery request) = Unit {0}
+AskPartsFit (UserQuery beneficiary) = Unit {0}
+AskPartsFit (FloorQuery floors) = FloorsFit floors
+AskPartsFit (ChairAction request verdicts) = VerdictsFit verdicts
+AskPartsFit Hello = Unit {0}
+
 -- the message from a client can be written
-abbrev pub AskFits : Ask → Type 0
-AskFits (FloorRequest beneficiary floors priority info) = FloorRequestFits floors priority info
-AskFits (FloorRelease request) = Unit {0}
-AskFits (FloorRequestQuery request) = Unit {0}
-AskFits (UserQuery beneficiary) = Unit {0}
-AskFits (FloorQuery floors) = FloorsFit floors
-AskFits (ChairAction request verdicts) = VerdictsFit verdicts
-AskFits Hello = Unit {0}
+pub record AskFits (ask : Ask) : Type 0 where
+  pub numbers : AskNumbersFit ask
+  pub parts : AskPartsFit ask
 
 -- the numbers of a head fit their fields
 pub record HeadFits (head : Head) : Type 0 where

@@ -1,12 +1,13 @@
 -- Laws of messages: what is written is read, and what is read can be written.
 use Rattle.std.specs.Prelude.{◌≡◌, ℕ, ◌+◌, ◌≤◌, true, List, length, Some, Contains}
 use Rattle.std.specs.Str.{is_utf8}
+use Rattle.floor_wire.specs.Bytes.{IsBytes}
 use Rattle.floor_wire.specs.Attributes.{Content, num, pair, group, octets, Attributes, no_attributes, attribute}
-use Rattle.floor_wire.specs.Spelling.{IsWritable, canon}
+use Rattle.floor_wire.specs.Spelling.{canon}
 use Rattle.floor_wire.specs.View.{attributes_of}
 use Rattle.floor_message.specs.Ask.{ask, asks}
 use Rattle.floor_message.specs.Binding.{Binding}
-use Rattle.floor_message.specs.Fits.{AskFits, HeadFits, TellFits}
+use Rattle.floor_message.specs.Fits.{AskFits, AskNumbersFit, AskPartsFit, HeadFits, TellFits}
 use Rattle.floor_message.specs.Shown.{IsShown}
 use Rattle.floor_message.specs.Tell.{tell}
 use Rattle.floor_message.specs.Text.{IsLongestFront, shortened}
@@ -28,8 +29,7 @@ pub record IsOwn (head : Head) (binding : Binding) : Type 0 where
 
 -- what is written of a message from a client is read as that message, under its own binding
 abbrev pub WrittenAskIsRead : Type 0
-WrittenAskIsRead = (head : Head) (binding : Binding) (a : Ask) → HeadFits head → IsOwn head binding → AskFits a → IsWritable (attributes_of (ask_attrs a))
-    → ask (ask_bytes head a) binding ≡ asks a
+WrittenAskIsRead = (head : Head) (binding : Binding) (a : Ask) → HeadFits head → IsOwn head binding → AskFits a → ask (ask_bytes head a) binding ≡ asks a
 
 -- at most 60,000 floors, and at most 31 verdicts
 abbrev pub CountsFit : Ask → Type 0
@@ -41,9 +41,13 @@ CountsFit (FloorQuery floors) = length floors ≤ 60000
 CountsFit (ChairAction request verdicts) = length verdicts ≤ 31
 CountsFit Hello = Unit {0}
 
--- what a message asks can be written, where its floors and verdicts are not too many
+-- the parts of what a message asks can be written, where its floors and verdicts are not too many
 abbrev pub WhatIsAskedFits : Type 0
-WhatIsAskedFits = (bytes : List ℕ) (binding : Binding) (a : Ask) → ask bytes binding ≡ asks a → CountsFit a → AskFits a
+WhatIsAskedFits = (bytes : List ℕ) (binding : Binding) (a : Ask) → ask bytes binding ≡ asks a → CountsFit a → AskPartsFit a
+
+-- the numbers of what a message of bytes asks are of 16 bits, so that with the law above it can be written
+abbrev pub WhatIsAskedIsOf16Bits : Type 0
+WhatIsAskedIsOf16Bits = (bytes : List ℕ) (binding : Binding) (a : Ask) → IsBytes bytes → ask bytes binding ≡ asks a → AskNumbersFit a
 
 -- what is kept of a text is its longest front of at most 62 bytes that ends at a character
 abbrev pub ShortenedIsLongest : Type 0
@@ -71,4 +75,4 @@ WrittenTellIsShort = (t : Tell) → TellFits t → HasShortContents (attributes_
 
 -- what is written of a message from a client has no longer group, and no longer octet string
 abbrev pub WrittenAskIsShort : Type 0
-WrittenAskIsShort = (a : Ask) → IsWritable (attributes_of (ask_attrs a)) → HasShortContents (attributes_of (ask_attrs a))
+WrittenAskIsShort = (a : Ask) → AskFits a → HasShortContents (attributes_of (ask_attrs a))

@@ -23,8 +23,7 @@ use std::alloc::{AllocError, Global};
 /// The message from a client, under this head.
 pub fn write_ask(alloc: Global, head: &Head, ask: &Ask) -> Result<Frame, AllocError>
     requires { AskFits ask.now }
-    ensures value { IfOk result (λ frame. frame ≡ spec.ask_bytes head.now ask.now) }
-    ensures writable { IfOk result (λ _. IsWritable (attributes_of (spec.ask_attrs ask.now))) }
+    ensures { IfOk result (λ frame. frame ≡ spec.ask_bytes head.now ask.now) }
 {
     let attrs = ask_attrs(alloc, ask)?;
     let primitive = ask_primitive(ask).number();

@@ -1,14 +1,14 @@
 //! Which messages can be written, so that they are read back as they were (RFC 8855, sections 5.1 to
 //! 5.3).
 
-ghost use Rattle.std.specs.Prelude.{◌↔◌, IfSome, IsTrue};
-ghost use Rattle.floor_message.specs.Fits.{AskFits, FloorRequestFits, NumbersFit, TellFits};
+ghost use Rattle.std.specs.Prelude.{◌↔◌, ◌<◌, ◌^◌, All, IfSome, IsTrue};
+ghost use Rattle.floor_message.specs.Fits.{AskFits, AskNumbersFit, AskPartsFit, FloorRequestFits, NumbersFit, TellFits};
 ghost use Rattle.floor_message.specs.Written.{ask_attrs, tell_attrs};
 ghost use Rattle.floor_message.specs.steps.Leaves.{Leaves};
 ghost use Rattle.floor_wire.specs.Bytes.{IsBytes, IsOfBytes};
 ghost use Rattle.floor_wire.specs.View.{attributes_of};
 
-use crate::ask::Ask;
+use crate::ask::{Ask, Verdict};
 use crate::format::attribute_types::types_fit;
 use crate::format::error_code::after_error;
 use crate::format::floor_request_information::{
@@ -31,6 +31,56 @@ const LONGEST_PAYLOAD: usize = 4 * 65535;
 /// floors.
 pub fn ask_fits(ask: &Ask) -> bool
     ensures value { IsTrue result ↔ AskFits ask.now }
+    ensures bytes { IsTrue result → IsOfBytes (attributes_of (ask_attrs ask.now)) }
+{
+    its_numbers_fit(ask);
+    parts_fit(ask)
+}
+
+/// Its numbers are of 16 bits, as their types say.
+fn its_numbers_fit(ask: &Ask)
+    ensures { AskNumbersFit ask.now }
+{
+    match ask {
+        Ask::FloorRequest {
+            beneficiary,
+            floors,
+            ..
+        } => {
+            is_of_16_bits(*beneficiary);
+            numbers_are_of_16_bits(floors.as_slice());
+        }
+        Ask::FloorRelease { request } | Ask::FloorRequestQuery { request } => {
+            let _request = *request;
+        }
+        Ask::UserQuery { beneficiary } => is_of_16_bits(*beneficiary),
+        Ask::FloorQuery { floors } => numbers_are_of_16_bits(floors.as_slice()),
+        Ask::ChairAction { request, verdicts } => {
+            let _request = *request;
+            floors_are_of_16_bits(verdicts.as_slice());
+        }
+        Ask::Hello => {}
+    }
+}
+
+fn is_of_16_bits(number: Option<u16>)
+    ensures { IfSome number (λ n. n < 2 ^ 16) }
+{}
+
+fn numbers_are_of_16_bits(numbers: &[u16])
+    ensures { All (λ n. n < 2 ^ 16) numbers.now }
+{}
+
+fn floors_are_of_16_bits(verdicts: &[(u16, Verdict)])
+    ensures { All (λ verdict. verdict.0 < 2 ^ 16) verdicts.now }
+{
+    for (floor, _) in verdicts {
+        is_of_16_bits(Some(*floor));
+    }
+}
+
+fn parts_fit(ask: &Ask) -> bool
+    ensures value { IsTrue result ↔ AskPartsFit ask.now }
     ensures bytes { IsTrue result → IsOfBytes (attributes_of (ask_attrs ask.now)) }
 {
     match ask {

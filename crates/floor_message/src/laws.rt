@@ -3,9 +3,11 @@
 ghost use Rattle.std.specs.Prelude.{ℕ, Option};
 ghost use Rattle.floor_message.specs.Picked.{KeepsFirst};
 ghost use Rattle.floor_message.specs.declared.ask.Verdict.{Verdict};
-ghost use Rattle.floor_message.specs.Laws.{ShortenedIsLongest, WhatIsAskedFits, WhatIsShownFits, WrittenAskIsRead, WrittenAskIsShort, WrittenTellIsRead, WrittenTellIsShort};
+ghost use Rattle.floor_message.specs.Laws.{ShortenedIsLongest, WhatIsAskedFits, WhatIsAskedIsOf16Bits, WhatIsShownFits, WrittenAskIsRead, WrittenAskIsShort, WrittenTellIsRead, WrittenTellIsShort};
 
-use floor_wire::what_is_written_is_read;
+use floor_wire::{
+    what_is_computed_is_spelled, what_is_spelled_is_writable, what_is_written_is_read,
+};
 
 /// What is written of a message from the server is read as that message, under that head.
 pub fn a_written_tell_is_read()
@@ -21,10 +23,19 @@ pub fn a_written_ask_is_read()
     what_is_written_is_read();
 }
 
-/// What a message asks can be written, where it names at most 60,000 floors and 31 verdicts.
+/// What a message asks can be written, its numbers aside, where it names at most 60,000 floors and
+/// 31 verdicts.
 pub fn what_is_asked_fits()
     ensures { WhatIsAskedFits }
 {}
+
+/// The numbers of what a message of bytes asks are of 16 bits.
+pub fn what_is_asked_is_of_16_bits()
+    ensures { WhatIsAskedIsOf16Bits }
+{
+    what_is_computed_is_spelled();
+    what_is_spelled_is_writable();
+}
 
 /// What shows no more than a conference has can be written: names of at most 30 bytes, texts of at
 /// most 62, at most 8 floors of a floor request and 256 floor requests.

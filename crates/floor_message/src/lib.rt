@@ -37,7 +37,7 @@ pub use head::Head;
 pub use infos::Infos;
 pub use laws::{
     a_text_is_cut_at_its_longest, a_written_ask_is_read, a_written_tell_is_read, the_first_is_kept,
-    what_is_asked_fits, what_is_shown_fits, what_is_written_is_short,
+    what_is_asked_fits, what_is_asked_is_of_16_bits, what_is_shown_fits, what_is_written_is_short,
 };
 pub use primitive::Primitive;
 pub use status::RequestStatus;

@@ -3,7 +3,7 @@
 ghost use Rattle.std.specs.Prelude.{◌≡◌, All, IfOk};
 ghost use Rattle.floor_config.specs.Configuration.{user_ids};
 ghost use Rattle.floor_message.specs.Ask.{Answer, ask, asks};
-ghost use Rattle.floor_message.specs.Fits.{AskFits};
+ghost use Rattle.floor_message.specs.Fits.{AskPartsFit};
 ghost use Rattle.floor_message.specs.Head.{response_head};
 ghost use Rattle.floor_message.specs.Laws.{CountsFit};
 ghost use Rattle.floor_message.specs.Shown.{IsShown};
@@ -58,7 +58,7 @@ impl State {
 
     /// What becomes of what a user asks.
     fn judge_ask(&self, alloc: Global, user: u16, ask: Ask) -> Judged
-        requires { CountsFit ask → AskFits ask }
+        requires { CountsFit ask → AskPartsFit ask }
         ensures judged { result ≡ serving.judged (conference_of self.now) user (asks ask) }
         ensures may { MayServe (conference_of self.now) user result }
     {

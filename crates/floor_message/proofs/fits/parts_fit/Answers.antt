@@ -4,7 +4,7 @@ use Rattle.floor_wire.specs.View.{attributes_of}
 use Rattle.floor_message.specs.Written.{ask_attrs}
 use Rattle.floor_message.specs.declared.ask.Ask.{Ask}
 use Rattle.floor_message.proofs.AskedBytes.{floors_bytes, request_bytes, verdicts_bytes}
-use Rattle.floor_message.proofs.fits.ask_fits.Goals as goal
+use Rattle.floor_message.proofs.fits.parts_fit.Goals as goal
 
 pub returns-in-FloorRequest-clause-bytes : goal.returns-in-FloorRequest-clause-bytes
 returns-in-FloorRequest-clause-bytes c = λ e.
