@@ -6,7 +6,7 @@ use Rattle.crossbeam_queue.specs.Fifo.{Pushes, Pops, Forks, Merges, Learns}
 use Rattle.crossbeam_queue.proofs.Lists.{at_set, at_snoc}
 use Rattle.floor_machine.specs.Parcel.{Parcel}
 use Rattle.floor_outbox.specs.declared.rule.Log.{Log}
-use Rattle.floor_outbox.specs.steps.Line.{log, Fits, Relayed, Drained, Counted}
+use Rattle.floor_outbox.specs.Rule.{log, Fits, Relayed, Drained, Counted}
 
 at_end : (l : List Log) (a b : Log) (j : ℕ) → get_elem? l j ≢ some b → get_elem? (l ++ a ∷ []) j ≡ some b → j ≡ length l
 at_end [] a b zero n e = refl

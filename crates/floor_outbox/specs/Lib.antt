@@ -1,2 +1,2 @@
 pub mod Ends
-pub mod steps
+pub mod Rule

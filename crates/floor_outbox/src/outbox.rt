@@ -23,7 +23,7 @@ impl Model for Outbox {
     ghost use Rattle.std.specs.Arc.{arc_value};
     ghost use Rattle.crossbeam_queue.specs.SegTies.{IsSegPassOf};
     ghost use Rattle.floor_outbox.specs.Ends.{Outbox};
-    ghost use Rattle.floor_outbox.specs.steps.Line.{held_of, log};
+    ghost use Rattle.floor_outbox.specs.Rule.{held_of, log};
 
     ghost Value = { Outbox };
 

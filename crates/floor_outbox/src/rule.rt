@@ -17,7 +17,7 @@ pub struct InOrder;
 
 impl Protocol<Parcel, Log> for InOrder {
     ghost use Rattle.std.specs.Prelude.{true, []};
-    ghost use Rattle.floor_outbox.specs.steps.Line.{log, Relayed};
+    ghost use Rattle.floor_outbox.specs.Rule.{log, Relayed};
 
     ghost holds = { Relayed };
 
@@ -28,7 +28,7 @@ pub struct Roles;
 
 impl Split<Log> for Roles {
     ghost use Rattle.std.specs.Prelude.{true, false, []};
-    ghost use Rattle.floor_outbox.specs.steps.Line.{log};
+    ghost use Rattle.floor_outbox.specs.Rule.{log};
 
     ghost left = { λ v. log true false v.put [] };
 
@@ -37,7 +37,7 @@ impl Split<Log> for Roles {
 
 impl Join<Log> for Roles {
     ghost use Rattle.std.specs.Prelude.{true, false, []};
-    ghost use Rattle.floor_outbox.specs.steps.Line.{log};
+    ghost use Rattle.floor_outbox.specs.Rule.{log};
 
     ghost both = { λ v w. log true true v.put w.taken };
 
@@ -48,7 +48,7 @@ pub struct Puts;
 
 impl Outcome<Parcel, Log> for Puts {
     ghost use Rattle.std.specs.Prelude.{◌≡◌, [], ◌∷◌, ◌++◌};
-    ghost use Rattle.floor_outbox.specs.steps.Line.{log};
+    ghost use Rattle.floor_outbox.specs.Rule.{log};
 
     ghost then = { λ v x w. w ≡ log v.puts v.takes (v.put ++ x ∷ []) v.taken };
 }
@@ -57,7 +57,7 @@ pub struct Takes;
 
 impl Outcome<Parcel, Log> for Takes {
     ghost use Rattle.std.specs.Prelude.{◌≡◌, [], ◌∷◌, ◌++◌};
-    ghost use Rattle.floor_outbox.specs.steps.Line.{log};
+    ghost use Rattle.floor_outbox.specs.Rule.{log};
 
     ghost then = { λ v x w. w ≡ log v.puts v.takes v.put (v.taken ++ x ∷ []) };
 }
@@ -70,13 +70,13 @@ impl Lesson<Parcel, Log> for Takes {
 pub struct Drains;
 
 impl Outcome<Parcel, Log> for Drains {
-    ghost use Rattle.floor_outbox.specs.steps.Line.{Drained};
+    ghost use Rattle.floor_outbox.specs.Rule.{Drained};
 
     ghost then = { Drained };
 }
 
 impl Lesson<Parcel, Log> for Drains {
-    ghost use Rattle.floor_outbox.specs.steps.Line.{Counted};
+    ghost use Rattle.floor_outbox.specs.Rule.{Counted};
 
     ghost fact = { Counted };
 }

@@ -23,7 +23,7 @@ impl Model for Sender {
     ghost use Rattle.std.specs.Arc.{arc_value};
     ghost use Rattle.crossbeam_queue.specs.SegTies.{IsSegPassOf};
     ghost use Rattle.floor_outbox.specs.Ends.{Sender};
-    ghost use Rattle.floor_outbox.specs.steps.Line.{log};
+    ghost use Rattle.floor_outbox.specs.Rule.{log};
 
     ghost Value = { Sender };
 

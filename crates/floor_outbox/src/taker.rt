@@ -23,7 +23,7 @@ impl Model for Taker {
     ghost use Rattle.std.specs.Arc.{arc_value};
     ghost use Rattle.crossbeam_queue.specs.SegTies.{IsSegPassOf};
     ghost use Rattle.floor_outbox.specs.Ends.{Taker};
-    ghost use Rattle.floor_outbox.specs.steps.Line.{log};
+    ghost use Rattle.floor_outbox.specs.Rule.{log};
 
     ghost Value = { Taker };
 

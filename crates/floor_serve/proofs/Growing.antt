@@ -162,38 +162,10 @@ stopped-flushing old new a b c rest parcels bytes k w f =
 parcel-parts : (old bytes : List ℕ) → old ++ bytes ≡ (old ++ take 12 bytes) ++ drop 12 bytes
 parcel-parts old bytes = ap (λ (l : List ℕ). old ++ l) (sym (take-append-drop 12 bytes)) ∙ sym (append_assoc old (take 12 bytes) (drop 12 bytes))
 
--- the header and then the payload were gathered
-pub moved-both : (a b c : Option (List ℕ)) (old mid new header payload bytes : List ℕ) (total between last : ℕ) → header ≡ take 12 bytes → payload ≡ drop 12 bytes → Moved a b (old ++ header) mid total between →
-    Moved b c (mid ++ payload) new between last → Moved a c (old ++ bytes) new total last
-moved-both a b c old mid new header payload bytes total between last e f m k =
-    record {
-      wrote = m.wrote ++ k.wrote;
-      parts = parcel-parts old bytes
-          ∙ ap (λ (l : List ℕ). (old ++ l) ++ drop 12 bytes) (sym e)
-          ∙ ap (λ (l : List ℕ). (old ++ header) ++ l) (sym f)
-          ∙ ap (λ (l : List ℕ). l ++ payload) m.parts
-          ∙ append_assoc m.wrote mid payload
-          ∙ ap (λ (l : List ℕ). m.wrote ++ l) k.parts
-          ∙ sym (append_assoc m.wrote k.wrote new);
-      grew = appends-both a b c m.wrote k.wrote (m.wrote ++ k.wrote) m.grew k.grew refl;
-      count = omega (arith, m.count, k.count, length-append m.wrote k.wrote);
-    }
-
 pub failed-header : (a b : Option (List ℕ)) (old header bytes : List ℕ) (total k : ℕ) → header ≡ take 12 bytes → Failed a b (old ++ header) total k → Failed a b (old ++ bytes) total k
 failed-header a b old header bytes total k e f =
     subst (λ (l : List ℕ). Failed a b l total k) (sym (parcel-parts old bytes))
     (failed-first a b (old ++ take 12 bytes) (drop 12 bytes) total k (subst (λ (l : List ℕ). Failed a b (old ++ l) total k) e f))
-
-pub failed-payload : (a b c : Option (List ℕ)) (old mid header payload bytes : List ℕ) (total between k : ℕ) → header ≡ take 12 bytes → payload ≡ drop 12 bytes → Moved a b (old ++ header) mid total between →
-    Failed b c (mid ++ payload) between k → Failed a c (old ++ bytes) total k
-failed-payload a b c old mid header payload bytes total between k e f m g =
-    failed-behind a b c (old ++ bytes) m.wrote (mid ++ payload) total between k
-    (parcel-parts old bytes
-    ∙ ap (λ (l : List ℕ). (old ++ l) ++ drop 12 bytes) (sym e)
-    ∙ ap (λ (l : List ℕ). (old ++ header) ++ l) (sym f)
-    ∙ ap (λ (l : List ℕ). l ++ payload) m.parts
-    ∙ append_assoc m.wrote mid payload)
-    m.grew m.count g
 
 -- written alone, the header and then the payload
 pub wrote-both : (a b c : Option (List ℕ)) (header payload bytes : List ℕ) → header ≡ take 12 bytes → payload ≡ drop 12 bytes → Appends a b header → Appends b c payload → Appends a c bytes
@@ -206,12 +178,11 @@ failed-second a b c header payload bytes between k e f h n g =
     failed-behind a b c bytes header payload 0 between k
     (sym (take-append-drop 12 bytes) ∙ ap (λ (l : List ℕ). l ++ drop 12 bytes) (sym e) ∙ ap (λ (l : List ℕ). header ++ l) (sym f)) h n g
 
-pub failed-payload-any : (a b c : Option (List ℕ)) (old mid header payload bytes : List ℕ) (total between : ℕ) (result : Result (Unit {0}) WriteFault) → header ≡ take 12 bytes → payload ≡ drop 12 bytes → Moved a b (old ++ header) mid total between →
-    IfErr result (λ f. Failed b c (mid ++ payload) between f.bytes) → IfErr result (λ f. Failed a c (old ++ bytes) total f.bytes)
-failed-payload-any a b c old mid header payload bytes total between (Ok x) e f m g = tt
-failed-payload-any a b c old mid header payload bytes total between (Err x) e f m g = failed-payload a b c old mid header payload bytes total between x.bytes e f m g
-
 pub failed-second-any : (a b c : Option (List ℕ)) (header payload bytes : List ℕ) (between : ℕ) (result : Result (Unit {0}) WriteFault) → header ≡ take 12 bytes → payload ≡ drop 12 bytes → Appends a b header → between ≡ capped (0 + length header) →
     IfErr result (λ f. Failed b c payload between f.bytes) → IfErr result (λ f. Failed a c bytes 0 f.bytes)
 failed-second-any a b c header payload bytes between (Ok x) e f h n g = tt
 failed-second-any a b c header payload bytes between (Err x) e f h n g = failed-second a b c header payload bytes between x.bytes e f h n g
+
+-- a parcel that was begun behind those before
+pub failed-on : (a b : Option (List ℕ)) (xs : List ℕ) (total k bytes : ℕ) → Failed a b xs 0 k → bytes ≡ capped (total + k) → Failed a b xs total bytes
+failed-on a b xs total k bytes f e = record { count = f.count; within = f.within; grew = f.grew; bytes_is = let g = f.bytes_is in omega (arith, e, g) }

@@ -1,8 +1,7 @@
 -- A booth: one conference with its journal, and the sender of each member that ever joined.
-use Rattle.std.specs.Prelude.{◌≡◌, ◌⊎◌, ℕ, List, [], ◌∷◌, ◌++◌, ◌+◌, length, true, false, Option, Some, None, is_some}
+use Rattle.std.specs.Prelude.{◌≡◌, ◌⊎◌, ℕ, List, [], ◌∷◌, ◌++◌, length, true, false, Option, Some, None, is_some}
 use Rattle.floor_config.specs.Configuration.{Configuration}
 use Rattle.floor_machine.specs.declared.event.Event.{Event}
-use Rattle.floor_machine.specs.declared.event.Event.TheVariants.{Join}
 use Rattle.floor_machine.specs.declared.machine.Refusal.TheVariants.{Memory}
 use Rattle.floor_machine.specs.Parcel.{Parcel}
 use Rattle.floor_machine.specs.Conference.{is_live}
@@ -39,26 +38,6 @@ pub record Took (old new : Booth) (e : Event) (more : List (Option Sender)) : Ty
   pub allowed : refusal old.ledger e ≡ None
   pub lawful : IsLawful (conference_of old.ledger) e
   pub next : new ≡ record { ledger = with_entry old.ledger e; senders = fed (parcels_of (conference_of old.ledger) e) 1 (old.senders ++ more) }
-
--- In one hold of its lock a booth took the event.
-pub record TookInOneHold (e : Event) : Type 0 where
-  pub before : Booth
-  pub after : Booth
-  pub took : Took before after e []
-
--- In one hold of its lock a booth took the join of the user: the member has this number, and its sender is of this pair.
-pub record JoinedInOneHold (user n : ℕ) (pair : PairId) : Type 0 where
-  pub before : Booth
-  pub after : Booth
-  pub took : Took before after (Join user) (opened pair)
-  pub number : n ≡ length (conference_of before.ledger).members + 1
-
--- In one hold of its lock a booth took the event, with these more senders, and it stands at this place.
-pub record TookAt (e : Event) (more : List (Option Sender)) (place : ℕ) : Type 0 where
-  pub before : Booth
-  pub after : Booth
-  pub took : Took before after e more
-  pub place_is : place ≡ length after.ledger.journal
 
 -- The event stands behind the journal, and some first of what it tells was put.
 pub record Began (old new : Booth) (e : Event) (more : List (Option Sender)) : Type 0 where

@@ -1,9 +1,6 @@
 //! One conference as threads share it.
 
 ghost use Rattle.std.specs.Prelude.{◌≡◌, ◌∷◌, ◌++◌, [], IfOk, OnErr, OnOk};
-ghost use Rattle.floor_machine.specs.declared.event.Event.TheVariants.{Leave, Message};
-ghost use Rattle.floor_machine.specs.Machine.{event_of_act};
-ghost use Rattle.floor_serve.specs.Booth.{JoinedInOneHold, TookAt, TookInOneHold};
 
 use crate::booth::Booth;
 use crate::gate::Gate;
@@ -60,7 +57,6 @@ impl Desk {
         ensures seat { IfOk result (λ joined. joined.0.conference ≡ self.now.conference) }
         ensures sent { IfOk result (λ joined. joined.0.sent ≡ []) }
         ensures taken { IfOk result (λ joined. joined.1.taken ≡ []) }
-        ensures took { IfOk result (λ joined. JoinedInOneHold user joined.0.n joined.1.pair) }
     {
         let mut booth = self.booth.lock(rt);
         let joined = booth.join(rt, user);
@@ -85,8 +81,6 @@ impl Desk {
         ensures took { IfOk result (λ receipt. seat.new ≡ record seat.old {
           sent = seat.old.sent ++ record { place = receipt.place; bytes = frame } ∷ [];
         }) }
-        ensures place { IfOk result (λ receipt.
-            TookAt (Message seat.old.n frame) [] receipt.place) }
         ensures left { OnErr result (seat.new ≡ seat.old) }
     {
         // The seat's memory is taken first, so that a message that was taken is recorded.
@@ -113,7 +107,6 @@ impl Desk {
     pub fn leave<R: Wait>(&self, rt: &R, seat: &mut Seat) -> Result<(), RoomRefusal>
         requires { seat.old.conference ≡ self.now.conference }
         ensures kept { seat.new ≡ seat.old }
-        ensures took { OnOk result (TookInOneHold (Leave seat.old.n)) }
     {
         let mut booth = self.booth.lock(rt);
         let left = booth.leave(rt, seat.n());
@@ -128,9 +121,7 @@ impl Desk {
 
     /// Does what the administrator does. A Close lets every writer end. Refused as
     /// [`Booth::admin`].
-    pub fn admin<R: Wait>(&self, rt: &R, act: Act) -> Result<(), RoomRefusal>
-        ensures took { OnOk result (TookInOneHold (event_of_act act)) }
-    {
+    pub fn admin<R: Wait>(&self, rt: &R, act: Act) -> Result<(), RoomRefusal> {
         let mut booth = self.booth.lock(rt);
         let done = booth.admin(rt, act);
         let wakers = booth.wakers();

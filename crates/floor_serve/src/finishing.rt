@@ -1,6 +1,6 @@
 //! The end: what every seat recorded, against the journals of the conferences.
 
-ghost use Rattle.std.specs.Prelude.{◌≡◌, ◌↔◌, ℕ, List, All, IfErr, IfOk, IfSome, IsTrue, Err, min, OnErr, OnOk, length, false, true};
+ghost use Rattle.std.specs.Prelude.{◌≡◌, ◌↔◌, ℕ, All, IfErr, IfOk, IfSome, IsTrue, Err, min, OnErr, OnOk, length, false, true};
 ghost use Rattle.floor_serve.specs.Booth as spec;
 ghost use Rattle.floor_serve.specs.Booth.{IsBooth};
 ghost use Rattle.floor_serve.specs.Finish.{Agrees, AreOneMember, Finished};
@@ -38,22 +38,25 @@ struct Found {
     unfit: usize,
 }
 
-/// Compares what every seat recorded with the journals of all conferences: each message once, in
-/// the seat's order, at its receipt's place, and no other of that seat. No two seats may have one
-/// conference and number. Takes no memory.
-///
-/// Where the seats ascend by conference and number and are those of all members, the time grows
-/// with what they and the journals hold. In another order each is compared with each.
-pub fn finish<R: Wait>(rt: &R, registry: &Registry, seats: &[Seat]) -> Result<Report, FinishFault>
-    ensures { (opened : List ℕ) × Finished opened seats.now result }
-{
+/// Compares what every seat recorded with the journals of all conferences of the registry, as
+/// [`Table::finish`] does, while the registry's lock is held.
+pub fn finish<R: Wait>(rt: &R, registry: &Registry, seats: &[Seat]) -> Result<Report, FinishFault> {
     let table = registry.table.lock(rt);
     table.finish(rt, seats)
 }
 
 impl Table {
-    /// The same of the conferences of a table, each in one hold of its lock.
-    pub(crate) fn finish<R: Wait>(&self, rt: &R, seats: &[Seat]) -> Result<Report, FinishFault>
+    /// Compares what every seat recorded with the journals of all conferences, each in one hold of
+    /// its lock: each message once, in the seat's order, at its receipt's place, and no other of
+    /// that seat. No two seats may have one conference and number, and each seat's conference has
+    /// to be in the table. Takes no memory.
+    ///
+    /// Refused by `Broken` for the first conference, in the order of opening, that is broken off;
+    /// then by `Mismatch` for the first seat that doesn't fit. Nothing changes in either case.
+    ///
+    /// Where the seats ascend by conference and number and are those of all members, the time
+    /// grows with what they and the journals hold. In another order each is compared with each.
+    pub fn finish<R: Wait>(&self, rt: &R, seats: &[Seat]) -> Result<Report, FinishFault>
         ensures { Finished self.now seats.now result }
     {
         let order = order_of(seats);

@@ -96,11 +96,12 @@ fn gather_taken<S: Sink>(
         (buffer.old.items ++ parcel.bytes) total.old f.bytes) }
     ensures marked { IfErr result (λ f. S.marked sink.new ≡ true) }
 {
-    gather_parcel(sink, buffer, &parcel, total)
+    gather(sink, buffer, &parcel, total)
 }
 
-/// Puts a parcel behind the bytes that are gathered, its header and then its payload.
-fn gather_parcel<S: Sink>(
+/// Puts a parcel behind the bytes that are gathered. Where it doesn't fit behind them, those are
+/// written first; where it fits nowhere, it is written by itself.
+fn gather<S: Sink>(
     sink: &mut S,
     buffer: &mut Vec<u8>,
     parcel: &Parcel,
@@ -115,53 +116,38 @@ fn gather_parcel<S: Sink>(
         (buffer.old.items ++ parcel.now.bytes) total.old f.bytes) }
     ensures marked { IfErr result (λ f. S.marked sink.new ≡ true) }
 {
-    match gather(sink, buffer, parcel.header(), total) {
-        Ok(()) => {}
-        Err(fault) => return Err(fault),
-    }
-    gather(sink, buffer, parcel.payload(), total)
-}
-
-/// Puts bytes behind those that are gathered. Where they don't fit behind them, those are written
-/// first; where they fit nowhere, they are written too.
-fn gather<S: Sink>(
-    sink: &mut S,
-    buffer: &mut Vec<u8>,
-    bytes: &[u8],
-    total: &mut u64,
-) -> Result<(), WriteFault>
-    requires { S.marked sink.old ≡ false }
-    ensures moved { OnOk result (Moved (S.contents sink.old) (S.contents sink.new)
-        (buffer.old.items ++ bytes.now) buffer.new.items total.old total.new) }
-    ensures unmarked { OnOk result (S.marked sink.new ≡ false) }
-
-    ensures failed { IfErr result (λ f. Failed (S.contents sink.old) (S.contents sink.new)
-        (buffer.old.items ++ bytes.now) total.old f.bytes) }
-    ensures marked { IfErr result (λ f. S.marked sink.new ≡ true) }
-{
     let _before = *total;
-    match put_behind(buffer, bytes) {
+    match put_behind(buffer, parcel) {
         Some(()) => return Ok(()),
         None => {}
     }
     flush(sink, buffer, total)?;
-    match put_behind(buffer, bytes) {
+    match put_behind(buffer, parcel) {
         Some(()) => Ok(()),
-        None => write_all(sink, bytes, total),
+        None => write_counted(sink, parcel, total),
     }
 }
 
-/// Puts bytes behind those that are gathered, where they fit.
-fn put_behind(buffer: &mut Vec<u8>, bytes: &[u8]) -> Option<()>
+/// Puts a parcel behind the bytes that are gathered, where it fits: its header and then its
+/// payload. Where memory is refused for it, the bytes are as they were.
+fn put_behind(buffer: &mut Vec<u8>, parcel: &Parcel) -> Option<()>
     ensures { MatchOption result (buffer.new.items ≡ buffer.old.items)
-        (λ _. buffer.new.items ≡ buffer.old.items ++ bytes.now) }
+        (λ _. buffer.new.items ≡ buffer.old.items ++ parcel.now.bytes) }
 {
-    if bytes.len() > GATHERED.saturating_sub(buffer.len()) {
+    let before = buffer.len();
+    if parcel.len() > GATHERED.saturating_sub(before) {
         return None;
     }
-    match buffer.extend_from_slice(bytes) {
+    match buffer.extend_from_slice(parcel.header()) {
+        Ok(()) => {}
+        Err(_) => return None,
+    }
+    match buffer.extend_from_slice(parcel.payload()) {
         Ok(()) => Some(()),
-        Err(_) => None,
+        Err(_) => {
+            buffer.truncate(before);
+            None
+        }
     }
 }
 
@@ -183,7 +169,31 @@ fn flush<S: Sink>(sink: &mut S, buffer: &mut Vec<u8>, total: &mut u64) -> Result
     Ok(())
 }
 
-/// Writes the bytes of a parcel.
+/// Writes a parcel, and adds to the count of the bytes that were written.
+fn write_counted<S: Sink>(sink: &mut S, parcel: &Parcel, total: &mut u64) -> Result<(), WriteFault>
+    requires { S.marked sink.old ≡ false }
+    ensures grew { OnOk result (Appends (S.contents sink.old) (S.contents sink.new)
+        parcel.now.bytes) }
+    ensures total { OnOk result (total.new ≡ capped (total.old + length parcel.now.bytes)) }
+    ensures unmarked { OnOk result (S.marked sink.new ≡ false) }
+
+    ensures failed { IfErr result (λ f. Failed (S.contents sink.old) (S.contents sink.new)
+        parcel.now.bytes total.old f.bytes) }
+    ensures marked { IfErr result (λ f. S.marked sink.new ≡ true) }
+{
+    match write_parcel(sink, parcel) {
+        Ok(()) => {
+            *total = total.saturating_add(parcel.len() as u64);
+            Ok(())
+        }
+        Err(fault) => Err(WriteFault {
+            bytes: total.saturating_add(fault.bytes),
+        }),
+    }
+}
+
+/// Writes the bytes of a parcel, its header and then its payload. A fault comes only where the
+/// sink failed, and says how many of the bytes were written before.
 pub fn write_parcel<S: Sink>(sink: &mut S, parcel: &Parcel) -> Result<(), WriteFault>
     requires { S.marked sink.old ≡ false }
     ensures grew { OnOk result (Appends (S.contents sink.old) (S.contents sink.new)

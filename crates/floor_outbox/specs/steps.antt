@@ -1,2 +1,0 @@
--- Definitions that speak of private types, for the proofs alone.
-pub mod Line
