@@ -14,7 +14,7 @@ use Rattle.floor_room.specs.declared.refusal.RoomRefusal.{RoomRefusal}
 use Rattle.floor_room.specs.declared.refusal.RoomRefusal.TheVariants.{JournalFull, Refused as ByMachine}
 use Rattle.floor_room.specs.Room.{Room, broken_room}
 use Rattle.floor_room.specs.Ledger.{IsRefusedBy, refusal}
-use Rattle.floor_room.specs.Calls.{Began, Left, Took}
+use Rattle.floor_room.specs.Calls.{Applied, Began, Left}
 use Rattle.floor_hub.specs.declared.refusal.HubRefusal.{HubRefusal}
 use Rattle.floor_hub.specs.declared.refusal.HubRefusal.TheVariants.{NoConference, ByRoom}
 use Rattle.floor_hub.specs.declared.connection.Connection.{Connection}
@@ -165,7 +165,7 @@ module _ (rooms now : ℕ → Option Room) (xs : ℕ → Option Connection) (k :
       gone : w.parts c ≡ None
       gone = by (w.parts c) (subst (λ (x : Option Room). RoomStands x (w.parts c)) is (st.of_rooms c))
 
-  act_taken : (r new : Room) (z : Option Part) → w.parts c ≡ z → rooms c ≡ Some r → ((d : ℕ) → d ≢ c → now d ≡ rooms d) → now c ≡ Some new → Took r new e → RoomStands (Some r) z →
+  act_taken : (r new : Room) (z : Option Part) → w.parts c ≡ z → rooms c ≡ Some r → ((d : ℕ) → d ≢ c → now d ≡ rooms d) → now c ≡ Some new → Applied r new e → RoomStands (Some r) z →
       TurnIs (offer z (Admin c act)) Done
   act_taken r new None was is others here t h = absurd h
   act_taken r new (Some p) was is others here t h =
@@ -174,7 +174,7 @@ module _ (rooms now : ℕ → Option Room) (xs : ℕ → Option Connection) (k :
       subst (λ (x : Option RoomRefusal). TurnIs (world.admin p e x) Done) (sym open_too)
       (stands_taken rooms now xs k w c e (quiet-act act) st r new p is was others here sound (ap (λ (x : Room). x.ledger.config) t.next) (ap (λ (x : Room). x.ledger.journal) t.next), refl)
 
-  pub act_done : (r new : Room) → rooms c ≡ Some r → ((d : ℕ) → d ≢ c → now d ≡ rooms d) → now c ≡ Some new → Took r new e → Acted Done
+  pub act_done : (r new : Room) → rooms c ≡ Some r → ((d : ℕ) → d ≢ c → now d ≡ rooms d) → now c ≡ Some new → Applied r new e → Acted Done
   act_done r new is others here t =
       act_taken r new (w.parts c) refl is others here t (subst (λ (x : Option Room). RoomStands x (w.parts c)) is (st.of_rooms c))
 
@@ -228,14 +228,14 @@ module _ (rooms now : ℕ → Option Room) (xs : ℕ → Option Connection) (k :
   abbrev pub FailedAt : Room → Room → HubRefusal → Type 0
   FailedAt r new x = (why : RoomRefusal) × (x ≡ ByRoom why) × IsRefusedBy {T = Unit {0}} (refusal r.ledger e) (Err why) × Left r new e why
 
-  acted_at : (res : Result (Unit {0}) HubRefusal) (r new : Room) → rooms c ≡ Some r → ((d : ℕ) → d ≢ c → now d ≡ rooms d) → now c ≡ Some new → OnOk res (Took r new e) → IfErr res (FailedAt r new) →
+  acted_at : (res : Result (Unit {0}) HubRefusal) (r new : Room) → rooms c ≡ Some r → ((d : ℕ) → d ≢ c → now d ≡ rooms d) → now c ≡ Some new → OnOk res (Applied r new e) → IfErr res (FailedAt r new) →
       MatchResult res (λ _. Acted Done) ActFails
   acted_at (Ok v) r new is others here ok err = act_done r new is others here ok
   acted_at (Err x) r new is others here ok err = subst ActFails (sym err.1) (act_failed r new err.0 is others here err.2 err.3)
 
   -- what the act in the room is in the world
   pub acted : (res : Result (Unit {0}) HubRefusal) (y : Option Room) → rooms c ≡ y → (rooms c ≡ None → (res ≡ Err NoConference) × ((d : ℕ) → now d ≡ rooms d)) →
-      ((r : Room) → rooms c ≡ Some r → (new : Room) × (now c ≡ Some new) × ((d : ℕ) → nat_eq c d ≡ false → now d ≡ rooms d) × OnOk res (Took r new e) × IfErr res (FailedAt r new)) →
+      ((r : Room) → rooms c ≡ Some r → (new : Room) × (now c ≡ Some new) × ((d : ℕ) → nat_eq c d ≡ false → now d ≡ rooms d) × OnOk res (Applied r new e) × IfErr res (FailedAt r new)) →
       MatchResult res (λ _. Acted Done) ActFails
   acted res None is absent there =
       let a = absent is in

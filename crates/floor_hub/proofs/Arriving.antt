@@ -23,7 +23,7 @@ use Rattle.floor_room.specs.declared.refusal.RoomRefusal.TheVariants.{JournalFul
 use Rattle.floor_room.specs.Ledger.{conference_of}
 use Rattle.floor_room.specs.Room.{Room}
 use Rattle.floor_room.specs.Ledger.{IsRefusedBy, refusal}
-use Rattle.floor_room.specs.Calls.{Left, Took}
+use Rattle.floor_room.specs.Calls.{Applied, Left}
 use Rattle.floor_hub.specs.declared.refusal.HubRefusal.{HubRefusal}
 use Rattle.floor_hub.specs.declared.refusal.HubRefusal.TheVariants.{NoConference, ByRoom}
 use Rattle.floor_hub.specs.declared.connection.Connection.{Connection}
@@ -103,7 +103,7 @@ module _ (rooms now : ℕ → Option Room) (xs now_xs : ℕ → Option Connectio
   abbrev pub AttachIs : ℕ → Answer → Type 0
   AttachIs m a = Stands now now_xs m (turn w (Attach c user)).world × ((turn w (Attach c user)).answer ≡ a)
 
-  module _ (r new : Room) (p : Part) (is : rooms c ≡ Some r) (was : w.parts c ≡ Some p) (here : now c ≡ Some new) (others : (d : ℕ) → d ≢ c → now d ≡ rooms d) (t : Took r new (Join user))
+  module _ (r new : Room) (p : Part) (is : rooms c ≡ Some r) (was : w.parts c ≡ Some p) (here : now c ≡ Some new) (others : (d : ℕ) → d ≢ c → now d ≡ rooms d) (t : Applied r new (Join user))
       (now_here : now_xs (k + 1) ≡ Some (record { conference = c; n = length (conference_of r.ledger).members + 1; held = [] })) (other_xs : (j : ℕ) → j ≢ k + 1 → now_xs j ≡ xs j) where
     abbrev x : Connection
     x = record { conference = c; n = length (conference_of r.ledger).members + 1; held = [] }
@@ -272,7 +272,7 @@ module _ (rooms now : ℕ → Option Room) (xs now_xs : ℕ → Option Connectio
         subst (λ (z : Option RoomRefusal). TurnIs (k + 1) (world.attach p user z) (Attached (k + 1))) (sym taken)
         (joins_stands, ap (λ (i : ℕ). Attached i) (sym last_is))
 
-  attached : (r new : Room) (z : Option Part) → w.parts c ≡ z → RoomStands (Some r) z → rooms c ≡ Some r → now c ≡ Some new → ((d : ℕ) → d ≢ c → now d ≡ rooms d) → Took r new (Join user) →
+  attached : (r new : Room) (z : Option Part) → w.parts c ≡ z → RoomStands (Some r) z → rooms c ≡ Some r → now c ≡ Some new → ((d : ℕ) → d ≢ c → now d ≡ rooms d) → Applied r new (Join user) →
       now_xs (k + 1) ≡ Some (record { conference = c; n = length (conference_of r.ledger).members + 1; held = [] }) → ((j : ℕ) → j ≢ k + 1 → now_xs j ≡ xs j) →
       TurnIs (k + 1) (offer z (Attach c user)) (Attached (k + 1))
   attached r new None was s is here others t own_x other_x = absurd s
@@ -370,7 +370,7 @@ module _ (rooms now : ℕ → Option Room) (xs now_xs : ℕ → Option Connectio
   AttachFailsAt r new y = (why : RoomRefusal) × (y ≡ ByRoom why) × AttachFailsIn r new user why
 
   made : (res : Result (Unit {0}) HubRefusal) (r new : Room) → rooms c ≡ Some r → now c ≡ Some new → ((d : ℕ) → d ≢ c → now d ≡ rooms d) →
-      OnOk res (Took r new (Join user) × OwnIs r) → IfErr res (AttachFailsAt r new) → (IfErr res (λ _. (j : ℕ) → now_xs j ≡ xs j)) →
+      OnOk res (Applied r new (Join user) × OwnIs r) → IfErr res (AttachFailsAt r new) → (IfErr res (λ _. (j : ℕ) → now_xs j ≡ xs j)) →
       MatchResult res (λ _. AttachIs (k + 1) (Attached (k + 1))) AttachFails
   made (Ok v) r new is here others ok err same_xs =
       attached r new (w.parts c) refl (subst (λ (y : Option Room). RoomStands y (w.parts c)) is (st.of_rooms c)) is here others ok.0 ok.1.0
@@ -382,7 +382,7 @@ module _ (rooms now : ℕ → Option Room) (xs now_xs : ℕ → Option Connectio
       (rooms c ≡ None → (res ≡ Err NoConference) × ((d : ℕ) → now d ≡ rooms d)) →
       IfErr res (λ _. (j : ℕ) → now_xs j ≡ xs j) →
       ((r : Room) → rooms c ≡ Some r → (new : Room) × (now c ≡ Some new) × ((d : ℕ) → nat_eq c d ≡ false → now d ≡ rooms d) ×
-      OnOk res (Took r new (Join user) × OwnIs r) × IfErr res (AttachFailsAt r new)) →
+      OnOk res (Applied r new (Join user) × OwnIs r) × IfErr res (AttachFailsAt r new)) →
       MatchResult res (λ _. AttachIs (k + 1) (Attached (k + 1))) AttachFails
   attach_result res None is absent same_xs there =
       let a = absent is in

@@ -20,7 +20,7 @@ use Rattle.floor_room.specs.declared.refusal.RoomRefusal.TheVariants.{JournalFul
 use Rattle.floor_room.specs.Ledger.{conference_of}
 use Rattle.floor_room.specs.Room.{Room, broken_room}
 use Rattle.floor_room.specs.Ledger.{IsRefusedBy, closed, first_of, refusal}
-use Rattle.floor_room.specs.Calls.{Began, Left, Took}
+use Rattle.floor_room.specs.Calls.{Applied, Began, Left}
 use Rattle.floor_room.proofs.Ledgers as adding
 use Rattle.floor_hub.specs.declared.refusal.HubRefusal.{HubRefusal}
 use Rattle.floor_hub.specs.declared.refusal.HubRefusal.TheVariants.{NoConnection, ByRoom}
@@ -189,7 +189,7 @@ module _ (rooms now : ℕ → Option Room) (xs now_xs : ℕ → Option Connectio
       (stands_same rest mine_was mine_now same held (update nat_eq w.parts c (Some part)) (λ d. put_back w c (Some part) h.was d (d == c) refl), refl)
 
   serves_message : (rest frame : List ℕ) → now_xs number ≡ Some (record { conference = x.conference; n = x.n; held = rest }) →
-      messages x.held ≡ frame ∷ messages rest → x.held ≡ frame ++ rest → Took h.r new (Message x.n frame) → Turned HasServed
+      messages x.held ≡ frame ∷ messages rest → x.held ≡ frame ++ rest → Applied h.r new (Message x.n frame) → Turned HasServed
   serves_message rest frame mine_now next_one cut t =
       let none : closed h.r.ledger ≡ None = first_none (closed h.r.ledger) (option_map ByMachine (member_refusal (whole (conference_of h.r.ledger)) x.n)) t.allowed in
       let room = adding.opened h.r.ledger (sym none) in

@@ -14,7 +14,7 @@ use Rattle.floor_config.specs.Lookup.{is_user}
 use Rattle.floor_machine.specs.Journal.{parcels_of, sent_to}
 use Rattle.floor_room.specs.declared.refusal.RoomRefusal.{RoomRefusal}
 use Rattle.floor_room.specs.declared.refusal.RoomRefusal.TheVariants.{JournalFull, Refused as ByMachine}
-use Rattle.floor_room.specs.Calls.{Left, Took, with_event}
+use Rattle.floor_room.specs.Calls.{Applied, Left, with_event}
 use Rattle.floor_room.specs.Ledger.{IsRefusedBy, Ledger, closed, conference_of, first_of, refusal}
 use Rattle.floor_room.specs.Outbox.{Outbox, delivered}
 use Rattle.floor_room.specs.Room.{Room, broken_room, joined}
@@ -79,7 +79,7 @@ room-event shut_by why r s e put b sound want told is = record {
   outboxes = subst (λ (x : Room). QueuesMore r.outboxes x.outboxes) (sym is) (queues-more put 1 e r.outboxes);
 }
 
-pub room-took : (shut_by : Option HubRefusal) (r s : Room) (e : Event) → Took r s e → RoomAfter shut_by None r s
+pub room-took : (shut_by : Option HubRefusal) (r s : Room) (e : Event) → Applied r s e → RoomAfter shut_by None r s
 room-took shut_by r s e t = room-event shut_by None r s e (parcels_of (conference_of r.ledger) e) false (allowed-open r.ledger e t.allowed).unbroken refl refl t.next
 
 -- a room that isn't broken is broken off
@@ -189,7 +189,7 @@ other-shut other shut_by why r s sound a = record {
 }
 
 -- the room was joined, and broken off then
-room-unjoined : (r mid s : Room) (e : Event) → Took r mid e → s ≡ broken_room mid → RoomAfter by_broken (Some (ByRoom (ByMachine Memory))) r s
+room-unjoined : (r mid s : Room) (e : Event) → Applied r mid e → s ≡ broken_room mid → RoomAfter by_broken (Some (ByRoom (ByMachine Memory))) r s
 room-unjoined r mid s e t off =
     room-event by_broken (Some (ByRoom (ByMachine Memory))) r s e (parcels_of (conference_of r.ledger) e) true (allowed-open r.ledger e t.allowed).unbroken refl refl (off ∙ ap broken_room t.next)
 
@@ -263,7 +263,7 @@ module _ (shut_by why : Option HubRefusal) (c : ℕ) (old new : Hub) where
   }
 
 module _ (c : ℕ) (e : Event) (old new : Hub) where
-  event-at : (res : Result (Unit {0}) HubRefusal) (r s : Room) → OnOk res (Took r s e) →
+  event-at : (res : Result (Unit {0}) HubRefusal) (r s : Room) → OnOk res (Applied r s e) →
       IfErr res (λ x. (why : RoomRefusal) × (x ≡ ByRoom why) × IsRefusedBy {T = Unit {0}} (refusal r.ledger e) (Err why) × Left r s e why) → RoomAfter by_broken (refusal_in res) r s
   event-at (Ok v) r s ok err = room-took by_broken r s e ok
   event-at (Err x) r s ok err = subst (λ (y : HubRefusal). RoomAfter by_broken (Some y) r s) (sym err.1) (room-left r s e err.0 err.2 err.3)
@@ -271,7 +271,7 @@ module _ (c : ℕ) (e : Event) (old new : Hub) where
   -- an act of the administrator
   pub event-room : (res : Result (Unit {0}) HubRefusal) (y : Option Room) → room_at old c ≡ y →
       (room_at old c ≡ None → (res ≡ Err NoConference) × ((d : ℕ) → room_at new d ≡ room_at old d)) →
-      ((r : Room) → room_at old c ≡ Some r → (s : Room) × (room_at new c ≡ Some s) × ((d : ℕ) → nat_eq c d ≡ false → room_at new d ≡ room_at old d) × OnOk res (Took r s e)
+      ((r : Room) → room_at old c ≡ Some r → (s : Room) × (room_at new c ≡ Some s) × ((d : ℕ) → nat_eq c d ≡ false → room_at new d ≡ room_at old d) × OnOk res (Applied r s e)
       × IfErr res (λ x. (why : RoomRefusal) × (x ≡ ByRoom why) × IsRefusedBy {T = Unit {0}} (refusal r.ledger e) (Err why) × Left r s e why)) →
       OneRoom by_broken (refusal_in res) c old new
   event-room res None is absent there =
@@ -283,7 +283,7 @@ module _ (c : ℕ) (e : Event) (old new : Hub) where
 
 -- an attach
 module _ (c user : ℕ) (old new : Hub) where
-  attach-at : (res : Result (Unit {0}) HubRefusal) (r s : Room) → OnOk res (Took r s (Join user)) →
+  attach-at : (res : Result (Unit {0}) HubRefusal) (r s : Room) → OnOk res (Applied r s (Join user)) →
       IfErr res (λ x. (why : RoomRefusal) × (x ≡ ByRoom why) × AttachFailsIn r s user why) → RoomAfter by_broken (refusal_in res) r s
   attach-at (Ok v) r s ok err = room-took by_broken r s (Join user) ok
   attach-at (Err x) r s ok err = subst (λ (z : HubRefusal). RoomAfter by_broken (Some z) r s) (sym err.1) (room-attach-fails r s user err.0 err.2)
@@ -291,7 +291,7 @@ module _ (c user : ℕ) (old new : Hub) where
   pub attach-room : (res : Result (Unit {0}) HubRefusal) (y : Option Room) → room_at old c ≡ y →
       (room_at old c ≡ None → (res ≡ Err NoConference) × ((d : ℕ) → room_at new d ≡ room_at old d)) →
       ((r : Room) → room_at old c ≡ Some r → (s : Room) × (room_at new c ≡ Some s) × ((d : ℕ) → nat_eq c d ≡ false → room_at new d ≡ room_at old d)
-      × OnOk res (Took r s (Join user)) × IfErr res (λ x. (why : RoomRefusal) × (x ≡ ByRoom why) × AttachFailsIn r s user why)) →
+      × OnOk res (Applied r s (Join user)) × IfErr res (λ x. (why : RoomRefusal) × (x ≡ ByRoom why) × AttachFailsIn r s user why)) →
       OneRoom by_broken (refusal_in res) c old new
   attach-room res None is absent there =
       let a = absent is in

@@ -4,7 +4,7 @@ ghost use Rattle.std.specs.Prelude.{false, [], ◌≡◌, ◌+◌, ℕ, Ok, Err,
 ghost use Rattle.indexmap.specs.IndexMap.{Updates, get};
 ghost use Rattle.floor_machine.specs.declared.event.Event.TheVariants.{Join};
 ghost use Rattle.floor_machine.specs.Parcel.{Parcel};
-ghost use Rattle.floor_room.specs.Calls.{Took};
+ghost use Rattle.floor_room.specs.Calls.{Applied};
 ghost use Rattle.floor_room.specs.Status.{IsStatus};
 ghost use Rattle.floor_room.specs.Taking.{Gave};
 ghost use Rattle.floor_room.specs.declared.outbox.NoMember.{NoMember};
@@ -263,7 +263,7 @@ fn attach_at(
         → (new : Kept) × (get nat_eq rooms.new conference ≡ Some new)
         × ((d : ℕ) → nat_eq conference d ≡ false
         → get nat_eq rooms.new d ≡ get nat_eq rooms.old d)
-        × OnOk result (Took room new (Join user)
+        × OnOk result (Applied room new (Join user)
         × Puts connections.old connections.new number (Some record {
           conference = conference;
           n = length (conference_of room.ledger).members + 1;

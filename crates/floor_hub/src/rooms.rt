@@ -4,7 +4,7 @@ ghost use Rattle.std.specs.Prelude.{false, true, ◌≡◌, ◌≢◌, ◌⊎◌
 ghost use Rattle.indexmap.specs.IndexMap.{Updates, get};
 ghost use Rattle.floor_machine.specs.declared.event.Event.TheVariants.{Join};
 ghost use Rattle.floor_machine.specs.Machine.{event_of_act};
-ghost use Rattle.floor_room.specs.Calls.{Left, Took};
+ghost use Rattle.floor_room.specs.Calls.{Applied, Left};
 ghost use Rattle.floor_room.specs.Ledger.{IsRefusedBy, conference_of, refusal};
 ghost use Rattle.floor_room.specs.Room.{Room as Kept, broken_room, new_room};
 ghost use Rattle.floor_room.specs.declared.refusal.RoomRefusal.{RoomRefusal};
@@ -58,7 +58,7 @@ pub(crate) fn admin_at(
         × ((other : ℕ) → get nat_eq rooms.new other ≡ get nat_eq rooms.old other) }
     ensures rooms { (room : Kept) → get nat_eq rooms.old conference ≡ Some room
         → (new : Kept) × Updates nat_eq rooms.old rooms.new conference (Some new)
-        × OnOk result (Took room new (event_of_act act))
+        × OnOk result (Applied room new (event_of_act act))
         × IfErr result (λ r. (why : RoomRefusal) × (r ≡ HubRefusal.ByRoom why)
         × IsRefusedBy {T = Unit {0}} (refusal room.ledger (event_of_act act)) (Err why)
         × Left room new (event_of_act act) why) }
@@ -84,7 +84,7 @@ pub(crate) fn join_at(
     ensures rooms { (room : Kept) → get nat_eq rooms.old conference ≡ Some room
         → (new : Kept) × Updates nat_eq rooms.old rooms.new conference (Some new)
         × IfOk result (λ n. (n ≡ length (conference_of room.ledger).members + 1)
-        × Took room new (Join user) × (n ≡ length new.outboxes))
+        × Applied room new (Join user) × (n ≡ length new.outboxes))
         × IfErr result (λ r. (why : RoomRefusal) × (r ≡ HubRefusal.ByRoom why)
         × IsRefusedBy {T = Unit {0}} (refusal room.ledger (Join user)) (Err why)
         × Left room new (Join user) why) }

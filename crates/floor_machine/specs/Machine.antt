@@ -65,7 +65,7 @@ IsRefusedBy None (Err refusal) = ⊥
 
 -- What a call that took an event did: the event was lawful, the conference is the next one, the parcels stand behind those before
 -- them, and each of their messages can be written.
-pub record Took (old : Machine) (e : Event) (new : Machine) (before after : List Parcel) : Type 0 where
+pub record Applied (old : Machine) (e : Event) (new : Machine) (before after : List Parcel) : Type 0 where
   pub lawful : IsLawful old.conference e
   pub next : new ≡ whole (next old.conference e)
   pub out : after ≡ before ++ parcels_of old.conference e
@@ -85,7 +85,7 @@ machine_after m es = record m { conference = after_from m.conference es }
 
 -- What a run that took all its events did: they were lawful, each after those before it, the machine has taken them, and the parcels
 -- stand behind those before them.
-pub record TookAll (old : Machine) (es : List Event) (new : Machine) (before after : List Parcel) : Type 0 where
+pub record AppliedAll (old : Machine) (es : List Event) (new : Machine) (before after : List Parcel) : Type 0 where
   pub lawful : IsLawfulFrom old.conference es
   pub next : new ≡ machine_after old es
   pub out : after ≡ before ++ parcels_from old.conference es

@@ -3,7 +3,7 @@
 ghost use Rattle.std.specs.Prelude.{◌≡◌, ◌+◌, ◌<◌, ◌≤◌, [], IfOk, IfErr, OnOk, length, count_by};
 ghost use Rattle.floor_machine.specs.Conference.{opening};
 ghost use Rattle.floor_machine.specs.declared.event.Event.TheVariants.{Join, Message, Leave};
-ghost use Rattle.floor_machine.specs.Machine.{IsRefusedBy, Left, Took, act_refusal, event_of_act, event_refusal, join_refusal, member_refusal, whole};
+ghost use Rattle.floor_machine.specs.Machine.{Applied, IsRefusedBy, Left, act_refusal, event_of_act, event_refusal, join_refusal, member_refusal, whole};
 ghost use Rattle.floor_machine.specs.steps.Events.{HasNumber, IsSilent, event_of};
 
 use crate::conference::State;
@@ -209,7 +209,7 @@ impl Machine {
     fn take(&mut self, event: BorrowedEvent<'_>, out: &mut Vec<Parcel>) -> Result<(), Refusal>
         requires { HasNumber self.old.conference (event_of event) }
         ensures took { OnOk result
-            (Took self.old (event_of event.entry) self.new out.old.items out.new.items) }
+            (Applied self.old (event_of event.entry) self.new out.old.items out.new.items) }
         ensures silent { OnOk result (IsSilent self.old.conference (event_of event.entry)) }
         ensures refused { IsRefusedBy (event_refusal self.old (event_of event.entry)) result }
         ensures left { IfErr result
@@ -242,7 +242,7 @@ impl Machine {
     pub fn apply(&mut self, event: &Event, out: &mut Vec<Parcel>) -> Result<(), Refusal>
         requires { length self.old.conference.members < 4294967295 }
         ensures took { OnOk result
-            (Took self.old event.now self.new out.old.items out.new.items) }
+            (Applied self.old event.now self.new out.old.items out.new.items) }
         ensures refused { IsRefusedBy (event_refusal self.old event.now) result }
         ensures left { IfErr result
             (Left self.old event.now self.new out.old.items out.new.items) }
@@ -264,7 +264,7 @@ impl Machine {
     pub fn join(&mut self, user: u16) -> Result<u32, Refusal>
         requires { length self.old.conference.members < 4294967295 }
         ensures number { IfOk result (λ n. n ≡ length self.old.conference.members + 1) }
-        ensures took { OnOk result (Took self.old (Join user) self.new [] []) }
+        ensures took { OnOk result (Applied self.old (Join user) self.new [] []) }
         ensures refused { IsRefusedBy (join_refusal self.old user) result }
         ensures left { IfErr result (Left self.old (Join user) self.new [] []) }
     {
@@ -280,7 +280,7 @@ impl Machine {
     /// member. After a refusal nothing has changed, but that `Memory` leaves the machine broken.
     pub fn message(&mut self, n: u32, frame: &Frame, out: &mut Vec<Parcel>) -> Result<(), Refusal>
         ensures took { OnOk result
-            (Took self.old (Message n frame.now) self.new out.old.items out.new.items) }
+            (Applied self.old (Message n frame.now) self.new out.old.items out.new.items) }
         ensures refused { IsRefusedBy (member_refusal self.old n) result }
         ensures left { IfErr result
             (Left self.old (Message n frame.now) self.new out.old.items out.new.items) }
@@ -293,7 +293,7 @@ impl Machine {
     /// user end. After a refusal nothing has changed, but that `Memory` leaves the machine broken.
     pub fn leave(&mut self, n: u32, out: &mut Vec<Parcel>) -> Result<(), Refusal>
         ensures took { OnOk result
-            (Took self.old (Leave n) self.new out.old.items out.new.items) }
+            (Applied self.old (Leave n) self.new out.old.items out.new.items) }
         ensures refused { IsRefusedBy (member_refusal self.old n) result }
         ensures left { IfErr result
             (Left self.old (Leave n) self.new out.old.items out.new.items) }
@@ -306,7 +306,7 @@ impl Machine {
     /// that `Memory` leaves the machine broken.
     pub fn admin(&mut self, act: Act, out: &mut Vec<Parcel>) -> Result<(), Refusal>
         ensures took { OnOk result
-            (Took self.old (event_of_act act) self.new out.old.items out.new.items) }
+            (Applied self.old (event_of_act act) self.new out.old.items out.new.items) }
         ensures refused { IsRefusedBy (act_refusal self.old act) result }
         ensures left { IfErr result
             (Left self.old (event_of_act act) self.new out.old.items out.new.items) }

@@ -1,7 +1,7 @@
 //! A machine over a list of events, one after another.
 
 ghost use Rattle.std.specs.Prelude.{◌+◌, ◌<◌, IfErr, OnOk, length};
-ghost use Rattle.floor_machine.specs.Machine.{IsStopped, LeftAt, TookAll};
+ghost use Rattle.floor_machine.specs.Machine.{AppliedAll, IsStopped, LeftAt};
 
 use crate::event::Event;
 use crate::machine::{Machine, Refusal};
@@ -22,7 +22,7 @@ impl Machine {
     pub fn run(&mut self, events: &[Event], out: &mut Vec<Parcel>) -> Result<(), Stopped>
         requires { length self.old.conference.members + length events.now < 4294967296 }
         ensures took { OnOk result
-            (TookAll self.old events.now self.new out.old.items out.new.items) }
+            (AppliedAll self.old events.now self.new out.old.items out.new.items) }
         ensures refused { IfErr result (IsStopped self.old events.now) }
         ensures left { IfErr result
             (LeftAt self.old events.now self.new out.old.items out.new.items) }

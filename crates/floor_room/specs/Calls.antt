@@ -20,7 +20,7 @@ with_event r e put is_broken =
     }
 
 -- The event was taken: nothing refuses it, it is lawful after the journal, stands behind it, and all that it tells is queued.
-pub record Took (old new : Room) (e : Event) : Type 0 where
+pub record Applied (old new : Room) (e : Event) : Type 0 where
   pub allowed : refusal old.ledger e ≡ None
   pub lawful : IsLawful (conference_of old.ledger) e
   pub next : new ≡ with_event old e (parcels_of (conference_of old.ledger) e) false

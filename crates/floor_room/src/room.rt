@@ -3,7 +3,7 @@
 ghost use Rattle.std.specs.Prelude.{◌≡◌, ◌+◌, IfErr, IfOk, OnOk, length, option_map};
 ghost use Rattle.floor_machine.specs.declared.event.Event.TheVariants.{Join, Leave, Message};
 ghost use Rattle.floor_machine.specs.Machine.{event_of_act};
-ghost use Rattle.floor_room.specs.Calls.{Left, Took};
+ghost use Rattle.floor_room.specs.Calls.{Applied, Left};
 ghost use Rattle.floor_room.specs.Ledger.{IsRefusedBy, closed, conference_of, refusal};
 ghost use Rattle.floor_room.specs.Room.{IsRoom, broken_room, new_room};
 ghost use Rattle.floor_room.specs.Status.{IsStatus};
@@ -91,7 +91,7 @@ impl Room {
 
     /// Adds an event, where nothing refuses it, and queues what it tells.
     fn add(&mut self, event: Event) -> Result<(), RoomRefusal>
-        ensures took { OnOk result (Took self.old self.new event) }
+        ensures took { OnOk result (Applied self.old self.new event) }
         ensures refused { IsRefusedBy (refusal self.old.ledger event) result }
         ensures left { IfErr result (Left self.old self.new event) }
     {
@@ -114,7 +114,7 @@ impl Room {
         ensures number { IfOk result (λ n. n
             ≡ length (conference_of self.old.ledger).members + 1) }
         ensures outbox { IfOk result (λ n. n ≡ length self.new.outboxes) }
-        ensures took { OnOk result (Took self.old self.new (Join user)) }
+        ensures took { OnOk result (Applied self.old self.new (Join user)) }
         ensures refused { IsRefusedBy (refusal self.old.ledger (Join user)) result }
         ensures left { IfErr result (Left self.old self.new (Join user)) }
     {
@@ -128,7 +128,7 @@ impl Room {
     /// grows by what the message tells them.
     pub fn serve(&mut self, n: u32, frame: Frame) -> Result<Place, RoomRefusal>
         ensures place { IfOk result (λ place. place ≡ length self.new.ledger.journal) }
-        ensures took { OnOk result (Took self.old self.new (Message n frame)) }
+        ensures took { OnOk result (Applied self.old self.new (Message n frame)) }
         ensures refused { IsRefusedBy (refusal self.old.ledger (Message n frame)) result }
         ensures left { IfErr result (Left self.old self.new (Message n frame)) }
     {
@@ -138,7 +138,7 @@ impl Room {
 
     /// Takes it that a member has left. What waits for it stays until it is taken.
     pub fn leave(&mut self, n: u32) -> Result<(), RoomRefusal>
-        ensures took { OnOk result (Took self.old self.new (Leave n)) }
+        ensures took { OnOk result (Applied self.old self.new (Leave n)) }
         ensures refused { IsRefusedBy (refusal self.old.ledger (Leave n)) result }
         ensures left { IfErr result (Left self.old self.new (Leave n)) }
     {
@@ -147,7 +147,7 @@ impl Room {
 
     /// Does what the administrator does. What waits for the members stays, also after a Close.
     pub fn admin(&mut self, act: Act) -> Result<(), RoomRefusal>
-        ensures took { OnOk result (Took self.old self.new (event_of_act act)) }
+        ensures took { OnOk result (Applied self.old self.new (event_of_act act)) }
         ensures refused { IsRefusedBy (refusal self.old.ledger (event_of_act act)) result }
         ensures left { IfErr result (Left self.old self.new (event_of_act act)) }
     {

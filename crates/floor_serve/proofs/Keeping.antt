@@ -5,7 +5,7 @@ use Rattle.floor_machine.specs.declared.event.Event.{Event}
 use Rattle.floor_machine.specs.declared.event.Event.TheVariants.{Message}
 use Rattle.floor_machine.specs.Journal.{parcels_of}
 use Rattle.floor_room.specs.Ledger.{conference_of}
-use Rattle.floor_serve.specs.Booth.{Began, Booth, Took, off}
+use Rattle.floor_serve.specs.Booth.{Applied, Began, Booth, off}
 use Rattle.floor_serve.specs.steps.Last.{last_message, message_of}
 
 end-of : (es : List Event) (e : Event) → slice_get (es ++ e ∷ []) (length es) ≡ Some e
@@ -18,11 +18,11 @@ last-of es n bytes =
     ap (λ (k : ℕ). message_of (slice_get (es ++ Message n bytes ∷ []) k)) place ∙ ap message_of (end-of es (Message n bytes))
 
 -- the message that a booth took is the last of its journal
-pub last_taken : (old new : Booth) (n : ℕ) (bytes : List ℕ) → Took old new (Message n bytes) [] → last_message new.ledger.journal ≡ Some bytes
+pub last_taken : (old new : Booth) (n : ℕ) (bytes : List ℕ) → Applied old new (Message n bytes) [] → last_message new.ledger.journal ≡ Some bytes
 last_taken old new n bytes h = ap (λ (b : Booth). last_message b.ledger.journal) h.next ∙ last-of old.ledger.journal n bytes
 
 -- an event that was taken is one that was begun, once the conference is broken off
-pub began_whole : (old mid new : Booth) (e : Event) → Took old mid e [] → new ≡ off mid → Began old new e []
+pub began_whole : (old mid new : Booth) (e : Event) → Applied old mid e [] → new ≡ off mid → Began old new e []
 began_whole old mid new e h is =
     record {
       lawful = h.lawful;

@@ -11,7 +11,7 @@ use Rattle.floor_room.specs.declared.status.Phase.TheVariants.{Running}
 use Rattle.floor_room.specs.declared.status.Status.{Status}
 use Rattle.floor_room.specs.Status.{IsStatus, phase_of}
 use Rattle.floor_outbox.specs.Ends.{Sender}
-use Rattle.floor_serve.specs.Booth.{Booth, IsGone, Took}
+use Rattle.floor_serve.specs.Booth.{Applied, Booth, IsGone}
 
 gone-members : (n : ℕ) (ms : List Member) → is_some (member_with (map (leaving n) ms) n) ≡ false
 gone-members n [] = refl
@@ -31,7 +31,7 @@ pub gone-left : (l : Ledger) (n : ℕ) → is_live (conference_of (with_entry l 
 gone-left l n = subst (λ (s : Conference). is_live s n ≡ false) (sym (after_from-more (opening l.config) l.journal (Leave n))) (gone-next (conference_of l) n)
 
 -- a booth from which n has left
-pub gone_took : (old new : Booth) (n : ℕ) (more : List (Option Sender)) → Took old new (Leave n) more → IsGone new n
+pub gone_took : (old new : Booth) (n : ℕ) (more : List (Option Sender)) → Applied old new (Leave n) more → IsGone new n
 gone_took old new n more h = inr (inr (ap (λ (b : Booth). is_live (conference_of b.ledger) n) h.next ∙ gone-left old.ledger n))
 
 -- a conference that doesn't run has ended or is broken off

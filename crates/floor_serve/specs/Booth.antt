@@ -34,7 +34,7 @@ abbrev pub opened : PairId → List (Option Sender)
 opened pair = Some (record { pair = pair; put = [] }) ∷ []
 
 -- The event was taken, with these more senders: it is lawful after the journal and stands behind it, nothing is broken off, and all that it tells was put.
-pub record Took (old new : Booth) (e : Event) (more : List (Option Sender)) : Type 0 where
+pub record Applied (old new : Booth) (e : Event) (more : List (Option Sender)) : Type 0 where
   pub allowed : refusal old.ledger e ≡ None
   pub lawful : IsLawful (conference_of old.ledger) e
   pub next : new ≡ record { ledger = with_entry old.ledger e; senders = fed (parcels_of (conference_of old.ledger) e) 1 (old.senders ++ more) }

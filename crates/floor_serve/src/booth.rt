@@ -8,7 +8,7 @@ ghost use Rattle.floor_machine.specs.declared.machine.Refusal.TheVariants.{Memor
 ghost use Rattle.floor_room.specs.Ledger.{Added, IsRefusedBy, Unadded, broken_off, conference_of, refusal};
 ghost use Rattle.floor_room.specs.Room.{joined, parcels_to};
 ghost use Rattle.floor_room.specs.Status.{IsStatus};
-ghost use Rattle.floor_serve.specs.Booth.{IsBooth, IsGone, Left, LeftJoin, Took, new_booth, off, opened};
+ghost use Rattle.floor_serve.specs.Booth.{Applied, IsBooth, IsGone, Left, LeftJoin, new_booth, off, opened};
 ghost use Rattle.floor_serve.specs.Fits.{messages_of};
 ghost use Rattle.floor_serve.specs.steps.Last.{last_message};
 ghost use Rattle.floor_serve.specs.Senders.{IsInPart, IsPut, fed, sender_of, without};
@@ -118,7 +118,7 @@ impl Booth {
     /// Adds an event that is no join, where nothing refuses it, and puts what it tells.
     fn add<R: Wait>(&mut self, rt: &R, event: Event) -> Result<(), RoomRefusal>
         requires { joined event ≡ [] }
-        ensures took { OnOk result (Took self.old self.new event []) }
+        ensures took { OnOk result (Applied self.old self.new event []) }
         ensures refused { IsRefusedBy (refusal self.old.ledger event) result }
         ensures left { IfErr result (Left self.old self.new event) }
     {
@@ -136,7 +136,7 @@ impl Booth {
     pub fn join<R: Wait>(&mut self, rt: &R, user: u16) -> Result<(u32, Taker), RoomRefusal>
         ensures number { IfOk result (λ r. r.0 ≡ length (conference_of self.old.ledger).members + 1) }
         ensures taken { IfOk result (λ r. r.1.taken ≡ []) }
-        ensures took { IfOk result (λ r. Took self.old self.new (Join user) (opened r.1.pair)) }
+        ensures took { IfOk result (λ r. Applied self.old self.new (Join user) (opened r.1.pair)) }
         ensures refused { IsRefusedBy (refusal self.old.ledger (Join user)) result
             ⊎ ((result ≡ Err (Refused Memory)) × (self.new ≡ self.old)) }
         ensures left { IfErr result (LeftJoin self.old self.new (Join user)) }
@@ -160,7 +160,7 @@ impl Booth {
     /// Takes a message of a member, and gives its place in the journal.
     pub fn submit<R: Wait>(&mut self, rt: &R, n: u32, frame: Frame) -> Result<Place, RoomRefusal>
         ensures place { IfOk result (λ place. place ≡ length self.new.ledger.journal) }
-        ensures took { OnOk result (Took self.old self.new (Message n frame) []) }
+        ensures took { OnOk result (Applied self.old self.new (Message n frame) []) }
         ensures refused { IsRefusedBy (refusal self.old.ledger (Message n frame)) result }
         ensures left { IfErr result (Left self.old self.new (Message n frame)) }
     {
@@ -179,7 +179,7 @@ impl Booth {
     ) -> Result<Sent, RoomRefusal>
         ensures sent { IfOk result (λ sent. sent
             ≡ record { place = length self.new.ledger.journal; bytes = frame }) }
-        ensures took { OnOk result (Took self.old self.new (Message n frame) []) }
+        ensures took { OnOk result (Applied self.old self.new (Message n frame) []) }
         ensures refused { IsRefusedBy (refusal self.old.ledger (Message n frame)) result }
         ensures left { IfErr result (Left self.old self.new (Message n frame)) }
     {
@@ -204,7 +204,7 @@ impl Booth {
 
     /// Takes it that a member has left. Its sender's closed mark is set, also after a refusal.
     pub fn leave<R: Wait>(&mut self, rt: &R, n: u32) -> Result<(), RoomRefusal>
-        ensures took { OnOk result (Took self.old self.new (Leave n) []) }
+        ensures took { OnOk result (Applied self.old self.new (Leave n) []) }
         ensures refused { IsRefusedBy (refusal self.old.ledger (Leave n)) result }
         ensures left { IfErr result (Left self.old self.new (Leave n)) }
     {
@@ -215,7 +215,7 @@ impl Booth {
 
     /// Does what the administrator does. A Close sets the closed mark of every sender.
     pub fn admin<R: Wait>(&mut self, rt: &R, act: Act) -> Result<(), RoomRefusal>
-        ensures took { OnOk result (Took self.old self.new (event_of_act act) []) }
+        ensures took { OnOk result (Applied self.old self.new (event_of_act act) []) }
         ensures refused { IsRefusedBy (refusal self.old.ledger (event_of_act act)) result }
         ensures left { IfErr result (Left self.old self.new (event_of_act act)) }
     {

@@ -5,7 +5,7 @@ use Rattle.floor_machine.specs.declared.event.Event.TheVariants.{Join, Message, 
 use Rattle.floor_room.specs.declared.refusal.RoomRefusal.{RoomRefusal}
 use Rattle.floor_room.specs.Room.{Room, broken_room}
 use Rattle.floor_room.specs.Ledger.{IsRefusedBy, closed, refusal}
-use Rattle.floor_room.specs.Calls.{Left, Took}
+use Rattle.floor_room.specs.Calls.{Applied, Left}
 use Rattle.floor_hub.specs.declared.step.Served.{Served}
 use Rattle.floor_machine.specs.declared.machine.Refusal.TheVariants.{Memory}
 use Rattle.floor_room.specs.declared.refusal.RoomRefusal.TheVariants.{JournalFull, Refused as ByMachine}
@@ -21,7 +21,7 @@ IsServable (Some (ByMachine refusal)) = ⊥
 -- what serving n has done to its room, and to what its connection holds
 abbrev pub ServesIn : Room → Room → ℕ → List ℕ → List ℕ → Served → Type 0
 ServesIn old new n held rest Served.Nothing = IsServable (closed old.ledger) × (messages held ≡ []) × (new ≡ old) × (rest ≡ held)
-ServesIn old new n held rest Served.Message = (frame : List ℕ) × (messages held ≡ frame ∷ messages rest) × (held ≡ frame ++ rest) × Took old new (Message n frame)
+ServesIn old new n held rest Served.Message = (frame : List ℕ) × (messages held ≡ frame ∷ messages rest) × (held ≡ frame ++ rest) × Applied old new (Message n frame)
 
 -- why serving n has failed: its room is closed; memory was refused for the message; or the room has refused the message
 abbrev pub ServeFailsIn : Room → Room → ℕ → List ℕ → List ℕ → RoomRefusal → Type 0
@@ -37,7 +37,7 @@ pub record ServedIn (old new : Room) (n : ℕ) (held rest : List ℕ) (result : 
 
 -- a leave of n has added its event, or the room was closed
 abbrev pub LeavesIn : Room → Room → ℕ → Type 0
-LeavesIn old new n = ((is_some (closed old.ledger) ≡ true) × (new ≡ old)) ⊎ Took old new (Leaves n)
+LeavesIn old new n = ((is_some (closed old.ledger) ≡ true) × (new ≡ old)) ⊎ Applied old new (Leaves n)
 
 -- it has not
 pub record LeaveFailsIn (old new : Room) (n : ℕ) (why : RoomRefusal) : Type 0 where
@@ -49,4 +49,4 @@ pub record LeaveFailsIn (old new : Room) (n : ℕ) (why : RoomRefusal) : Type 0 
 abbrev pub AttachFailsIn : Room → Room → ℕ → RoomRefusal → Type 0
 AttachFailsIn old new user why =
     (IsRefusedBy {T = Unit {0}} (refusal old.ledger (Join user)) (Err why) × Left old new (Join user) why)
-    ⊎ ((why ≡ ByMachine Memory) × ((mid : Room) × Took old mid (Join user) × (new ≡ broken_room mid)))
+    ⊎ ((why ≡ ByMachine Memory) × ((mid : Room) × Applied old mid (Join user) × (new ≡ broken_room mid)))
