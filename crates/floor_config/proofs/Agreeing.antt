@@ -6,8 +6,8 @@ use Rattle.std.proofs.lemmas.Bool.{and_parts}
 use Rattle.toml.specs.Data.{Data, Members, as_integer, get_member}
 use Rattle.floor_config.specs.declared.fault.ConfigFault.{ConfigFault}
 use Rattle.floor_config.specs.declared.fault.ConfigFault.TheVariants.{OutOfRange, DoubleUser, DoubleFloor, UnknownChair}
-use Rattle.floor_config.specs.declared.config.User.{User}
-use Rattle.floor_config.specs.declared.config.Floor.{Floor}
+use Rattle.floor_config.specs.declared.users.User.{User}
+use Rattle.floor_config.specs.declared.floors.Floor.{Floor}
 use Rattle.floor_config.specs.Doubles.{has_double}
 use Rattle.floor_config.specs.Configuration.{Configuration, user_ids, floor_ids}
 use Rattle.floor_config.specs.Limits.{is_within, unless_empty, is_known, chairs_are_known}

@@ -3,8 +3,8 @@ use Rattle.std.proofs.Common.{◌≡◌, refl, ℕ, zero, suc, ◌≤◌, ◌<�
 use Rattle.std.specs.List.{list_any, list_all, AllByRecursion}
 use Rattle.std.proofs.lemmas.Bool.{and_from, le-leb, ne_eqb, eq-eqb, or_right}
 use Rattle.std.proofs.lemmas.List.Elements.{recursion_from_All}
-use Rattle.floor_config.specs.declared.config.User.{User}
-use Rattle.floor_config.specs.declared.config.Floor.{Floor}
+use Rattle.floor_config.specs.declared.users.User.{User}
+use Rattle.floor_config.specs.declared.floors.Floor.{Floor}
 use Rattle.floor_config.specs.Configuration.{IsUser, IsFloor, user_ids, floor_ids}
 use Rattle.floor_config.specs.Doubles.{has_double}
 use Rattle.floor_config.specs.Limits.{is_within, unless_empty, is_known, chairs_are_known}

@@ -1,8 +1,8 @@
 -- What stays when empty texts count as absent.
 use Rattle.std.proofs.Common.{◌≡◌, ℕ, suc, ◌≤◌, true, List, [], ◌∷◌, length, map, refl, ap, All}
 use Rattle.std.proofs.lemmas.List.Elements.{All-map}
-use Rattle.floor_config.specs.declared.config.User.{User}
-use Rattle.floor_config.specs.declared.config.Floor.{Floor}
+use Rattle.floor_config.specs.declared.users.User.{User}
+use Rattle.floor_config.specs.declared.floors.Floor.{Floor}
 use Rattle.floor_config.specs.Doubles.{AllDiffer}
 use Rattle.floor_config.specs.Configuration.{IsConfiguration, IsUser, IsFloor, user_ids, floor_ids}
 use Rattle.floor_config.specs.Limits.{chairs_are_known}

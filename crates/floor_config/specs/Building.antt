@@ -3,8 +3,8 @@ use Rattle.std.specs.Prelude.{◌≡◌, ℕ, Bool, true, false, not, ◌&&◌, 
 use Rattle.std.specs.List.{list_all}
 use Rattle.floor_config.specs.declared.fault.ConfigFault.{ConfigFault}
 use Rattle.floor_config.specs.declared.fault.ConfigFault.TheVariants.{OutOfRange, DoubleUser, DoubleFloor, UnknownChair}
-use Rattle.floor_config.specs.declared.config.User.{User}
-use Rattle.floor_config.specs.declared.config.Floor.{Floor}
+use Rattle.floor_config.specs.declared.users.User.{User}
+use Rattle.floor_config.specs.declared.floors.Floor.{Floor}
 use Rattle.floor_config.specs.Doubles.{has_double}
 use Rattle.floor_config.specs.Configuration.{Configuration, IsConfiguration, user_ids, floor_ids}
 use Rattle.floor_config.specs.Outcome.{◌>>=◌}

@@ -1,8 +1,8 @@
 -- The configuration of one conference, as contracts see it (RFC 8855, sections 2 and 3.1).
 use Rattle.std.specs.Prelude.{ℕ, ◌≤◌, List, length, map, All, Contains, IfSome}
 use Rattle.floor_config.specs.Doubles.{AllDiffer}
-use Rattle.floor_config.specs.declared.config.User.{User}
-use Rattle.floor_config.specs.declared.config.Floor.{Floor}
+use Rattle.floor_config.specs.declared.users.User.{User}
+use Rattle.floor_config.specs.declared.floors.Floor.{Floor}
 
 -- a conference, how many ongoing floor requests each user may have for one floor, its users and its floors
 pub record Configuration : Type 0 where

@@ -1,6 +1,6 @@
 -- The configuration for demonstrations.
 use Rattle.std.specs.Prelude.{ℕ, false, [], ◌∷◌, None}
-use Rattle.floor_config.specs.declared.config.User.{User}
+use Rattle.floor_config.specs.declared.users.User.{User}
 use Rattle.floor_config.specs.Configuration.{Configuration}
 
 -- the user with this id, without a name, a URI, a proxy mark and a port

@@ -1,8 +1,8 @@
 -- What the parts of a configuration are tested for, wherever they come from.
 use Rattle.std.specs.Prelude.{ℕ, Bool, true, ◌&&◌, ◌==◌, nat_le, List, length, Option, Some, None, if◌then◌else◌}
 use Rattle.std.specs.List.{list_all, list_any}
-use Rattle.floor_config.specs.declared.config.User.{User}
-use Rattle.floor_config.specs.declared.config.Floor.{Floor}
+use Rattle.floor_config.specs.declared.users.User.{User}
+use Rattle.floor_config.specs.declared.floors.Floor.{Floor}
 
 -- the number lies from `least` to `most`
 abbrev pub is_within : ℕ → ℕ → ℕ → Bool

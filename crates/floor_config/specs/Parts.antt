@@ -2,8 +2,8 @@
 use Rattle.std.specs.Prelude.{◌≡◌, ℕ, false, codes, List, [], Option, Some, None, unwrap_or, Result, Ok}
 use Rattle.toml.specs.Data.{Data, Members, as_str, get_member}
 use Rattle.floor_config.specs.declared.fault.ConfigFault.{ConfigFault}
-use Rattle.floor_config.specs.declared.config.User.{User}
-use Rattle.floor_config.specs.declared.config.Floor.{Floor}
+use Rattle.floor_config.specs.declared.users.User.{User}
+use Rattle.floor_config.specs.declared.floors.Floor.{Floor}
 use Rattle.floor_config.specs.Building.{built}
 use Rattle.floor_config.specs.Configuration.{Configuration}
 use Rattle.floor_config.specs.Outcome.{◌>>=◌}

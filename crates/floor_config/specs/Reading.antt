@@ -4,8 +4,8 @@ use Rattle.toml.specs.Data.{Members, Data, get_member}
 use Rattle.toml.specs.Parse.{parse_document}
 use Rattle.floor_config.specs.declared.fault.ConfigFault.{ConfigFault}
 use Rattle.floor_config.specs.declared.fault.ConfigFault.TheVariants.{Syntax, DoubleUser, DoubleFloor, UnknownChair, DoubleConference, DoublePort}
-use Rattle.floor_config.specs.declared.config.User.{User}
-use Rattle.floor_config.specs.declared.config.Floor.{Floor}
+use Rattle.floor_config.specs.declared.users.User.{User}
+use Rattle.floor_config.specs.declared.floors.Floor.{Floor}
 use Rattle.floor_config.specs.Doubles.{has_double}
 use Rattle.floor_config.specs.Configuration.{Configuration, user_ids, floor_ids}
 use Rattle.floor_config.specs.Outcome.{◌>>=◌}

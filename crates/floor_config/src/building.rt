@@ -7,11 +7,11 @@ ghost use Rattle.floor_config.specs.Outcome.{Gives};
 ghost use Rattle.floor_config.specs.Limits.{unless_empty};
 ghost use Rattle.floor_config.specs.Building.{built, text_fits, users_fit, user_fits, port_fits, floors_fit, floor_fits, without_empty_texts};
 
-use crate::config::{Config, Floor, User};
+use crate::config::Config;
 use crate::fault::ConfigFault;
-use crate::floors::Floors;
+use crate::floors::{Floor, Floors};
 use crate::text::Text;
-use crate::users::Users;
+use crate::users::{User, Users};
 use crate::{chairs, doubles};
 use std::alloc::Global;
 

@@ -4,7 +4,8 @@ ghost use Rattle.std.specs.Prelude.{◌≡◌, ◌==◌};
 ghost use Rattle.std.specs.List.{list_any};
 ghost use Rattle.floor_config.specs.Limits.{is_known, chairs_are_known};
 
-use crate::config::{Floor, User};
+use crate::floors::Floor;
+use crate::users::User;
 
 /// Whether each floor has no chair, or one of these users.
 pub fn are_known(users: &[User], floors: &[Floor]) -> bool

@@ -3,65 +3,10 @@
 
 ghost use Rattle.std.specs.Prelude.{◌≡◌, IfOk};
 
-use crate::floors::Floors;
-use crate::text::Text;
-use crate::users::Users;
+use crate::floors::{Floor, Floors};
+use crate::users::{User, Users};
 use std::alloc::{AllocError, Global};
 use std::marker::Model;
-
-/// A user of a conference.
-#[derive(Debug, Drop)]
-pub struct User {
-    /// The User ID (RFC 8855, section 5.1).
-    pub id: u16,
-    /// What USER-DISPLAY-NAME shows of the user, if anything (section 5.2.12).
-    pub name: Option<Text>,
-    /// What USER-URI shows of the user, if anything (section 5.2.13).
-    pub uri: Option<Text>,
-    /// Whether the user may ask for floors on behalf of others (section 5.2.1).
-    pub proxy: bool,
-    /// The TCP port at which whoever connects is this user, if there is one.
-    pub port: Option<u16>,
-}
-
-impl User {
-    /// An equal user.
-    pub fn copy(&self, alloc: Global) -> Result<User, AllocError>
-        ensures { IfOk result (λ copy. copy ≡ self.now) }
-    {
-        let name = copy_of_text(alloc, &self.name)?;
-        let uri = copy_of_text(alloc, &self.uri)?;
-        Ok(User {
-            id: self.id,
-            name,
-            uri,
-            proxy: self.proxy,
-            port: self.port,
-        })
-    }
-}
-
-/// An equal text, where there is one.
-fn copy_of_text(alloc: Global, text: &Option<Text>) -> Result<Option<Text>, AllocError>
-    ensures { IfOk result (λ copy. copy ≡ text.now) }
-{
-    match text {
-        None => Ok(None),
-        Some(text) => Ok(Some(text.copy(alloc)?)),
-    }
-}
-
-/// A floor of a conference.
-#[derive(Clone, Copy, Debug, PartialEq, Eq)]
-pub struct Floor {
-    /// The Floor ID (RFC 8855, section 5.2.2).
-    pub id: u16,
-    /// How many floor requests may hold the floor at one time (section 2 leaves room for more than
-    /// one).
-    pub room: u16,
-    /// The User ID of the floor's chair, if it has one (section 4.2).
-    pub chair: Option<u16>,
-}
 
 /// The configuration of one conference. Each keeps its limits, and no two of its users, nor two of
 /// its floors, have one id: readers hand this to their callers as `kept`.

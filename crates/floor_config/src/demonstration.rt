@@ -3,9 +3,9 @@
 ghost use Rattle.std.specs.Prelude.{◌≡◌, IfOk};
 ghost use Rattle.floor_config.specs.Demonstration.{demonstration, bare_user};
 
-use crate::config::{Config, Floor, User};
-use crate::floors::Floors;
-use crate::users::Users;
+use crate::config::Config;
+use crate::floors::{Floor, Floors};
+use crate::users::{User, Users};
 use std::alloc::{AllocError, Global};
 
 impl Config {

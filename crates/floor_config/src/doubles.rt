@@ -5,7 +5,9 @@ ghost use Rattle.floor_config.specs.Doubles.{has_double, AllDiffer};
 ghost use Rattle.floor_config.specs.Configuration.{user_ids, floor_ids};
 ghost use Rattle.floor_config.specs.Reading.{conference_ids, ports};
 
-use crate::config::{Config, Floor, User};
+use crate::config::Config;
+use crate::floors::Floor;
+use crate::users::User;
 use std::alloc::{AllocError, Global};
 
 /// Whether one of the numbers stands twice. Takes no memory.

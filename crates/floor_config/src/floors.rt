@@ -1,10 +1,21 @@
-//! A list of floors, as a configuration holds them.
+//! The floors of a conference (RFC 8855, section 2).
 
 ghost use Rattle.std.specs.Prelude.{◌≡◌, IfOk};
 
-use crate::config::Floor;
 use std::alloc::{AllocError, Global};
 use std::marker::Model;
+
+/// A floor of a conference.
+#[derive(Clone, Copy, Debug, PartialEq, Eq)]
+pub struct Floor {
+    /// The Floor ID (RFC 8855, section 5.2.2).
+    pub id: u16,
+    /// How many floor requests may hold the floor at one time (section 2 leaves room for more than
+    /// one).
+    pub room: u16,
+    /// The User ID of the floor's chair, if it has one (section 4.2).
+    pub chair: Option<u16>,
+}
 
 /// Floors in order.
 #[derive(Debug, Drop)]
@@ -14,7 +25,7 @@ pub struct Floors {
 
 impl Model for Floors {
     ghost use Rattle.std.specs.Prelude.{List};
-    ghost use Rattle.floor_config.specs.declared.config.Floor.{Floor};
+    ghost use Rattle.floor_config.specs.declared.floors.Floor.{Floor};
 
     ghost Value = { List Floor };
 

@@ -20,11 +20,11 @@ mod text;
 mod users;
 mod values;
 
-pub use config::{Config, Floor, User};
+pub use config::Config;
 pub use fault::ConfigFault;
-pub use floors::Floors;
+pub use floors::{Floor, Floors};
 pub use laws::{doubles_are_found, kept_is_built, read_is_built};
 pub use lookup::is_floor;
 pub use reading::read_configs;
 pub use text::Text;
-pub use users::Users;
+pub use users::{User, Users};

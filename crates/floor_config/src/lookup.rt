@@ -7,7 +7,9 @@ ghost use Rattle.std.specs.Option.{option_copied, option_map_or};
 ghost use Rattle.floor_config.specs.Configuration.{IsConfiguration};
 ghost use Rattle.floor_config.specs.Lookup.{chair_is, has_proxy, is_floor, is_user, user_with};
 
-use crate::config::{Config, Floor, User};
+use crate::config::Config;
+use crate::floors::Floor;
+use crate::users::User;
 
 impl Config {
     /// The user with this User ID (RFC 8855, section 5.1). Takes no memory.

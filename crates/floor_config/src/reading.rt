@@ -46,10 +46,10 @@ ghost use Rattle.floor_config.specs.Reading.{user_of, floor_of, all_of, users_of
 ghost use Rattle.toml.specs.Data.{get_member};
 ghost use Rattle.toml.specs.View.{items_view, table_view};
 
-use crate::config::{Config, Floor, User};
+use crate::config::Config;
 use crate::fault::ConfigFault;
-use crate::floors::Floors;
-use crate::users::Users;
+use crate::floors::{Floor, Floors};
+use crate::users::{User, Users};
 use crate::{chairs, doubles, values};
 use std::alloc::Global;
 use toml::{Table, Value};

@@ -1,10 +1,52 @@
-//! A list of users, as a configuration holds them.
+//! The users of a conference (RFC 8855, section 2).
 
 ghost use Rattle.std.specs.Prelude.{◌≡◌, IfOk};
 
-use crate::config::User;
+use crate::text::Text;
 use std::alloc::{AllocError, Global};
 use std::marker::Model;
+
+/// A user of a conference.
+#[derive(Debug, Drop)]
+pub struct User {
+    /// The User ID (RFC 8855, section 5.1).
+    pub id: u16,
+    /// What USER-DISPLAY-NAME shows of the user, if anything (section 5.2.12).
+    pub name: Option<Text>,
+    /// What USER-URI shows of the user, if anything (section 5.2.13).
+    pub uri: Option<Text>,
+    /// Whether the user may ask for floors on behalf of others (section 5.2.1).
+    pub proxy: bool,
+    /// The TCP port at which whoever connects is this user, if there is one.
+    pub port: Option<u16>,
+}
+
+impl User {
+    /// An equal user.
+    pub fn copy(&self, alloc: Global) -> Result<User, AllocError>
+        ensures { IfOk result (λ copy. copy ≡ self.now) }
+    {
+        let name = copy_of_text(alloc, &self.name)?;
+        let uri = copy_of_text(alloc, &self.uri)?;
+        Ok(User {
+            id: self.id,
+            name,
+            uri,
+            proxy: self.proxy,
+            port: self.port,
+        })
+    }
+}
+
+/// An equal text, where there is one.
+fn copy_of_text(alloc: Global, text: &Option<Text>) -> Result<Option<Text>, AllocError>
+    ensures { IfOk result (λ copy. copy ≡ text.now) }
+{
+    match text {
+        None => Ok(None),
+        Some(text) => Ok(Some(text.copy(alloc)?)),
+    }
+}
 
 /// Users in order.
 #[derive(Debug, Drop)]
@@ -14,7 +56,7 @@ pub struct Users {
 
 impl Model for Users {
     ghost use Rattle.std.specs.Prelude.{List};
-    ghost use Rattle.floor_config.specs.declared.config.User.{User};
+    ghost use Rattle.floor_config.specs.declared.users.User.{User};
 
     ghost Value = { List User };
 

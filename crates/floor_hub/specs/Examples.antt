@@ -1,7 +1,7 @@
 -- Worked runs, computed: two interleavings that give a conference the same events, and a step for each refusal.
 use Rattle.std.specs.Prelude.{◌≡◌, ℕ, zero, suc, false, List, [], ◌∷◌, ◌++◌, None, refl}
 use Rattle.floor_config.specs.Configuration.{Configuration}
-use Rattle.floor_config.specs.declared.config.User.{User}
+use Rattle.floor_config.specs.declared.users.User.{User}
 use Rattle.floor_wire.specs.Message.{messages, messages_of_at_most}
 use Rattle.floor_wire.specs.Spelled.{spelled, spelled_within}
 use Rattle.floor_message.specs.Ask.{ask}

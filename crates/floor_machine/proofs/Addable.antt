@@ -4,7 +4,7 @@ use Rattle.std.specs.Prelude.{All}
 use Rattle.std.specs.List.{list_any}
 use Rattle.std.proofs.lemmas.List.Elements.{All-nil, All-cons}
 use Rattle.floor_config.specs.Configuration.{Configuration}
-use Rattle.floor_config.specs.declared.config.Floor.{Floor}
+use Rattle.floor_config.specs.declared.floors.Floor.{Floor}
 use Rattle.floor_queue.specs.declared.request.Request.{Request}
 use Rattle.floor_queue.specs.Queue.{IsAddable, IsQueue, first_request, new_of}
 use Rattle.floor_message.specs.declared.ask.Ask.{Ask}

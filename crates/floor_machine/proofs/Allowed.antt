@@ -14,7 +14,7 @@ use Rattle.floor_message.specs.Picked.{IsOnceBy}
 use Rattle.floor_message.specs.Fits.{AskPartsFit, FloorRequestFits, TextFits}
 use Rattle.floor_message.specs.Laws.{CountsFit}
 use Rattle.floor_message.specs.declared.ask.Ask.{Ask}
-use Rattle.floor_message.specs.declared.ask.Verdict.{Verdict}
+use Rattle.floor_message.specs.declared.verdicts.Verdict.{Verdict}
 use Rattle.floor_message.specs.declared.ask.Ask.TheVariants.{FloorRequest, FloorRelease, FloorRequestQuery, UserQuery, FloorQuery, ChairAction, Hello}
 use Rattle.floor_message.specs.declared.code.ErrorCode.{ErrorCode}
 use Rattle.floor_message.specs.declared.code.ErrorCode.TheVariants.{FloorRequestIdDoesNotExist, UnauthorizedOperation, UserDoesNotExist, InvalidFloorId, GenericError, MaximumFloorRequestsReached}

@@ -16,7 +16,7 @@ use Rattle.floor_message.specs.Primitive.{primitive_of}
 use Rattle.floor_message.specs.Text.{info_kept}
 use Rattle.floor_message.specs.declared.ask.Ask.{Ask}
 use Rattle.floor_message.specs.declared.ask.Ask.TheVariants.{FloorRequest, FloorRelease, FloorRequestQuery, UserQuery, FloorQuery, ChairAction, Hello}
-use Rattle.floor_message.specs.declared.ask.Verdict.{Verdict}
+use Rattle.floor_message.specs.declared.verdicts.Verdict.{Verdict}
 use Rattle.floor_message.specs.declared.code.ErrorCode.{ErrorCode}
 use Rattle.floor_message.specs.declared.code.ErrorCode.TheVariants as code
 use Rattle.floor_message.specs.declared.primitive.Primitive.{Primitive}

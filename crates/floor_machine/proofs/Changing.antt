@@ -8,7 +8,7 @@ use Rattle.std.proofs.lemmas.List.Elements.{All-head, All-tail}
 use Rattle.std.proofs.lemmas.Bool.Decides.{nat_tests}
 use Rattle.floor_queue.specs.declared.request.Request.{Request}
 use Rattle.floor_queue.specs.Queue.{request_at, numbers_of, is_ascending, without}
-use Rattle.floor_message.specs.declared.ask.Verdict.{Verdict}
+use Rattle.floor_message.specs.declared.verdicts.Verdict.{Verdict}
 use Rattle.floor_message.specs.declared.status.RequestStatus.{RequestStatus}
 use Rattle.floor_machine.specs.Shown.{Entry, entry_of, ongoing_of}
 use Rattle.floor_machine.specs.Change.{ends_at, decided, decided_at}

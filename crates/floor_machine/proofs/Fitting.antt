@@ -6,14 +6,14 @@ use Rattle.std.proofs.lemmas.Bool.{eqb-true}
 use Rattle.std.proofs.lemmas.List.{length-map}
 use Rattle.std.proofs.lemmas.List.Elements.{All-nil, All-cons, All-append, All-filter, All-map}
 use Rattle.floor_config.specs.Configuration.{Configuration, IsConfiguration, IsUser, IsFloor}
-use Rattle.floor_config.specs.declared.config.Floor.{Floor}
-use Rattle.floor_config.specs.declared.config.User.{User}
+use Rattle.floor_config.specs.declared.floors.Floor.{Floor}
+use Rattle.floor_config.specs.declared.users.User.{User}
 use Rattle.floor_config.specs.Lookup.{is_floor, user_with}
 use Rattle.floor_queue.specs.declared.request.Request.{Request}
 use Rattle.floor_queue.specs.declared.requested_floor.RequestedFloor.{RequestedFloor}
 use Rattle.floor_queue.specs.Queue.{Queue, IsAddable, IsQueue, new_of, request_at}
 use Rattle.floor_message.specs.Shown.{AreShown, IsDescribed, IsNamed, IsShown, IsShownInfo}
-use Rattle.floor_message.specs.declared.tell.Info.{Info}
+use Rattle.floor_message.specs.declared.information.Info.{Info}
 use Rattle.floor_machine.specs.declared.tell.changed.FloorUpdate.{FloorUpdate}
 use Rattle.floor_machine.specs.Shown.{Entry, info, info_of, named, described, floor_shown}
 use Rattle.floor_machine.specs.Reply.{infos_on}

@@ -8,13 +8,13 @@ use Rattle.std.proofs.lemmas.Bool.Decides.{nat_tests}
 use Rattle.std.proofs.lemmas.List.Elements.{All-head, All-tail}
 use Rattle.std.proofs.lemmas.List.Sums.{sum_by-cons}
 use Rattle.floor_config.specs.Configuration.{Configuration}
-use Rattle.floor_config.specs.declared.config.Floor.{Floor}
+use Rattle.floor_config.specs.declared.floors.Floor.{Floor}
 use Rattle.floor_queue.specs.declared.request.Request.{Request}
 use Rattle.floor_queue.specs.declared.requested_floor.RequestedFloor.{RequestedFloor}
 use Rattle.floor_queue.specs.Order.{ahead, due_numbers, earlier, earlier_by_priority, granted_if, is_chaired, is_due, is_express, names, settle, waits}
 use Rattle.floor_queue.specs.Queue.{is_ascending, request_at, without}
 use Rattle.floor_queue.specs.Requested.{is_granting}
-use Rattle.floor_message.specs.declared.ask.Verdict.{Verdict}
+use Rattle.floor_message.specs.declared.verdicts.Verdict.{Verdict}
 use Rattle.floor_message.specs.Status.{status_number}
 use Rattle.floor_machine.specs.declared.marks.Mark.{Mark}
 use Rattle.floor_machine.specs.Change.{decided, decided_at}

@@ -8,7 +8,7 @@ use Rattle.std.proofs.lemmas.Bool.{eqb-true}
 use Rattle.floor_queue.specs.declared.request.Request.{Request}
 use Rattle.floor_queue.specs.Queue.{request_at}
 use Rattle.floor_message.specs.Shown.{IsShownInfo}
-use Rattle.floor_message.specs.declared.tell.Info.{Info}
+use Rattle.floor_message.specs.declared.information.Info.{Info}
 use Rattle.floor_machine.specs.declared.course.Ended.{Ended}
 use Rattle.floor_machine.specs.declared.information.shown.Shown.{Shown}
 use Rattle.floor_machine.specs.declared.tell.renewing.Changes.{Changes}

@@ -2,8 +2,8 @@
 use Rattle.std.proofs.Common.{◌≡◌, ℕ, Bool, true, false, List, [], ◌∷◌, Option, Some, None, true≢false, refl, sym, ap, subst, ◌∙◌, arith}
 use Rattle.std.specs.Prelude.{◌==◌, ◌&&◌, ◌↔◌, IsTrue}
 use Rattle.std.proofs.lemmas.Bool.Decides.{nat_tests}
-use Rattle.floor_message.specs.declared.tell.Who.{Who}
-use Rattle.floor_message.specs.declared.tell.Info.{Info}
+use Rattle.floor_message.specs.declared.information.Who.{Who}
+use Rattle.floor_message.specs.declared.information.Info.{Info}
 use Rattle.floor_machine.specs.Same.{same_list, same_option, same_number, same_octets, same_status, same_floor, same_who, same_info, same_infos}
 use Rattle.floor_machine.proofs.Found.{and_left, and_right}
 use Rattle.floor_machine.specs.Laws.{InfosSameIsEqual, SameIsEqual}

@@ -9,7 +9,7 @@ use Rattle.floor_config.specs.Configuration.{Configuration}
 use Rattle.floor_queue.specs.declared.request.Request.{Request}
 use Rattle.floor_queue.specs.Queue.{involves}
 use Rattle.floor_message.specs.declared.head.Head.{Head}
-use Rattle.floor_message.specs.declared.tell.Info.{Info}
+use Rattle.floor_message.specs.declared.information.Info.{Info}
 use Rattle.floor_message.specs.declared.tell.Tell.{Tell}
 use Rattle.floor_message.specs.declared.tell.Tell.TheVariants.{FloorRequestStatus}
 use Rattle.floor_machine.specs.declared.member.Member.{Member}

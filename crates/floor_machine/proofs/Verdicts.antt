@@ -10,7 +10,7 @@ use Rattle.floor_queue.specs.declared.requested_floor.RequestedFloor.{RequestedF
 use Rattle.floor_queue.specs.declared.requested_floor.Word.{Word}
 use Rattle.floor_queue.specs.Requested.{floor_with_word}
 use Rattle.floor_queue.specs.Queue.{Queue, after_set_floor, with_word}
-use Rattle.floor_message.specs.declared.ask.Verdict.{Verdict}
+use Rattle.floor_message.specs.declared.verdicts.Verdict.{Verdict}
 use Rattle.floor_machine.specs.Change.{word_of, decided, decided_at}
 
 flipped : (a b : ℕ) → (a == b) ≡ (b == a)

@@ -5,8 +5,8 @@ use Rattle.std.specs.List.{list_any}
 use Rattle.std.proofs.lemmas.Bool.{or_left, or_right}
 use Rattle.std.proofs.lemmas.Bool.Decides.{nat_tests}
 use Rattle.std.proofs.lemmas.List.Elements.{All-nil, All-cons, All-head, All-tail}
-use Rattle.floor_config.specs.declared.config.Floor.{Floor}
-use Rattle.floor_message.specs.declared.tell.Info.{Info}
+use Rattle.floor_config.specs.declared.floors.Floor.{Floor}
+use Rattle.floor_message.specs.declared.information.Info.{Info}
 use Rattle.floor_machine.specs.declared.member.Member.{Member}
 use Rattle.floor_machine.specs.Conference.{member_with}
 use Rattle.floor_machine.specs.Parcel.{Parcel}

@@ -13,8 +13,8 @@ use Rattle.floor_queue.specs.Queue.{request_at, first_request}
 use Rattle.floor_message.specs.Ask.{Answer, asks, refused, unanswered, ask}
 use Rattle.floor_message.specs.declared.ask.Ask.{Ask}
 use Rattle.floor_message.specs.declared.ask.Ask.TheVariants.{FloorRequest, FloorRelease, FloorRequestQuery, UserQuery, FloorQuery, ChairAction, Hello}
-use Rattle.floor_message.specs.declared.ask.Verdict.{Verdict}
-use Rattle.floor_message.specs.declared.ask.Verdict.TheVariants.{Accepted, Granted, Denied, Revoked}
+use Rattle.floor_message.specs.declared.verdicts.Verdict.{Verdict}
+use Rattle.floor_message.specs.declared.verdicts.Verdict.TheVariants.{Accepted, Granted, Denied, Revoked}
 use Rattle.floor_message.specs.declared.status.RequestStatus.{RequestStatus}
 use Rattle.floor_message.specs.declared.status.RequestStatus.TheVariants as status
 use Rattle.floor_machine.specs.declared.member.Member.{Member}

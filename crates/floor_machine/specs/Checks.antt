@@ -8,8 +8,8 @@ use Rattle.floor_queue.specs.Order.{names}
 use Rattle.floor_queue.specs.Queue.{request_at, involves}
 use Rattle.floor_message.specs.declared.ask.Ask.{Ask}
 use Rattle.floor_message.specs.declared.ask.Ask.TheVariants.{FloorRequest, FloorRelease, FloorRequestQuery, UserQuery, FloorQuery, ChairAction, Hello}
-use Rattle.floor_message.specs.declared.ask.Verdict.{Verdict}
-use Rattle.floor_message.specs.declared.ask.Verdict.TheVariants.{Accepted, Granted, Denied, Revoked}
+use Rattle.floor_message.specs.declared.verdicts.Verdict.{Verdict}
+use Rattle.floor_message.specs.declared.verdicts.Verdict.TheVariants.{Accepted, Granted, Denied, Revoked}
 use Rattle.floor_message.specs.declared.code.ErrorCode.{ErrorCode}
 use Rattle.floor_message.specs.declared.code.ErrorCode.TheVariants.{UserDoesNotExist, UnauthorizedOperation, InvalidFloorId, FloorRequestIdDoesNotExist, MaximumFloorRequestsReached, GenericError}
 use Rattle.floor_machine.specs.Conference.{Conference}

@@ -1,8 +1,8 @@
 -- Whole runs of one conference, computed: each parcel of each member, event by event.
 use Rattle.std.specs.Prelude.{◌≡◌, ℕ, ◌+◌, true, false, List, [], ◌∷◌, length, Some, None, refl}
 use Rattle.floor_config.specs.Configuration.{Configuration}
-use Rattle.floor_config.specs.declared.config.User.{User}
-use Rattle.floor_config.specs.declared.config.Floor.{Floor}
+use Rattle.floor_config.specs.declared.users.User.{User}
+use Rattle.floor_config.specs.declared.floors.Floor.{Floor}
 use Rattle.floor_wire.specs.Spelled.{spelled, spelled_within}
 use Rattle.floor_message.specs.Ask.{ask}
 use Rattle.floor_machine.specs.Parcel.{Parcel}

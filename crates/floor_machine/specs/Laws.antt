@@ -2,7 +2,7 @@
 -- events that are taken are the lawful ones.
 use Rattle.std.specs.Prelude.{◌≡◌, ◌↔◌, ℕ, true, List, map, None}
 use Rattle.floor_config.specs.Configuration.{Configuration}
-use Rattle.floor_message.specs.declared.tell.Info.{Info}
+use Rattle.floor_message.specs.declared.information.Info.{Info}
 use Rattle.floor_wire.specs.Message.{IsMessage}
 use Rattle.floor_machine.specs.Conference.{Conference, opening}
 use Rattle.floor_machine.specs.declared.event.Event.{Event}

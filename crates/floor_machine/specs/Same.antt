@@ -1,7 +1,7 @@
 -- Whether two shown floor requests are alike in all that is shown of them.
 use Rattle.std.specs.Prelude.{ℕ, ◌==◌, ◌&&◌, Bool, true, false, List, [], ◌∷◌, Option, Some, None}
-use Rattle.floor_message.specs.declared.tell.Who.{Who}
-use Rattle.floor_message.specs.declared.tell.Info.{Info}
+use Rattle.floor_message.specs.declared.information.Who.{Who}
+use Rattle.floor_message.specs.declared.information.Info.{Info}
 
 -- two lists of which the items are alike, one by one
 abbrev pub same_list : {A : Type 0} → (A → A → Bool) → List A → List A → Bool

@@ -3,7 +3,7 @@ use Rattle.std.specs.Prelude.{ℕ, ◌==◌, if◌then◌else◌, List, map, fil
 use Rattle.std.specs.List.{list_all}
 use Rattle.std.specs.Option.{option_map_or}
 use Rattle.floor_config.specs.Configuration.{Configuration}
-use Rattle.floor_config.specs.declared.config.Floor.{Floor}
+use Rattle.floor_config.specs.declared.floors.Floor.{Floor}
 use Rattle.floor_config.specs.Lookup.{user_with}
 use Rattle.floor_queue.specs.declared.request.Request.{Request}
 use Rattle.floor_queue.specs.declared.requested_floor.RequestedFloor.{RequestedFloor}
@@ -12,8 +12,8 @@ use Rattle.floor_queue.specs.Order.{is_due, granted_if, position}
 use Rattle.floor_message.specs.Status.{status_number}
 use Rattle.floor_message.specs.declared.status.RequestStatus.{RequestStatus}
 use Rattle.floor_message.specs.declared.status.RequestStatus.TheVariants.{Pending, Accepted, Granted}
-use Rattle.floor_message.specs.declared.tell.Who.{Who}
-use Rattle.floor_message.specs.declared.tell.Info.{Info}
+use Rattle.floor_message.specs.declared.information.Who.{Who}
+use Rattle.floor_message.specs.declared.information.Info.{Info}
 
 -- a floor request as an event leaves it: ongoing, or ended with a status
 pub record Entry : Type 0 where

@@ -24,8 +24,8 @@ use Rattle.floor_message.specs.Text.{info_kept}
 use Rattle.floor_message.specs.Written.{ask_attrs, ask_bytes, ask_primitive, optional, number, octets, priority_attr, status_attr, status_of, verdict_attr}
 use Rattle.floor_message.specs.declared.head.Head.{Head}
 use Rattle.floor_message.specs.declared.code.ErrorCode.TheVariants.{ConferenceDoesNotExist, UserDoesNotExist, UnauthorizedOperation, UnsupportedVersion}
-use Rattle.floor_message.specs.declared.ask.Verdict.{Verdict}
-use Rattle.floor_message.specs.declared.ask.Verdict.TheVariants.{Accepted, Granted, Denied, Revoked}
+use Rattle.floor_message.specs.declared.verdicts.Verdict.{Verdict}
+use Rattle.floor_message.specs.declared.verdicts.Verdict.TheVariants.{Accepted, Granted, Denied, Revoked}
 use Rattle.floor_message.specs.declared.ask.Ask.{Ask}
 use Rattle.floor_message.specs.declared.ask.Ask.TheVariants.{FloorRequest, FloorRelease, FloorRequestQuery, UserQuery, FloorQuery, ChairAction, Hello}
 use Rattle.floor_message.proofs.Cutting.{info_kept_none}

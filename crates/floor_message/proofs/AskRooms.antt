@@ -9,8 +9,8 @@ use Rattle.floor_wire.specs.declared.attribute.Attr.{Attr}
 use Rattle.floor_message.specs.Fits.{AskFits, TextFits, FloorsFit, FloorRequestFits, VerdictsFit}
 use Rattle.floor_message.specs.Room.{FitsRoom}
 use Rattle.floor_message.specs.Written.{optional, number, octets, priority_attr, verdict_attr, ask_attrs}
-use Rattle.floor_message.specs.declared.ask.Verdict.{Verdict}
-use Rattle.floor_message.specs.declared.ask.Verdict.TheVariants.{Accepted}
+use Rattle.floor_message.specs.declared.verdicts.Verdict.{Verdict}
+use Rattle.floor_message.specs.declared.verdicts.Verdict.TheVariants.{Accepted}
 use Rattle.floor_message.specs.declared.ask.Ask.{Ask}
 use Rattle.floor_message.specs.declared.ask.Ask.TheVariants.{FloorRequest, FloorRelease, FloorRequestQuery, UserQuery, FloorQuery, ChairAction, Hello}
 use Rattle.floor_message.proofs.Rooms.{length-one, length-group, length-canon-append, writable_append}

@@ -4,8 +4,8 @@ use Rattle.std.specs.Prelude.{IfSome}
 use Rattle.floor_wire.specs.Bytes.{IsBytes, IsOfBytes}
 use Rattle.floor_wire.specs.View.{attributes_of}
 use Rattle.floor_message.specs.Written.{optional, number, octets, priority_attr, verdict_attr, status_of, ask_attrs}
-use Rattle.floor_message.specs.declared.ask.Verdict.{Verdict}
-use Rattle.floor_message.specs.declared.ask.Verdict.TheVariants.{Accepted, Granted, Denied, Revoked}
+use Rattle.floor_message.specs.declared.verdicts.Verdict.{Verdict}
+use Rattle.floor_message.specs.declared.verdicts.Verdict.TheVariants.{Accepted, Granted, Denied, Revoked}
 use Rattle.floor_message.specs.declared.ask.Ask.TheVariants.{FloorRequest}
 use Rattle.floor_message.proofs.Rooms.{bytes_append}
 

@@ -14,8 +14,8 @@ use Rattle.floor_message.specs.declared.primitive.Primitive.TheVariants as primi
 use Rattle.floor_message.specs.Fits.{PriorityFits, NumbersFit}
 use Rattle.floor_message.specs.declared.tell.Tell.{Tell}
 use Rattle.floor_message.specs.declared.tell.Tell.TheVariants.{FloorRequestStatus, UserStatus, FloorStatus, ChairActionAck, HelloAck, Error}
-use Rattle.floor_message.specs.declared.tell.Who.{Who}
-use Rattle.floor_message.specs.declared.tell.Info.{Info}
+use Rattle.floor_message.specs.declared.information.Who.{Who}
+use Rattle.floor_message.specs.declared.information.Info.{Info}
 
 cons_append : {A : Type 0} (o : Option A) (xs ys : List A) → cons_option o (xs ++ ys) ≡ cons_option o xs ++ ys
 cons_append None xs ys = refl

@@ -11,10 +11,10 @@ use Rattle.floor_wire.specs.declared.format.Format.TheVariants.{Grouped, OctetSt
 use Rattle.floor_message.specs.Fits.{NumbersFit, TellFits}
 use Rattle.floor_message.specs.Shown.{IsNamed, IsDescribed, IsShownInfo, IsShown}
 use Rattle.floor_message.specs.Written.{optional, number, octets, group, status_attr, priority_attr, who_attr, floor_attr, overall_attr, info_attrs, info_attr, tell_attrs}
-use Rattle.floor_message.specs.declared.tell.Info.{Info}
+use Rattle.floor_message.specs.declared.information.Info.{Info}
 use Rattle.floor_message.specs.declared.tell.Tell.{Tell}
 use Rattle.floor_message.specs.declared.tell.Tell.TheVariants.{FloorRequestStatus, UserStatus, FloorStatus, ChairActionAck, HelloAck, Error}
-use Rattle.floor_message.specs.declared.tell.Who.{Who}
+use Rattle.floor_message.specs.declared.information.Who.{Who}
 use Rattle.floor_message.proofs.AskRooms.{Takes, takes_append}
 use Rattle.floor_message.proofs.Rooms.{length-one, length-group}
 

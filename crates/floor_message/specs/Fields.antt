@@ -6,8 +6,8 @@ use Rattle.floor_message.specs.Picked.{first, numbers, pairs, octet_strings, gro
 use Rattle.floor_message.specs.Text.{info_kept}
 use Rattle.floor_message.specs.declared.primitive.Primitive.{Primitive}
 use Rattle.floor_message.specs.declared.primitive.Primitive.TheVariants as primitive
-use Rattle.floor_message.specs.declared.ask.Verdict.{Verdict}
-use Rattle.floor_message.specs.declared.ask.Verdict.TheVariants.{Accepted, Granted, Denied, Revoked}
+use Rattle.floor_message.specs.declared.verdicts.Verdict.{Verdict}
+use Rattle.floor_message.specs.declared.verdicts.Verdict.TheVariants.{Accepted, Granted, Denied, Revoked}
 use Rattle.floor_message.specs.declared.ask.Ask.{Ask}
 use Rattle.floor_message.specs.declared.ask.Ask.TheVariants.{FloorRequest, FloorRelease, FloorRequestQuery, UserQuery, FloorQuery, ChairAction, Hello}
 

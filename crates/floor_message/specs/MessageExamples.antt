@@ -7,7 +7,7 @@ use Rattle.floor_message.specs.Tell.{tell}
 use Rattle.floor_message.specs.Written.{ask_bytes, tell_bytes}
 use Rattle.floor_message.specs.declared.head.Head.{Head}
 use Rattle.floor_message.specs.declared.code.ErrorCode.TheVariants.{ConferenceDoesNotExist, UserDoesNotExist, UnknownPrimitive, UnknownMandatoryAttribute, UnauthorizedOperation, UnableToParseMessage, UnsupportedVersion}
-use Rattle.floor_message.specs.declared.ask.Verdict.TheVariants.{Granted}
+use Rattle.floor_message.specs.declared.verdicts.Verdict.TheVariants.{Granted}
 use Rattle.floor_message.specs.declared.ask.Ask.TheVariants.{FloorRequest, ChairAction, Hello}
 use Rattle.floor_message.specs.declared.tell.Tell.{Tell}
 use Rattle.floor_message.specs.declared.tell.Tell.TheVariants.{FloorRequestStatus}

@@ -1,10 +1,10 @@
 -- What a conference shows, within its limits on names, texts, floors and floor requests (RFC 8855, sections 5.2 and 5.3).
 use Rattle.std.specs.Prelude.{◌≡◌, ◌^◌, ◌≤◌, ◌<◌, List, length, All, None, IfSome}
 use Rattle.floor_message.specs.Fits.{PriorityFits}
-use Rattle.floor_message.specs.declared.tell.Info.{Info}
+use Rattle.floor_message.specs.declared.information.Info.{Info}
 use Rattle.floor_message.specs.declared.tell.Tell.{Tell}
 use Rattle.floor_message.specs.declared.tell.Tell.TheVariants.{FloorRequestStatus, UserStatus, FloorStatus, ChairActionAck, HelloAck, Error}
-use Rattle.floor_message.specs.declared.tell.Who.{Who}
+use Rattle.floor_message.specs.declared.information.Who.{Who}
 
 -- a user with a name of at most 30 bytes, and no URI
 pub record IsNamed (who : Who) : Type 0 where

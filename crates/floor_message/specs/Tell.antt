@@ -12,8 +12,8 @@ use Rattle.floor_message.specs.Primitive.{primitive_of}
 use Rattle.floor_message.specs.declared.primitive.Primitive.{Primitive}
 use Rattle.floor_message.specs.declared.primitive.Primitive.TheVariants as primitive
 use Rattle.floor_message.specs.declared.head.Head.{Head}
-use Rattle.floor_message.specs.declared.tell.Who.{Who}
-use Rattle.floor_message.specs.declared.tell.Info.{Info}
+use Rattle.floor_message.specs.declared.information.Who.{Who}
+use Rattle.floor_message.specs.declared.information.Info.{Info}
 use Rattle.floor_message.specs.declared.tell.Tell.{Tell}
 use Rattle.floor_message.specs.declared.tell.Tell.TheVariants.{FloorRequestStatus, UserStatus, FloorStatus, ChairActionAck, HelloAck, Error}
 

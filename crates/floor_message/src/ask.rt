@@ -49,15 +49,6 @@ pub struct Binding<'a> {
     pub users: &'a [u16],
 }
 
-/// What a chair decides on a floor of a floor request (section 5.2.5).
-#[derive(Clone, Copy, Debug, PartialEq, Eq)]
-pub enum Verdict {
-    Accepted,
-    Granted,
-    Denied,
-    Revoked,
-}
-
 /// A message from a client to the server.
 #[derive(Debug, Drop)]
 pub enum Ask {

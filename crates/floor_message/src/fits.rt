@@ -8,7 +8,7 @@ ghost use Rattle.floor_message.specs.steps.Leaves.{Leaves};
 ghost use Rattle.floor_wire.specs.Bytes.{IsBytes, IsOfBytes};
 ghost use Rattle.floor_wire.specs.View.{attributes_of};
 
-use crate::ask::{Ask, Verdict};
+use crate::ask::Ask;
 use crate::format::attribute_types::types_fit;
 use crate::format::error_code::after_error;
 use crate::format::floor_request_information::{
@@ -20,6 +20,7 @@ use crate::format::text::info_fits;
 use crate::format::user_information::after_who;
 use crate::format::verdicts::verdicts_fit;
 use crate::tell::Tell;
+use crate::verdicts::Verdict;
 use floor_wire::Octets;
 
 /// The most bytes behind a header: 65,535 units of 4.

@@ -1,12 +1,22 @@
-//! What is shown of users and of floor requests: copies of it, and whether it is the same (RFC 8855,
-//! sections 5.2.14 to 5.2.16).
+//! What is shown of users and of floor requests (RFC 8855, sections 5.2.14 to 5.2.16), copies of it,
+//! and whether it is the same.
 
 ghost use Rattle.std.specs.Prelude.{◌≡◌, ◌↔◌, IfOk, IsTrue};
 
 use crate::floor_statuses::FloorStatuses;
-use crate::tell::{Info, Who};
 use floor_wire::Octets;
 use std::alloc::{AllocError, Global};
+
+/// A user as shown (sections 5.2.14 and 5.2.16).
+#[derive(Debug, Drop)]
+pub struct Who {
+    /// The User ID.
+    pub user: u16,
+    /// The display name.
+    pub name: Option<Octets>,
+    /// The URI.
+    pub uri: Option<Octets>,
+}
 
 impl Who {
     /// An equal user.
@@ -30,6 +40,25 @@ impl Who {
             && is_same_text(&self.name, &other.name)
             && is_same_text(&self.uri, &other.uri)
     }
+}
+
+/// A floor request as shown: what FLOOR-REQUEST-INFORMATION tells (section 5.2.15).
+#[derive(Debug, Drop)]
+pub struct Info {
+    /// The Floor Request ID.
+    pub request: u16,
+    /// The status and the queue position of the whole request.
+    pub overall: Option<(u8, u8)>,
+    /// The floors, in the request's order, each with its status and queue position.
+    pub floors: FloorStatuses,
+    /// Whom the request is for.
+    pub beneficiary: Option<Who>,
+    /// Who made it.
+    pub requester: Option<Who>,
+    /// 0 Lowest to 4 Highest.
+    pub priority: Option<u8>,
+    /// What the requester said of it.
+    pub info: Option<Octets>,
 }
 
 impl Info {

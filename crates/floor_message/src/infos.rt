@@ -2,7 +2,7 @@
 
 ghost use Rattle.std.specs.Prelude.{◌≡◌};
 
-use crate::tell::Info;
+use crate::information::Info;
 use std::marker::Model;
 
 /// Floor requests as shown, in order.
@@ -13,7 +13,7 @@ pub struct Infos {
 
 impl Model for Infos {
     ghost use Rattle.std.specs.Prelude.{List};
-    ghost use Rattle.floor_message.specs.declared.tell.Info.{Info};
+    ghost use Rattle.floor_message.specs.declared.information.Info.{Info};
 
     ghost Value = { List Info };
 

@@ -2,7 +2,7 @@
 
 ghost use Rattle.std.specs.Prelude.{ℕ, Option};
 ghost use Rattle.floor_message.specs.Picked.{KeepsFirst};
-ghost use Rattle.floor_message.specs.declared.ask.Verdict.{Verdict};
+ghost use Rattle.floor_message.specs.declared.verdicts.Verdict.{Verdict};
 ghost use Rattle.floor_message.specs.Laws.{ShortenedIsLongest, WhatIsAskedFits, WhatIsAskedIsOf16Bits, WhatIsShownFits, WrittenAskIsRead, WrittenAskIsShort, WrittenTellIsRead, WrittenTellIsShort};
 
 use floor_wire::{

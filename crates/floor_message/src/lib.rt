@@ -26,7 +26,7 @@ mod tell_reader;
 mod tell_writer;
 mod verdicts;
 
-pub use ask::{Ask, AskFault, Binding, Verdict};
+pub use ask::{Ask, AskFault, Binding};
 pub use ask_reader::read_ask;
 pub use ask_writer::write_ask;
 pub use code::ErrorCode;
@@ -34,6 +34,7 @@ pub use fits::{ask_fits, tell_fits};
 pub use floor_statuses::FloorStatuses;
 pub use floor_wire::{Frame, Numbers, Octets};
 pub use head::Head;
+pub use information::{Info, Who};
 pub use infos::Infos;
 pub use laws::{
     a_text_is_cut_at_its_longest, a_written_ask_is_read, a_written_tell_is_read, the_first_is_kept,
@@ -41,7 +42,7 @@ pub use laws::{
 };
 pub use primitive::Primitive;
 pub use status::RequestStatus;
-pub use tell::{Info, Tell, TellFault, Who};
+pub use tell::{Tell, TellFault};
 pub use tell_reader::read_tell;
 pub use tell_writer::write_tell;
-pub use verdicts::Verdicts;
+pub use verdicts::{Verdict, Verdicts};

@@ -3,7 +3,7 @@
 ghost use Rattle.std.specs.Prelude.{◌≡◌};
 ghost use Rattle.floor_message.specs.declared.tell.TellFault.TheVariants.{Memory};
 
-use crate::floor_statuses::FloorStatuses;
+use crate::information::{Info, Who};
 use crate::infos::Infos;
 use floor_wire::Octets;
 use std::alloc::{AllocError, AllocFailed};
@@ -31,36 +31,6 @@ impl<T: Drop> From<AllocFailed<T>> for TellFault {
     fn from(_e: AllocFailed<T>) -> TellFault {
         TellFault::Memory
     }
-}
-
-/// A user as shown (sections 5.2.14 and 5.2.16).
-#[derive(Debug, Drop)]
-pub struct Who {
-    /// The User ID.
-    pub user: u16,
-    /// The display name.
-    pub name: Option<Octets>,
-    /// The URI.
-    pub uri: Option<Octets>,
-}
-
-/// A floor request as shown: what FLOOR-REQUEST-INFORMATION tells (section 5.2.15).
-#[derive(Debug, Drop)]
-pub struct Info {
-    /// The Floor Request ID.
-    pub request: u16,
-    /// The status and the queue position of the whole request.
-    pub overall: Option<(u8, u8)>,
-    /// The floors, in the request's order, each with its status and queue position.
-    pub floors: FloorStatuses,
-    /// Whom the request is for.
-    pub beneficiary: Option<Who>,
-    /// Who made it.
-    pub requester: Option<Who>,
-    /// 0 Lowest to 4 Highest.
-    pub priority: Option<u8>,
-    /// What the requester said of it.
-    pub info: Option<Octets>,
 }
 
 /// A message from the server to a client.

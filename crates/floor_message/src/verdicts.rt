@@ -2,8 +2,16 @@
 
 ghost use Rattle.std.specs.Prelude.{◌≡◌};
 
-use crate::ask::Verdict;
 use std::marker::Model;
+
+/// What a chair decides on a floor of a floor request (RFC 8855, section 5.2.5).
+#[derive(Clone, Copy, Debug, PartialEq, Eq)]
+pub enum Verdict {
+    Accepted,
+    Granted,
+    Denied,
+    Revoked,
+}
 
 /// Floors, each with a chair's verdict on it.
 #[derive(Debug, Drop)]
@@ -13,7 +21,7 @@ pub struct Verdicts {
 
 impl Model for Verdicts {
     ghost use Rattle.std.specs.Prelude.{ℕ, List};
-    ghost use Rattle.floor_message.specs.declared.ask.Verdict.{Verdict};
+    ghost use Rattle.floor_message.specs.declared.verdicts.Verdict.{Verdict};
 
     ghost Value = { List (ℕ × Verdict) };
 

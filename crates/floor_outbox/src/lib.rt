@@ -16,9 +16,8 @@ mod taker;
 mod waker;
 
 pub use floor_machine::Parcel;
-pub use line::pair;
 pub use mark::ClosedMark;
-pub use outbox::{Outbox, rejoin};
+pub use outbox::{Outbox, pair, rejoin};
 pub use sender::Sender;
 pub use taker::Taker;
 pub use waker::Waker;

@@ -1,12 +1,6 @@
 //! What the two ends of an outbox share.
 
-ghost use Rattle.std.specs.Prelude.{◌≡◌, [], IfOk};
-
-use crate::rule::{Queue, Roles};
-use crate::sender::Sender;
-use crate::taker::Taker;
-use std::alloc::{AllocError, Global};
-use std::sync::Arc;
+use crate::rule::Queue;
 use std::sync::atomic::AtomicBool;
 use std::thread::Parker;
 
@@ -26,30 +20,4 @@ impl Drop for Line {
         } = self;
         queue.destroy();
     }
-}
-
-/// The two ends of a new outbox.
-pub fn pair(alloc: Global) -> Result<(Sender, Taker), AllocError>
-    ensures pair { IfOk result (λ ends. ends.0.pair ≡ ends.1.pair) }
-    ensures put { IfOk result (λ ends. ends.0.put ≡ []) }
-    ensures taken { IfOk result (λ ends. ends.1.taken ≡ []) }
-{
-    let (queue, mut first) = Queue::with_rule(alloc)?;
-    let second = queue.another::<Roles>(&mut first);
-    let line = Arc::new(
-        alloc,
-        Line {
-            queue,
-            closed: AtomicBool::new(false),
-            parker: Parker::new(),
-        },
-    )?;
-    let theirs = Arc::try_clone(&line)?;
-    Ok((
-        Sender { line, pass: first },
-        Taker {
-            line: theirs,
-            pass: second,
-        },
-    ))
 }

@@ -1,15 +1,17 @@
-//! An outbox whose two ends are in one hand.
+//! An outbox: its two ends, and both in one hand again.
 
-ghost use Rattle.std.specs.Prelude.{◌≡◌, [], ◌∷◌, ◌++◌, IfNone, IfSome};
+ghost use Rattle.std.specs.Prelude.{◌≡◌, [], ◌∷◌, ◌++◌, IfNone, IfOk, IfSome};
 
 use crate::line::Line;
-use crate::rule::{Drains, Pass, Roles};
+use crate::rule::{Drains, Pass, Queue, Roles};
 use crate::sender::Sender;
 use crate::taker::Taker;
 use floor_machine::Parcel;
-use std::alloc::Global;
+use std::alloc::{AllocError, Global};
 use std::marker::Model;
+use std::sync::atomic::AtomicBool;
 use std::sync::{Arc, Wait};
+use std::thread::Parker;
 
 /// Both ends of an outbox. Contracts see what was put, what was taken and what is held.
 #[derive(Drop)]
@@ -37,6 +39,32 @@ impl Model for Outbox {
         IsSegPassOf (arc_value s.line).queue s.pass
         × (v ≡ log true true v.put v.taken)
         × (v.put ≡ v.taken ++ held_of v) };
+}
+
+/// The two ends of a new outbox.
+pub fn pair(alloc: Global) -> Result<(Sender, Taker), AllocError>
+    ensures pair { IfOk result (λ ends. ends.0.pair ≡ ends.1.pair) }
+    ensures put { IfOk result (λ ends. ends.0.put ≡ []) }
+    ensures taken { IfOk result (λ ends. ends.1.taken ≡ []) }
+{
+    let (queue, mut first) = Queue::with_rule(alloc)?;
+    let second = queue.another::<Roles>(&mut first);
+    let line = Arc::new(
+        alloc,
+        Line {
+            queue,
+            closed: AtomicBool::new(false),
+            parker: Parker::new(),
+        },
+    )?;
+    let theirs = Arc::try_clone(&line)?;
+    Ok((
+        Sender { line, pass: first },
+        Taker {
+            line: theirs,
+            pass: second,
+        },
+    ))
 }
 
 /// Joins the two ends of one pair.

@@ -1,7 +1,7 @@
 -- The attributes that bytes spell, computed (RFC 8855, section 5.2).
 use Rattle.std.specs.Prelude.{ℕ, zero, suc, ◌%◌, ◌==◌, Bool, List, [], ◌∷◌, length, drop, slice_index, slice_range, Option, Some, None, option_map, option_and_then}
 use Rattle.floor_wire.specs.Attributes.{Content, num, pair, group, octets, Attributes, no_attributes, attribute}
-use Rattle.floor_wire.specs.Spelling.{format_of, number_of, Spells}
+use Rattle.floor_wire.specs.Spelling.{format_of, number_of}
 use Rattle.floor_wire.specs.Fault.{front_kind, front_len, front_fault, padded}
 use Rattle.floor_wire.specs.declared.format.Format.{Format}
 use Rattle.floor_wire.specs.declared.format.Format.TheVariants.{Unsigned16, OctetString16, Grouped, OctetString}
@@ -34,8 +34,3 @@ spelled_within (suc n) (b ∷ bytes) = front_first (front_fault (b ∷ bytes)) (
 -- the attributes that the bytes spell, or None
 unfoldable pub spelled : List ℕ → Option Attributes
 spelled bytes = spelled_within (length bytes) bytes
-
--- the bytes spell these attributes, or none
-abbrev pub Reads : List ℕ → Option Attributes → Type 0
-Reads bytes None = (attrs : Attributes) → Spells attrs bytes → ⊥
-Reads bytes (Some attrs) = Spells attrs bytes

@@ -7,8 +7,8 @@ use Rattle.floor_words.specs.Words.{number, words}
 use Rattle.floor_message.specs.Fits.{AskFits}
 use Rattle.floor_message.specs.declared.ask.Ask.{Ask}
 use Rattle.floor_message.specs.declared.ask.Ask.TheVariants.{FloorRequest, FloorRelease, FloorRequestQuery, UserQuery, FloorQuery, ChairAction, Hello}
-use Rattle.floor_message.specs.declared.ask.Verdict.{Verdict}
-use Rattle.floor_message.specs.declared.ask.Verdict.TheVariants.{Accepted, Granted, Denied, Revoked}
+use Rattle.floor_message.specs.declared.verdicts.Verdict.{Verdict}
+use Rattle.floor_message.specs.declared.verdicts.Verdict.TheVariants.{Accepted, Granted, Denied, Revoked}
 use Rattle.floorc.specs.declared.command.Command.{Command}
 use Rattle.floorc.specs.declared.command.Command.TheVariants.{Send, Listen, Quit}
 use Rattle.floorc.specs.declared.command.LineFault.{LineFault}

@@ -1,6 +1,6 @@
 -- What the machine tells shows no more than a conference has, and so fits a message (RFC 8855, sections 5.1 and 5.2).
 use Rattle.std.specs.Prelude.{ℕ, ◌^◌, ◌<◌, ◌≤◌, List, length, All, Option, IfSome}
-use Rattle.floor_config.specs.declared.config.Floor.{Floor}
+use Rattle.floor_config.specs.declared.floors.Floor.{Floor}
 use Rattle.floor_queue.specs.declared.request.Request.{Request}
 use Rattle.floor_queue.specs.Queue.{IsAddable, new_of}
 use Rattle.floor_message.specs.Shown.{IsShown}

@@ -1,7 +1,7 @@
 -- What an event has made of a conference, and what its sender is answered.
 use Rattle.std.specs.Prelude.{ℕ, List}
 use Rattle.floor_message.specs.declared.head.Head.{Head}
-use Rattle.floor_message.specs.declared.tell.Info.{Info}
+use Rattle.floor_message.specs.declared.information.Info.{Info}
 use Rattle.floor_message.specs.declared.tell.Tell.{Tell}
 use Rattle.floor_machine.specs.declared.course.Ended.{Ended}
 use Rattle.floor_machine.specs.Conference.{Conference}

@@ -5,7 +5,7 @@ use Rattle.std.specs.Option.{option_map_or}
 use Rattle.floor_config.specs.Configuration.{Configuration}
 use Rattle.floor_queue.specs.declared.request.Request.{Request}
 use Rattle.floor_queue.specs.Queue.{request_at}
-use Rattle.floor_message.specs.declared.tell.Info.{Info}
+use Rattle.floor_message.specs.declared.information.Info.{Info}
 use Rattle.floor_machine.specs.declared.course.Course.{Course}
 use Rattle.floor_machine.specs.declared.course.Ended.{Ended}
 use Rattle.floor_machine.specs.declared.information.shown.Shown.{Shown}

@@ -6,7 +6,7 @@ use Rattle.floor_queue.specs.declared.request.New.{New}
 use Rattle.floor_queue.specs.declared.request.Request.{Request}
 use Rattle.floor_queue.specs.Order.{names}
 use Rattle.floor_queue.specs.Queue.{Queue, IsAddable, IsSettled, request_at, after_end}
-use Rattle.floor_message.specs.declared.ask.Verdict.{Verdict}
+use Rattle.floor_message.specs.declared.verdicts.Verdict.{Verdict}
 use Rattle.floor_message.specs.Ask.{Answer, ask, asks, refused, unanswered}
 use Rattle.floor_message.specs.Code.{code_number}
 use Rattle.floor_message.specs.declared.ask.Ask.{Ask}

@@ -3,7 +3,7 @@ use Rattle.std.specs.Prelude.{◌≡◌, All, ℕ, ◌==◌, ◌&&◌, ◌||◌,
 use Rattle.std.specs.List.{list_any, flat_map}
 use Rattle.std.specs.Option.{option_map_or}
 use Rattle.floor_config.specs.Configuration.{Configuration}
-use Rattle.floor_config.specs.declared.config.Floor.{Floor}
+use Rattle.floor_config.specs.declared.floors.Floor.{Floor}
 use Rattle.floor_queue.specs.declared.request.Request.{Request}
 use Rattle.floor_queue.specs.declared.requested_floor.RequestedFloor.{RequestedFloor}
 use Rattle.floor_queue.specs.Queue.{request_at}
@@ -11,7 +11,7 @@ use Rattle.floor_wire.specs.Header.{addressed}
 use Rattle.floor_message.specs.Written.{tell_bytes}
 use Rattle.floor_message.specs.declared.head.Head.{Head}
 use Rattle.floor_message.specs.Shown.{IsShownInfo}
-use Rattle.floor_message.specs.declared.tell.Info.{Info}
+use Rattle.floor_message.specs.declared.information.Info.{Info}
 use Rattle.floor_message.specs.declared.tell.Tell.{Tell}
 use Rattle.floor_message.specs.declared.tell.Tell.TheVariants.{FloorRequestStatus, FloorStatus}
 use Rattle.floor_message.specs.Head.{notice_head}

@@ -14,12 +14,12 @@ use crate::format::octets::{after_optional_octets, first_copied, put_octets};
 use crate::format::overall_request_status::{after_overall, overall_of, put_overall};
 use crate::format::priority::{after_priority, priority_in, put_priority};
 use crate::format::user_information::{after_who, first_who, put_who};
+use crate::information::Info;
 use crate::infos::Infos;
 use crate::kind::{
     BENEFICIARY_INFORMATION, FLOOR_REQUEST_INFORMATION, PARTICIPANT_PROVIDED_INFO,
     REQUESTED_BY_INFORMATION,
 };
-use crate::tell::Info;
 use floor_wire::Attr;
 use std::alloc::{AllocError, Global};
 

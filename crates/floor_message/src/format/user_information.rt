@@ -10,8 +10,8 @@ ghost use Rattle.floor_wire.specs.declared.format.Format.TheVariants.{Grouped};
 
 use crate::format::group::{GROUP_HEAD, LONGEST_GROUP, first_group, group};
 use crate::format::octets::{after_optional_octets, first_copied, put_octets};
+use crate::information::Who;
 use crate::kind::{USER_DISPLAY_NAME, USER_URI};
-use crate::tell::Who;
 use floor_wire::Attr;
 use std::alloc::{AllocError, Global};
 

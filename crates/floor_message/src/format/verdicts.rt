@@ -11,12 +11,12 @@ ghost use Rattle.floor_message.specs.Written as spec;
 ghost use Rattle.floor_message.specs.declared.primitive.Primitive.TheVariants as primitive;
 ghost use Rattle.floor_message.specs.steps.Adding.{add_new};
 
-use crate::ask::{Ask, Verdict};
+use crate::ask::Ask;
 use crate::format::group::{first_group, group, group_of};
 use crate::format::overall_request_status::overall_status;
 use crate::format::request_status::{status_attr, status_in};
 use crate::kind::{FLOOR_REQUEST_INFORMATION, FLOOR_REQUEST_STATUS};
-use crate::verdicts::Verdicts;
+use crate::verdicts::{Verdict, Verdicts};
 use floor_wire::Attr;
 use std::alloc::{AllocError, Global};
 

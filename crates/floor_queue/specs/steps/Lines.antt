@@ -2,7 +2,7 @@
 use Rattle.std.specs.Prelude.{◌≡◌, ℕ, ◌==◌, nat_lt, Bool, true, false, not, ◌&&◌, if◌then◌else◌, List, [], ◌∷◌, map, count_by, find, take, length, All}
 use Rattle.std.specs.List.{list_all, list_any, position_or_len}
 use Rattle.std.specs.Option.{option_map_or}
-use Rattle.floor_config.specs.declared.config.Floor.{Floor}
+use Rattle.floor_config.specs.declared.floors.Floor.{Floor}
 use Rattle.floor_queue.specs.declared.index.rank.Rank.{Rank}
 use Rattle.floor_queue.specs.declared.request.Request.{Request}
 use Rattle.floor_queue.specs.Order.{names, waits, is_due, is_express, room_of}

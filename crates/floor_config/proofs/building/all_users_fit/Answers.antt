@@ -1,6 +1,6 @@
 use Rattle.std.proofs.Common.{◌≡◌, ◌∙◌, sym, ap, true, get_or}
 use Rattle.std.proofs.lemmas.List.Elements.{All-more}
-use Rattle.floor_config.specs.declared.config.User.{User}
+use Rattle.floor_config.specs.declared.users.User.{User}
 use Rattle.floor_config.specs.Configuration.{IsUser}
 use Rattle.floor_config.specs.Building.{user_fits, without_empty_texts}
 use Rattle.floor_config.proofs.Limits.{passes_more}

@@ -1,7 +1,7 @@
 use Rattle.std.proofs.Common.{arith, ℕ, ◌<◌, ◌^◌, get_or, below_more, subst}
 use Rattle.std.proofs.lemmas.List.{get_or_default}
-use Rattle.floor_message.specs.declared.ask.Verdict.{Verdict}
-use Rattle.floor_message.specs.declared.ask.Verdict.TheVariants.{Accepted}
+use Rattle.floor_message.specs.declared.verdicts.Verdict.{Verdict}
+use Rattle.floor_message.specs.declared.verdicts.Verdict.TheVariants.{Accepted}
 use Rattle.floor_message.proofs.fits.floors_are_of_16_bits.Goals as goal
 
 pub loop-floor-preserved : goal.loop-floor-preserved

@@ -1,5 +1,5 @@
 use Rattle.std.proofs.Common.{ℕ, ◌<◌, ◌^◌, get_or}
-use Rattle.floor_message.specs.declared.ask.Verdict.TheVariants.{Accepted}
+use Rattle.floor_message.specs.declared.verdicts.Verdict.TheVariants.{Accepted}
 use Rattle.floor_message.proofs.fits.floors_are_of_16_bits.Given as goal
 
 abbrev pub invariant-loop-floor : goal.invariant-loop-floor

@@ -1,5 +1,5 @@
 use Rattle.std.proofs.Common.{List, None, ◌++◌, ap, refl, subst, sym, ◌∙◌}
-use Rattle.floor_config.specs.declared.config.Floor.{Floor}
+use Rattle.floor_config.specs.declared.floors.Floor.{Floor}
 use Rattle.floor_queue.specs.Queue.{after_settle}
 use Rattle.floor_machine.specs.declared.course.Course.{Course}
 use Rattle.floor_machine.specs.declared.course.Ended.{Ended}

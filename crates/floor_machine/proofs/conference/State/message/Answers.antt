@@ -1,6 +1,6 @@
 use Rattle.std.proofs.Common.{◌≡◌, ℕ, ◌++◌, List, [], Option, Some, sym, refl, ap, subst, ◌∙◌}
 use Rattle.floor_config.specs.Configuration.{Configuration, user_ids}
-use Rattle.floor_config.specs.declared.config.Floor.{Floor}
+use Rattle.floor_config.specs.declared.floors.Floor.{Floor}
 use Rattle.floor_queue.specs.Order.{settle}
 use Rattle.floor_queue.specs.Queue.{after_settle}
 use Rattle.floor_message.specs.Ask.{Answer, ask}

@@ -3,7 +3,7 @@ use Rattle.std.specs.List.{flat_map}
 use Rattle.floor_queue.specs.declared.request.Request.{Request}
 use Rattle.floor_queue.specs.Order.{due_numbers, settle}
 use Rattle.floor_queue.specs.Queue.{Queue}
-use Rattle.floor_message.specs.declared.tell.Info.{Info}
+use Rattle.floor_message.specs.declared.information.Info.{Info}
 use Rattle.floor_machine.specs.declared.course.Course.{Course}
 use Rattle.floor_machine.specs.declared.marks.Mark.{Mark}
 use Rattle.floor_machine.specs.steps.Marks.{marks_waiting}

@@ -1,7 +1,7 @@
 use Rattle.std.proofs.Common.{◌<◌, ◌≡◌, ◌∙◌, sym, true, false, length, arith}
 use Rattle.std.specs.Prelude.{◌==◌}
 use Rattle.std.specs.List.{list_any}
-use Rattle.floor_message.specs.declared.tell.Info.{Info}
+use Rattle.floor_message.specs.declared.information.Info.{Info}
 use Rattle.floor_machine.proofs.Filtered.{kept_yes, kept_no}
 use Rattle.floor_machine.proofs.information.copying.infos_on.Goals as goal
 use Rattle.floor_machine.proofs.information.copying.infos_on.Goals.{then-shows_floor+in_ok-copy+in_ok-push, else-shows_floor}

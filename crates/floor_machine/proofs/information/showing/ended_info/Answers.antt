@@ -1,6 +1,6 @@
 use Rattle.std.proofs.Common.{◌≡◌, ◌∙◌, ap, subst, ℕ, List, [], Option, map}
 use Rattle.std.specs.Prelude.{IfOk}
-use Rattle.floor_message.specs.declared.tell.Info.{Info}
+use Rattle.floor_message.specs.declared.information.Info.{Info}
 use Rattle.floor_message.specs.Status.{status_number}
 use Rattle.floor_machine.specs.steps.Telling.{entry_of_ended, info_with, ended_floor_shown}
 use Rattle.floor_machine.proofs.Fitting.{info_given}

@@ -1,6 +1,6 @@
 use Rattle.std.proofs.Common.{List, ap, sym, ◌∙◌}
 use Rattle.std.specs.Prelude.{◌==◌}
-use Rattle.floor_message.specs.declared.tell.Info.{Info}
+use Rattle.floor_message.specs.declared.information.Info.{Info}
 use Rattle.floor_machine.specs.steps.Renewing.{info_here}
 use Rattle.floor_machine.proofs.Places.{put-stead}
 use Rattle.floor_machine.proofs.tell.renewing.put_info.Goals as goal

@@ -1,6 +1,6 @@
 use Rattle.std.proofs.Common.{◌≡◌, ℕ, List, [], ◌∷◌, ◌++◌, ◌+◌, length, drop, take, ap, sym, ◌∙◌, append-nil}
 use Rattle.std.specs.Prelude.{Some}
-use Rattle.floor_message.specs.declared.tell.Info.{Info}
+use Rattle.floor_message.specs.declared.information.Info.{Info}
 use Rattle.floor_machine.specs.declared.information.shown.Shown.{Shown}
 use Rattle.floor_machine.specs.declared.tell.renewing.Changes.{Changes}
 use Rattle.floor_machine.specs.steps.Renewing.{differs, floors_before, info_here, update_from}

@@ -2,7 +2,7 @@ use Rattle.std.proofs.Common.{◌≡◌, ◌∙◌, List, Result, Ok, Err, subst
 use Rattle.std.specs.Prelude.{All, IfOk, filter}
 use Rattle.std.proofs.lemmas.List.Elements.{All-filter}
 use Rattle.floor_config.specs.Configuration.{IsFloor}
-use Rattle.floor_config.specs.declared.config.Floor.{Floor}
+use Rattle.floor_config.specs.declared.floors.Floor.{Floor}
 use Rattle.floor_machine.specs.declared.member.Member.{Member}
 use Rattle.floor_machine.specs.steps.Telling.{is_floor_watched}
 use Rattle.floor_machine.proofs.Watched.{none-watched}

@@ -1,7 +1,7 @@
 use Rattle.std.proofs.Common.{◌++◌, refl, arith, Some, Option, subst, sym}
 use Rattle.floor_message.specs.steps.Leaves.{Leaves}
 use Rattle.floor_message.specs.Written.{optional, octets, who_attr}
-use Rattle.floor_message.specs.declared.tell.Who.{Who}
+use Rattle.floor_message.specs.declared.information.Who.{Who}
 use Rattle.floor_message.proofs.Rooms.{group_leaves, leaves_append}
 use Rattle.floor_message.proofs.format.user_information.after_who.Goals as goal
 

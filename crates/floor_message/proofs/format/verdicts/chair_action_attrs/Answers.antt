@@ -1,6 +1,6 @@
 use Rattle.std.proofs.Common.{arith, rules, ◌<◌, ◌^◌, get_or, below_more}
 use Rattle.std.proofs.lemmas.Grind.{common_steps}
-use Rattle.floor_message.specs.declared.ask.Verdict.TheVariants.{Accepted}
+use Rattle.floor_message.specs.declared.verdicts.Verdict.TheVariants.{Accepted}
 use Rattle.floor_message.proofs.AskRooms.{chair_action_fits}
 use Rattle.floor_message.proofs.format.verdicts.chair_action_attrs.Goals as goal
 

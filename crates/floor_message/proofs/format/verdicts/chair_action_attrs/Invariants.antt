@@ -1,6 +1,6 @@
 use Rattle.std.proofs.Common.{◌≡◌, ℕ, ◌<◌, ◌^◌, map, take, get_or}
 use Rattle.floor_message.specs.Written.{verdict_attr}
-use Rattle.floor_message.specs.declared.ask.Verdict.TheVariants.{Accepted}
+use Rattle.floor_message.specs.declared.verdicts.Verdict.TheVariants.{Accepted}
 use Rattle.floor_message.proofs.format.verdicts.chair_action_attrs.Given as goal
 
 abbrev pub invariant-loop-floor : goal.invariant-loop-floor

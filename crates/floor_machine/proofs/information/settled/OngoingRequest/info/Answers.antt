@@ -1,7 +1,7 @@
 use Rattle.std.proofs.Common.{◌≡◌, ◌∙◌, ap, subst, ℕ, List, Option, map}
 use Rattle.std.specs.Prelude.{IfOk}
-use Rattle.floor_config.specs.declared.config.Floor.{Floor}
-use Rattle.floor_message.specs.declared.tell.Info.{Info}
+use Rattle.floor_config.specs.declared.floors.Floor.{Floor}
+use Rattle.floor_message.specs.declared.information.Info.{Info}
 use Rattle.floor_message.specs.Status.{status_number}
 use Rattle.floor_machine.specs.Shown.{overall_status, entry_of, floor_shown}
 use Rattle.floor_machine.specs.steps.Telling.{info_with}

@@ -1,6 +1,6 @@
 use Rattle.std.proofs.Common.{rules}
 use Rattle.floor_outbox.proofs.Relays.{begins, forks}
-use Rattle.floor_outbox.proofs.line.pair.Goals as goal
+use Rattle.floor_outbox.proofs.outbox.pair.Goals as goal
 
 pub with_rule-requires : goal.with_rule-requires
 with_rule-requires c = begins
