@@ -25,10 +25,11 @@ use Rattle.floor_machine.specs.declared.member.Member.{Member}
 use Rattle.floor_machine.specs.Conference.{Conference, binding, is_numbered_from, is_present, opening, user_of}
 use Rattle.floor_machine.specs.Shown.{Entry, entry_of, ongoing_of}
 use Rattle.floor_machine.specs.Checks.{refusal}
-use Rattle.floor_machine.specs.Change.{Change, IsLawful, asked_change, change, decided_at, dismissed, ending, ends_at, ends_without, entries_after, given_after, is_final, leaving, members_after, message_change, next, no_change, released, shown, watching, word_of}
+use Rattle.floor_machine.specs.Change.{Change, IsLawful, asked_change, change, decided_at, dismissed, ending, ends_at, ends_without, entries_after, given_after, is_final, leaving, members_after, message_change, settled, no_change, released, shown, watching, word_of}
 use Rattle.floor_machine.specs.Journal.{IsLawfulFrom, after_from}
 use Rattle.floor_machine.specs.Reachable.{IsReachable}
 use Rattle.floor_machine.specs.steps.Serving.{MayServe, new_of_ask}
+use Rattle.floor_machine.specs.Next.{next}
 use Rattle.floor_machine.proofs.Allowed.{may_serve}
 use Rattle.floor_machine.proofs.Changing.{entries-added, ongoing_of-decided, ongoing_of-ending}
 use Rattle.floor_machine.proofs.Ended.{ongoing_of-ends}
@@ -120,7 +121,7 @@ queue-change s Close law h =
 
 -- the floors and requests after an event are those of its change, settled
 queue-next : (s : Conference) (e : Event) → queue_of (next s e) ≡ after_settle (queue_changed s (change s e).given (ongoing_of (change s e).entries))
-unfolding next shown
+unfolding settled shown
 queue-next s e = ap (queue_changed s (change s e).given) (ongoing_of-settled s.config.floors (change s e).entries)
 
 is_live-watching : (n : ℕ) (floors : List ℕ) (m : Member) → (watching n floors m).is_live ≡ m.is_live
@@ -168,7 +169,7 @@ live-change s (Revoke request) lawful h = h
 live-change s Close lawful h = h
 
 live-next : (s : Conference) (e : Event) → IsLawful s e → count_by (λ m. m.is_live) s.members ≤ 64 → count_by (λ m. m.is_live) (next s e).members ≤ 64
-unfolding next
+unfolding settled
 live-next s e lawful h = live-change s e lawful h
 
 -- what each lawful event keeps

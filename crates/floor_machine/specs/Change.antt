@@ -146,9 +146,9 @@ change s Close = record (no_change s) { entries = []; is_open = false }
 unfoldable pub shown : Conference → Event → List Entry
 shown s e = settle_entries s.config.floors (change s e).entries
 
--- the conference after an event: settled, without the requests that ended
-unfoldable pub next : Conference → Event → Conference
-next s e =
+-- the settled conference after an event, without the requests that ended
+unfoldable pub settled : Conference → Event → Conference
+settled s e =
     record {
       config = s.config;
       given = (change s e).given;

@@ -8,6 +8,7 @@ pub mod Outgoing
 pub mod Reply
 pub mod Same
 pub mod Told
+pub mod Next
 pub mod Journal
 pub mod Fitting
 pub mod Machine

@@ -7,8 +7,9 @@ use Rattle.floor_machine.specs.Conference.{Conference, is_live, is_numbered_from
 use Rattle.floor_machine.specs.declared.event.Event.{Event}
 use Rattle.floor_machine.specs.declared.event.Event.TheVariants.{Join, Message, Leave, Revoke, Close}
 use Rattle.floor_machine.specs.Shown.{ongoing_of}
-use Rattle.floor_machine.specs.Change.{change, next}
+use Rattle.floor_machine.specs.Change.{change}
 use Rattle.floor_machine.specs.Journal.{IsLawfulFrom, after, after_from, parcels_from, parcels_of, told_from}
+use Rattle.floor_machine.specs.Next.{next}
 
 -- how many members an event adds
 abbrev pub joins : Event → ℕ

@@ -1,10 +1,11 @@
 //! A journal that is run again.
 
 ghost use Rattle.std.specs.Prelude.{◌≡◌, ◌<◌, ◌++◌, ◌∷◌, [], false, IfErr, IfOk, OnOk, length};
-ghost use Rattle.floor_machine.specs.Change.{IsLawful, next};
+ghost use Rattle.floor_machine.specs.Change.{IsLawful};
 ghost use Rattle.floor_machine.specs.Journal.{IsJournal, Q, parcels_of, sent_to};
 ghost use Rattle.floor_machine.specs.Laws.{IsWhole};
 ghost use Rattle.floor_machine.specs.Machine.{whole};
+ghost use Rattle.floor_machine.specs.Next.{next};
 ghost use Rattle.floor_room.specs.Replay.{IsFault, bytes_of};
 
 use crate::journal::Place;

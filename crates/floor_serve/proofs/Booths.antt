@@ -8,12 +8,13 @@ use Rattle.floor_machine.specs.declared.event.Event.{Event}
 use Rattle.floor_machine.specs.declared.event.Event.TheVariants.{Join, Message, Leave, Revoke, Close}
 use Rattle.floor_machine.specs.Parcel.{Parcel}
 use Rattle.floor_machine.specs.Conference.{Conference, opening, is_live}
-use Rattle.floor_machine.specs.Change.{IsLawful, next}
+use Rattle.floor_machine.specs.Change.{IsLawful}
 use Rattle.floor_machine.specs.Journal.{IsLawfulFrom, after, parcels_of, sent_to}
 use Rattle.floor_machine.proofs.Runs.{after_from-more, members-after}
 use Rattle.floor_machine.specs.Membership.{joins}
 use Rattle.floor_machine.proofs.Staying as members
 use Rattle.floor_machine.specs.declared.machine.Refusal.TheVariants.{Broken, Ended, NoMember, NoUser, Full, NoRequest, Memory}
+use Rattle.floor_machine.specs.Next.{next}
 use Rattle.floor_room.specs.declared.refusal.RoomRefusal.{RoomRefusal}
 use Rattle.floor_room.specs.declared.refusal.RoomRefusal.TheVariants.{JournalFull, Refused}
 use Rattle.floor_room.specs.Room.{joined, parcels_to}
