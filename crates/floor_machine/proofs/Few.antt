@@ -135,7 +135,7 @@ few-shown : (s : Conference) (e : Event) → WhatIsAskedFits → Keeps s → Are
 unfolding shown
 few-shown s e law k =
     let few = few-change s e law k in
-    of_numbers (shown s e) (numbers_in (change s e).entries) (numbers_in-settled s.config.floors (change s e).entries) few.few few.rising
+    of_numbers (shown s e) (numbers_in (change s e).entries) (numbers_in-settled (change s e).config.floors (change s e).entries) few.few few.rising
 
 -- those of them that are shown otherwise than before
 requests-few : (s : Conference) (e : Event) → WhatIsAskedFits → Keeps s → length (changed_requests s e) ≤ 256
@@ -143,15 +143,20 @@ unfolding changed_requests
 requests-few s e law k =
     omega (
       arith,
-      filter-few (λ c. is_changed (infos s) c.info) (map (changed_of s.config (shown s e)) (shown s e)),
-      length-map (shown s e) (changed_of s.config (shown s e)),
+      filter-few (λ c. is_changed (infos s) c.info) (map (changed_of (settled s e).config (shown s e)) (shown s e)),
+      length-map (shown s e) (changed_of (settled s e).config (shown s e)),
       length-map (shown s e) (λ (x : Entry). x.request.number),
       (few-shown s e law k).few,
     )
 
 floors-few : (s : Conference) (e : Event) → length (changed_floors s e) ≤ length s.config.floors
 unfolding changed_floors
-floors-few s e = filter-few (λ f. not (same_infos (infos_on f.id (infos s)) (infos_on f.id (infos (settled s e))))) s.config.floors
+floors-few s e =
+    omega (
+      arith,
+      filter-few (λ f. not (same_infos (infos_on f.id (infos s)) (infos_on f.id (infos (settled s e))))) (settled s e).config.floors,
+      ap (λ (config : Configuration). length config.floors) (settled-config s e),
+    )
 
 -- at most one request has a number
 status-few : (config : Configuration) (es : List Entry) (k : ℕ) → AreFew es → length (request_answer config es k) ≤ 1

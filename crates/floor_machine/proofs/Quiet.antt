@@ -25,6 +25,7 @@ use Rattle.floor_machine.specs.Reply.{infos, infos_on, floor_status_tell}
 use Rattle.floor_machine.specs.Told.{Changed, changed_of, changed_requests, changed_floors, is_changed, is_told, reply_to, due_to, due}
 use Rattle.floor_machine.specs.Journal.{parcel, parcels_of}
 use Rattle.floor_machine.specs.steps.Telling.{answered_to, floor_update, parcels_to_all}
+use Rattle.floor_machine.proofs.Configs.{config-change}
 use Rattle.floor_machine.proofs.Entries.{ongoing_of-entries}
 use Rattle.floor_machine.proofs.Found.{request_at_place}
 use Rattle.floor_machine.proofs.SameInfo.{list_own, info_own}
@@ -69,7 +70,9 @@ entries-settled floors rs is_settled =
 pub shown-kept : (s : Conference) (e : Event) → (change s e).entries ≡ map entry_of s.ongoing → settle s.config.floors s.ongoing ≡ s.ongoing →
     shown s e ≡ map entry_of s.ongoing
 unfolding shown
-shown-kept s e kept is_settled = ap (settle_entries s.config.floors) kept ∙ entries-settled s.config.floors s.ongoing is_settled
+shown-kept s e kept is_settled =
+    ap (λ (config : Configuration). settle_entries config.floors (change s e).entries) (config-change s e)
+    ∙ ap (settle_entries s.config.floors) kept ∙ entries-settled s.config.floors s.ongoing is_settled
 
 number-info : (config : Configuration) (all : List Request) (r : Request) → (info config all r).request ≡ r.number
 unfolding info_of
@@ -114,7 +117,8 @@ pub requests-kept : (s : Conference) (e : Event) → (change s e).entries ≡ ma
     is_ascending s.ongoing ≡ true → changed_requests s e ≡ []
 unfolding changed_requests
 requests-kept s e kept is_settled ascending =
-    ap (λ (es : List Entry). filter (λ c. is_changed (infos s) c.info) (map (changed_of s.config es) es)) (shown-kept s e kept is_settled)
+    ap (λ (config : Configuration). filter (λ c. is_changed (infos s) c.info) (map (changed_of config (shown s e)) (shown s e))) (settled-config s e)
+    ∙ ap (λ (es : List Entry). filter (λ c. is_changed (infos s) c.info) (map (changed_of s.config es) es)) (shown-kept s e kept is_settled)
     ∙ none-changed s.config (infos s) s.ongoing s.ongoing
     (λ i d within. same-unchanged s.config s.ongoing (get_or s.ongoing i d) (request_at_place s.ongoing i d ascending within))
 
@@ -134,7 +138,8 @@ infos-kept s e kept is_settled =
 pub floors-kept : (s : Conference) (e : Event) → (change s e).entries ≡ map entry_of s.ongoing → settle s.config.floors s.ongoing ≡ s.ongoing → changed_floors s e ≡ []
 unfolding changed_floors
 floors-kept s e kept is_settled =
-    none-differ (λ id. infos_on id (infos s)) (λ id. infos_on id (infos (settled s e))) (λ id. ap (infos_on id) (infos-kept s e kept is_settled)) s.config.floors
+    ap (λ (config : Configuration). filter (λ f. not (same_infos (infos_on f.id (infos s)) (infos_on f.id (infos (settled s e))))) config.floors) (settled-config s e)
+    ∙ none-differ (λ id. infos_on id (infos s)) (λ id. infos_on id (infos (settled s e))) (λ id. ap (infos_on id) (infos-kept s e kept is_settled)) s.config.floors
 
 -- the conference after it has other members, and is otherwise as it was
 pub settled-kept : (s : Conference) (e : Event) → (change s e).entries ≡ map entry_of s.ongoing → settle s.config.floors s.ongoing ≡ s.ongoing →

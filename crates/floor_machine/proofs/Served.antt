@@ -38,6 +38,7 @@ use Rattle.floor_machine.specs.Told.{changed_of, changed_requests, changed_floor
 use Rattle.floor_machine.specs.Journal.{parcels_of}
 use Rattle.floor_machine.specs.steps.Telling.{entry_of_ended, entry_at, shown_of, infos_of, updates, floor_update, floor_updates, answered, answered_to, parcels_to_all}
 use Rattle.floor_machine.specs.steps.Serving.{IsChanged, conference_of, judged, judged_change, judged_tells, accepted_tells, status_tells, ended_of, numbers_in, is_rising, with_requests}
+use Rattle.floor_machine.proofs.Configs.{config-change}
 use Rattle.floor_machine.proofs.Entries.{ongoing_of-settled, ended_of-settled, numbers_in-settled, entry_with, filter-number}
 use Rattle.floor_machine.proofs.Sent.{numbered-settled}
 use Rattle.floor_machine.proofs.Telling.{is_telling, finds, update_for, updates-changed, headed-answered, parcels-told}
@@ -59,14 +60,15 @@ change-judged s n bytes a same = ap (message_change s n) (sym same) ∙ by a
 -- the entries after the event are the changed ones, settled
 pub shown-changed : (s : Conference) (e : Event) (c : Change) → change s e ≡ c → shown s e ≡ settle_entries s.config.floors c.entries
 unfolding shown
-shown-changed s e c same = ap (λ (d : Change). settle_entries s.config.floors d.entries) same
+shown-changed s e c same =
+    ap (λ (config : Configuration). settle_entries config.floors (change s e).entries) (config-change s e) ∙ ap (λ (d : Change). settle_entries s.config.floors d.entries) same
 
 abbrev made : Configuration → ℕ → List Request → List Member → Bool → Conference
 made config given ongoing members is_open = record { config = config; given = given; ongoing = ongoing; members = members; is_open = is_open }
 
 pub settled-made : (s : Conference) (e : Event) → settled s e ≡ made s.config (change s e).given (ongoing_of (shown s e)) (change s e).members (change s e).is_open
 unfolding settled
-settled-made s e = refl
+settled-made s e = ap (λ (config : Configuration). made config (change s e).given (ongoing_of (shown s e)) (change s e).members (change s e).is_open) (config-change s e)
 
 -- the conference after the change, settled, is the next one
 pub settled-changed : (s : Conference) (e : Event) (c : Change) (t : Conference) (course : Course) → change s e ≡ c → IsChanged s c t course →
@@ -178,12 +180,15 @@ updates-message s e course same numbered rising before =
     ap (λ (rs : List Request). updates s.config rs course.ended.items course.before.items course.numbers.items) (settled-ongoing s e)
     ∙ updates-changed s.config course.before.items (shown s e) course.ended.items course.numbers.items same numbered rising
     ∙ ap (λ (is : List Info). map update_for (filter (λ c. is_changed is c.info) (map (changed_of s.config (shown s e)) (shown s e)))) before
+    ∙ ap (λ (config : Configuration). map update_for (filter (λ c. is_changed (infos s) c.info) (map (changed_of config (shown s e)) (shown s e)))) (sym (settled-config s e))
 
 pub floors-message : (s : Conference) (e : Event) (before now : List Info) → before ≡ infos s → now ≡ infos (settled s e) →
     floor_updates before now s.config.floors ≡ map (floor_update (infos (settled s e))) (changed_floors s e)
 unfolding changed_floors
 floors-message s e before now b n =
-    ap (λ (is : List Info). floor_updates is now s.config.floors) b ∙ ap (λ (is : List Info). floor_updates (infos s) is s.config.floors) n
+    ap (λ (is : List Info). floor_updates is now s.config.floors) b
+    ∙ ap (λ (is : List Info). floor_updates (infos s) is s.config.floors) n
+    ∙ ap (λ (config : Configuration). floor_updates (infos s) (infos (settled s e)) config.floors) (sym (settled-config s e))
 
 -- the parcels that the steps put are those that the event calls for
 pub parcels-served : (s : Conference) (e : Event) (t : Conference) (course : Course) (reply : Option Reply) → is_telling e ≡ true → t ≡ settled s e →

@@ -32,15 +32,15 @@ pub record Changed : Type 0 where
 abbrev pub changed_of : Configuration → List Entry → Entry → Changed
 changed_of config entries e = record { request = e.request; info = info_of config (ongoing_of entries) e }
 
--- the new, the ended and the otherwise changed requests, ascending
+-- the new, the ended and the otherwise changed requests, ascending, each shown by the configuration of its conference
 unfoldable pub changed_requests : Conference → Event → List Changed
 changed_requests s e =
-    filter (λ c. is_changed (infos s) c.info) (map (changed_of s.config (shown s e)) (shown s e))
+    filter (λ c. is_changed (infos s) c.info) (map (changed_of (settled s e).config (shown s e)) (shown s e))
 
--- the floors whose ongoing requests are shown otherwise than before, in the configuration's order
+-- the floors whose ongoing requests are shown otherwise than before, in the order of the settled conference
 unfoldable pub changed_floors : Conference → Event → List Floor
 changed_floors s e =
-    filter (λ f. not (same_infos (infos_on f.id (infos s)) (infos_on f.id (infos (settled s e))))) s.config.floors
+    filter (λ f. not (same_infos (infos_on f.id (infos s)) (infos_on f.id (infos (settled s e))))) (settled s e).config.floors
 
 -- n sent the event
 abbrev pub is_sender : Event → ℕ → Bool
