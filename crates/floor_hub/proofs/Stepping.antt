@@ -11,7 +11,7 @@ use Rattle.std.proofs.lemmas.Option.{none-some}
 use Rattle.floor_config.specs.Configuration.{Configuration}
 use Rattle.floor_wire.specs.Message.{IsMessage, messages}
 use Rattle.floor_wire.proofs.Messages.{messages-concat}
-use Rattle.floor_machine.specs.declared.event.Act.{Act}
+use Rattle.floor_machine.specs.declared.act.Act.{Act}
 use Rattle.floor_machine.specs.declared.event.Event.{Event}
 use Rattle.floor_machine.specs.declared.event.Event.TheVariants.{Join, Message, Leave as Leaves, Revoke, Close}
 use Rattle.floor_machine.specs.declared.machine.Refusal.TheVariants.{Ended}

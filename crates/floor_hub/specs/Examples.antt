@@ -5,7 +5,7 @@ use Rattle.floor_config.specs.declared.config.User.{User}
 use Rattle.floor_wire.specs.Message.{messages, messages_of_at_most}
 use Rattle.floor_wire.specs.Spelled.{spelled, spelled_within}
 use Rattle.floor_message.specs.Ask.{ask}
-use Rattle.floor_machine.specs.declared.event.Act.{Act}
+use Rattle.floor_machine.specs.declared.act.Act.{Act}
 use Rattle.floor_machine.specs.declared.event.Event.{Event}
 use Rattle.floor_machine.specs.declared.event.Event.TheVariants.{Join, Message, Leave as Leaves, Close}
 use Rattle.floor_machine.specs.declared.machine.Refusal.TheVariants.{Ended, NoUser, Full, NoRequest}

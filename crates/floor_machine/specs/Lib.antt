@@ -1,5 +1,6 @@
 -- What a reader has to believe, in the order of reading.
 pub mod Conference
+pub mod Events
 pub mod Shown
 pub mod Checks
 pub mod Change

@@ -3,7 +3,7 @@ use Rattle.std.specs.Prelude.{◌≡◌, ◌≢◌, ℕ, ◌<◌, List, [], ◌�
 use Rattle.floor_config.specs.Lookup.{is_user}
 use Rattle.floor_machine.specs.declared.machine.Refusal.{Refusal}
 use Rattle.floor_machine.specs.declared.machine.Refusal.TheVariants.{Broken, Ended, NoMember, NoUser, Full, NoRequest, Memory}
-use Rattle.floor_machine.specs.declared.event.Act.{Act}
+use Rattle.floor_machine.specs.declared.act.Act.{Act}
 use Rattle.floor_machine.specs.declared.event.Event.{Event}
 use Rattle.floor_queue.specs.Queue.{request_at}
 use Rattle.floor_machine.specs.Conference.{Conference, is_live}
