@@ -12,9 +12,9 @@ use Rattle.floor_machine.specs.declared.event.Event.TheVariants.{Join, Message, 
 use Rattle.floor_machine.specs.declared.machine.Refusal.TheVariants.{Broken, Ended, NoMember, NoUser, Full, NoRequest, Memory}
 use Rattle.floor_machine.specs.declared.member.Member.{Member}
 use Rattle.floor_machine.specs.Conference.{Conference, member_with, opening}
-use Rattle.floor_machine.specs.Change.{next}
 use Rattle.floor_machine.specs.Journal.{IsLawfulFrom, after, after_from}
 use Rattle.floor_machine.specs.Conference.{is_numbered_from}
+use Rattle.floor_machine.specs.Next.{next}
 use Rattle.floor_machine.proofs.Found.{and_left, and_right}
 use Rattle.floor_machine.proofs.Staying.{members-next}
 use Rattle.floor_machine.proofs.Sent.{numbered-next}

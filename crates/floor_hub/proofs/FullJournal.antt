@@ -1,6 +1,6 @@
 -- A full journal of an open conference refuses an event of each kind, and a leave adds none.
 use Rattle.std.proofs.Common.{◌≡◌, ℕ, true, List, [], Some, refl}
-use Rattle.floor_machine.specs.declared.event.Act.{Act}
+use Rattle.floor_machine.specs.declared.act.Act.{Act}
 use Rattle.floor_machine.specs.declared.event.Event.TheVariants.{Join}
 use Rattle.floor_machine.specs.Machine.{event_of_act}
 use Rattle.floor_room.specs.declared.refusal.RoomRefusal.TheVariants.{JournalFull}

@@ -13,19 +13,20 @@ use Rattle.std.proofs.lemmas.Map.{update_here, update_apart}
 use Rattle.floor_config.specs.Configuration.{Configuration}
 use Rattle.floor_wire.specs.Message.{IsMessage, messages}
 use Rattle.floor_wire.proofs.Messages.{messages_are_messages}
-use Rattle.floor_machine.specs.declared.event.Act.{Act}
+use Rattle.floor_machine.specs.declared.act.Act.{Act}
 use Rattle.floor_machine.specs.declared.event.Event.{Event}
 use Rattle.floor_machine.specs.declared.event.Event.TheVariants.{Join, Message, Leave as Leaves, Revoke, Close}
 use Rattle.floor_machine.specs.declared.machine.Refusal.{Refusal}
 use Rattle.floor_machine.specs.declared.machine.Refusal.TheVariants.{Ended}
 use Rattle.floor_machine.specs.Conference.{Conference, is_live, opening}
-use Rattle.floor_machine.specs.Change.{IsLawful, next}
+use Rattle.floor_machine.specs.Change.{IsLawful}
 use Rattle.floor_machine.specs.Journal.{IsJournal, after, after_from}
 use Rattle.floor_machine.specs.Laws.{IsWhole}
 use Rattle.floor_machine.specs.Machine.{event_of_act, event_refusal, whole}
 use Rattle.floor_machine.proofs.Runs.{after_from-more, lawful-more}
 use Rattle.floor_machine.proofs.Lawful.{taken_is_lawful}
 use Rattle.floor_machine.specs.Membership.{StaysIn, joins as joins_by}
+use Rattle.floor_machine.specs.Next.{next}
 use Rattle.floor_machine.proofs.Staying.{live-joined, live-next, members-next}
 use Rattle.floor_room.specs.declared.refusal.RoomRefusal.{RoomRefusal}
 use Rattle.floor_room.specs.declared.refusal.RoomRefusal.TheVariants.{Refused as ByMachine}

@@ -15,11 +15,10 @@ use Rattle.floor_hub.specs.declared.refusal.HubRefusal.TheVariants.{NoConnection
 use Rattle.std.specs.List.{concat}
 use Rattle.std.proofs.lemmas.List.{map-append}
 use Rattle.floor_machine.specs.Conference.{Conference}
-use Rattle.floor_machine.specs.Change.{next}
-use Rattle.floor_machine.specs.Told.{told}
 use Rattle.floor_machine.specs.Outgoing.{Outgoing, outgoing_bytes}
 use Rattle.floor_machine.specs.Machine.{event_of_act}
 use Rattle.floor_machine.specs.Journal.{after_from, told_from, parcels, Q}
+use Rattle.floor_machine.specs.Next.{next, told}
 use Rattle.floor_hub.specs.declared.refusal.HubRefusal.TheVariants.{ByRoom}
 use Rattle.floor_hub.specs.declared.step.Step.{Step}
 use Rattle.floor_hub.specs.declared.step.Step.TheVariants.{Open, Attach, Piece, Serve, Leave, Admin}

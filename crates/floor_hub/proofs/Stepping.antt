@@ -11,18 +11,19 @@ use Rattle.std.proofs.lemmas.Option.{none-some}
 use Rattle.floor_config.specs.Configuration.{Configuration}
 use Rattle.floor_wire.specs.Message.{IsMessage, messages}
 use Rattle.floor_wire.proofs.Messages.{messages-concat}
-use Rattle.floor_machine.specs.declared.event.Act.{Act}
+use Rattle.floor_machine.specs.declared.act.Act.{Act}
 use Rattle.floor_machine.specs.declared.event.Event.{Event}
 use Rattle.floor_machine.specs.declared.event.Event.TheVariants.{Join, Message, Leave as Leaves, Revoke, Close}
 use Rattle.floor_machine.specs.declared.machine.Refusal.TheVariants.{Ended}
 use Rattle.floor_machine.specs.declared.member.Member.{Member}
 use Rattle.floor_machine.specs.Conference.{Conference, is_live, member_with}
-use Rattle.floor_machine.specs.Change.{IsLawful, change, leaving, next}
+use Rattle.floor_machine.specs.Change.{IsLawful, change, leaving, settled}
 use Rattle.floor_machine.specs.Journal.{IsJournal, IsLawfulFrom, after}
 use Rattle.floor_machine.specs.Laws.{IsWhole}
 use Rattle.floor_machine.specs.Machine.{event_of_act, event_refusal, whole}
 use Rattle.floor_machine.proofs.Lawful.{taken_is_lawful}
 use Rattle.floor_machine.specs.Membership.{joins}
+use Rattle.floor_machine.specs.Next.{next}
 use Rattle.floor_machine.proofs.Staying.{live-before}
 use Rattle.floor_room.specs.declared.refusal.RoomRefusal.{RoomRefusal}
 use Rattle.floor_room.specs.declared.refusal.RoomRefusal.TheVariants.{JournalFull, Refused as ByMachine}
@@ -206,7 +207,7 @@ gone_from n (m ∷ ms) = by (m.n == n) refl (gone_from n ms)
     by false e h = rw e h
 
 gone_next : (s : Conference) (n : ℕ) → is_live (next s (Leaves n)) n ≡ false
-unfolding next change
+unfolding settled change
 gone_next s n = gone_from n s.members
 
 -- the arrivals of a part are the same, whatever its events

@@ -85,7 +85,7 @@ fn step(
         Step::Piece { number, bytes } => piece(hub, *number, bytes.as_slice()),
         Step::Serve(number) => serve(hub, *number),
         Step::Leave(number) => leave(hub, *number),
-        Step::Admin { conference, act } => admin(hub, *conference, *act),
+        Step::Admin { conference, act } => admin(hub, *conference, act.copy()),
     }
 }
 

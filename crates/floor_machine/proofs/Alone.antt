@@ -16,7 +16,7 @@ use Rattle.floor_machine.specs.declared.change.judged.Judged.{Judged}
 use Rattle.floor_machine.specs.declared.change.judged.Judged.TheVariants.{Accepted, Refused}
 use Rattle.floor_machine.specs.declared.member.Member.{Member}
 use Rattle.floor_machine.specs.Conference.{Conference, binding, member_with, opening, user_of}
-use Rattle.floor_machine.specs.Change.{change, next}
+use Rattle.floor_machine.specs.Change.{change, settled}
 use Rattle.floor_machine.specs.Checks.{refusal}
 use Rattle.floor_machine.specs.Journal.{parcel, told_from}
 use Rattle.floor_machine.specs.Outgoing.{Outgoing, notice, outgoing_bytes}
@@ -24,12 +24,12 @@ use Rattle.floor_machine.specs.Parcel.{Parcel}
 use Rattle.floor_machine.specs.Reachable.{LeavesAlone, Sent, is_unaccepted}
 use Rattle.floor_machine.specs.Reply.{floor_status_tell, reply}
 use Rattle.floor_machine.specs.steps.Serving.{changes_requests, judged, members_judged}
-use Rattle.floor_machine.specs.Told.{Changed, changed_floors, changed_requests, is_told, reply_to, told_to}
+use Rattle.floor_machine.specs.Told.{Changed, changed_floors, changed_requests, is_told, reply_to, due_to}
 use Rattle.floor_machine.proofs.Found.{and_left}
-use Rattle.floor_machine.proofs.Kept.{IsKept, event-kept, next-message}
+use Rattle.floor_machine.proofs.Kept.{IsKept, event-kept, settled-message}
 use Rattle.floor_machine.proofs.Quiet.{floors-kept, requests-kept}
 use Rattle.floor_machine.proofs.Sent.{sent_is_told}
-use Rattle.floor_machine.proofs.Telling.{told-member}
+use Rattle.floor_machine.proofs.Telling.{due-member}
 
 -- what isn't accepted changes no request and no member
 record ChangesNothing (members : List Member) (n : ℕ) (j : Judged) : Type 0 where
@@ -57,44 +57,44 @@ found_number (x ∷ ms) k m h = by (x.n == k && x.is_live) refl h (λ later. fou
     by true is h rest = let same : x ≡ m = cc in sym (ap (λ (y : Member). y.n) same) ∙ equal x.n k (and_left (x.n == k) x.is_live is)
     by false is h rest = rest h
 
--- what a member is told, by what it is answered and by what changed
-abbrev told_by : Conference → Event → Member → List Outgoing → List Changed → List Floor → List Outgoing
-told_by s e m replied requests floors =
+-- what is due to a member, by what it is answered and by what changed
+abbrev due_by : Conference → Event → Member → List Outgoing → List Changed → List Floor → List Outgoing
+due_by s e m replied requests floors =
     replied
     ++ map (λ c. notice s.config.conference m.user (FloorRequestStatus c.info)) (filter (is_told replied m.user) requests)
-    ++ map (λ f. notice s.config.conference m.user (floor_status_tell (next s e) f.id)) (filter (λ f. list_any (λ floor. floor == f.id) m.watched) floors)
+    ++ map (λ f. notice s.config.conference m.user (floor_status_tell (settled s e) f.id)) (filter (λ f. list_any (λ floor. floor == f.id) m.watched) floors)
 
 -- another member than the sender
-told-other : (s : Conference) (n : ℕ) (bytes : List ℕ) (m : Member) → (n == m.n) ≡ false → changed_requests s (Message n bytes) ≡ [] → changed_floors s (Message n bytes) ≡ [] →
-    told_to s (Message n bytes) m ≡ []
-told-other s n bytes m other requests floors =
+due-other : (s : Conference) (n : ℕ) (bytes : List ℕ) (m : Member) → (n == m.n) ≡ false → changed_requests s (Message n bytes) ≡ [] → changed_floors s (Message n bytes) ≡ [] →
+    due_to s (Message n bytes) m ≡ []
+due-other s n bytes m other requests floors =
     let e : Event = Message n bytes in
     let unsent : reply_to s e m.n ≡ [] = ap (λ (b : Bool). cond b (reply s e) []) other in
-    ap (λ (replied : List Outgoing). told_by s e m replied (changed_requests s e) (changed_floors s e)) unsent
-    ∙ ap (λ (cs : List Changed). told_by s e m [] cs (changed_floors s e)) requests
-    ∙ ap (told_by s e m [] []) floors
+    ap (λ (replied : List Outgoing). due_by s e m replied (changed_requests s e) (changed_floors s e)) unsent
+    ∙ ap (λ (cs : List Changed). due_by s e m [] cs (changed_floors s e)) requests
+    ∙ ap (due_by s e m [] []) floors
 
 pub leaves_alone : (s : Conference) (n : ℕ) (bytes : List ℕ) → settle s.config.floors s.ongoing ≡ s.ongoing → is_ascending s.ongoing ≡ true →
     is_unaccepted s (user_of s n) (ask bytes (binding s n)) ≡ true → LeavesAlone s n bytes
-leaves_alone s n bytes settled ascending refused_is =
+leaves_alone s n bytes is_settled ascending refused_is =
     let e : Event = Message n bytes in
     let j : Judged = judged s (user_of s n) (ask bytes (binding s n)) in
     let nothing : ChangesNothing s.members n j = unaccepted s n (user_of s n) (ask bytes (binding s n)) refused_is in
     let k : IsKept s (members_judged s.members n j) (change s e) = event-kept s n bytes j refl nothing.requests in
     record {
-      next = sym (next-message s n bytes j refl nothing.requests settled) ∙ ap (λ (ms : List Member). record s { members = ms }) nothing.members_kept;
-      told = λ i other. told-member s e i refl
-          ∙ told-found s n bytes i (member_with (next s e).members i) refl other (requests-kept s e k.entries settled ascending) (floors-kept s e k.entries settled);
+      next = sym (settled-message s n bytes j refl nothing.requests is_settled) ∙ ap (λ (ms : List Member). record s { members = ms }) nothing.members_kept;
+      told = λ i other. due-member s e i refl
+          ∙ due-found s n bytes i (member_with (settled s e).members i) refl other (requests-kept s e k.entries is_settled ascending) (floors-kept s e k.entries is_settled);
     }
   where
     apart : (n a i : ℕ) → a ≡ i → i ≢ n → (n == a) ≡ false
     apart n a i e other = grind (arith, nat_tests)
 
-    told-found : (s : Conference) (n : ℕ) (bytes : List ℕ) (i : ℕ) (o : Option Member) → member_with (next s (Message n bytes)).members i ≡ o → i ≢ n →
-        changed_requests s (Message n bytes) ≡ [] → changed_floors s (Message n bytes) ≡ [] → option_map_or (told_to s (Message n bytes)) o [] ≡ []
-    told-found s n bytes i None is other requests floors = refl
-    told-found s n bytes i (Some m) is other requests floors =
-        told-other s n bytes m (apart n m.n i (found_number (next s (Message n bytes)).members i m is) other) requests floors
+    due-found : (s : Conference) (n : ℕ) (bytes : List ℕ) (i : ℕ) (o : Option Member) → member_with (settled s (Message n bytes)).members i ≡ o → i ≢ n →
+        changed_requests s (Message n bytes) ≡ [] → changed_floors s (Message n bytes) ≡ [] → option_map_or (due_to s (Message n bytes)) o [] ≡ []
+    due-found s n bytes i None is other requests floors = refl
+    due-found s n bytes i (Some m) is other requests floors =
+        due-other s n bytes m (apart n m.n i (found_number (settled s (Message n bytes)).members i m is) other) requests floors
 
 -- the bytes of parcels to n
 bytes-parcels : (n : ℕ) (ms : List Outgoing) → map (λ (p : Parcel). p.bytes) (map (parcel n) ms) ≡ map outgoing_bytes ms

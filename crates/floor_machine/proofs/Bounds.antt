@@ -20,17 +20,17 @@ use Rattle.floor_machine.specs.declared.reply.Reply.{Reply}
 use Rattle.floor_machine.specs.declared.tell.changed.Update.{Update}
 use Rattle.floor_machine.specs.declared.conference.State.{State}
 use Rattle.floor_machine.specs.Conference.{Conference, member_with}
-use Rattle.floor_machine.specs.Change.{change, next, shown}
+use Rattle.floor_machine.specs.Change.{change, settled, shown}
 use Rattle.floor_machine.specs.steps.Serving.{IsChanged, conference_of, ended_of, is_rising, numbers_in, with_requests}
 use Rattle.floor_machine.specs.Fitting.{ToldFits}
 use Rattle.floor_machine.specs.steps.Fitting.{AreFloorsShown, AreMessagesShown, AreUpdatesShown, IsReplyShown, IsToldShown}
 use Rattle.floor_machine.specs.Outgoing.{Outgoing, notice}
 use Rattle.floor_machine.specs.Reply.{infos, floor_status_tell}
 use Rattle.floor_machine.specs.steps.Telling.{answered, answered_to, entry_of_ended, floor_update, floor_updates, infos_of, is_to, is_watched_by, updates}
-use Rattle.floor_machine.specs.Told.{Changed, changed_floors, changed_requests, floor_notices, request_notices, is_told, reply_to, told, told_to}
+use Rattle.floor_machine.specs.Told.{Changed, changed_floors, changed_requests, floor_notices, request_notices, is_told, reply_to, due, due_to}
 use Rattle.floor_machine.proofs.Watched.{picked_through, watched-found}
-use Rattle.floor_machine.proofs.Telling.{is_telling, told-member, update_for}
-use Rattle.floor_machine.proofs.Served.{ended-shown, floors-message, next-config, numbers-shown, settled-state, updates-message}
+use Rattle.floor_machine.proofs.Telling.{is_telling, due-member, update_for}
+use Rattle.floor_machine.proofs.Served.{ended-shown, floors-message, settled-config, numbers-shown, settled-state, updates-message}
 
 -- what holds of all items, made into what follows from it, holds of those that are picked
 picked_all : {A B : Type 0} (P : A → Type 0) (Q : B → Type 0) (f : A → B) (p : A → Bool) (xs : List A) → ((x : A) → P x → Q (f x)) → All P xs → All Q (map f (filter p xs))
@@ -61,9 +61,9 @@ reply_all (Some r) k h = by (is_to k r)
     by true = answered_all r.head r.tells h
     by false = All-nil (λ message. IsShown message.tell)
 
--- what a live member is told
-member_all : (s : Conference) (e : Event) (n : ℕ) (m : Member) → member_with (next s e).members n ≡ Some m → AreMessagesShown (reply_to s e m.n) → AreUpdatesShown (map update_for (changed_requests s e)) →
-    AreFloorsShown (filter (is_watched_by (next s e).members) (map (floor_update (infos (next s e))) (changed_floors s e))) → AreMessagesShown (told_to s e m)
+-- what is due to a live member
+member_all : (s : Conference) (e : Event) (n : ℕ) (m : Member) → member_with (settled s e).members n ≡ Some m → AreMessagesShown (reply_to s e m.n) → AreUpdatesShown (map update_for (changed_requests s e)) →
+    AreFloorsShown (filter (is_watched_by (settled s e).members) (map (floor_update (infos (settled s e))) (changed_floors s e))) → AreMessagesShown (due_to s e m)
 member_all s e n m found replied requests floors =
     let S : Outgoing → Type 0 = λ message. IsShown message.tell in
     let R : Changed → Type 0 = λ c. IsShown (FloorRequestStatus c.info) in
@@ -71,49 +71,49 @@ member_all s e n m found replied requests floors =
     let of_requests : AreMessagesShown (request_notices s e m) =
     picked_all R S (λ c. notice s.config.conference m.user (FloorRequestStatus c.info)) (is_told (reply_to s e m.n) m.user) (changed_requests s e) (λ c h. h) each_request in
     let of_floors : AreMessagesShown (floor_notices s e m) =
-    picked_through (λ (u : FloorUpdate). IsShown u.tell) S (floor_update (infos (next s e))) (λ f. notice s.config.conference m.user (floor_status_tell (next s e) f.id))
-    (λ f. list_any (λ floor. floor == f.id) m.watched) (is_watched_by (next s e).members) (changed_floors s e)
-    (λ f seen. watched-found (next s e).members n m found (floor_update (infos (next s e)) f) seen) (λ f h. h) floors in
+    picked_through (λ (u : FloorUpdate). IsShown u.tell) S (floor_update (infos (settled s e))) (λ f. notice s.config.conference m.user (floor_status_tell (settled s e) f.id))
+    (λ f. list_any (λ floor. floor == f.id) m.watched) (is_watched_by (settled s e).members) (changed_floors s e)
+    (λ f seen. watched-found (settled s e).members n m found (floor_update (infos (settled s e)) f) seen) (λ f h. h) floors in
     All-append S (reply_to s e m.n ++ request_notices s e m) (floor_notices s e m) (All-append S (reply_to s e m.n) (request_notices s e m) replied of_requests) of_floors
 
--- what an event tells anyone
-pub told-shown : (s : Conference) (e : Event) (o : Option Reply) → is_telling e ≡ true → ((k : ℕ) → answered_to o k ≡ reply_to s e k) → IsReplyShown o →
-    AreUpdatesShown (map update_for (changed_requests s e)) → AreFloorsShown (filter (is_watched_by (next s e).members) (map (floor_update (infos (next s e))) (changed_floors s e))) →
-    (n : ℕ) → AreMessagesShown (told s e n)
-told-shown s e o telling replied shown requests floors n = subst AreMessagesShown (sym (told-member s e n telling)) (by (member_with (next s e).members n) refl)
+-- what is due to anyone
+pub due-shown : (s : Conference) (e : Event) (o : Option Reply) → is_telling e ≡ true → ((k : ℕ) → answered_to o k ≡ reply_to s e k) → IsReplyShown o →
+    AreUpdatesShown (map update_for (changed_requests s e)) → AreFloorsShown (filter (is_watched_by (settled s e).members) (map (floor_update (infos (settled s e))) (changed_floors s e))) →
+    (n : ℕ) → AreMessagesShown (due s e n)
+due-shown s e o telling replied shown requests floors n = subst AreMessagesShown (sym (due-member s e n telling)) (by (member_with (settled s e).members n) refl)
   where
-    by : (found : Option Member) → member_with (next s e).members n ≡ found → AreMessagesShown (option_map_or (told_to s e) found [])
+    by : (found : Option Member) → member_with (settled s e).members n ≡ found → AreMessagesShown (option_map_or (due_to s e) found [])
     by None is = All-nil (λ message. IsShown message.tell)
     by (Some m) is = member_all s e n m is (subst AreMessagesShown (replied m.n) (reply_all o m.n shown)) requests floors
 
 -- what the steps of an event find shown is shown of what it tells
-pub served-shown : (s : Conference) (e : Event) (t : Conference) (course : Course) (o : Option Reply) → is_telling e ≡ true → t ≡ next s e →
+pub served-shown : (s : Conference) (e : Event) (t : Conference) (course : Course) (o : Option Reply) → is_telling e ≡ true → t ≡ settled s e →
     map entry_of_ended course.ended.items ≡ ended_of (shown s e) → course.numbers.items ≡ numbers_in (shown s e) → is_rising course.numbers.items ≡ true → course.before.items ≡ infos s →
     ((k : ℕ) → answered_to o k ≡ reply_to s e k) → IsReplyShown o →
     AreUpdatesShown (updates t.config t.ongoing course.ended.items course.before.items course.numbers.items) →
     AreFloorsShown (filter (is_watched_by t.members) (floor_updates course.before.items (infos_of t.config t.ongoing) t.config.floors)) → IsToldShown s e
 served-shown s e t course o telling is same numbers rising before replied reply requests floors =
     let us = ap (λ (x : Conference). updates x.config x.ongoing course.ended.items course.before.items course.numbers.items) is
-    ∙ ap (λ (config : Configuration). updates config (next s e).ongoing course.ended.items course.before.items course.numbers.items) (next-config s e)
+    ∙ ap (λ (config : Configuration). updates config (settled s e).ongoing course.ended.items course.before.items course.numbers.items) (settled-config s e)
     ∙ updates-message s e course same numbers rising before in
     let fs = ap (λ (x : Conference). filter (is_watched_by x.members) (floor_updates course.before.items (infos_of x.config x.ongoing) x.config.floors)) is
-    ∙ ap (λ (config : Configuration). filter (is_watched_by (next s e).members) (floor_updates course.before.items (infos_of config (next s e).ongoing) config.floors)) (next-config s e)
-    ∙ ap (filter (is_watched_by (next s e).members)) (floors-message s e course.before.items (infos_of s.config (next s e).ongoing) before (ap (λ (config : Configuration). infos_of config (next s e).ongoing) (sym (next-config s e)))) in
-    told-shown s e o telling replied reply (subst AreUpdatesShown us requests) (subst AreFloorsShown fs floors)
+    ∙ ap (λ (config : Configuration). filter (is_watched_by (settled s e).members) (floor_updates course.before.items (infos_of config (settled s e).ongoing) config.floors)) (settled-config s e)
+    ∙ ap (filter (is_watched_by (settled s e).members)) (floors-message s e course.before.items (infos_of s.config (settled s e).ongoing) before (ap (λ (config : Configuration). infos_of config (settled s e).ongoing) (sym (settled-config s e)))) in
+    due-shown s e o telling replied reply (subst AreUpdatesShown us requests) (subst AreFloorsShown fs floors)
 
 -- the same for an event without a reply
 pub changed-shown : (s : Conference) (e : Event) (t : State) (course : Course) (q : Queue) → is_telling e ≡ true → ((k : ℕ) → reply_to s e k ≡ []) →
     IsChanged s (change s e) (conference_of t) course → course.before.items ≡ infos s → q ≡ after_settle t.requests →
     AreUpdatesShown (updates t.config q.ongoing course.ended.items course.before.items course.numbers.items) →
     AreFloorsShown (filter (is_watched_by t.members) (floor_updates course.before.items (infos_of t.config q.ongoing) t.config.floors)) → IsToldShown s e
-changed-shown s e t course q telling unsent changed before settled =
-    served-shown s e (with_requests (conference_of t) q) course None telling (settled-state s e (change s e) t course q refl changed settled)
+changed-shown s e t course q telling unsent changed before is_settled =
+    served-shown s e (with_requests (conference_of t) q) course None telling (settled-state s e (change s e) t course q refl changed is_settled)
     (ended-shown s e (change s e) (conference_of t) course refl changed) (numbers-shown s e (change s e) (conference_of t) course refl changed) changed.rising before
     (λ k. sym (unsent k)) tt
 
 -- a close tells nobody anything
 pub close-shown : (s : Conference) → IsToldShown s Close
-unfolding told
+unfolding due
 close-shown s n = All-nil (λ message. IsShown message.tell)
 
 -- what shows no more than a conference has can be written

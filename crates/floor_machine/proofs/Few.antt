@@ -44,13 +44,14 @@ use Rattle.floor_machine.specs.Amount.{MessageIsShort}
 use Rattle.floor_machine.specs.Conference.{Conference, binding, member_with, opening, user_of}
 use Rattle.floor_machine.specs.Shown.{Entry, entry_of, info_of, ongoing_of}
 use Rattle.floor_machine.specs.Checks.{first_of, refusal, when}
-use Rattle.floor_machine.specs.Change.{asked_change, change, decided_at, dismissed, ending, ends_at, ends_without, entries_after, is_final, leaving, message_change, next, no_change, released, shown}
+use Rattle.floor_machine.specs.Change.{asked_change, change, decided_at, dismissed, ending, ends_at, ends_without, entries_after, is_final, leaving, message_change, settled, no_change, released, shown}
 use Rattle.floor_machine.specs.Same.{same_infos}
 use Rattle.floor_machine.specs.Reply.{answer_tells, floor_answers, floor_status_tell, headed, infos, infos_on, reply, reply_tells, request_answer}
 use Rattle.floor_machine.specs.Outgoing.{Outgoing, notice, outgoing_bytes}
-use Rattle.floor_machine.specs.Told.{Changed, changed_floors, changed_of, changed_requests, floor_notices, is_changed, is_sender, is_told, reply_to, request_notices, told, told_to}
+use Rattle.floor_machine.specs.Told.{Changed, changed_floors, changed_of, changed_requests, floor_notices, is_changed, is_sender, is_told, reply_to, request_notices, due, due_to}
 use Rattle.floor_machine.specs.Journal.{after_from, told_from, IsLawfulFrom}
 use Rattle.floor_machine.specs.steps.Serving.{MayServe, is_rising, judged, members_judged, numbers_in}
+use Rattle.floor_machine.specs.Next.{next, told}
 use Rattle.floor_machine.proofs.Allowed.{may_serve, once_differ}
 use Rattle.floor_machine.proofs.AskedOnce.{asked_once}
 use Rattle.floor_machine.proofs.Changing.{numbers-added, numbers_in-decided, rising-next, rising-numbers}
@@ -59,8 +60,8 @@ use Rattle.floor_machine.proofs.Found.{and_left, and_right}
 use Rattle.floor_machine.proofs.Kept.{IsKept, event-kept}
 use Rattle.floor_machine.proofs.Quiet.{floors-kept, requests-kept}
 use Rattle.floor_machine.proofs.Reachable.{Keeps, SettlesOnce, keeps-after, keeps-next, keeps-opening}
-use Rattle.floor_machine.proofs.Served.{next-config}
-use Rattle.floor_machine.proofs.Telling.{is_telling, told-member}
+use Rattle.floor_machine.proofs.Served.{settled-config}
+use Rattle.floor_machine.proofs.Telling.{is_telling, due-member}
 
 filter-few : {A : Type 0} (p : A → Bool) (xs : List A) → length (filter p xs) ≤ length xs
 filter-few p xs = omega (arith, length-filter p xs, count_by-le-length p xs)
@@ -134,7 +135,7 @@ few-shown : (s : Conference) (e : Event) → WhatIsAskedFits → Keeps s → Are
 unfolding shown
 few-shown s e law k =
     let few = few-change s e law k in
-    of_numbers (shown s e) (numbers_in (change s e).entries) (numbers_in-settled s.config.floors (change s e).entries) few.few few.rising
+    of_numbers (shown s e) (numbers_in (change s e).entries) (numbers_in-settled (change s e).config.floors (change s e).entries) few.few few.rising
 
 -- those of them that are shown otherwise than before
 requests-few : (s : Conference) (e : Event) → WhatIsAskedFits → Keeps s → length (changed_requests s e) ≤ 256
@@ -142,15 +143,20 @@ unfolding changed_requests
 requests-few s e law k =
     omega (
       arith,
-      filter-few (λ c. is_changed (infos s) c.info) (map (changed_of s.config (shown s e)) (shown s e)),
-      length-map (shown s e) (changed_of s.config (shown s e)),
+      filter-few (λ c. is_changed (infos s) c.info) (map (changed_of (settled s e).config (shown s e)) (shown s e)),
+      length-map (shown s e) (changed_of (settled s e).config (shown s e)),
       length-map (shown s e) (λ (x : Entry). x.request.number),
       (few-shown s e law k).few,
     )
 
 floors-few : (s : Conference) (e : Event) → length (changed_floors s e) ≤ length s.config.floors
 unfolding changed_floors
-floors-few s e = filter-few (λ f. not (same_infos (infos_on f.id (infos s)) (infos_on f.id (infos (next s e))))) s.config.floors
+floors-few s e =
+    omega (
+      arith,
+      filter-few (λ f. not (same_infos (infos_on f.id (infos s)) (infos_on f.id (infos (settled s e))))) (settled s e).config.floors,
+      ap (λ (config : Configuration). length config.floors) (settled-config s e),
+    )
 
 -- at most one request has a number
 status-few : (config : Configuration) (es : List Entry) (k : ℕ) → AreFew es → length (request_answer config es k) ≤ 1
@@ -224,7 +230,7 @@ Sum s e replied = replied + length (changed_requests s e) + length (changed_floo
 
 -- a FloorQuery changes no request, and so nothing else is told
 sum-queried : (s : Conference) (n : ℕ) (bytes : List ℕ) (floors : List ℕ) → ask bytes (binding s n) ≡ asks (FloorQuery floors) → None ≡ refusal s (user_of s n) (FloorQuery floors) →
-    Keeps s → length s.config.floors ≤ 32 → Sum s (Message n bytes) (length (floor_answers (next s (Message n bytes)) floors))
+    Keeps s → length s.config.floors ≤ 32 → Sum s (Message n bytes) (length (floor_answers (settled s (Message n bytes)) floors))
 sum-queried s n bytes floors is none k most =
     let e : Event = Message n bytes in
     let j : Judged = Accepted (FloorQuery floors) in
@@ -238,7 +244,7 @@ sum-queried s n bytes floors is none k most =
       arith,
       no_requests,
       no_floors,
-      answers-few (next s e) floors
+      answers-few (settled s e) floors
           (omega (arith, floors-within floors s.config.floors (asked_once bytes (binding s n) floors is) known, most)),
     )
 
@@ -292,8 +298,8 @@ replied-few s e n = by (is_sender e n)
     by true = omega arith
     by false = omega arith
 
-told_to-few : (s : Conference) (e : Event) (m : Member) → Sum s e (length (reply s e)) → length (told_to s e m) ≤ 289
-told_to-few s e m sum =
+due_to-few : (s : Conference) (e : Event) (m : Member) → Sum s e (length (reply s e)) → length (due_to s e m) ≤ 289
+due_to-few s e m sum =
     omega (
       arith,
       sum,
@@ -301,34 +307,38 @@ told_to-few s e m sum =
       length-append (reply_to s e m.n ++ request_notices s e m) (floor_notices s e m),
       length-append (reply_to s e m.n) (request_notices s e m),
       picked-few (λ c. notice s.config.conference m.user (FloorRequestStatus c.info)) (is_told (reply_to s e m.n) m.user) (changed_requests s e),
-      picked-few (λ f. notice s.config.conference m.user (floor_status_tell (next s e) f.id)) (λ f. list_any (λ floor. floor == f.id) m.watched) (changed_floors s e),
+      picked-few (λ f. notice s.config.conference m.user (floor_status_tell (settled s e) f.id)) (λ f. list_any (λ floor. floor == f.id) m.watched) (changed_floors s e),
     )
 
--- Close tells nobody anything
-told-silent : (s : Conference) (e : Event) (n : ℕ) → is_telling e ≡ false → told s e n ≡ []
-unfolding told
-told-silent s (Join user) n h = cc
-told-silent s (Message k bytes) n h = cc
-told-silent s (Leave k) n h = cc
-told-silent s (Revoke request) n h = cc
-told-silent s Close n h = refl
+-- nothing is due to anybody after Close
+due-silent : (s : Conference) (e : Event) (n : ℕ) → is_telling e ≡ false → due s e n ≡ []
+unfolding due
+due-silent s (Join user) n h = cc
+due-silent s (Message k bytes) n h = cc
+due-silent s (Leave k) n h = cc
+due-silent s (Revoke request) n h = cc
+due-silent s Close n h = refl
+
+-- what is due to anyone
+due-few : (s : Conference) (e : Event) (n : ℕ) → WhatIsAskedFits → Keeps s → length s.config.floors ≤ 32 → length (due s e n) ≤ 289
+due-few s e n law k most = by (is_telling e) refl
+  where
+    found : (o : Option Member) → length (option_map_or (due_to s e) o []) ≤ 289
+    found None = omega arith
+    found (Some m) = due_to-few s e m (sum-few s e law k most)
+
+    by : (b : Bool) → b ≡ is_telling e → length (due s e n) ≤ 289
+    by true telling =
+        omega (arith, ap (λ (ms : List Outgoing). length ms) (due-member s e n (sym telling)), found (member_with (settled s e).members n))
+    by false silent = omega (arith, ap (λ (ms : List Outgoing). length ms) (due-silent s e n (sym silent)))
 
 -- what an event tells anyone
 pub told-few : (s : Conference) (e : Event) (n : ℕ) → WhatIsAskedFits → Keeps s → length s.config.floors ≤ 32 → length (told s e n) ≤ 289
-told-few s e n law k most = by (is_telling e) refl
-  where
-    found : (o : Option Member) → length (option_map_or (told_to s e) o []) ≤ 289
-    found None = omega arith
-    found (Some m) = told_to-few s e m (sum-few s e law k most)
-
-    by : (b : Bool) → b ≡ is_telling e → length (told s e n) ≤ 289
-    by true telling =
-        omega (arith, ap (λ (ms : List Outgoing). length ms) (told-member s e n (sym telling)), found (member_with (next s e).members n))
-    by false silent = omega (arith, ap (λ (ms : List Outgoing). length ms) (told-silent s e n (sym silent)))
+told-few s e n law k most = due-few s e n law k most
 
 config-after : (s : Conference) (es : List Event) → (after_from s es).config ≡ s.config
 config-after s [] = refl
-config-after s (e ∷ es) = config-after (next s e) es ∙ next-config s e
+config-after s (e ∷ es) = config-after (next s e) es ∙ settled-config s e
 
 -- what a journal calls for
 pub called-few : (s : Conference) (es : List Event) (n : ℕ) → WhatIsAskedFits → SettlesOnce → IsLawfulFrom s es → Keeps s → length s.config.floors ≤ 32 →
@@ -340,7 +350,7 @@ called-few s (e ∷ es) n law settles lawful k most =
       arith,
       length-append (told s e n) (told_from (next s e) es n),
       told-few s e n law k most,
-      called-few (next s e) es n law settles lawful.1 (keeps-next s e law settles lawful.0 k) (subst P (sym (next-config s e)) most),
+      called-few (next s e) es n law settles lawful.1 (keeps-next s e law settles lawful.0 k) (subst P (sym (settled-config s e)) most),
     )
 
 -- what an event tells after a journal

@@ -11,7 +11,7 @@ use Rattle.floor_machine.specs.declared.member.Member.{Member}
 use Rattle.floor_machine.specs.Conference.{Conference, is_live, is_numbered_from}
 use Rattle.floor_machine.specs.declared.event.Event.TheVariants.{Join, Message}
 use Rattle.floor_machine.specs.Shown.{entry_of}
-use Rattle.floor_machine.specs.Change.{change, shown, next, IsLawful}
+use Rattle.floor_machine.specs.Change.{change, shown, settled, IsLawful}
 use Rattle.floor_machine.specs.Machine.{Machine, join_refusal, member_refusal}
 use Rattle.floor_machine.proofs.Entries.{ongoing_of-entries, ongoing_of-settled}
 use Rattle.floor_machine.proofs.Found.{and_left, and_right}
@@ -21,12 +21,12 @@ abbrev pub joined : Conference → ℕ → Member
 joined s user = record { n = length s.members + 1; user = user; watched = []; is_live = true }
 
 -- a join adds its member to a settled conference, and changes nothing else
-pub next-join : (s : Conference) (user : ℕ) → settle s.config.floors s.ongoing ≡ s.ongoing →
-    record s { members = s.members ++ joined s user ∷ [] } ≡ next s (Join user)
-unfolding next shown change
-next-join s user settled =
+pub settled-join : (s : Conference) (user : ℕ) → settle s.config.floors s.ongoing ≡ s.ongoing →
+    record s { members = s.members ++ joined s user ∷ [] } ≡ settled s (Join user)
+unfolding settled shown change
+settled-join s user is_settled =
     ap (λ (rs : List Request). record s { ongoing = rs; members = s.members ++ joined s user ∷ [] })
-    (sym (ongoing_of-settled s.config.floors (map entry_of s.ongoing) ∙ ap (settle s.config.floors) (ongoing_of-entries s.ongoing) ∙ settled))
+    (sym (ongoing_of-settled s.config.floors (map entry_of s.ongoing) ∙ ap (settle s.config.floors) (ongoing_of-entries s.ongoing) ∙ is_settled))
 
 and_both : (a b : Bool) → a ≡ true → b ≡ true → (a && b) ≡ true
 and_both true b h k = k

@@ -19,18 +19,18 @@ use Rattle.floor_machine.specs.declared.reply.Reply.{Reply}
 use Rattle.floor_machine.specs.declared.tell.changed.Update.{Update}
 use Rattle.floor_machine.specs.Conference.{Conference, binding, user_of, is_numbered_from}
 use Rattle.floor_machine.specs.Shown.{Entry, entry_of}
-use Rattle.floor_machine.specs.Change.{Change, change, next, shown}
+use Rattle.floor_machine.specs.Change.{Change, change, settled, shown}
 use Rattle.floor_machine.specs.steps.Fitting.{AreFloorsShown, AreUpdatesShown, IsReplyShown, IsToldShown}
 use Rattle.floor_machine.specs.Journal.{parcels_of}
 use Rattle.floor_machine.specs.Reply.{infos}
 use Rattle.floor_machine.specs.steps.Serving.{IsJudged, changes_requests, ended_of, is_rising, judged_change, judged_tells, members_judged, numbers_in}
 use Rattle.floor_machine.specs.steps.Telling.{answered_to, floor_update, is_watched_by, parcels_to_all}
 use Rattle.floor_machine.specs.Told.{Changed, reply_to}
-use Rattle.floor_machine.proofs.Bounds.{told-shown}
+use Rattle.floor_machine.proofs.Bounds.{due-shown}
 use Rattle.floor_machine.proofs.Changing.{rising-numbers}
 use Rattle.floor_machine.proofs.Entries.{ended_of-entries, numbers_in-entries}
-use Rattle.floor_machine.proofs.Quiet.{floors-kept, next-kept, parcels-kept, requests-kept, shown-kept}
-use Rattle.floor_machine.proofs.Sent.{numbered-next}
+use Rattle.floor_machine.proofs.Quiet.{floors-kept, settled-kept, parcels-kept, requests-kept, shown-kept}
+use Rattle.floor_machine.proofs.Sent.{numbered-settled}
 use Rattle.floor_machine.proofs.Served.{change-judged, reply-answered}
 use Rattle.floor_machine.proofs.Telling.{update_for}
 
@@ -60,45 +60,45 @@ event-kept s n bytes j is keeps =
     subst (IsKept s (members_judged s.members n j)) (sym (change-judged s n bytes (ask bytes (binding s n)) refl ∙ ap (judged_change s n) (sym is))) (kept s n j keeps)
 
 -- the conference after it
-pub next-message : (s : Conference) (n : ℕ) (bytes : List ℕ) (j : Judged) → IsJudged s n bytes j → changes_requests j ≡ false → settle s.config.floors s.ongoing ≡ s.ongoing →
-    record s { members = members_judged s.members n j } ≡ next s (Message n bytes)
-next-message s n bytes j is keeps settled =
+pub settled-message : (s : Conference) (n : ℕ) (bytes : List ℕ) (j : Judged) → IsJudged s n bytes j → changes_requests j ≡ false → settle s.config.floors s.ongoing ≡ s.ongoing →
+    record s { members = members_judged s.members n j } ≡ settled s (Message n bytes)
+settled-message s n bytes j is keeps is_settled =
     let k : IsKept s (members_judged s.members n j) (change s (Message n bytes)) = event-kept s n bytes j is keeps in
-    ap (λ (members : List Member). record s { members = members }) (sym k.members) ∙ next-kept s (Message n bytes) k.entries settled k.given k.is_open
+    ap (λ (members : List Member). record s { members = members }) (sym k.members) ∙ settled-kept s (Message n bytes) k.entries is_settled k.given k.is_open
 
 -- the reply to it
 pub replied-message : (s : Conference) (n : ℕ) (bytes : List ℕ) (j : Judged) (r : Reply) → IsJudged s n bytes j → changes_requests j ≡ false →
     settle s.config.floors s.ongoing ≡ s.ongoing → is_ascending s.ongoing ≡ true →
-    r.n ≡ n → r.head ≡ response_head bytes → r.tells ≡ judged_tells (next s (Message n bytes)) [] (user_of s n) j →
+    r.n ≡ n → r.head ≡ response_head bytes → r.tells ≡ judged_tells (settled s (Message n bytes)) [] (user_of s n) j →
     (k : ℕ) → answered_to (Some r) k ≡ reply_to s (Message n bytes) k
-replied-message s n bytes j r is keeps settled ascending to head tells =
+replied-message s n bytes j r is keeps is_settled ascending to head tells =
     let e : Event = Message n bytes in
     let k : IsKept s (members_judged s.members n j) (change s e) = event-kept s n bytes j is keeps in
-    let same : shown s e ≡ map entry_of s.ongoing = shown-kept s e k.entries settled in
+    let same : shown s e ≡ map entry_of s.ongoing = shown-kept s e k.entries is_settled in
     reply-answered s n bytes r (ask bytes (binding s n)) [] refl
     (sym (ap ended_of same ∙ ended_of-entries s.ongoing))
     (ap (λ (es : List Entry). is_rising (numbers_in es)) same ∙ ap is_rising (numbers_in-entries s.ongoing) ∙ rising-numbers s.ongoing ∙ ascending)
-    to head (tells ∙ ap (judged_tells (next s e) [] (user_of s n)) is)
+    to head (tells ∙ ap (judged_tells (settled s e) [] (user_of s n)) is)
 
 -- the parcels that it calls for
 pub parcels-message : (s : Conference) (n : ℕ) (bytes : List ℕ) (j : Judged) (r : Reply) → IsJudged s n bytes j → changes_requests j ≡ false →
     settle s.config.floors s.ongoing ≡ s.ongoing → is_ascending s.ongoing ≡ true → is_numbered_from 1 s.members ≡ true →
     ((k : ℕ) → answered_to (Some r) k ≡ reply_to s (Message n bytes) k) →
-    parcels_to_all s.config.conference (Some r) [] [] (next s (Message n bytes)).members ≡ parcels_of s (Message n bytes)
-parcels-message s n bytes j r is keeps settled ascending numbered replied =
+    parcels_to_all s.config.conference (Some r) [] [] (settled s (Message n bytes)).members ≡ parcels_of s (Message n bytes)
+parcels-message s n bytes j r is keeps is_settled ascending numbered replied =
     let e : Event = Message n bytes in
     let k : IsKept s (members_judged s.members n j) (change s e) = event-kept s n bytes j is keeps in
-    parcels-kept s e (Some r) refl (numbered-next s e numbered) replied (requests-kept s e k.entries settled ascending) (floors-kept s e k.entries settled)
+    parcels-kept s e (Some r) refl (numbered-settled s e numbered) replied (requests-kept s e k.entries is_settled ascending) (floors-kept s e k.entries is_settled)
 
 -- what it tells shows no more than a conference has
 pub shown-message : (s : Conference) (n : ℕ) (bytes : List ℕ) (j : Judged) (r : Reply) → IsJudged s n bytes j → changes_requests j ≡ false →
     settle s.config.floors s.ongoing ≡ s.ongoing → is_ascending s.ongoing ≡ true →
     ((k : ℕ) → answered_to (Some r) k ≡ reply_to s (Message n bytes) k) → IsReplyShown (Some r) → IsToldShown s (Message n bytes)
-shown-message s n bytes j r is keeps settled ascending replied reply =
+shown-message s n bytes j r is keeps is_settled ascending replied reply =
     let e : Event = Message n bytes in
     let k : IsKept s (members_judged s.members n j) (change s e) = event-kept s n bytes j is keeps in
     let U : List Changed → Type 0 = λ cs. AreUpdatesShown (map update_for cs) in
-    let F : List Floor → Type 0 = λ fs. AreFloorsShown (filter (is_watched_by (next s e).members) (map (floor_update (infos (next s e))) fs)) in
-    told-shown s e (Some r) refl replied reply
-    (subst U (sym (requests-kept s e k.entries settled ascending)) (All-nil (λ (u : Update). IsShown u.tell)))
-    (subst F (sym (floors-kept s e k.entries settled)) (All-nil (λ (u : FloorUpdate). IsShown u.tell)))
+    let F : List Floor → Type 0 = λ fs. AreFloorsShown (filter (is_watched_by (settled s e).members) (map (floor_update (infos (settled s e))) fs)) in
+    due-shown s e (Some r) refl replied reply
+    (subst U (sym (requests-kept s e k.entries is_settled ascending)) (All-nil (λ (u : Update). IsShown u.tell)))
+    (subst F (sym (floors-kept s e k.entries is_settled)) (All-nil (λ (u : FloorUpdate). IsShown u.tell)))

@@ -4,7 +4,7 @@ use Rattle.std.specs.Prelude.{not, nat_le, count_by, is_some}
 use Rattle.std.proofs.lemmas.Bool.Decides.{nat_tests}
 use Rattle.floor_config.specs.Lookup.{is_user}
 use Rattle.floor_queue.specs.Queue.{request_at}
-use Rattle.floor_machine.specs.declared.event.Act.{Act}
+use Rattle.floor_machine.specs.declared.act.Act.{Act}
 use Rattle.floor_machine.specs.declared.event.Event.{Event}
 use Rattle.floor_machine.specs.declared.event.Event.TheVariants.{Join, Message, Leave, Revoke, Close}
 use Rattle.floor_machine.specs.declared.machine.Refusal.{Refusal}

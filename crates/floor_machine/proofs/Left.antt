@@ -24,7 +24,7 @@ use Rattle.floor_machine.proofs.Ended.{ended_entry, ending_if, ongoing_of-ends, 
 
 -- what is left of a conference that a connection of this user left, with these requests
 abbrev left_change : Conference → ℕ → List Entry → Change
-left_change s n entries = record { given = s.given; entries = entries; members = map (leaving n) s.members; is_open = s.is_open }
+left_change s n entries = record { config = s.config; given = s.given; entries = entries; members = map (leaving n) s.members; is_open = s.is_open }
 
 change-leave : (s : Conference) (n : ℕ) → change s (Leave n) ≡ left_change s n (ending s (ends_without (map (leaving n) s.members) (user_of s n)))
 unfolding change

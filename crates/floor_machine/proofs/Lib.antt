@@ -2,6 +2,7 @@ pub mod Fitting
 pub mod Filtered
 pub mod Found
 pub mod Shows
+pub mod Configs
 pub mod Entries
 pub mod Telling
 pub mod Changing

@@ -19,18 +19,19 @@ use Rattle.floor_machine.specs.declared.reply.Reply.{Reply}
 use Rattle.floor_machine.specs.Conference.{Conference, member_with, is_numbered_from}
 use Rattle.floor_machine.specs.Shown.{Entry, entry_of, ongoing_of, settle_entries, info, info_of}
 use Rattle.floor_machine.specs.Same.{same_info, same_infos}
-use Rattle.floor_machine.specs.Change.{change, shown, next}
+use Rattle.floor_machine.specs.Change.{change, shown, settled}
 use Rattle.floor_machine.specs.Outgoing.{Outgoing, notice}
 use Rattle.floor_machine.specs.Reply.{infos, infos_on, floor_status_tell}
-use Rattle.floor_machine.specs.Told.{Changed, changed_of, changed_requests, changed_floors, is_changed, is_told, reply_to, told_to, told}
+use Rattle.floor_machine.specs.Told.{Changed, changed_of, changed_requests, changed_floors, is_changed, is_told, reply_to, due_to, due}
 use Rattle.floor_machine.specs.Journal.{parcel, parcels_of}
 use Rattle.floor_machine.specs.steps.Telling.{answered_to, floor_update, parcels_to_all}
+use Rattle.floor_machine.proofs.Configs.{config-change}
 use Rattle.floor_machine.proofs.Entries.{ongoing_of-entries}
 use Rattle.floor_machine.proofs.Found.{request_at_place}
 use Rattle.floor_machine.proofs.SameInfo.{list_own, info_own}
-use Rattle.floor_machine.proofs.Sent.{numbered-next}
-use Rattle.floor_machine.proofs.Served.{next-config, next-made, next-ongoing}
-use Rattle.floor_machine.proofs.Telling.{flat_map-same, is_telling, told-member, parcels-told, parcels_of-members, update_for}
+use Rattle.floor_machine.proofs.Sent.{numbered-settled}
+use Rattle.floor_machine.proofs.Served.{settled-config, settled-made, settled-ongoing}
+use Rattle.floor_machine.proofs.Telling.{flat_map-same, is_telling, due-member, parcels-told, parcels_of-members, update_for}
 
 -- no parcels of a member
 abbrev no_parcels : Member → List Parcel
@@ -41,14 +42,14 @@ nothing [] = refl
 nothing (m ∷ ms) = nothing ms
 
 -- the conference that ends keeps its members, and no request
-pub next-close : (s : Conference) → record s { ongoing = []; is_open = false } ≡ next s Close
-unfolding next shown change
-next-close s = refl
+pub settled-close : (s : Conference) → record s { ongoing = []; is_open = false } ≡ settled s Close
+unfolding settled shown change
+settled-close s = refl
 
 -- nobody is told that the conference ends
 pub parcels_of-close : (s : Conference) → parcels_of s Close ≡ []
-unfolding parcels_of told
-parcels_of-close s = nothing (next s Close).members
+unfolding parcels_of due
+parcels_of-close s = nothing (settled s Close).members
 
 -- settles one entry, where these requests are ongoing
 abbrev settle_entry : List Floor → List Request → Entry → Entry
@@ -60,16 +61,18 @@ each-settled floors all (r ∷ rs) = ap (λ (es : List Entry). entry_of (granted
 
 -- settling leaves settled requests
 entries-settled : (floors : List Floor) (rs : List Request) → settle floors rs ≡ rs → settle_entries floors (map entry_of rs) ≡ map entry_of rs
-entries-settled floors rs settled =
+entries-settled floors rs is_settled =
     ap (λ (all : List Request). map (settle_entry floors all) (map entry_of rs)) (ongoing_of-entries rs)
     ∙ each-settled floors rs rs
-    ∙ ap (map entry_of) settled
+    ∙ ap (map entry_of) is_settled
 
 -- an event that leaves each request as it is shows the same
 pub shown-kept : (s : Conference) (e : Event) → (change s e).entries ≡ map entry_of s.ongoing → settle s.config.floors s.ongoing ≡ s.ongoing →
     shown s e ≡ map entry_of s.ongoing
 unfolding shown
-shown-kept s e kept settled = ap (settle_entries s.config.floors) kept ∙ entries-settled s.config.floors s.ongoing settled
+shown-kept s e kept is_settled =
+    ap (λ (config : Configuration). settle_entries config.floors (change s e).entries) (config-change s e)
+    ∙ ap (settle_entries s.config.floors) kept ∙ entries-settled s.config.floors s.ongoing is_settled
 
 number-info : (config : Configuration) (all : List Request) (r : Request) → (info config all r).request ≡ r.number
 unfolding info_of
@@ -113,8 +116,9 @@ none-changed config before all (r ∷ rs) fails =
 pub requests-kept : (s : Conference) (e : Event) → (change s e).entries ≡ map entry_of s.ongoing → settle s.config.floors s.ongoing ≡ s.ongoing →
     is_ascending s.ongoing ≡ true → changed_requests s e ≡ []
 unfolding changed_requests
-requests-kept s e kept settled ascending =
-    ap (λ (es : List Entry). filter (λ c. is_changed (infos s) c.info) (map (changed_of s.config es) es)) (shown-kept s e kept settled)
+requests-kept s e kept is_settled ascending =
+    ap (λ (config : Configuration). filter (λ c. is_changed (infos s) c.info) (map (changed_of config (shown s e)) (shown s e))) (settled-config s e)
+    ∙ ap (λ (es : List Entry). filter (λ c. is_changed (infos s) c.info) (map (changed_of s.config es) es)) (shown-kept s e kept is_settled)
     ∙ none-changed s.config (infos s) s.ongoing s.ongoing
     (λ i d within. same-unchanged s.config s.ongoing (get_or s.ongoing i d) (request_at_place s.ongoing i d ascending within))
 
@@ -125,33 +129,34 @@ none-differ before now same (f ∷ fs) =
     ap (same_infos (before f.id)) (same f.id) ∙ list_own same_info info_own (before f.id) in
     rw alike (none-differ before now same fs)
 
-infos-kept : (s : Conference) (e : Event) → (change s e).entries ≡ map entry_of s.ongoing → settle s.config.floors s.ongoing ≡ s.ongoing → infos (next s e) ≡ infos s
-infos-kept s e kept settled =
-    ap (λ (config : Configuration). map (info config (next s e).ongoing) (next s e).ongoing) (next-config s e)
-    ∙ ap (λ (rs : List Request). map (info s.config rs) rs) (next-ongoing s e ∙ ap ongoing_of (shown-kept s e kept settled) ∙ ongoing_of-entries s.ongoing)
+infos-kept : (s : Conference) (e : Event) → (change s e).entries ≡ map entry_of s.ongoing → settle s.config.floors s.ongoing ≡ s.ongoing → infos (settled s e) ≡ infos s
+infos-kept s e kept is_settled =
+    ap (λ (config : Configuration). map (info config (settled s e).ongoing) (settled s e).ongoing) (settled-config s e)
+    ∙ ap (λ (rs : List Request). map (info s.config rs) rs) (settled-ongoing s e ∙ ap ongoing_of (shown-kept s e kept is_settled) ∙ ongoing_of-entries s.ongoing)
 
 -- and no floor
 pub floors-kept : (s : Conference) (e : Event) → (change s e).entries ≡ map entry_of s.ongoing → settle s.config.floors s.ongoing ≡ s.ongoing → changed_floors s e ≡ []
 unfolding changed_floors
-floors-kept s e kept settled =
-    none-differ (λ id. infos_on id (infos s)) (λ id. infos_on id (infos (next s e))) (λ id. ap (infos_on id) (infos-kept s e kept settled)) s.config.floors
+floors-kept s e kept is_settled =
+    ap (λ (config : Configuration). filter (λ f. not (same_infos (infos_on f.id (infos s)) (infos_on f.id (infos (settled s e))))) config.floors) (settled-config s e)
+    ∙ none-differ (λ id. infos_on id (infos s)) (λ id. infos_on id (infos (settled s e))) (λ id. ap (infos_on id) (infos-kept s e kept is_settled)) s.config.floors
 
 -- the conference after it has other members, and is otherwise as it was
-pub next-kept : (s : Conference) (e : Event) → (change s e).entries ≡ map entry_of s.ongoing → settle s.config.floors s.ongoing ≡ s.ongoing →
-    (change s e).given ≡ s.given → (change s e).is_open ≡ s.is_open → record s { members = (change s e).members } ≡ next s e
-next-kept s e kept settled given opened =
-    let ongoing : s.ongoing ≡ ongoing_of (shown s e) = sym (ap ongoing_of (shown-kept s e kept settled) ∙ ongoing_of-entries s.ongoing) in
+pub settled-kept : (s : Conference) (e : Event) → (change s e).entries ≡ map entry_of s.ongoing → settle s.config.floors s.ongoing ≡ s.ongoing →
+    (change s e).given ≡ s.given → (change s e).is_open ≡ s.is_open → record s { members = (change s e).members } ≡ settled s e
+settled-kept s e kept is_settled given opened =
+    let ongoing : s.ongoing ≡ ongoing_of (shown s e) = sym (ap ongoing_of (shown-kept s e kept is_settled) ∙ ongoing_of-entries s.ongoing) in
     ap (λ (rs : List Request). record s { members = (change s e).members; ongoing = rs }) ongoing
     ∙ ap (λ (given : ℕ). record s { members = (change s e).members; ongoing = ongoing_of (shown s e); given = given }) (sym given)
     ∙ ap (λ (b : Bool). record s { members = (change s e).members; ongoing = ongoing_of (shown s e); given = (change s e).given; is_open = b }) (sym opened)
-    ∙ sym (next-made s e)
+    ∙ sym (settled-made s e)
 
 -- the reply is all that it tells
-pub parcels-kept : (s : Conference) (e : Event) (reply : Option Reply) → is_telling e ≡ true → is_numbered_from 1 (next s e).members ≡ true →
+pub parcels-kept : (s : Conference) (e : Event) (reply : Option Reply) → is_telling e ≡ true → is_numbered_from 1 (settled s e).members ≡ true →
     ((k : ℕ) → answered_to reply k ≡ reply_to s e k) → changed_requests s e ≡ [] → changed_floors s e ≡ [] →
-    parcels_to_all s.config.conference reply [] [] (next s e).members ≡ parcels_of s e
+    parcels_to_all s.config.conference reply [] [] (settled s e).members ≡ parcels_of s e
 parcels-kept s e reply telling numbered replied requests floors =
-    let all : List Changed → List Floor → List Parcel = λ cs fs. parcels_to_all s.config.conference reply (map update_for cs) (map (floor_update (infos (next s e))) fs) (next s e).members in
+    let all : List Changed → List Floor → List Parcel = λ cs fs. parcels_to_all s.config.conference reply (map update_for cs) (map (floor_update (infos (settled s e))) fs) (settled s e).members in
     ap (λ (cs : List Changed). all cs []) (sym requests) ∙ ap (all (changed_requests s e)) (sym floors) ∙ parcels-told s e reply telling numbered replied
 
 kept-join : (s : Conference) (user : ℕ) → (change s (Join user)).entries ≡ map entry_of s.ongoing
@@ -162,12 +167,12 @@ kept-join s user = refl
 abbrev notices : Conference → ℕ → Member → List Changed → List Floor → List Outgoing
 notices s user m requests floors =
     map (λ c. notice s.config.conference m.user (FloorRequestStatus c.info)) (filter (is_told [] m.user) requests)
-    ++ map (λ f. notice s.config.conference m.user (floor_status_tell (next s (Join user)) f.id)) (filter (λ f. list_any (λ floor. floor == f.id) m.watched) floors)
+    ++ map (λ f. notice s.config.conference m.user (floor_status_tell (settled s (Join user)) f.id)) (filter (λ f. list_any (λ floor. floor == f.id) m.watched) floors)
 
-told-join : (s : Conference) (user : ℕ) → settle s.config.floors s.ongoing ≡ s.ongoing → is_ascending s.ongoing ≡ true → (m : Member) → told_to s (Join user) m ≡ []
-told-join s user settled ascending m =
-    ap (λ (cs : List Changed). notices s user m cs (changed_floors s (Join user))) (requests-kept s (Join user) (kept-join s user) settled ascending)
-    ∙ ap (notices s user m []) (floors-kept s (Join user) (kept-join s user) settled)
+due-join : (s : Conference) (user : ℕ) → settle s.config.floors s.ongoing ≡ s.ongoing → is_ascending s.ongoing ≡ true → (m : Member) → due_to s (Join user) m ≡ []
+due-join s user is_settled ascending m =
+    ap (λ (cs : List Changed). notices s user m cs (changed_floors s (Join user))) (requests-kept s (Join user) (kept-join s user) is_settled ascending)
+    ∙ ap (notices s user m []) (floors-kept s (Join user) (kept-join s user) is_settled)
 
 live-nothing : (b : Bool) (n : ℕ) (ms : List Outgoing) → ms ≡ [] → cond b (map (parcel n) ms) [] ≡ []
 live-nothing true n ms h = ap (map (parcel n)) h
@@ -176,16 +181,16 @@ live-nothing false n ms h = refl
 -- nobody is told that a member joins
 pub parcels_of-join : (s : Conference) (user : ℕ) → settle s.config.floors s.ongoing ≡ s.ongoing → is_ascending s.ongoing ≡ true → is_numbered_from 1 s.members ≡ true →
     parcels_of s (Join user) ≡ []
-parcels_of-join s user settled ascending numbered =
-    parcels_of-members s (Join user) refl (numbered-next s (Join user) numbered)
-    ∙ flat_map-same (λ m. cond m.is_live (map (parcel m.n) (told_to s (Join user) m)) []) no_parcels
-    (λ m. live-nothing m.is_live m.n (told_to s (Join user) m) (told-join s user settled ascending m)) (next s (Join user)).members
-    ∙ nothing (next s (Join user)).members
+parcels_of-join s user is_settled ascending numbered =
+    parcels_of-members s (Join user) refl (numbered-settled s (Join user) numbered)
+    ∙ flat_map-same (λ m. cond m.is_live (map (parcel m.n) (due_to s (Join user) m)) []) no_parcels
+    (λ m. live-nothing m.is_live m.n (due_to s (Join user) m) (due-join s user is_settled ascending m)) (settled s (Join user)).members
+    ∙ nothing (settled s (Join user)).members
 
--- no member is told that another joins
-pub told_of-join : (s : Conference) (user : ℕ) → settle s.config.floors s.ongoing ≡ s.ongoing → is_ascending s.ongoing ≡ true → (n : ℕ) → told s (Join user) n ≡ []
-told_of-join s user settled ascending n = told-member s (Join user) n refl ∙ by (member_with (next s (Join user)).members n)
+-- nothing is due to a member where another joins
+pub due_of-join : (s : Conference) (user : ℕ) → settle s.config.floors s.ongoing ≡ s.ongoing → is_ascending s.ongoing ≡ true → (n : ℕ) → due s (Join user) n ≡ []
+due_of-join s user is_settled ascending n = due-member s (Join user) n refl ∙ by (member_with (settled s (Join user)).members n)
   where
-    by : (o : Option Member) → option_map_or (told_to s (Join user)) o [] ≡ []
+    by : (o : Option Member) → option_map_or (due_to s (Join user)) o [] ≡ []
     by None = refl
-    by (Some m) = told-join s user settled ascending m
+    by (Some m) = due-join s user is_settled ascending m

@@ -1,5 +1,5 @@
 -- What each journal of a configuration keeps.
-use Rattle.std.proofs.Common.{◌≡◌, ℕ, ◌+◌, ◌≤◌, Bool, true, false, cond, List, [], ◌∷◌, ◌++◌, length, map, Option, Some, None, refl, sym, ap, subst, arith}
+use Rattle.std.proofs.Common.{◌≡◌, ℕ, ◌+◌, ◌≤◌, Bool, true, false, cond, List, [], ◌∷◌, ◌++◌, length, map, Option, Some, None, refl, sym, ap, subst, ◌∙◌, arith}
 use Rattle.std.specs.Prelude.{◌==◌, ◌&&◌, All, not, filter, count_by, is_some}
 use Rattle.std.specs.List.{list_any}
 use Rattle.std.proofs.lemmas.List.Elements.{All-nil, All-weaker}
@@ -23,15 +23,17 @@ use Rattle.floor_machine.specs.declared.event.Event.TheVariants.{Join, Message, 
 use Rattle.floor_machine.specs.declared.change.judged.Judged.TheVariants.{Accepted}
 use Rattle.floor_machine.specs.declared.member.Member.{Member}
 use Rattle.floor_machine.specs.Conference.{Conference, binding, is_numbered_from, is_present, opening, user_of}
-use Rattle.floor_machine.specs.Shown.{Entry, entry_of, ongoing_of}
+use Rattle.floor_machine.specs.Shown.{Entry, entry_of, ongoing_of, settle_entries}
 use Rattle.floor_machine.specs.Checks.{refusal}
-use Rattle.floor_machine.specs.Change.{Change, IsLawful, asked_change, change, decided_at, dismissed, ending, ends_at, ends_without, entries_after, given_after, is_final, leaving, members_after, message_change, next, no_change, released, shown, watching, word_of}
+use Rattle.floor_machine.specs.Change.{Change, IsLawful, asked_change, change, decided_at, dismissed, ending, ends_at, ends_without, entries_after, given_after, is_final, leaving, members_after, message_change, settled, no_change, released, shown, watching, word_of}
 use Rattle.floor_machine.specs.Journal.{IsLawfulFrom, after_from}
 use Rattle.floor_machine.specs.Reachable.{IsReachable}
 use Rattle.floor_machine.specs.steps.Serving.{MayServe, new_of_ask}
+use Rattle.floor_machine.specs.Next.{next}
 use Rattle.floor_machine.proofs.Allowed.{may_serve}
 use Rattle.floor_machine.proofs.Changing.{entries-added, ongoing_of-decided, ongoing_of-ending}
 use Rattle.floor_machine.proofs.Ended.{ongoing_of-ends}
+use Rattle.floor_machine.proofs.Configs.{config-change}
 use Rattle.floor_machine.proofs.Entries.{ongoing_of-entries, ongoing_of-settled}
 use Rattle.floor_machine.proofs.Sent.{numbered-next}
 use Rattle.floor_machine.proofs.Verdicts.{undecided, word-after}
@@ -43,6 +45,10 @@ queue_of s = record { floors = s.config.floors; given = s.given; ongoing = s.ong
 -- those that an event leaves, before they are settled
 abbrev queue_changed : Conference → ℕ → List Request → Queue
 queue_changed s given rs = record { floors = s.config.floors; given = given; ongoing = rs }
+
+-- these floors and requests
+abbrev queue_by : List Floor → ℕ → List Request → Queue
+queue_by floors given rs = record { floors = floors; given = given; ongoing = rs }
 
 -- the ongoing ones of some entries
 queue-of_entries : (s : Conference) (given : ℕ) (es : List Entry) (rs : List Request) → ongoing_of es ≡ rs → IsQueue (queue_changed s given rs) → IsQueue (queue_changed s given (ongoing_of es))
@@ -120,8 +126,10 @@ queue-change s Close law h =
 
 -- the floors and requests after an event are those of its change, settled
 queue-next : (s : Conference) (e : Event) → queue_of (next s e) ≡ after_settle (queue_changed s (change s e).given (ongoing_of (change s e).entries))
-unfolding next shown
-queue-next s e = ap (queue_changed s (change s e).given) (ongoing_of-settled s.config.floors (change s e).entries)
+unfolding settled shown
+queue-next s e =
+    ap (λ (config : Configuration). queue_by config.floors (change s e).given (ongoing_of (settle_entries config.floors (change s e).entries))) (config-change s e)
+    ∙ ap (queue_changed s (change s e).given) (ongoing_of-settled s.config.floors (change s e).entries)
 
 is_live-watching : (n : ℕ) (floors : List ℕ) (m : Member) → (watching n floors m).is_live ≡ m.is_live
 is_live-watching n floors m = by (m.n == n)
@@ -168,7 +176,7 @@ live-change s (Revoke request) lawful h = h
 live-change s Close lawful h = h
 
 live-next : (s : Conference) (e : Event) → IsLawful s e → count_by (λ m. m.is_live) s.members ≤ 64 → count_by (λ m. m.is_live) (next s e).members ≤ 64
-unfolding next
+unfolding settled
 live-next s e lawful h = live-change s e lawful h
 
 -- what each lawful event keeps

@@ -10,11 +10,12 @@ use Rattle.floor_machine.specs.declared.event.Event.TheVariants.{Join, Message, 
 use Rattle.floor_machine.specs.Parcel.{Parcel}
 use Rattle.floor_machine.specs.Conference.{Conference, user_of, binding}
 use Rattle.floor_machine.specs.Checks.{refusal}
-use Rattle.floor_machine.specs.Change.{change, next, no_change, asked_change, message_change, members_after, watching, leaving, IsLawful}
+use Rattle.floor_machine.specs.Change.{change, settled, no_change, asked_change, message_change, members_after, watching, leaving, IsLawful}
 use Rattle.floor_machine.specs.declared.machine.Refusal.{Refusal}
 use Rattle.floor_machine.specs.declared.machine.Refusal.TheVariants.{Broken, Ended}
 use Rattle.floor_machine.specs.Journal.{IsLawfulFrom, after_from, parcels_of, parcels_from}
 use Rattle.floor_machine.specs.Machine.{Machine, IsRefusedBy, event_refusal, machine_after, refusal_of, whole}
+use Rattle.floor_machine.specs.Next.{next}
 
 -- one more event
 pub after_from-more : (s : Conference) (es : List Event) (e : Event) → after_from s (es ++ e ∷ []) ≡ next (after_from s es) e
@@ -59,7 +60,7 @@ members-change s (Revoke request) = omega arith
 members-change s Close = omega arith
 
 members-next : (s : Conference) (e : Event) → length (next s e).members ≤ length s.members + 1
-unfolding next
+unfolding settled
 members-next s e = members-change s e
 
 pub members-after : (s : Conference) (es : List Event) → length (after_from s es).members ≤ length s.members + length es

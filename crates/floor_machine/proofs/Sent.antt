@@ -15,11 +15,12 @@ use Rattle.floor_machine.specs.Conference.{Conference, opening, member_with, use
 use Rattle.floor_machine.specs.declared.event.Event.{Event}
 use Rattle.floor_machine.specs.declared.event.Event.TheVariants.{Join, Message, Leave, Revoke, Close}
 use Rattle.floor_machine.specs.Checks.{refusal}
-use Rattle.floor_machine.specs.Change.{change, next, no_change, asked_change, message_change, members_after, watching, leaving}
+use Rattle.floor_machine.specs.Change.{change, settled, no_change, asked_change, message_change, members_after, watching, leaving}
 use Rattle.floor_machine.specs.Outgoing.{Outgoing}
-use Rattle.floor_machine.specs.Told.{told, told_to}
+use Rattle.floor_machine.specs.Told.{due, due_to}
 use Rattle.floor_machine.specs.Journal.{parcel, parcels_of, parcels_from, told_from, sent_to}
 use Rattle.floor_machine.specs.Laws.{SentIsTold}
+use Rattle.floor_machine.specs.Next.{next, told}
 use Rattle.floor_machine.proofs.Found.{and_left, and_right, same_number}
 use Rattle.floor_machine.proofs.Joining.{numbered-push}
 
@@ -86,13 +87,13 @@ absent (m ∷ ms) n h = by (m.n == n) m.is_live h (absent ms n)
     by false l h rest = rest h
 
 -- whoever isn't there is told nothing
-told-absent : (s : Conference) (e : Event) (n : ℕ) → has_number n (next s e).members ≡ false → told s e n ≡ []
-unfolding told
-told-absent s (Join user) n h = ap (λ (o : Option Member). option_map_or (told_to s (Join user)) o []) (absent (next s (Join user)).members n h)
-told-absent s (Message k bytes) n h = ap (λ (o : Option Member). option_map_or (told_to s (Message k bytes)) o []) (absent (next s (Message k bytes)).members n h)
-told-absent s (Leave k) n h = ap (λ (o : Option Member). option_map_or (told_to s (Leave k)) o []) (absent (next s (Leave k)).members n h)
-told-absent s (Revoke k) n h = ap (λ (o : Option Member). option_map_or (told_to s (Revoke k)) o []) (absent (next s (Revoke k)).members n h)
-told-absent s Close n h = refl
+due-absent : (s : Conference) (e : Event) (n : ℕ) → has_number n (settled s e).members ≡ false → due s e n ≡ []
+unfolding due
+due-absent s (Join user) n h = ap (λ (o : Option Member). option_map_or (due_to s (Join user)) o []) (absent (settled s (Join user)).members n h)
+due-absent s (Message k bytes) n h = ap (λ (o : Option Member). option_map_or (due_to s (Message k bytes)) o []) (absent (settled s (Message k bytes)).members n h)
+due-absent s (Leave k) n h = ap (λ (o : Option Member). option_map_or (due_to s (Leave k)) o []) (absent (settled s (Leave k)).members n h)
+due-absent s (Revoke k) n h = ap (λ (o : Option Member). option_map_or (due_to s (Revoke k)) o []) (absent (settled s (Revoke k)).members n h)
+due-absent s Close n h = refl
 
 -- of an event's parcels, those to n are what it tells n
 sent_to-parcels_of : (s : Conference) (e : Event) (n : ℕ) → is_numbered_from 1 (next s e).members ≡ true → sent_to n (parcels_of s e) ≡ map (parcel n) (told s e n)
@@ -101,7 +102,7 @@ sent_to-parcels_of s e n h = sent_to-members (told s e) n 1 (next s e).members h
   where
     by : (b : Bool) → b ≡ has_number n (next s e).members → cond b (map (parcel n) (told s e n)) [] ≡ map (parcel n) (told s e n)
     by true here = refl
-    by false gone = sym (ap (map (parcel n)) (told-absent s e n (sym gone)))
+    by false gone = sym (ap (map (parcel n)) (due-absent s e n (sym gone)))
 
 pub numbered-watching : (n : ℕ) (floors : List ℕ) (k : ℕ) (ms : List Member) → is_numbered_from k ms ≡ true → is_numbered_from k (map (watching n floors) ms) ≡ true
 numbered-watching n floors k [] h = refl
@@ -146,9 +147,12 @@ numbered-change s (Revoke request) h = h
 numbered-change s Close h = h
 
 -- the members stay numbered
+pub numbered-settled : (s : Conference) (e : Event) → is_numbered_from 1 s.members ≡ true → is_numbered_from 1 (settled s e).members ≡ true
+unfolding settled
+numbered-settled s e h = numbered-change s e h
+
 pub numbered-next : (s : Conference) (e : Event) → is_numbered_from 1 s.members ≡ true → is_numbered_from 1 (next s e).members ≡ true
-unfolding next
-numbered-next s e h = numbered-change s e h
+numbered-next s e h = numbered-settled s e h
 
 sent_to-run : (s : Conference) (es : List Event) (n : ℕ) → is_numbered_from 1 s.members ≡ true → sent_to n (parcels_from s es) ≡ map (parcel n) (told_from s es n)
 sent_to-run s [] n h = refl

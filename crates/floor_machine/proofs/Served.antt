@@ -31,15 +31,16 @@ use Rattle.floor_machine.specs.declared.event.Event.{Event}
 use Rattle.floor_machine.specs.declared.event.Event.TheVariants.{Message}
 use Rattle.floor_machine.specs.Shown.{Entry, ongoing_of, settle_entries, info_of, described}
 use Rattle.floor_machine.specs.Checks.{refusal}
-use Rattle.floor_machine.specs.Change.{Change, change, message_change, no_change, asked_change, given_after, shown, next}
+use Rattle.floor_machine.specs.Change.{Change, change, message_change, no_change, asked_change, given_after, shown, settled}
 use Rattle.floor_machine.specs.Outgoing.{Outgoing}
 use Rattle.floor_machine.specs.Reply.{infos, infos_of_user, request_answer, answer_tells, reply_tells, headed, reply}
 use Rattle.floor_machine.specs.Told.{changed_of, changed_requests, changed_floors, is_changed, reply_to}
 use Rattle.floor_machine.specs.Journal.{parcels_of}
 use Rattle.floor_machine.specs.steps.Telling.{entry_of_ended, entry_at, shown_of, infos_of, updates, floor_update, floor_updates, answered, answered_to, parcels_to_all}
 use Rattle.floor_machine.specs.steps.Serving.{IsChanged, conference_of, judged, judged_change, judged_tells, accepted_tells, status_tells, ended_of, numbers_in, is_rising, with_requests}
+use Rattle.floor_machine.proofs.Configs.{config-change}
 use Rattle.floor_machine.proofs.Entries.{ongoing_of-settled, ended_of-settled, numbers_in-settled, entry_with, filter-number}
-use Rattle.floor_machine.proofs.Sent.{numbered-next}
+use Rattle.floor_machine.proofs.Sent.{numbered-settled}
 use Rattle.floor_machine.proofs.Telling.{is_telling, finds, update_for, updates-changed, headed-answered, parcels-told}
 
 -- a message changes what it changes once it is judged
@@ -59,19 +60,20 @@ change-judged s n bytes a same = ap (message_change s n) (sym same) ∙ by a
 -- the entries after the event are the changed ones, settled
 pub shown-changed : (s : Conference) (e : Event) (c : Change) → change s e ≡ c → shown s e ≡ settle_entries s.config.floors c.entries
 unfolding shown
-shown-changed s e c same = ap (λ (d : Change). settle_entries s.config.floors d.entries) same
+shown-changed s e c same =
+    ap (λ (config : Configuration). settle_entries config.floors (change s e).entries) (config-change s e) ∙ ap (λ (d : Change). settle_entries s.config.floors d.entries) same
 
 abbrev made : Configuration → ℕ → List Request → List Member → Bool → Conference
 made config given ongoing members is_open = record { config = config; given = given; ongoing = ongoing; members = members; is_open = is_open }
 
-pub next-made : (s : Conference) (e : Event) → next s e ≡ made s.config (change s e).given (ongoing_of (shown s e)) (change s e).members (change s e).is_open
-unfolding next
-next-made s e = refl
+pub settled-made : (s : Conference) (e : Event) → settled s e ≡ made s.config (change s e).given (ongoing_of (shown s e)) (change s e).members (change s e).is_open
+unfolding settled
+settled-made s e = ap (λ (config : Configuration). made config (change s e).given (ongoing_of (shown s e)) (change s e).members (change s e).is_open) (config-change s e)
 
 -- the conference after the change, settled, is the next one
-pub settled-next : (s : Conference) (e : Event) (c : Change) (t : Conference) (course : Course) → change s e ≡ c → IsChanged s c t course →
-    made t.config t.given (settle s.config.floors t.ongoing) t.members t.is_open ≡ next s e
-settled-next s e c t course same changed =
+pub settled-changed : (s : Conference) (e : Event) (c : Change) (t : Conference) (course : Course) → change s e ≡ c → IsChanged s c t course →
+    made t.config t.given (settle s.config.floors t.ongoing) t.members t.is_open ≡ settled s e
+settled-changed s e c t course same changed =
     ap (λ (config : Configuration). made config t.given (settle s.config.floors t.ongoing) t.members t.is_open) changed.config
     ∙ ap (λ (given : ℕ). made s.config given (settle s.config.floors t.ongoing) t.members t.is_open) changed.given
     ∙ ap (λ (rs : List Request). made s.config c.given rs t.members t.is_open)
@@ -79,7 +81,7 @@ settled-next s e c t course same changed =
     ∙ ap (λ (members : List Member). made s.config c.given (ongoing_of (shown s e)) members t.is_open) changed.members
     ∙ ap (λ (b : Bool). made s.config c.given (ongoing_of (shown s e)) c.members b) changed.is_open
     ∙ ap (λ (d : Change). made s.config d.given (ongoing_of (shown s e)) d.members d.is_open) (sym same)
-    ∙ sym (next-made s e)
+    ∙ sym (settled-made s e)
 
 -- what the course has noted is of the entries after the event
 pub ended-shown : (s : Conference) (e : Event) (c : Change) (t : Conference) (course : Course) → change s e ≡ c → IsChanged s c t course →
@@ -92,11 +94,11 @@ pub numbers-shown : (s : Conference) (e : Event) (c : Change) (t : Conference) (
 numbers-shown s e c t course same changed =
     changed.numbers ∙ sym (numbers_in-settled s.config.floors c.entries) ∙ ap numbers_in (sym (shown-changed s e c same))
 
-pub next-ongoing : (s : Conference) (e : Event) → (next s e).ongoing ≡ ongoing_of (shown s e)
-next-ongoing s e = ap (λ (t : Conference). t.ongoing) (next-made s e)
+pub settled-ongoing : (s : Conference) (e : Event) → (settled s e).ongoing ≡ ongoing_of (shown s e)
+settled-ongoing s e = ap (λ (t : Conference). t.ongoing) (settled-made s e)
 
-pub next-config : (s : Conference) (e : Event) → (next s e).config ≡ s.config
-next-config s e = ap (λ (t : Conference). t.config) (next-made s e)
+pub settled-config : (s : Conference) (e : Event) → (settled s e).config ≡ s.config
+settled-config s e = ap (λ (t : Conference). t.config) (settled-made s e)
 
 -- the statuses with a number are the one status that is found by it
 status-shown : (config : Configuration) (all : List Entry) (ended : List Ended) (k : ℕ) → map entry_of_ended ended ≡ ended_of all → is_rising (numbers_in all) ≡ true →
@@ -111,28 +113,28 @@ status-shown config all ended k same rising =
     by None = refl
     by (Some e) = refl
 
-status-next : (s : Conference) (n : ℕ) (bytes : List ℕ) (ended : List Ended) (k : ℕ) →
+status-settled : (s : Conference) (n : ℕ) (bytes : List ℕ) (ended : List Ended) (k : ℕ) →
     option_map_or (λ shown. FloorRequestStatus shown.info ∷ []) (option_map (shown_of s.config (ongoing_of (shown s (Message n bytes)))) (entry_at ended (ongoing_of (shown s (Message n bytes))) k)) []
-    ≡ status_tells (next s (Message n bytes)) ended k
-status-next s n bytes ended k =
+    ≡ status_tells (settled s (Message n bytes)) ended k
+status-settled s n bytes ended k =
     let told : Configuration → List Request → List Tell = λ config rs. option_map_or (λ shown. FloorRequestStatus shown.info ∷ []) (option_map (shown_of config rs) (entry_at ended rs k)) [] in
-    ap (told s.config) (sym (next-ongoing s (Message n bytes))) ∙ ap (λ (config : Configuration). told config (next s (Message n bytes)).ongoing) (sym (next-config s (Message n bytes)))
+    ap (told s.config) (sym (settled-ongoing s (Message n bytes))) ∙ ap (λ (config : Configuration). told config (settled s (Message n bytes)).ongoing) (sym (settled-config s (Message n bytes)))
 
 -- the answer to an accepted message, as the steps make it
 pub tells-accepted : (s : Conference) (n : ℕ) (bytes : List ℕ) (user : ℕ) (a : Ask) (ended : List Ended) →
     map entry_of_ended ended ≡ ended_of (shown s (Message n bytes)) → is_rising (numbers_in (shown s (Message n bytes))) ≡ true →
-    (next s (Message n bytes)).given ≡ given_after s a →
-    answer_tells s (Message n bytes) user a ≡ accepted_tells (next s (Message n bytes)) ended user a
+    (settled s (Message n bytes)).given ≡ given_after s a →
+    answer_tells s (Message n bytes) user a ≡ accepted_tells (settled s (Message n bytes)) ended user a
 tells-accepted s n bytes user (FloorRequest beneficiary floors priority info) ended same rising given =
     status-shown s.config (shown s (Message n bytes)) ended (s.given + 1) same rising
-    ∙ status-next s n bytes ended (s.given + 1)
-    ∙ ap (status_tells (next s (Message n bytes)) ended) (sym given)
+    ∙ status-settled s n bytes ended (s.given + 1)
+    ∙ ap (status_tells (settled s (Message n bytes)) ended) (sym given)
 tells-accepted s n bytes user (FloorRelease request) ended same rising given =
-    status-shown s.config (shown s (Message n bytes)) ended request same rising ∙ status-next s n bytes ended request
+    status-shown s.config (shown s (Message n bytes)) ended request same rising ∙ status-settled s n bytes ended request
 tells-accepted s n bytes user (FloorRequestQuery request) ended same rising given =
-    status-shown s.config (shown s (Message n bytes)) ended request same rising ∙ status-next s n bytes ended request
+    status-shown s.config (shown s (Message n bytes)) ended request same rising ∙ status-settled s n bytes ended request
 tells-accepted s n bytes user (UserQuery beneficiary) ended same rising given =
-    ap (λ (config : Configuration). UserStatus (option_map (described config) beneficiary) (infos_of_user (unwrap_or beneficiary user) (next s (Message n bytes))) ∷ []) (sym (next-config s (Message n bytes)))
+    ap (λ (config : Configuration). UserStatus (option_map (described config) beneficiary) (infos_of_user (unwrap_or beneficiary user) (settled s (Message n bytes))) ∷ []) (sym (settled-config s (Message n bytes)))
 tells-accepted s n bytes user (FloorQuery floors) ended same rising given = refl
 tells-accepted s n bytes user (ChairAction request verdicts) ended same rising given = refl
 tells-accepted s n bytes user Hello ended same rising given = refl
@@ -140,27 +142,27 @@ tells-accepted s n bytes user Hello ended same rising given = refl
 -- the answer to a message, as the steps make it
 pub tells-judged : (s : Conference) (n : ℕ) (bytes : List ℕ) (a : Answer) (ended : List Ended) → a ≡ ask bytes (binding s n) →
     map entry_of_ended ended ≡ ended_of (shown s (Message n bytes)) → is_rising (numbers_in (shown s (Message n bytes))) ≡ true →
-    reply_tells s (Message n bytes) (user_of s n) a ≡ judged_tells (next s (Message n bytes)) ended (user_of s n) (judged s (user_of s n) a)
+    reply_tells s (Message n bytes) (user_of s n) a ≡ judged_tells (settled s (Message n bytes)) ended (user_of s n) (judged s (user_of s n) a)
 tells-judged s n bytes unanswered ended read same rising = refl
 tells-judged s n bytes (refused code details) ended read same rising = refl
 tells-judged s n bytes (asks a) ended read same rising = by (refusal s (user_of s n) a) refl
   where
-    given : None ≡ refusal s (user_of s n) a → (next s (Message n bytes)).given ≡ given_after s a
+    given : None ≡ refusal s (user_of s n) a → (settled s (Message n bytes)).given ≡ given_after s a
     given accepted =
-        ap (λ (t : Conference). t.given) (next-made s (Message n bytes))
+        ap (λ (t : Conference). t.given) (settled-made s (Message n bytes))
         ∙ ap (λ (c : Change). c.given) (change-judged s n bytes (asks a) read)
         ∙ ap (λ (o : Option ErrorCode). (judged_change s n (option_map_or (λ code. Refused code []) o (Accepted a))).given) (sym accepted)
 
     by : (o : Option ErrorCode) → o ≡ refusal s (user_of s n) a →
         option_map_or (λ code. Error (code_number code) [] ∷ []) o (answer_tells s (Message n bytes) (user_of s n) a)
-        ≡ judged_tells (next s (Message n bytes)) ended (user_of s n) (option_map_or (λ code. Refused code []) o (Accepted a))
+        ≡ judged_tells (settled s (Message n bytes)) ended (user_of s n) (option_map_or (λ code. Refused code []) o (Accepted a))
     by None accepted = tells-accepted s n bytes (user_of s n) a ended same rising (given accepted)
     by (Some code) accepted = refl
 
 -- the reply that the steps put is the reply to the message
 pub reply-answered : (s : Conference) (n : ℕ) (bytes : List ℕ) (r : Reply) (a : Answer) (ended : List Ended) → a ≡ ask bytes (binding s n) →
     map entry_of_ended ended ≡ ended_of (shown s (Message n bytes)) → is_rising (numbers_in (shown s (Message n bytes))) ≡ true →
-    r.n ≡ n → r.head ≡ response_head bytes → r.tells ≡ judged_tells (next s (Message n bytes)) ended (user_of s n) (judged s (user_of s n) a) →
+    r.n ≡ n → r.head ≡ response_head bytes → r.tells ≡ judged_tells (settled s (Message n bytes)) ended (user_of s n) (judged s (user_of s n) a) →
     (k : ℕ) → answered_to (Some r) k ≡ reply_to s (Message n bytes) k
 unfolding reply
 reply-answered s n bytes r a ended read same rising to head tells k =
@@ -172,21 +174,24 @@ reply-answered s n bytes r a ended read same rising to head tells k =
 
 pub updates-message : (s : Conference) (e : Event) (course : Course) → map entry_of_ended course.ended.items ≡ ended_of (shown s e) → course.numbers.items ≡ numbers_in (shown s e) →
     is_rising course.numbers.items ≡ true → course.before.items ≡ infos s →
-    updates s.config (next s e).ongoing course.ended.items course.before.items course.numbers.items ≡ map update_for (changed_requests s e)
+    updates s.config (settled s e).ongoing course.ended.items course.before.items course.numbers.items ≡ map update_for (changed_requests s e)
 unfolding changed_requests
 updates-message s e course same numbered rising before =
-    ap (λ (rs : List Request). updates s.config rs course.ended.items course.before.items course.numbers.items) (next-ongoing s e)
+    ap (λ (rs : List Request). updates s.config rs course.ended.items course.before.items course.numbers.items) (settled-ongoing s e)
     ∙ updates-changed s.config course.before.items (shown s e) course.ended.items course.numbers.items same numbered rising
     ∙ ap (λ (is : List Info). map update_for (filter (λ c. is_changed is c.info) (map (changed_of s.config (shown s e)) (shown s e)))) before
+    ∙ ap (λ (config : Configuration). map update_for (filter (λ c. is_changed (infos s) c.info) (map (changed_of config (shown s e)) (shown s e)))) (sym (settled-config s e))
 
-pub floors-message : (s : Conference) (e : Event) (before now : List Info) → before ≡ infos s → now ≡ infos (next s e) →
-    floor_updates before now s.config.floors ≡ map (floor_update (infos (next s e))) (changed_floors s e)
+pub floors-message : (s : Conference) (e : Event) (before now : List Info) → before ≡ infos s → now ≡ infos (settled s e) →
+    floor_updates before now s.config.floors ≡ map (floor_update (infos (settled s e))) (changed_floors s e)
 unfolding changed_floors
 floors-message s e before now b n =
-    ap (λ (is : List Info). floor_updates is now s.config.floors) b ∙ ap (λ (is : List Info). floor_updates (infos s) is s.config.floors) n
+    ap (λ (is : List Info). floor_updates is now s.config.floors) b
+    ∙ ap (λ (is : List Info). floor_updates (infos s) is s.config.floors) n
+    ∙ ap (λ (config : Configuration). floor_updates (infos s) (infos (settled s e)) config.floors) (sym (settled-config s e))
 
 -- the parcels that the steps put are those that the event calls for
-pub parcels-served : (s : Conference) (e : Event) (t : Conference) (course : Course) (reply : Option Reply) → is_telling e ≡ true → t ≡ next s e →
+pub parcels-served : (s : Conference) (e : Event) (t : Conference) (course : Course) (reply : Option Reply) → is_telling e ≡ true → t ≡ settled s e →
     is_numbered_from 1 s.members ≡ true →
     map entry_of_ended course.ended.items ≡ ended_of (shown s e) → course.numbers.items ≡ numbers_in (shown s e) →
     is_rising course.numbers.items ≡ true → course.before.items ≡ infos s → ((k : ℕ) → answered_to reply k ≡ reply_to s e k) →
@@ -197,21 +202,21 @@ parcels-served s e t course reply telling is numbered same numbers rising before
     let all : Conference → Configuration → List Parcel = λ x config.
     parcels_to_all config.conference reply (updates config x.ongoing course.ended.items course.before.items course.numbers.items) (floor_updates course.before.items (infos_of config x.ongoing) config.floors) x.members in
     ap (λ (x : Conference). all x x.config) is
-    ∙ ap (all (next s e)) (next-config s e)
-    ∙ ap (λ (us : List Update). parcels_to_all s.config.conference reply us (floor_updates course.before.items (infos_of s.config (next s e).ongoing) s.config.floors) (next s e).members)
+    ∙ ap (all (settled s e)) (settled-config s e)
+    ∙ ap (λ (us : List Update). parcels_to_all s.config.conference reply us (floor_updates course.before.items (infos_of s.config (settled s e).ongoing) s.config.floors) (settled s e).members)
     (updates-message s e course same numbers rising before)
-    ∙ ap (λ (us : List FloorUpdate). parcels_to_all s.config.conference reply (map update_for (changed_requests s e)) us (next s e).members)
-    (floors-message s e course.before.items (infos_of s.config (next s e).ongoing) before (ap (λ (config : Configuration). infos_of config (next s e).ongoing) (sym (next-config s e))))
-    ∙ parcels-told s e reply telling (numbered-next s e numbered) replied
+    ∙ ap (λ (us : List FloorUpdate). parcels_to_all s.config.conference reply (map update_for (changed_requests s e)) us (settled s e).members)
+    (floors-message s e course.before.items (infos_of s.config (settled s e).ongoing) before (ap (λ (config : Configuration). infos_of config (settled s e).ongoing) (sym (settled-config s e))))
+    ∙ parcels-told s e reply telling (numbered-settled s e numbered) replied
 
 -- the state after the change, settled, is the next conference
 pub settled-state : (s : Conference) (e : Event) (c : Change) (t : State) (course : Course) (q : Queue) → change s e ≡ c → IsChanged s c (conference_of t) course →
-    q ≡ after_settle t.requests → with_requests (conference_of t) q ≡ next s e
-settled-state s e c t course q same changed settled =
-    ap (λ (x : Queue). with_requests (conference_of t) x) settled
+    q ≡ after_settle t.requests → with_requests (conference_of t) q ≡ settled s e
+settled-state s e c t course q same changed is_settled =
+    ap (λ (x : Queue). with_requests (conference_of t) x) is_settled
     ∙ ap (λ (fs : List Floor). made t.config t.requests.given (settle fs t.requests.ongoing) t.members t.is_open)
     (t.same_floors ∙ ap (λ (config : Configuration). config.floors) changed.config)
-    ∙ settled-next s e c (conference_of t) course same changed
+    ∙ settled-changed s e c (conference_of t) course same changed
 
 -- what the steps that reply to nobody put is what a changed event calls for that nobody sent
 pub parcels-changed : (s : Conference) (e : Event) (t : State) (course : Course) (q : Queue) → is_telling e ≡ true → ((k : ℕ) → reply_to s e k ≡ []) →
@@ -219,7 +224,7 @@ pub parcels-changed : (s : Conference) (e : Event) (t : State) (course : Course)
     parcels_to_all t.config.conference None (updates t.config q.ongoing course.ended.items course.before.items course.numbers.items)
     (floor_updates course.before.items (infos_of t.config q.ongoing) t.config.floors) t.members
     ≡ parcels_of s e
-parcels-changed s e t course q telling unsent changed before numbered settled =
-    parcels-served s e (with_requests (conference_of t) q) course None telling (settled-state s e (change s e) t course q refl changed settled) numbered
+parcels-changed s e t course q telling unsent changed before numbered is_settled =
+    parcels-served s e (with_requests (conference_of t) q) course None telling (settled-state s e (change s e) t course q refl changed is_settled) numbered
     (ended-shown s e (change s e) (conference_of t) course refl changed) (numbers-shown s e (change s e) (conference_of t) course refl changed) changed.rising before
     (λ k. sym (unsent k))

@@ -21,10 +21,10 @@ use Rattle.floor_machine.specs.Conference.{Conference, member_with, is_numbered_
 use Rattle.floor_machine.specs.declared.event.Event.{Event}
 use Rattle.floor_machine.specs.declared.event.Event.TheVariants.{Join, Message, Leave, Revoke, Close}
 use Rattle.floor_machine.specs.Shown.{Entry, ongoing_of, info_of}
-use Rattle.floor_machine.specs.Change.{next}
+use Rattle.floor_machine.specs.Change.{settled}
 use Rattle.floor_machine.specs.Outgoing.{Outgoing, notice}
 use Rattle.floor_machine.specs.Reply.{infos, floor_status_tell, headed}
-use Rattle.floor_machine.specs.Told.{Changed, changed_of, changed_requests, changed_floors, is_changed, is_status_of, is_told, reply_to, request_notices, floor_notices, told_to, told}
+use Rattle.floor_machine.specs.Told.{Changed, changed_of, changed_requests, changed_floors, is_changed, is_status_of, is_told, reply_to, request_notices, floor_notices, due_to, due}
 use Rattle.floor_machine.specs.Journal.{parcel, parcels_of}
 use Rattle.floor_machine.specs.steps.Telling.{entry_of_ended, entry_at, shown_of, update_of, update_if, update_at, updates, floor_update, answered, answered_to, is_answered, is_due_to, is_watched, is_to, update_to, floor_update_to, parcels_to, parcels_to_all}
 use Rattle.floor_machine.specs.steps.Serving.{ended_of, numbers_in, is_rising}
@@ -114,7 +114,7 @@ requests_put s e reply m = map (λ u. parcel m.n (update_to s.config.conference 
 
 -- the steps' parcels of the changed floors, to a member
 abbrev floors_put : Conference → Event → Member → List Parcel
-floors_put s e m = map (λ u. parcel m.n (floor_update_to s.config.conference m u)) (filter (is_watched m) (map (floor_update (infos (next s e))) (changed_floors s e)))
+floors_put s e m = map (λ u. parcel m.n (floor_update_to s.config.conference m u)) (filter (is_watched m) (map (floor_update (infos (settled s e))) (changed_floors s e)))
 
 due-told : (s : Conference) (e : Event) (reply : Option Reply) (m : Member) → answered_to reply m.n ≡ reply_to s e m.n → (c : Changed) →
     is_due_to reply m (update_for c) ≡ is_told (reply_to s e m.n) m.user c
@@ -128,11 +128,11 @@ requests-told s e reply m replied =
 
 floors-told : (s : Conference) (e : Event) (m : Member) → floors_put s e m ≡ map (parcel m.n) (floor_notices s e m)
 floors-told s e m =
-    fused (is_watched m) (λ f. list_any (λ floor. floor == f.id) m.watched) (floor_update (infos (next s e))) (λ u. parcel m.n (floor_update_to s.config.conference m u)) (λ f. notice s.config.conference m.user (floor_status_tell (next s e) f.id)) (parcel m.n) (λ f. refl) (λ f. refl) (changed_floors s e)
+    fused (is_watched m) (λ f. list_any (λ floor. floor == f.id) m.watched) (floor_update (infos (settled s e))) (λ u. parcel m.n (floor_update_to s.config.conference m u)) (λ f. notice s.config.conference m.user (floor_status_tell (settled s e) f.id)) (parcel m.n) (λ f. refl) (λ f. refl) (changed_floors s e)
 
 -- what the steps put for a member is what the event tells it
 member-told : (s : Conference) (e : Event) (reply : Option Reply) (m : Member) → answered_to reply m.n ≡ reply_to s e m.n →
-    parcels_to s.config.conference reply (map update_for (changed_requests s e)) (map (floor_update (infos (next s e))) (changed_floors s e)) m ≡ map (parcel m.n) (told_to s e m)
+    parcels_to s.config.conference reply (map update_for (changed_requests s e)) (map (floor_update (infos (settled s e))) (changed_floors s e)) m ≡ map (parcel m.n) (due_to s e m)
 member-told s e reply m replied =
     ap (λ (ms : List Outgoing). map (parcel m.n) ms ++ requests_put s e reply m ++ floors_put s e m) replied
     ∙ ap (λ (ps : List Parcel). map (parcel m.n) (reply_to s e m.n) ++ ps ++ floors_put s e m) (requests-told s e reply m replied)
@@ -197,32 +197,32 @@ is_telling (Revoke request) = true
 is_telling Close = false
 
 -- what is told to n is told to the live member with the number
-pub told-member : (s : Conference) (e : Event) (n : ℕ) → is_telling e ≡ true → told s e n ≡ option_map_or (told_to s e) (member_with (next s e).members n) []
-unfolding told
-told-member s (Join user) n h = refl
-told-member s (Message k bytes) n h = refl
-told-member s (Leave k) n h = refl
-told-member s (Revoke request) n h = refl
-told-member s Close n h = cc
+pub due-member : (s : Conference) (e : Event) (n : ℕ) → is_telling e ≡ true → due s e n ≡ option_map_or (due_to s e) (member_with (settled s e).members n) []
+unfolding due
+due-member s (Join user) n h = refl
+due-member s (Message k bytes) n h = refl
+due-member s (Leave k) n h = refl
+due-member s (Revoke request) n h = refl
+due-member s Close n h = cc
 
 -- what an event calls for, member by member
-pub parcels_of-members : (s : Conference) (e : Event) → is_telling e ≡ true → is_numbered_from 1 (next s e).members ≡ true →
-    parcels_of s e ≡ flat_map (λ m. cond m.is_live (map (parcel m.n) (told_to s e m)) []) (next s e).members
+pub parcels_of-members : (s : Conference) (e : Event) → is_telling e ≡ true → is_numbered_from 1 (settled s e).members ≡ true →
+    parcels_of s e ≡ flat_map (λ m. cond m.is_live (map (parcel m.n) (due_to s e m)) []) (settled s e).members
 unfolding parcels_of
 parcels_of-members s e telling h =
-    flat_map-same (λ m. map (parcel m.n) (told s e m.n)) (λ m. map (parcel m.n) (option_map_or (told_to s e) (member_with (next s e).members m.n) []))
-    (λ m. ap (map (parcel m.n)) (told-member s e m.n telling)) (next s e).members
-    ∙ members-told (told_to s e) (next s e).members (next s e).members 1 h (λ k l. refl)
+    flat_map-same (λ m. map (parcel m.n) (due s e m.n)) (λ m. map (parcel m.n) (option_map_or (due_to s e) (member_with (settled s e).members m.n) []))
+    (λ m. ap (map (parcel m.n)) (due-member s e m.n telling)) (settled s e).members
+    ∙ members-told (due_to s e) (settled s e).members (settled s e).members 1 h (λ k l. refl)
 
 -- the parcels that the steps of an event put are those that it calls for
-pub parcels-told : (s : Conference) (e : Event) (reply : Option Reply) → is_telling e ≡ true → is_numbered_from 1 (next s e).members ≡ true →
+pub parcels-told : (s : Conference) (e : Event) (reply : Option Reply) → is_telling e ≡ true → is_numbered_from 1 (settled s e).members ≡ true →
     ((k : ℕ) → answered_to reply k ≡ reply_to s e k) →
-    parcels_to_all s.config.conference reply (map update_for (changed_requests s e)) (map (floor_update (infos (next s e))) (changed_floors s e)) (next s e).members
+    parcels_to_all s.config.conference reply (map update_for (changed_requests s e)) (map (floor_update (infos (settled s e))) (changed_floors s e)) (settled s e).members
     ≡ parcels_of s e
 parcels-told s e reply telling h replied =
     flat_map-same
-    (λ m. cond m.is_live (parcels_to s.config.conference reply (map update_for (changed_requests s e)) (map (floor_update (infos (next s e))) (changed_floors s e)) m) [])
-    (λ m. cond m.is_live (map (parcel m.n) (told_to s e m)) [])
+    (λ m. cond m.is_live (parcels_to s.config.conference reply (map update_for (changed_requests s e)) (map (floor_update (infos (settled s e))) (changed_floors s e)) m) [])
+    (λ m. cond m.is_live (map (parcel m.n) (due_to s e m)) [])
     (λ m. ap (λ (ps : List Parcel). cond m.is_live ps []) (member-told s e reply m (replied m.n)))
-    (next s e).members
+    (settled s e).members
     ∙ sym (parcels_of-members s e telling h)

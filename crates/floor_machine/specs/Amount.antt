@@ -5,8 +5,8 @@ use Rattle.floor_message.specs.Fits.{TellFits}
 use Rattle.floor_machine.specs.Conference.{opening}
 use Rattle.floor_machine.specs.declared.event.Event.{Event}
 use Rattle.floor_machine.specs.Outgoing.{Outgoing, outgoing_bytes}
-use Rattle.floor_machine.specs.Told.{told}
 use Rattle.floor_machine.specs.Journal.{IsJournal, after, told_from}
+use Rattle.floor_machine.specs.Next.{told}
 
 -- Whatever happens after a journal, a member is told at most a response, the statuses of 256 floor requests, and those of 32
 -- floors. A FloorQuery alone is answered by more than one message, by 32 at most, and then nothing else is told.

@@ -3,6 +3,7 @@ use Rattle.std.specs.Prelude.{◌≡◌, ℕ, ◌+◌, ◌<◌, ◌==◌, ◌&&�
 use Rattle.std.specs.List.{list_any}
 use Rattle.std.specs.Option.{option_map_or}
 use Rattle.floor_wire.specs.Message.{IsMessage}
+use Rattle.floor_config.specs.Configuration.{Configuration}
 use Rattle.floor_config.specs.Lookup.{is_user}
 use Rattle.floor_queue.specs.declared.request.Request.{Request}
 use Rattle.floor_queue.specs.declared.requested_floor.FloorStatus.TheVariants.{Accepted as AcceptedFloor}
@@ -26,6 +27,7 @@ use Rattle.floor_machine.specs.Checks.{beneficiary_of, refusal}
 
 -- what an event makes of a conference before it is settled, with the requests that ended still among the others
 pub record Change : Type 0 where
+  pub config : Configuration
   pub given : ℕ
   pub entries : List Entry
   pub members : List Member
@@ -33,7 +35,8 @@ pub record Change : Type 0 where
 
 -- an event that changes nothing
 abbrev pub no_change : Conference → Change
-no_change s = record { given = s.given; entries = map entry_of s.ongoing; members = s.members; is_open = s.is_open }
+no_change s =
+    record { config = s.config; given = s.given; entries = map entry_of s.ongoing; members = s.members; is_open = s.is_open }
 
 -- the ongoing requests, of which some end, each with the status that is said of it
 abbrev pub ending : Conference → (Request → Option RequestStatus) → List Entry
@@ -109,6 +112,7 @@ members_after s n _ = s.members
 abbrev pub asked_change : Conference → ℕ → Ask → Change
 asked_change s n a =
     record {
+      config = s.config;
       given = given_after s a;
       entries = entries_after s (user_of s n) a;
       members = members_after s n a;
@@ -144,13 +148,13 @@ change s Close = record (no_change s) { entries = []; is_open = false }
 
 -- the requests after an event: settled, with those that ended kept aside among them
 unfoldable pub shown : Conference → Event → List Entry
-shown s e = settle_entries s.config.floors (change s e).entries
+shown s e = settle_entries (change s e).config.floors (change s e).entries
 
--- the conference after an event: settled, without the requests that ended
-unfoldable pub next : Conference → Event → Conference
-next s e =
+-- the settled conference after an event, without the requests that ended
+unfoldable pub settled : Conference → Event → Conference
+settled s e =
     record {
-      config = s.config;
+      config = (change s e).config;
       given = (change s e).given;
       ongoing = ongoing_of (shown s e);
       members = (change s e).members;

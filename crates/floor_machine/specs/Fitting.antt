@@ -3,7 +3,7 @@ use Rattle.std.specs.Prelude.{ℕ, All}
 use Rattle.floor_message.specs.Fits.{TellFits}
 use Rattle.floor_machine.specs.declared.event.Event.{Event}
 use Rattle.floor_machine.specs.Conference.{Conference}
-use Rattle.floor_machine.specs.Told.{told}
+use Rattle.floor_machine.specs.Next.{told}
 
 -- each message that the event tells a member can be written
 abbrev pub ToldFits : Conference → Event → Type 0

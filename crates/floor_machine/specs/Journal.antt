@@ -5,9 +5,9 @@ use Rattle.floor_config.specs.Configuration.{Configuration}
 use Rattle.floor_machine.specs.Parcel.{Parcel}
 use Rattle.floor_machine.specs.Conference.{Conference, opening}
 use Rattle.floor_machine.specs.declared.event.Event.{Event}
-use Rattle.floor_machine.specs.Change.{next, IsLawful}
+use Rattle.floor_machine.specs.Change.{IsLawful}
 use Rattle.floor_machine.specs.Outgoing.{Outgoing, outgoing_bytes}
-use Rattle.floor_machine.specs.Told.{told}
+use Rattle.floor_machine.specs.Next.{next, told}
 
 -- a message as it is sent to n
 abbrev pub parcel : ℕ → Outgoing → Parcel

@@ -1,5 +1,6 @@
 -- What a reader has to believe, in the order of reading.
 pub mod Conference
+pub mod Events
 pub mod Shown
 pub mod Checks
 pub mod Change
@@ -8,6 +9,7 @@ pub mod Outgoing
 pub mod Reply
 pub mod Same
 pub mod Told
+pub mod Next
 pub mod Journal
 pub mod Fitting
 pub mod Machine

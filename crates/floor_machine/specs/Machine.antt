@@ -3,15 +3,16 @@ use Rattle.std.specs.Prelude.{◌≡◌, ◌≢◌, ℕ, ◌<◌, List, [], ◌�
 use Rattle.floor_config.specs.Lookup.{is_user}
 use Rattle.floor_machine.specs.declared.machine.Refusal.{Refusal}
 use Rattle.floor_machine.specs.declared.machine.Refusal.TheVariants.{Broken, Ended, NoMember, NoUser, Full, NoRequest, Memory}
-use Rattle.floor_machine.specs.declared.event.Act.{Act}
+use Rattle.floor_machine.specs.declared.act.Act.{Act}
 use Rattle.floor_machine.specs.declared.event.Event.{Event}
 use Rattle.floor_queue.specs.Queue.{request_at}
 use Rattle.floor_machine.specs.Conference.{Conference, is_live}
-use Rattle.floor_machine.specs.Change.{IsLawful, next}
+use Rattle.floor_machine.specs.Change.{IsLawful}
 use Rattle.floor_machine.specs.Fitting.{ToldFits}
 use Rattle.floor_machine.specs.Parcel.{Parcel}
 use Rattle.floor_machine.specs.Journal.{IsLawfulFrom, after_from, parcels_from, parcels_of}
 use Rattle.floor_machine.specs.declared.running.Stopped.{Stopped}
+use Rattle.floor_machine.specs.Next.{next}
 
 -- the conference, and whether an event was broken off for want of memory
 pub record Machine : Type 0 where

@@ -1,22 +1,21 @@
 -- How members come and stay, and how runs of events are put together.
 use Rattle.std.specs.Prelude.{◌≡◌, ◌≤◌, ◌<◌, ◌⊎◌, ◌↔◌, ℕ, ◌+◌, ◌==◌, false, true, List, [], ◌++◌, length, All, IsTrue}
+use Rattle.std.specs.Option.{option_map_or}
 use Rattle.floor_config.specs.Configuration.{Configuration}
 use Rattle.floor_queue.specs.Order.{settle}
 use Rattle.floor_machine.specs.Parcel.{Parcel}
 use Rattle.floor_machine.specs.Conference.{Conference, is_live, is_numbered_from, opening}
 use Rattle.floor_machine.specs.declared.event.Event.{Event}
-use Rattle.floor_machine.specs.declared.event.Event.TheVariants.{Join, Message, Leave, Revoke, Close}
+use Rattle.floor_machine.specs.declared.event.Event.TheVariants.{Join, Leave}
+use Rattle.floor_machine.specs.Events.{joiner}
 use Rattle.floor_machine.specs.Shown.{ongoing_of}
-use Rattle.floor_machine.specs.Change.{change, next}
+use Rattle.floor_machine.specs.Change.{change}
 use Rattle.floor_machine.specs.Journal.{IsLawfulFrom, after, after_from, parcels_from, parcels_of, told_from}
+use Rattle.floor_machine.specs.Next.{next}
 
 -- how many members an event adds
 abbrev pub joins : Event → ℕ
-joins (Join user) = 1
-joins (Message n bytes) = 0
-joins (Leave n) = 0
-joins (Revoke request) = 0
-joins Close = 0
+joins e = option_map_or (λ user. 1) (joiner e) 0
 
 -- the event isn't that n leaves
 abbrev pub StaysIn : ℕ → Event → Type 0

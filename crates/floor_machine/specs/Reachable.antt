@@ -9,9 +9,8 @@ use Rattle.floor_machine.specs.Conference.{Conference, binding, is_numbered_from
 use Rattle.floor_machine.specs.declared.event.Event.{Event}
 use Rattle.floor_machine.specs.declared.event.Event.TheVariants.{Message}
 use Rattle.floor_machine.specs.Checks.{refusal}
-use Rattle.floor_machine.specs.Change.{next}
-use Rattle.floor_machine.specs.Told.{told}
 use Rattle.floor_machine.specs.Journal.{IsJournal, after, parcels, parcels_from, sent_to}
+use Rattle.floor_machine.specs.Next.{next, told}
 
 -- What a journal keeps: the numbers of the ongoing requests ascend, none above the number of requests that were accepted; at most
 -- 256 are ongoing; no floor has more holders than room; the requests are settled; no queue position is above 255; the members are

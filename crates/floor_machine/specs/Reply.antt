@@ -18,7 +18,7 @@ use Rattle.floor_machine.specs.declared.event.Event.{Event}
 use Rattle.floor_machine.specs.declared.event.Event.TheVariants.{Message}
 use Rattle.floor_machine.specs.Shown.{Entry, ongoing_of, info, info_of, described}
 use Rattle.floor_machine.specs.Checks.{refusal}
-use Rattle.floor_machine.specs.Change.{shown, next}
+use Rattle.floor_machine.specs.Change.{shown, settled}
 use Rattle.floor_machine.specs.Outgoing.{Outgoing, notice}
 
 -- the primitives that the server supports: all that are sent over a reliable transport
@@ -61,8 +61,8 @@ answer_tells s e user (FloorRequest beneficiary floors priority info) = request_
 answer_tells s e user (FloorRelease request) = request_answer s.config (shown s e) request
 answer_tells s e user (FloorRequestQuery request) = request_answer s.config (shown s e) request
 answer_tells s e user (UserQuery beneficiary) =
-    UserStatus (option_map (described s.config) beneficiary) (infos_of_user (unwrap_or beneficiary user) (next s e)) ∷ []
-answer_tells s e user (FloorQuery floors) = floor_answers (next s e) floors
+    UserStatus (option_map (described s.config) beneficiary) (infos_of_user (unwrap_or beneficiary user) (settled s e)) ∷ []
+answer_tells s e user (FloorQuery floors) = floor_answers (settled s e) floors
 answer_tells s e user (ChairAction request verdicts) = ChairActionAck ∷ []
 answer_tells s e user Hello = HelloAck supported_primitives supported_attributes ∷ []
 

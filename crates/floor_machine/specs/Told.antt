@@ -1,4 +1,4 @@
--- What an event tells each member (RFC 8855, sections 10.1.2 and 12.1).
+-- What is due to each member after an event (RFC 8855, sections 10.1.2 and 12.1).
 use Rattle.std.specs.Prelude.{ℕ, ◌==◌, ◌&&◌, not, if◌then◌else◌, Bool, true, false, List, [], ◌++◌, map, filter, find}
 use Rattle.std.specs.List.{list_any}
 use Rattle.std.specs.Option.{option_map_or}
@@ -15,7 +15,7 @@ use Rattle.floor_machine.specs.declared.event.Event.{Event}
 use Rattle.floor_machine.specs.declared.event.Event.TheVariants.{Message, Close}
 use Rattle.floor_machine.specs.Shown.{Entry, ongoing_of, info_of}
 use Rattle.floor_machine.specs.Same.{same_info, same_infos}
-use Rattle.floor_machine.specs.Change.{shown, next}
+use Rattle.floor_machine.specs.Change.{shown, settled}
 use Rattle.floor_machine.specs.Outgoing.{Outgoing, notice}
 use Rattle.floor_machine.specs.Reply.{infos, infos_on, floor_status_tell, reply}
 
@@ -32,15 +32,15 @@ pub record Changed : Type 0 where
 abbrev pub changed_of : Configuration → List Entry → Entry → Changed
 changed_of config entries e = record { request = e.request; info = info_of config (ongoing_of entries) e }
 
--- the new, the ended and the otherwise changed requests, ascending
+-- the new, the ended and the otherwise changed requests, ascending, each shown by the configuration of its conference
 unfoldable pub changed_requests : Conference → Event → List Changed
 changed_requests s e =
-    filter (λ c. is_changed (infos s) c.info) (map (changed_of s.config (shown s e)) (shown s e))
+    filter (λ c. is_changed (infos s) c.info) (map (changed_of (settled s e).config (shown s e)) (shown s e))
 
--- the floors whose ongoing requests are shown otherwise than before, in the configuration's order
+-- the floors whose ongoing requests are shown otherwise than before, in the order of the settled conference
 unfoldable pub changed_floors : Conference → Event → List Floor
 changed_floors s e =
-    filter (λ f. not (same_infos (infos_on f.id (infos s)) (infos_on f.id (infos (next s e))))) s.config.floors
+    filter (λ f. not (same_infos (infos_on f.id (infos s)) (infos_on f.id (infos (settled s e))))) (settled s e).config.floors
 
 -- n sent the event
 abbrev pub is_sender : Event → ℕ → Bool
@@ -70,15 +70,15 @@ request_notices s e m =
 -- the changed floors that a member watches
 abbrev pub floor_notices : Conference → Event → Member → List Outgoing
 floor_notices s e m =
-    map (λ f. notice s.config.conference m.user (floor_status_tell (next s e) f.id))
+    map (λ f. notice s.config.conference m.user (floor_status_tell (settled s e) f.id))
     (filter (λ f. list_any (λ floor. floor == f.id) m.watched) (changed_floors s e))
 
--- what an event tells a live member: the reply, if it sent the event, then the changed requests of its user, then the changed
--- floors that it watches
-abbrev pub told_to : Conference → Event → Member → List Outgoing
-told_to s e m = reply_to s e m.n ++ request_notices s e m ++ floor_notices s e m
+-- what is due to a live member: the reply, if it sent the event, then the changed requests of its user, then the changed floors
+-- that it watches
+abbrev pub due_to : Conference → Event → Member → List Outgoing
+due_to s e m = reply_to s e m.n ++ request_notices s e m ++ floor_notices s e m
 
--- what an event tells n: nothing where n isn't live after it, and Close tells nobody anything
-unfoldable pub told : Conference → Event → ℕ → List Outgoing
-told s Close n = []
-told s e n = option_map_or (told_to s e) (member_with (next s e).members n) []
+-- what is due to n after an event: nothing where n isn't live then, and nothing to anybody after Close
+unfoldable pub due : Conference → Event → ℕ → List Outgoing
+due s Close n = []
+due s e n = option_map_or (due_to s e) (member_with (settled s e).members n) []

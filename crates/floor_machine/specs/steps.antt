@@ -5,6 +5,5 @@ pub mod Marks
 pub mod Ending
 pub mod Renewing
 pub mod Serving
-pub mod Events
 pub mod Live
 pub mod Outcomes

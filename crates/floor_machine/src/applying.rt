@@ -36,7 +36,7 @@ impl State {
     ) -> Result<(), AllocError>
         requires rest { IsAtRest self.old }
         ensures next { OnOk result (conference_of self.new
-            ≡ change.next (conference_of self.old) (Message n frame.now)) }
+            ≡ change.settled (conference_of self.old) (Message n frame.now)) }
         ensures out { OnOk result (out.new.items ≡ out.old.items
             ++ parcels_of (conference_of self.old) (Message n frame.now)) }
         ensures shown { OnOk result (IsToldShown (conference_of self.old) (Message n frame.now)) }
@@ -77,7 +77,7 @@ impl State {
     pub(crate) fn leave(&mut self, n: u32, out: &mut Vec<Parcel>) -> Result<(), AllocError>
         requires rest { IsAtRest self.old }
         ensures next { OnOk result (conference_of self.new
-            ≡ change.next (conference_of self.old) (Leave n)) }
+            ≡ change.settled (conference_of self.old) (Leave n)) }
         ensures out { OnOk result (out.new.items ≡ out.old.items
             ++ parcels_of (conference_of self.old) (Leave n)) }
         ensures shown { OnOk result (IsToldShown (conference_of self.old) (Leave n)) }
@@ -101,7 +101,7 @@ impl State {
         requires ongoing { IsSome (request_at self.old.requests.ongoing request) }
         requires rest { IsAtRest self.old }
         ensures next { OnOk result (conference_of self.new
-            ≡ change.next (conference_of self.old) (Revoke request)) }
+            ≡ change.settled (conference_of self.old) (Revoke request)) }
         ensures out { OnOk result (out.new.items ≡ out.old.items
             ++ parcels_of (conference_of self.old) (Revoke request)) }
         ensures shown { OnOk result (IsToldShown (conference_of self.old) (Revoke request)) }

@@ -1,6 +1,17 @@
-//! What may happen in one conference.
+//! What may happen in one conference. An event is taken apart here alone: it says of itself who joins
+//! by it and whose message it is, and a machine takes it by the call of its kind.
 
-use floor_wire::Frame;
+ghost use Rattle.std.specs.Option.{option_copied};
+ghost use Rattle.std.specs.Prelude.{◌≡◌, ◌<◌, IfErr, IfOk, OnOk, length};
+ghost use Rattle.floor_machine.specs.Events as events;
+ghost use Rattle.floor_machine.specs.Laws.{IsWhole};
+ghost use Rattle.floor_machine.specs.Machine.{Applied, IsRefusedBy, Left, event_of_act, event_refusal};
+
+use crate::act::Act;
+use crate::machine::{Machine, Refusal};
+use crate::parcel::Parcel;
+use floor_wire::{Copies, Frame};
+use std::alloc::AllocError;
 
 /// How many events the journal of a conference has at most: our choice, so that what is kept of a
 /// conference has an end.
@@ -35,39 +46,87 @@ pub enum Event {
     Close,
 }
 
-/// What the administrator of a conference does.
-#[derive(Clone, Copy, Debug, PartialEq, Eq)]
-pub enum Act {
-    /// Takes away the floors of the ongoing request with this number, or denies it where it doesn't
-    /// hold them.
-    Revoke(u16),
-    /// Ends the conference.
-    Close,
-}
-
-/// An event of which the message, where it is one, is borrowed.
-#[derive(Clone, Copy)]
-pub(crate) enum BorrowedEvent<'a> {
-    /// A connection of a user joins.
-    Join(u16),
-    /// A message of a member comes in.
-    Message(u32, &'a Frame),
-    /// A member leaves.
-    Leave(u32),
-    /// The administrator acts.
-    Admin(Act),
-}
-
-impl BorrowedEvent<'_> {
-    ghost use Rattle.floor_machine.specs.Laws.{IsWhole};
-    ghost use Rattle.floor_machine.specs.steps.Events.{event_of};
-
-    /// A message of it is one whole message, as each frame is. Does nothing.
-    pub fn is_whole(self)
-        ensures { IsWhole (event_of self.entry) }
+impl Event {
+    /// The event that an act of the administrator is. Takes no memory.
+    pub fn of(act: Act) -> Event
+        ensures value { result ≡ event_of_act act }
     {
-        if let BorrowedEvent::Message(_n, frame) = self {
-            let _bytes = frame.bytes();
+        match act {
+            Act::Revoke(request) => Event::Revoke { request },
+            Act::Close => Event::Close,
+        }
+    }
+
+    /// The user that joins, where one does. Takes no memory.
+    pub fn joiner(&self) -> Option<u16>
+        ensures value { result ≡ events.joiner self.now }
+    {
+        match self {
+            Event::Join { user } => Some(*user),
+            _ => None,
+        }
+    }
+
+    /// The message, where the event is one: it is one whole message, as each frame is. Takes no
+    /// memory.
+    pub fn message(&self) -> Option<&Frame>
+        ensures value { option_copied result ≡ events.message self.now }
+        ensures whole { IsWhole self.now }
+    {
+        match self {
+            Event::Message { frame, .. } => {
+                let _bytes = frame.bytes();
+                Some(frame)
+            }
+            _ => None,
+        }
+    }
+
+    /// The message, where the event is one of this member. Takes no memory.
+    pub fn message_of(&self, n: u32) -> Option<&Frame>
+        ensures value { option_copied result ≡ events.message_of n self.now }
+    {
+        match self {
+            Event::Message { n: sender, frame } => { if *sender == n { Some(frame) } else { None } }
+            _ => None,
+        }
+    }
+
+    /// The event, with an exact copy of its message, so that no buffer that it was cut from stays
+    /// alive by it.
+    pub fn exact(self, copies: &mut Copies) -> Result<Event, AllocError>
+        ensures value { IfOk result (λ kept. kept ≡ self) }
+    {
+        match self {
+            Event::Message { n, frame } => {
+                let frame = copies.copy(&frame)?;
+                Ok(Event::Message { n, frame })
+            }
+            other => Ok(other),
+        }
+    }
+}
+
+impl Machine {
+    /// Takes an event, and appends what it tells the members to `out`, by ascending member. After a
+    /// refusal nothing has changed, but that `Memory` leaves the machine broken.
+    pub fn apply(&mut self, event: &Event, out: &mut Vec<Parcel>) -> Result<(), Refusal>
+        requires { length self.old.conference.members < 4294967295 }
+        ensures took { OnOk result
+            (Applied self.old event.now self.new out.old.items out.new.items) }
+        ensures refused { IsRefusedBy (event_refusal self.old event.now) result }
+        ensures left { IfErr result
+            (Left self.old event.now self.new out.old.items out.new.items) }
+    {
+        match event {
+            Event::Join { user } => {
+                self.join(*user)?;
+                Ok(())
+            }
+            Event::Message { n, frame } => self.message(*n, frame, out),
+            Event::Leave { n } => self.leave(*n, out),
+            Event::Revoke { request } => self.admin(Act::Revoke(*request), out),
+            Event::Close => self.admin(Act::Close, out),
         }
     }
 }

@@ -2,6 +2,7 @@
 //! (RFC 8855, sections 8 to 13).
 #![tactic(auto)]
 
+mod act;
 mod applying;
 mod change;
 mod conference;
@@ -20,7 +21,8 @@ mod reply;
 mod running;
 mod tell;
 
-pub use event::{Act, Event, MAX_EVENTS};
+pub use act::Act;
+pub use event::{Event, MAX_EVENTS};
 pub use floor_config::{Config, Floor, User};
 pub use floor_message::{Ask, Head, Info, RequestStatus, Tell};
 pub use floor_wire::{Frame, Numbers, Octets};

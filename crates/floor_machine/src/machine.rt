@@ -3,11 +3,10 @@
 ghost use Rattle.std.specs.Prelude.{◌≡◌, ◌+◌, ◌<◌, ◌≤◌, [], IfOk, IfErr, OnOk, length, count_by};
 ghost use Rattle.floor_machine.specs.Conference.{opening};
 ghost use Rattle.floor_machine.specs.declared.event.Event.TheVariants.{Join, Message, Leave};
-ghost use Rattle.floor_machine.specs.Machine.{Applied, IsRefusedBy, Left, act_refusal, event_of_act, event_refusal, join_refusal, member_refusal, whole};
-ghost use Rattle.floor_machine.specs.steps.Events.{HasNumber, IsSilent, event_of};
+ghost use Rattle.floor_machine.specs.Machine.{Applied, IsRefusedBy, Left, act_refusal, event_of_act, join_refusal, member_refusal, whole};
 
+use crate::act::Act;
 use crate::conference::State;
-use crate::event::{Act, BorrowedEvent, Event};
 use crate::parcel::Parcel;
 use floor_config::Config;
 use floor_message::what_is_shown_fits;
@@ -70,9 +69,9 @@ impl From<AllocError> for Refusal {
 /// The floor machine of one conference: whole messages of its members in, parcels to them out.
 ///
 /// Readers, which take no memory: `joins`, `live_members`, `ongoing_requests`, `is_open`,
-/// `is_broken`. The one change is `apply`; `join`, `message`, `leave` and `admin` are its names for
-/// the events that they bear. A refused call changes nothing, but that `Memory` leaves the machine
-/// broken, and from then on it answers `Broken`.
+/// `is_broken`. Changes: `join`, `message`, `leave` and `admin`, each an event; `apply` takes any
+/// event by the one of its kind, and `run` many. A refused call changes nothing, but that `Memory`
+/// leaves the machine broken, and from then on it answers `Broken`.
 #[derive(Debug, Drop)]
 pub struct Machine {
     state: State,
@@ -171,8 +170,8 @@ impl Machine {
     }
 
     /// Why the administrator's act is not taken.
-    fn act_refusal(&self, act: Act) -> Option<Refusal>
-        ensures { result ≡ act_refusal self.now act }
+    fn act_refusal(&self, act: &Act) -> Option<Refusal>
+        ensures { result ≡ act_refusal self.now act.now }
     {
         if self.is_broken {
             return Some(Refusal::Broken);
@@ -182,79 +181,13 @@ impl Machine {
         }
         match act {
             Act::Revoke(request) => {
-                if self.state.has_request(request) {
+                if self.state.has_request(*request) {
                     None
                 } else {
                     Some(Refusal::NoRequest)
                 }
             }
             Act::Close => None,
-        }
-    }
-
-    /// Why the event is not taken.
-    fn refusal(&self, event: BorrowedEvent<'_>) -> Option<Refusal>
-        ensures { result ≡ event_refusal self.now (event_of event.entry) }
-    {
-        match event {
-            BorrowedEvent::Join(user) => self.join_refusal(user),
-            BorrowedEvent::Message(n, _frame) => self.member_refusal(n),
-            BorrowedEvent::Leave(n) => self.member_refusal(n),
-            BorrowedEvent::Admin(act) => self.act_refusal(act),
-        }
-    }
-
-    /// Takes an event, and appends what it tells the members to `out`. Every change of a machine is
-    /// this call.
-    fn take(&mut self, event: BorrowedEvent<'_>, out: &mut Vec<Parcel>) -> Result<(), Refusal>
-        requires { HasNumber self.old.conference (event_of event) }
-        ensures took { OnOk result
-            (Applied self.old (event_of event.entry) self.new out.old.items out.new.items) }
-        ensures silent { OnOk result (IsSilent self.old.conference (event_of event.entry)) }
-        ensures refused { IsRefusedBy (event_refusal self.old (event_of event.entry)) result }
-        ensures left { IfErr result
-            (Left self.old (event_of event.entry) self.new out.old.items out.new.items) }
-    {
-        match self.refusal(event) {
-            Some(refusal) => return Err(refusal),
-            None => {}
-        }
-        event.is_whole();
-        what_is_shown_fits();
-        // Whatever breaks the event off leaves it so.
-        self.is_broken = true;
-        match event {
-            BorrowedEvent::Join(user) => {
-                let n = (self.state.members.len() + 1) as u32;
-                self.state.join(n, user)?;
-            }
-            BorrowedEvent::Message(n, frame) => self.state.message(n, frame, out)?,
-            BorrowedEvent::Leave(n) => self.state.leave(n, out)?,
-            BorrowedEvent::Admin(Act::Revoke(request)) => self.state.revoke(request, out)?,
-            BorrowedEvent::Admin(Act::Close) => self.state.close(),
-        }
-        self.is_broken = false;
-        Ok(())
-    }
-
-    /// Takes an event, and appends what it tells the members to `out`, by ascending member. After a
-    /// refusal nothing has changed, but that `Memory` leaves the machine broken.
-    pub fn apply(&mut self, event: &Event, out: &mut Vec<Parcel>) -> Result<(), Refusal>
-        requires { length self.old.conference.members < 4294967295 }
-        ensures took { OnOk result
-            (Applied self.old event.now self.new out.old.items out.new.items) }
-        ensures refused { IsRefusedBy (event_refusal self.old event.now) result }
-        ensures left { IfErr result
-            (Left self.old event.now self.new out.old.items out.new.items) }
-    {
-        match event {
-            Event::Join { user } => self.take(BorrowedEvent::Join(*user), out),
-            Event::Message { n, frame } => self.take(BorrowedEvent::Message(*n, frame), out),
-            Event::Leave { n } => self.take(BorrowedEvent::Leave(*n), out),
-            Event::Revoke { request } => {
-                self.take(BorrowedEvent::Admin(Act::Revoke(*request)), out)
-            }
-            Event::Close => self.take(BorrowedEvent::Admin(Act::Close), out),
         }
     }
 
@@ -268,12 +201,17 @@ impl Machine {
         ensures refused { IsRefusedBy (join_refusal self.old user) result }
         ensures left { IfErr result (Left self.old (Join user) self.new [] []) }
     {
-        let n = (self.joins() + 1) as u32;
-        let mut out = Vec::new(self.state.members.allocator());
-        match self.take(BorrowedEvent::Join(user), &mut out) {
-            Ok(()) => Ok(n),
-            Err(refusal) => Err(refusal),
+        match self.join_refusal(user) {
+            Some(refusal) => return Err(refusal),
+            None => {}
         }
+        what_is_shown_fits();
+        let n = (self.joins() + 1) as u32;
+        // Whatever breaks the event off leaves it so.
+        self.is_broken = true;
+        self.state.join(n, user)?;
+        self.is_broken = false;
+        Ok(n)
     }
 
     /// Takes the message of a member, and appends what it tells the members to `out`, by ascending
@@ -285,7 +223,15 @@ impl Machine {
         ensures left { IfErr result
             (Left self.old (Message n frame.now) self.new out.old.items out.new.items) }
     {
-        self.take(BorrowedEvent::Message(n, frame), out)
+        match self.member_refusal(n) {
+            Some(refusal) => return Err(refusal),
+            None => {}
+        }
+        what_is_shown_fits();
+        self.is_broken = true;
+        self.state.message(n, frame, out)?;
+        self.is_broken = false;
+        Ok(())
     }
 
     /// Takes it that a member has left, and appends what that tells the others to `out`, by
@@ -298,7 +244,15 @@ impl Machine {
         ensures left { IfErr result
             (Left self.old (Leave n) self.new out.old.items out.new.items) }
     {
-        self.take(BorrowedEvent::Leave(n), out)
+        match self.member_refusal(n) {
+            Some(refusal) => return Err(refusal),
+            None => {}
+        }
+        what_is_shown_fits();
+        self.is_broken = true;
+        self.state.leave(n, out)?;
+        self.is_broken = false;
+        Ok(())
     }
 
     /// Does what the administrator does, and appends what that tells the members to `out`, by
@@ -311,6 +265,17 @@ impl Machine {
         ensures left { IfErr result
             (Left self.old (event_of_act act) self.new out.old.items out.new.items) }
     {
-        self.take(BorrowedEvent::Admin(act), out)
+        match self.act_refusal(&act) {
+            Some(refusal) => return Err(refusal),
+            None => {}
+        }
+        what_is_shown_fits();
+        self.is_broken = true;
+        match act {
+            Act::Revoke(request) => self.state.revoke(request, out)?,
+            Act::Close => self.state.close(),
+        }
+        self.is_broken = false;
+        Ok(())
     }
 }

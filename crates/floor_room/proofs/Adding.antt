@@ -1,10 +1,12 @@
 -- One more event of a room.
 use Rattle.std.proofs.Common.{◌≡◌, ◌⊎◌, ℕ, suc, ◌+◌, ◌*◌, ◌<◌, ◌≤◌, inl, inr, Bool, true, false, cond, List, [], ◌∷◌, ◌++◌, length, Option, Some, None, refl, sym, ap, subst, ◌∙◌, arith, append_assoc, append-nil, length-append}
 use Rattle.std.specs.Prelude.{◌==◌, Err}
+use Rattle.std.specs.Option.{option_map_or}
 use Rattle.std.proofs.lemmas.List.Elements.{filter-append}
 use Rattle.floor_config.specs.Configuration.{Configuration}
 use Rattle.floor_machine.specs.declared.event.Event.{Event}
-use Rattle.floor_machine.specs.declared.event.Event.TheVariants.{Join, Message, Leave, Revoke, Close}
+use Rattle.floor_machine.specs.declared.event.Event.TheVariants.{Join}
+use Rattle.floor_machine.specs.Events.{joiner}
 use Rattle.floor_machine.specs.Parcel.{Parcel}
 use Rattle.floor_machine.specs.declared.machine.Refusal.TheVariants.{Broken, Ended, NoMember, NoUser, Full, NoRequest, Memory}
 use Rattle.floor_machine.specs.Conference.{Conference, opening}
@@ -69,11 +71,11 @@ are_sent-push config es n (o ∷ os) few h = (h.0, are_sent-push config es (n + 
 
 are_sent-joined : (config : Configuration) (es : List Event) (e : Event) (os : List Outbox) → length os ≡ length (after config es).members →
     AreSent config es false 1 os → AreSent config es false 1 (os ++ joined e)
-are_sent-joined config es (Join user) os same h = are_sent-push config es 1 os (omega arith) h
-are_sent-joined config es (Message n bytes) os same h = subst (AreSent config es false 1) (sym (append-nil os)) h
-are_sent-joined config es (Leave n) os same h = subst (AreSent config es false 1) (sym (append-nil os)) h
-are_sent-joined config es (Revoke request) os same h = subst (AreSent config es false 1) (sym (append-nil os)) h
-are_sent-joined config es Close os same h = subst (AreSent config es false 1) (sym (append-nil os)) h
+are_sent-joined config es e os same h = by (joiner e)
+  where
+    by : (o : Option ℕ) → AreSent config es false 1 (os ++ option_map_or (λ user. empty_outbox ∷ []) o [])
+    by None = subst (AreSent config es false 1) (sym (append-nil os)) h
+    by (Some user) = are_sent-push config es 1 os (omega arith) h
 
 -- where an event is broken off, what was sent is
 are_sent-broken : (config : Configuration) (es : List Event) (b : Bool) (n : ℕ) (os : List Outbox) → AreSent config es b n os → AreSent config es true n os
@@ -104,11 +106,11 @@ counted-append k [] more h m = m
 counted-append k (o ∷ os) more h m = (h.0, counted-append k os more h.1 m)
 
 counted-joined : (k : ℕ) (e : Event) → AreCounted k (joined e)
-counted-joined k (Join user) = (omega arith, tt)
-counted-joined k (Message n bytes) = tt
-counted-joined k (Leave n) = tt
-counted-joined k (Revoke request) = tt
-counted-joined k Close = tt
+counted-joined k e = by (joiner e)
+  where
+    by : (o : Option ℕ) → AreCounted k (option_map_or (λ user. empty_outbox ∷ []) o [])
+    by None = tt
+    by (Some user) = (omega arith, tt)
 
 -- a room after an event of which these parcels are queued
 pub room-event : (r : Room) (e : Event) (put rest : List Parcel) (b : Bool) → IsRoom r → r.ledger.is_broken ≡ false → length r.ledger.journal < 1000000 →

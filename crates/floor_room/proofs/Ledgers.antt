@@ -6,9 +6,10 @@ use Rattle.std.proofs.lemmas.List.Sums.{count_by-le-length}
 use Rattle.floor_machine.specs.declared.event.Event.{Event}
 use Rattle.floor_machine.specs.declared.machine.Refusal.TheVariants.{Broken, Ended}
 use Rattle.floor_machine.specs.Conference.{opening}
-use Rattle.floor_machine.specs.Change.{IsLawful, next}
+use Rattle.floor_machine.specs.Change.{IsLawful}
 use Rattle.floor_machine.specs.Journal.{IsJournal}
 use Rattle.floor_machine.specs.Machine.{Machine, whole}
+use Rattle.floor_machine.specs.Next.{next}
 use Rattle.floor_machine.proofs.Runs.{after_from-more, lawful-more, members-after}
 use Rattle.floor_room.specs.declared.refusal.RoomRefusal.{RoomRefusal}
 use Rattle.floor_room.specs.declared.refusal.RoomRefusal.TheVariants.{JournalFull, Refused}

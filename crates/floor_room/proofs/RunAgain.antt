@@ -11,11 +11,12 @@ use Rattle.floor_machine.specs.Parcel.{Parcel}
 use Rattle.floor_machine.specs.declared.machine.Refusal.{Refusal}
 use Rattle.floor_machine.specs.declared.machine.Refusal.TheVariants.{Broken, Ended, NoMember, NoUser, Full, NoRequest, Memory}
 use Rattle.floor_machine.specs.Conference.{Conference, opening}
-use Rattle.floor_machine.specs.Change.{IsLawful, next}
+use Rattle.floor_machine.specs.Change.{IsLawful}
 use Rattle.floor_machine.specs.Journal.{IsJournal, IsLawfulFrom, Q, after, after_from, parcel, parcels_of, parcels_from, sent_to, told_from}
 use Rattle.floor_machine.specs.Outgoing.{Outgoing, outgoing_bytes}
 use Rattle.floor_machine.specs.Laws.{IsWhole}
 use Rattle.floor_machine.specs.Machine.{Machine, IsRefusedBy, event_refusal, whole}
+use Rattle.floor_machine.specs.Next.{next}
 use Rattle.floor_machine.proofs.Lawful.{taken_is_lawful}
 use Rattle.floor_machine.proofs.Runs.{after_from-more, parcels_from-more, lawful-more, members-after}
 use Rattle.floor_machine.proofs.Sent.{sent_is_told}

@@ -1,9 +1,10 @@
 -- One conference as it is kept: what a room is seen as, and what holds of each room.
 use Rattle.std.specs.Prelude.{◌≡◌, ℕ, ◌+◌, List, [], ◌∷◌, ◌++◌, length, map, Bool, false}
+use Rattle.std.specs.Option.{option_map_or}
 use Rattle.floor_config.specs.Configuration.{Configuration}
 use Rattle.floor_machine.specs.Conference.{opening}
 use Rattle.floor_machine.specs.declared.event.Event.{Event}
-use Rattle.floor_machine.specs.declared.event.Event.TheVariants.{Join, Message, Leave, Revoke, Close}
+use Rattle.floor_machine.specs.Events.{joiner}
 use Rattle.floor_machine.specs.Parcel.{Parcel}
 use Rattle.floor_machine.specs.Journal.{IsJournal, parcel, told_from}
 use Rattle.floor_room.specs.Ledger.{Ledger, broken_off, conference_of, new_ledger}
@@ -24,11 +25,7 @@ broken_room r = record { ledger = broken_off r.ledger; outboxes = r.outboxes }
 
 -- the outbox that an event adds: that of the member that joins
 abbrev pub joined : Event → List Outbox
-joined (Join user) = empty_outbox ∷ []
-joined (Message n bytes) = []
-joined (Leave n) = []
-joined (Revoke request) = []
-joined Close = []
+joined e = option_map_or (λ user. empty_outbox ∷ []) (joiner e) []
 
 -- what a journal calls for at n, as parcels
 abbrev pub parcels_to : Configuration → List Event → ℕ → List Parcel

@@ -4,28 +4,10 @@ ghost use Rattle.std.specs.Prelude.{◌≡◌, IfOk, string_bytes};
 ghost use Rattle.floor_room.specs.Text.{journal_text, line};
 
 use floor_machine::Event;
-use floor_wire::Copies;
 use std::alloc::{AllocError, Global};
 
 /// The place of an event in the journal, from 1.
 pub type Place = u32;
-
-/// The event, with an exact copy of its message, so that no buffer that it was cut from stays
-/// alive by it.
-pub(crate) fn exact(copies: &mut Copies, event: Event) -> Result<Event, AllocError>
-    ensures { IfOk result (λ kept. kept ≡ event) }
-{
-    match event {
-        Event::Join { user } => Ok(Event::Join { user }),
-        Event::Message { n, frame } => {
-            let frame = copies.copy(&frame)?;
-            Ok(Event::Message { n, frame })
-        }
-        Event::Leave { n } => Ok(Event::Leave { n }),
-        Event::Revoke { request } => Ok(Event::Revoke { request }),
-        Event::Close => Ok(Event::Close),
-    }
-}
 
 /// The lines of a journal: the place of each event and what happened; then `end` and their number.
 ///

@@ -5,7 +5,6 @@ ghost use Rattle.floor_machine.specs.Journal.{IsJournal};
 ghost use Rattle.floor_room.specs.Ledger.{Added, IsRefusedBy, Unadded, broken_off, closed, new_ledger, refusal};
 ghost use Rattle.floor_room.specs.Status.{IsStatus};
 
-use crate::journal::exact;
 use crate::refusal::RoomRefusal;
 use crate::status::{Status, narrowed, phase_of};
 use floor_machine::{Config, Event, MAX_EVENTS, Machine, Parcel, Refusal};
@@ -123,7 +122,7 @@ impl Ledger {
         }
         // Whatever breaks the event off leaves it so.
         self.is_broken = true;
-        let kept = exact(&mut self.copies, event)?;
+        let kept = event.exact(&mut self.copies)?;
         self.journal.reserve(1)?;
         self.journal.push_reserved(kept);
         self.is_broken = false;

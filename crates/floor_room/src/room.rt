@@ -151,10 +151,7 @@ impl Room {
         ensures refused { IsRefusedBy (refusal self.old.ledger (event_of_act act)) result }
         ensures left { IfErr result (Left self.old self.new (event_of_act act)) }
     {
-        match act {
-            Act::Revoke(request) => self.add(Event::Revoke { request }),
-            Act::Close => self.add(Event::Close),
-        }
+        self.add(Event::of(act))
     }
 
     /// How many members ever joined. Takes no memory.

@@ -1,21 +1,24 @@
 -- One more event of a booth.
 use Rattle.std.proofs.Common.{◌≡◌, ◌⊎◌, ⊎_elim, ℕ, zero, suc, ◌+◌, ◌-◌, ◌<◌, ◌≤◌, Bool, true, false, true≢false, List, [], ◌∷◌, ◌++◌, length, get_or, Option, Some, None, refl, sym, ap, subst, ◌∙◌, arith, append_assoc, append-nil, length-append, add-one}
 use Rattle.std.specs.Prelude.{◌==◌, is_some, slice_set, IsSomeAnd, OnOk, OnErr, Result, Ok, Err}
+use Rattle.std.specs.Option.{option_map_or}
 use Rattle.std.specs.Result.{IsErrAnd}
 use Rattle.std.proofs.lemmas.List.Elements.{filter-append}
 use Rattle.floor_config.specs.Configuration.{Configuration}
 use Rattle.floor_machine.specs.declared.event.Event.{Event}
-use Rattle.floor_machine.specs.declared.event.Event.TheVariants.{Join, Message, Leave, Revoke, Close}
+use Rattle.floor_machine.specs.Events.{joiner}
 use Rattle.floor_machine.specs.Parcel.{Parcel}
 use Rattle.floor_machine.specs.Conference.{Conference, opening, is_live}
-use Rattle.floor_machine.specs.Change.{IsLawful, next}
+use Rattle.floor_machine.specs.Change.{IsLawful}
 use Rattle.floor_machine.specs.Journal.{IsLawfulFrom, after, parcels_of, sent_to}
 use Rattle.floor_machine.proofs.Runs.{after_from-more, members-after}
 use Rattle.floor_machine.specs.Membership.{joins}
 use Rattle.floor_machine.proofs.Staying as members
 use Rattle.floor_machine.specs.declared.machine.Refusal.TheVariants.{Broken, Ended, NoMember, NoUser, Full, NoRequest, Memory}
+use Rattle.floor_machine.specs.Next.{next}
 use Rattle.floor_room.specs.declared.refusal.RoomRefusal.{RoomRefusal}
 use Rattle.floor_room.specs.declared.refusal.RoomRefusal.TheVariants.{JournalFull, Refused}
+use Rattle.floor_room.specs.Outbox.{empty_outbox}
 use Rattle.floor_room.specs.Room.{joined, parcels_to}
 use Rattle.floor_room.specs.Ledger.{Ledger, Added, IsRefusedBy, Unadded, conference_of, with_entry}
 use Rattle.floor_room.proofs.Adding.{parcels_to-more}
@@ -116,11 +119,11 @@ sender-end : (n : ℕ) (os more : List (Option Sender)) → AreNew more → 0 < 
 sender-end n os more new h e = subst (λ (k : ℕ). is_some (sender_of (os ++ more) k) ≡ true) (sym (e ∙ add-one (length os))) (some-end os more new h)
 
 length-joins : (e : Event) → joins e ≡ length (joined e)
-length-joins (Join user) = refl
-length-joins (Message n bytes) = refl
-length-joins (Leave n) = refl
-length-joins (Revoke request) = refl
-length-joins Close = refl
+length-joins e = by (joiner e)
+  where
+    by : (o : Option ℕ) → option_map_or (λ user. 1) o 0 ≡ length (option_map_or (λ user. empty_outbox ∷ []) o [])
+    by None = refl
+    by (Some user) = refl
 
 -- who is live after an event has its sender
 seated-more : (b : Booth) (e : Event) (put : List Parcel) (more : List (Option Sender)) (n : ℕ) → IsBooth b → IsOpen b.ledger → AreNew more → length more ≡ length (joined e) →

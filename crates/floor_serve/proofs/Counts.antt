@@ -1,6 +1,7 @@
 -- A part of what a journal has of a member, and the messages that are counted.
 use Rattle.std.proofs.Common.{◌≡◌, ℕ, zero, suc, ◌+◌, ◌-◌, ◌<◌, ◌≤◌, Bool, true, false, List, [], ◌∷◌, ◌++◌, length, get_or, drop, take, refl, sym, ap, subst, ◌∙◌, arith, append_assoc, length-append, add-one}
-use Rattle.std.specs.Prelude.{◌==◌, nat_eq, nat_lt, if◌then◌else◌, slice_get}
+use Rattle.std.specs.Prelude.{◌==◌, nat_eq, nat_lt, if◌then◌else◌, slice_get, Some, None}
+use Rattle.std.specs.Option.{option_map_or}
 use Rattle.std.proofs.lemmas.Bool.Decides.{nat_tests}
 use Rattle.floor_machine.specs.declared.event.Event.{Event}
 use Rattle.floor_machine.specs.declared.event.Event.TheVariants.{Join, Message, Leave, Revoke, Close}
@@ -85,10 +86,7 @@ is-true a b e = grind (arith, nat_tests)
 counts : (b n m place : ℕ) (bytes : List ℕ) → b ≤ n → lower_count b (Message m bytes) + length (sent_at place (Message m bytes) n) ≤ lower_count (n + 1) (Message m bytes)
 counts b n m place bytes h = by (nat_lt m b) (m == n) (nat_lt m (n + 1)) refl refl refl
   where
-    entry : Sent
-    entry = record { place = place; bytes = bytes }
-
-    by : (x y z : Bool) → nat_lt m b ≡ x → (m == n) ≡ y → nat_lt m (n + 1) ≡ z → (if x then 1 else 0) + length (if y then entry ∷ [] else []) ≤ (if z then 1 else 0)
+    by : (x y z : Bool) → nat_lt m b ≡ x → (m == n) ≡ y → nat_lt m (n + 1) ≡ z → (if x then 1 else 0) + length {A = Sent} (option_map_or (λ bs. record { place = place; bytes = bs } ∷ []) (if y then Some bytes else None) []) ≤ (if z then 1 else 0)
     by true true z e f g = absurd (omega (arith, lt-true m b e, is-true m n f))
     by true false true e f g = omega arith
     by true false false e f g = absurd (omega (arith, lt-true m b e, lt-false m (n + 1) g))

@@ -4,7 +4,8 @@ use Rattle.std.specs.Prelude.{◌==◌, is_some}
 use Rattle.floor_machine.specs.declared.event.Event.TheVariants.{Leave}
 use Rattle.floor_machine.specs.declared.member.Member.{Member}
 use Rattle.floor_machine.specs.Conference.{Conference, opening, is_live, member_with}
-use Rattle.floor_machine.specs.Change.{change, next, leaving}
+use Rattle.floor_machine.specs.Change.{change, settled, leaving}
+use Rattle.floor_machine.specs.Next.{next}
 use Rattle.floor_machine.proofs.Runs.{after_from-more}
 use Rattle.floor_room.specs.Ledger.{Ledger, conference_of, with_entry}
 use Rattle.floor_room.specs.declared.status.Phase.TheVariants.{Running}
@@ -23,7 +24,7 @@ gone-members n (m ∷ ms) = by (m.n == n) refl (gone-members n ms)
     by false e h = rw e h
 
 gone-next : (s : Conference) (n : ℕ) → is_live (next s (Leave n)) n ≡ false
-unfolding next change
+unfolding settled change
 gone-next s n = gone-members n s.members
 
 -- who has left isn't live

@@ -219,14 +219,11 @@ impl Booth {
         ensures refused { IsRefusedBy (refusal self.old.ledger (event_of_act act)) result }
         ensures left { IfErr result (Left self.old self.new (event_of_act act)) }
     {
-        match act {
-            Act::Revoke(request) => self.add(rt, Event::Revoke { request }),
-            Act::Close => {
-                self.add(rt, Event::Close)?;
-                close_all(&self.senders);
-                Ok(())
-            }
+        self.add(rt, Event::of(act))?;
+        if self.is_closed() {
+            close_all(&self.senders);
         }
+        Ok(())
     }
 
     /// Both ends of the outbox of a member that isn't live any more, or of any where the conference
@@ -260,9 +257,12 @@ impl Booth {
 fn last_message(journal: &[Event]) -> Result<Option<Frame>, AllocError>
     ensures { IfOk result (λ last. last ≡ last_message journal.now) }
 {
-    match journal.last() {
-        Some(Event::Message { frame, .. }) => Ok(Some(frame.share()?)),
-        Some(_) | None => Ok(None),
+    let Some(event) = journal.last() else {
+        return Ok(None);
+    };
+    match event.message() {
+        Some(frame) => Ok(Some(frame.share()?)),
+        None => Ok(None),
     }
 }
 

@@ -68,14 +68,9 @@ fn behind(journal: &[Event], at: usize, n: u32, entry: &Sent) -> Option<usize>
 fn is_sent(event: &Event, n: u32, entry: &Sent) -> bool
     ensures { result ≡ true → sent_at entry.now.place event.now n ≡ entry.now ∷ [] }
 {
-    match event {
-        Event::Message { n: m, frame } => {
-            if *m != n {
-                return false;
-            }
-            is_entry(entry, entry.place as usize, frame.bytes())
-        }
-        Event::Join { .. } | Event::Leave { .. } | Event::Revoke { .. } | Event::Close => false,
+    match event.message_of(n) {
+        Some(frame) => is_entry(entry, entry.place as usize, frame.bytes()),
+        None => false,
     }
 }
 
@@ -95,8 +90,8 @@ fn message_count(event: &Event) -> usize
     ensures value { result ≡ message_count event.now }
     ensures one { result ≤ 1 }
 {
-    match event {
-        Event::Message { .. } => 1,
-        Event::Join { .. } | Event::Leave { .. } | Event::Revoke { .. } | Event::Close => 0,
+    match event.message() {
+        Some(_frame) => 1,
+        None => 0,
     }
 }

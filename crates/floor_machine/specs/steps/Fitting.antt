@@ -13,7 +13,7 @@ use Rattle.floor_machine.specs.declared.tell.changed.FloorUpdate.{FloorUpdate}
 use Rattle.floor_machine.specs.declared.event.Event.{Event}
 use Rattle.floor_machine.specs.Conference.{Conference}
 use Rattle.floor_machine.specs.Outgoing.{Outgoing}
-use Rattle.floor_machine.specs.Told.{told}
+use Rattle.floor_machine.specs.Told.{due}
 
 -- the numbers of a floor request and of its users are of 16 bits
 pub record HasNumbers (r : Request) : Type 0 where
@@ -47,6 +47,6 @@ AreFloorsShown updates = All (λ u. IsShown u.tell) updates
 abbrev pub AreMessagesShown : List Outgoing → Type 0
 AreMessagesShown messages = All (λ message. IsShown message.tell) messages
 
--- each message that the event tells a member shows no more than a conference has
+-- each message that is due to a member after the event shows no more than a conference has
 abbrev pub IsToldShown : Conference → Event → Type 0
-IsToldShown s e = (n : ℕ) → AreMessagesShown (told s e n)
+IsToldShown s e = (n : ℕ) → AreMessagesShown (due s e n)

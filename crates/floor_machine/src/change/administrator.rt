@@ -12,7 +12,7 @@ use crate::conference::State;
 impl State {
     /// The conference ends: no request is ongoing any more, and nobody is told. Takes no memory.
     pub(crate) fn close(&mut self)
-        ensures next { conference_of self.new ≡ change.next (conference_of self.old) Close }
+        ensures next { conference_of self.new ≡ change.settled (conference_of self.old) Close }
         ensures told { parcels_of (conference_of self.old) Close ≡ [] }
         ensures shown { IsToldShown (conference_of self.old) Close }
         ensures rest { IsAtRest self.new }

@@ -22,7 +22,7 @@ impl State {
     pub(crate) fn join(&mut self, n: u32, user: u16) -> Result<(), AllocError>
         requires { n ≡ length self.old.members + 1 }
         ensures next { IsAtRest self.old → OnOk result (conference_of self.new
-            ≡ change.next (conference_of self.old) (Join user)) }
+            ≡ change.settled (conference_of self.old) (Join user)) }
         ensures told { IsAtRest self.old
             → OnOk result (parcels_of (conference_of self.old) (Join user) ≡ []) }
         ensures shown { IsAtRest self.old

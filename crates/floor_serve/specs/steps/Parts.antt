@@ -1,7 +1,9 @@
 -- A part of what a journal has of a member, and how many messages it has.
 use Rattle.std.specs.Prelude.{◌≡◌, ℕ, ◌+◌, ◌-◌, ◌≤◌, ◌<◌, nat_lt, if◌then◌else◌, List, [], ◌∷◌, length, slice_get, slice_index_or, IfSome}
+use Rattle.std.specs.Option.{option_map_or}
 use Rattle.floor_machine.specs.declared.event.Event.{Event}
-use Rattle.floor_machine.specs.declared.event.Event.TheVariants.{Join, Message, Leave, Revoke, Close}
+use Rattle.floor_machine.specs.declared.event.Event.TheVariants.{Message}
+use Rattle.floor_machine.specs.Events.{message}
 use Rattle.floor_serve.specs.Fits.{messages_of, sent_at}
 use Rattle.floor_serve.specs.Seat.{Seat}
 use Rattle.floor_serve.specs.declared.seat.Sent.{Sent}
@@ -19,19 +21,12 @@ pub record StandsAt (journal : List Event) (at n : ℕ) (entry : Sent) (next : �
 
 -- how many messages an event is
 abbrev pub message_count : Event → ℕ
-message_count (Message n bytes) = 1
-message_count (Join user) = 0
-message_count (Leave n) = 0
-message_count (Revoke request) = 0
-message_count Close = 0
+message_count e = option_map_or (λ bytes. 1) (message e) 0
 
 -- the same, if its member's number is below a bound
 abbrev pub lower_count : ℕ → Event → ℕ
 lower_count bound (Message n bytes) = if nat_lt n bound then 1 else 0
-lower_count bound (Join user) = 0
-lower_count bound (Leave n) = 0
-lower_count bound (Revoke request) = 0
-lower_count bound Close = 0
+lower_count bound _ = 0
 
 -- how many messages a journal has
 abbrev pub messages_in : List Event → ℕ

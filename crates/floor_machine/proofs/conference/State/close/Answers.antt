@@ -2,13 +2,13 @@ use Rattle.std.proofs.Common.{ap, false, ◌∙◌}
 use Rattle.floor_queue.specs.Queue.{Queue}
 use Rattle.floor_machine.specs.steps.Serving.{conference_of, with_requests}
 use Rattle.floor_machine.proofs.Bounds.{close-shown}
-use Rattle.floor_machine.proofs.Quiet.{next-close, parcels_of-close}
+use Rattle.floor_machine.proofs.Quiet.{settled-close, parcels_of-close}
 use Rattle.floor_machine.proofs.conference.State.close.Goals as goal
 
 pub returns-clause-next : goal.returns-clause-next
 returns-clause-next c =
     let s = c.args.self.now in
-    ap (λ (q : Queue). record (with_requests (conference_of s) q) { is_open = false }) c.clear.ensures ∙ next-close (conference_of s)
+    ap (λ (q : Queue). record (with_requests (conference_of s) q) { is_open = false }) c.clear.ensures ∙ settled-close (conference_of s)
 
 pub returns-clause-told : goal.returns-clause-told
 returns-clause-told c = parcels_of-close (conference_of c.args.self.now)

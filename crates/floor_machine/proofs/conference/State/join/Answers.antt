@@ -8,8 +8,8 @@ use Rattle.floor_machine.specs.steps.Fitting.{AreMessagesShown}
 use Rattle.floor_machine.specs.Outgoing.{Outgoing}
 use Rattle.floor_machine.specs.steps.Serving.{conference_of}
 use Rattle.floor_machine.proofs.Asked.{on_ok, on_ok_all}
-use Rattle.floor_machine.proofs.Joining.{next-join}
-use Rattle.floor_machine.proofs.Quiet.{parcels_of-join, told_of-join}
+use Rattle.floor_machine.proofs.Joining.{settled-join}
+use Rattle.floor_machine.proofs.Quiet.{parcels_of-join, due_of-join}
 use Rattle.floor_machine.proofs.conference.State.join.Goals as goal
 
 pub returns-clause-next : goal.returns-clause-next
@@ -18,7 +18,7 @@ returns-clause-next c rest =
     let P : List Floor → Type 0 = λ fs. settle fs s.ongoing ≡ s.ongoing in
     on_ok c.join.result (λ joins. ap (λ (ms : List Member). record s { members = ms }) joins
     ∙ ap (λ (k : ℕ). record s { members = s.members ++ record { n = k; user = c.args.user; watched = []; is_live = true } ∷ [] }) c.requires
-    ∙ next-join s c.args.user (subst P c.args.self.now.same_floors rest.settled)) c.join.ensures.next
+    ∙ settled-join s c.args.user (subst P c.args.self.now.same_floors rest.settled)) c.join.ensures.next
 
 pub returns-clause-told : goal.returns-clause-told
 returns-clause-told c rest =
@@ -30,5 +30,5 @@ pub returns-clause-shown : goal.returns-clause-shown
 returns-clause-shown c rest =
     let s = conference_of c.args.self.now in
     let P : List Floor → Type 0 = λ fs. settle fs s.ongoing ≡ s.ongoing in
-    on_ok_all c.join.result (λ n. subst AreMessagesShown (sym (told_of-join s c.args.user (subst P c.args.self.now.same_floors rest.settled) c.ongoing-ongoing.ensures.kept.ascending n))
+    on_ok_all c.join.result (λ n. subst AreMessagesShown (sym (due_of-join s c.args.user (subst P c.args.self.now.same_floors rest.settled) c.ongoing-ongoing.ensures.kept.ascending n))
     (All-nil (λ (message : Outgoing). IsShown message.tell)))

@@ -13,7 +13,7 @@ use Rattle.floor_machine.specs.declared.event.Event.{Event}
 use Rattle.floor_machine.specs.declared.event.Event.TheVariants.{Message}
 use Rattle.floor_machine.specs.Parcel.{Parcel}
 use Rattle.floor_machine.specs.Conference.{Conference, binding, user_of}
-use Rattle.floor_machine.specs.Change.{change, next}
+use Rattle.floor_machine.specs.Change.{change, settled}
 use Rattle.floor_machine.specs.Told.{reply_to}
 use Rattle.floor_machine.specs.steps.Fitting.{AreAddable, AreUpdatesShown}
 use Rattle.floor_machine.specs.steps.Serving.{IsChanged, IsTaken, conference_of, is_rising, judged, judged_change, judged_tells, with_requests}
@@ -22,8 +22,8 @@ use Rattle.floor_machine.proofs.Addable.{judged_addable, queue_addable}
 use Rattle.floor_machine.proofs.Asked.{on_ok, on_ok_all}
 use Rattle.floor_machine.proofs.Bounds.{served-shown}
 use Rattle.floor_machine.proofs.Courses.{course-changed}
-use Rattle.floor_machine.proofs.Kept.{next-message, parcels-message, replied-message, shown-message}
-use Rattle.floor_machine.proofs.Served.{change-judged, settled-state, ended-shown, next-config, numbers-shown, reply-answered, parcels-served}
+use Rattle.floor_machine.proofs.Kept.{settled-message, parcels-message, replied-message, shown-message}
+use Rattle.floor_machine.proofs.Served.{change-judged, settled-state, ended-shown, settled-config, numbers-shown, reply-answered, parcels-served}
 use Rattle.floor_machine.proofs.Settled.{IsSettledTo, floors-shown, parcels-settled}
 use Rattle.floor_machine.proofs.conference.State.message.Goals as goal
 
@@ -80,7 +80,7 @@ returns-in-Some-clause-next c =
     let changed : IsChanged s (judged_change s n j) (conference_of before) course = taken.0 in
     let changes : change s e ≡ judged_change s n j = change-judged s n bytes a refl ∙ ap (judged_change s n) (sym is_judged) in
     let t : Conference = with_requests (conference_of before) (after_settle before.requests) in
-    let is_next : t ≡ next s e = settled-state s e (judged_change s n j) before course (after_settle before.requests) changes changed refl in
+    let is_next : t ≡ settled s e = settled-state s e (judged_change s n j) before course (after_settle before.requests) changes changed refl in
     let done = c.in_ok-changes-in-Some.ensures in
     let to : IsSettledTo before after course c.in_ok-changes-in-Some.changes = record { next = done.next; shows = done.rest.shows; updates = done.updates; floors = done.floors } in
     on_ok_all c.tell.result (to.next ∙ is_next)
@@ -106,19 +106,19 @@ returns-in-Some-clause-out c =
     let changed : IsChanged s (judged_change s n j) (conference_of before) course = taken.0 in
     let changes : change s e ≡ judged_change s n j = change-judged s n bytes a refl ∙ ap (judged_change s n) (sym is_judged) in
     let t : Conference = with_requests (conference_of before) (after_settle before.requests) in
-    let is_next : t ≡ next s e = settled-state s e (judged_change s n j) before course (after_settle before.requests) changes changed refl in
+    let is_next : t ≡ settled s e = settled-state s e (judged_change s n j) before course (after_settle before.requests) changes changed refl in
     let done = c.in_ok-changes-in-Some.ensures in
     let to : IsSettledTo before after course c.in_ok-changes-in-Some.changes = record { next = done.next; shows = done.rest.shows; updates = done.updates; floors = done.floors } in
     let ended = ended-shown s e (judged_change s n j) (conference_of before) course changes changed in
     let numbers = numbers-shown s e (judged_change s n j) (conference_of before) course changes changed in
     let r : Reply = c.in_ok-reply-in-Some.reply in
-    let tells : r.tells ≡ judged_tells (next s e) course.ended.items (user_of s n) (judged s (user_of s n) a) =
+    let tells : r.tells ≡ judged_tells (settled s e) course.ended.items (user_of s n) (judged s (user_of s n) a) =
     c.in_ok-reply-in-Some.ensures.tells
     ∙ ap (λ (x : Conference). judged_tells x c.deref.result.now user j) to.next
     ∙ ap (λ (d : List Ended). judged_tells t d user j) (c.deref.ensures.value ∙ ap (λ x. x.items) c.settle.ensures.ended)
     ∙ ap (λ (x : Conference). judged_tells x course.ended.items user j) is_next
-    ∙ ap (λ (u : ℕ). judged_tells (next s e) course.ended.items u j) is_user
-    ∙ ap (judged_tells (next s e) course.ended.items (user_of s n)) is_judged in
+    ∙ ap (λ (u : ℕ). judged_tells (settled s e) course.ended.items u j) is_user
+    ∙ ap (judged_tells (settled s e) course.ended.items (user_of s n)) is_judged in
     let answered = reply-answered s n bytes r a course.ended.items refl ended (ap is_rising (sym numbers) ∙ changed.rising) c.in_ok-reply-in-Some.ensures.to c.in_ok-reply-in-Some.ensures.head tells in
     on_ok c.tell.result (λ told. told ∙ ap (λ (ps : List Parcel). c.args.out.now.items ++ ps)
     (parcels-settled before after course c.in_ok-changes-in-Some.changes (Some r) to
@@ -146,19 +146,19 @@ returns-in-Some-clause-shown c =
     let changed : IsChanged s (judged_change s n j) (conference_of before) course = taken.0 in
     let changes : change s e ≡ judged_change s n j = change-judged s n bytes a refl ∙ ap (judged_change s n) (sym is_judged) in
     let t : Conference = with_requests (conference_of before) (after_settle before.requests) in
-    let is_next : t ≡ next s e = settled-state s e (judged_change s n j) before course (after_settle before.requests) changes changed refl in
+    let is_next : t ≡ settled s e = settled-state s e (judged_change s n j) before course (after_settle before.requests) changes changed refl in
     let done = c.in_ok-changes-in-Some.ensures in
     let to : IsSettledTo before after course c.in_ok-changes-in-Some.changes = record { next = done.next; shows = done.rest.shows; updates = done.updates; floors = done.floors } in
     let ended = ended-shown s e (judged_change s n j) (conference_of before) course changes changed in
     let numbers = numbers-shown s e (judged_change s n j) (conference_of before) course changes changed in
     let r : Reply = c.in_ok-reply-in-Some.reply in
-    let tells : r.tells ≡ judged_tells (next s e) course.ended.items (user_of s n) (judged s (user_of s n) a) =
+    let tells : r.tells ≡ judged_tells (settled s e) course.ended.items (user_of s n) (judged s (user_of s n) a) =
     c.in_ok-reply-in-Some.ensures.tells
     ∙ ap (λ (x : Conference). judged_tells x c.deref.result.now user j) to.next
     ∙ ap (λ (d : List Ended). judged_tells t d user j) (c.deref.ensures.value ∙ ap (λ x. x.items) c.settle.ensures.ended)
     ∙ ap (λ (x : Conference). judged_tells x course.ended.items user j) is_next
-    ∙ ap (λ (u : ℕ). judged_tells (next s e) course.ended.items u j) is_user
-    ∙ ap (judged_tells (next s e) course.ended.items (user_of s n)) is_judged in
+    ∙ ap (λ (u : ℕ). judged_tells (settled s e) course.ended.items u j) is_user
+    ∙ ap (judged_tells (settled s e) course.ended.items (user_of s n)) is_judged in
     let answered = reply-answered s n bytes r a course.ended.items refl ended (ap is_rising (sym numbers) ∙ changed.rising) c.in_ok-reply-in-Some.ensures.to c.in_ok-reply-in-Some.ensures.head tells in
     on_ok c.tell.result (λ floors.
     served-shown s e t course (Some r) refl is_next ended numbers changed.rising (taken.1 ∙ c.requires.rest.shows.infos) answered c.in_ok-reply-in-Some.ensures.shown
@@ -181,8 +181,8 @@ returns-clause-next c =
     let T : Option Course → Type 0 = λ o. IsTaken S n j after o in
     let taken = subst T c.in-None.is c.in_ok-course.ensures.taken in
     let F : List Floor → Type 0 = λ fs. settle fs s.ongoing ≡ s.ongoing in
-    let settled : settle s.config.floors s.ongoing ≡ s.ongoing = subst F S.same_floors c.requires.rest.settled in
-    let is_next : conference_of after ≡ next s e = ap (λ (x : State). conference_of x) taken.1 ∙ next-message s n bytes j is_judged taken.0 settled in
+    let is_settled : settle s.config.floors s.ongoing ≡ s.ongoing = subst F S.same_floors c.requires.rest.settled in
+    let is_next : conference_of after ≡ settled s e = ap (λ (x : State). conference_of x) taken.1 ∙ settled-message s n bytes j is_judged taken.0 is_settled in
     on_ok_all c.tell_reply.result is_next
 
 pub returns-clause-out : goal.returns-clause-out
@@ -201,20 +201,20 @@ returns-clause-out c =
     let T : Option Course → Type 0 = λ o. IsTaken S n j after o in
     let taken = subst T c.in-None.is c.in_ok-course.ensures.taken in
     let F : List Floor → Type 0 = λ fs. settle fs s.ongoing ≡ s.ongoing in
-    let settled : settle s.config.floors s.ongoing ≡ s.ongoing = subst F S.same_floors c.requires.rest.settled in
-    let is_next : conference_of after ≡ next s e = ap (λ (x : State). conference_of x) taken.1 ∙ next-message s n bytes j is_judged taken.0 settled in
+    let is_settled : settle s.config.floors s.ongoing ≡ s.ongoing = subst F S.same_floors c.requires.rest.settled in
+    let is_next : conference_of after ≡ settled s e = ap (λ (x : State). conference_of x) taken.1 ∙ settled-message s n bytes j is_judged taken.0 is_settled in
     let r : Reply = c.in_ok-reply-in-None.reply in
-    let tells : r.tells ≡ judged_tells (next s e) [] (user_of s n) j =
+    let tells : r.tells ≡ judged_tells (settled s e) [] (user_of s n) j =
     c.in_ok-reply-in-None.ensures.tells
     ∙ ap (λ (x : Conference). judged_tells x [] user j) is_next
-    ∙ ap (λ (u : ℕ). judged_tells (next s e) [] u j) is_user in
+    ∙ ap (λ (u : ℕ). judged_tells (settled s e) [] u j) is_user in
     let ascending = c.ongoing-ongoing.ensures.kept.ascending in
     let replied : (k : ℕ) → answered_to (Some r) k ≡ reply_to s e k =
-    replied-message s n bytes j r is_judged taken.0 settled ascending c.in_ok-reply-in-None.ensures.to c.in_ok-reply-in-None.ensures.head tells in
+    replied-message s n bytes j r is_judged taken.0 is_settled ascending c.in_ok-reply-in-None.ensures.to c.in_ok-reply-in-None.ensures.head tells in
     on_ok c.tell_reply.result (λ told. told ∙ ap (λ (ps : List Parcel). c.args.out.now.items ++ ps)
     (ap (λ (x : Conference). parcels_to_all x.config.conference (Some r) [] [] x.members) is_next
-    ∙ ap (λ (config : Configuration). parcels_to_all config.conference (Some r) [] [] (next s e).members) (next-config s e)
-    ∙ parcels-message s n bytes j r is_judged taken.0 settled ascending c.allocator-alloc.ensures.kept replied))
+    ∙ ap (λ (config : Configuration). parcels_to_all config.conference (Some r) [] [] (settled s e).members) (settled-config s e)
+    ∙ parcels-message s n bytes j r is_judged taken.0 is_settled ascending c.allocator-alloc.ensures.kept replied))
     c.tell_reply.ensures.told
 
 pub returns-clause-shown : goal.returns-clause-shown
@@ -233,14 +233,14 @@ returns-clause-shown c =
     let T : Option Course → Type 0 = λ o. IsTaken S n j after o in
     let taken = subst T c.in-None.is c.in_ok-course.ensures.taken in
     let F : List Floor → Type 0 = λ fs. settle fs s.ongoing ≡ s.ongoing in
-    let settled : settle s.config.floors s.ongoing ≡ s.ongoing = subst F S.same_floors c.requires.rest.settled in
-    let is_next : conference_of after ≡ next s e = ap (λ (x : State). conference_of x) taken.1 ∙ next-message s n bytes j is_judged taken.0 settled in
+    let is_settled : settle s.config.floors s.ongoing ≡ s.ongoing = subst F S.same_floors c.requires.rest.settled in
+    let is_next : conference_of after ≡ settled s e = ap (λ (x : State). conference_of x) taken.1 ∙ settled-message s n bytes j is_judged taken.0 is_settled in
     let r : Reply = c.in_ok-reply-in-None.reply in
-    let tells : r.tells ≡ judged_tells (next s e) [] (user_of s n) j =
+    let tells : r.tells ≡ judged_tells (settled s e) [] (user_of s n) j =
     c.in_ok-reply-in-None.ensures.tells
     ∙ ap (λ (x : Conference). judged_tells x [] user j) is_next
-    ∙ ap (λ (u : ℕ). judged_tells (next s e) [] u j) is_user in
+    ∙ ap (λ (u : ℕ). judged_tells (settled s e) [] u j) is_user in
     let ascending = c.ongoing-ongoing.ensures.kept.ascending in
     let replied : (k : ℕ) → answered_to (Some r) k ≡ reply_to s e k =
-    replied-message s n bytes j r is_judged taken.0 settled ascending c.in_ok-reply-in-None.ensures.to c.in_ok-reply-in-None.ensures.head tells in
-    on_ok_all c.tell_reply.result (shown-message s n bytes j r is_judged taken.0 settled ascending replied c.in_ok-reply-in-None.ensures.shown)
+    replied-message s n bytes j r is_judged taken.0 is_settled ascending c.in_ok-reply-in-None.ensures.to c.in_ok-reply-in-None.ensures.head tells in
+    on_ok_all c.tell_reply.result (shown-message s n bytes j r is_judged taken.0 is_settled ascending replied c.in_ok-reply-in-None.ensures.shown)

@@ -18,4 +18,4 @@ invariant_of-self-2 c =
     ledger-taken l c.self.inside.machine c.apply.new.self c.args.event c.push_reserved.new.self.items c.self.invariant o c.in-Ok.ensures.took.lawful c.in-Ok.ensures.took.next
     (c.push_reserved.ensures.items
     ∙ ap (λ (j : List Event). j ++ c.in_ok-kept.kept ∷ []) c.in_ok-reserve.ensures.items
-    ∙ ap (λ (e : Event). c.self.inside.journal.items ++ e ∷ []) c.in_ok-kept.ensures)
+    ∙ ap (λ (e : Event). c.self.inside.journal.items ++ e ∷ []) c.in_ok-kept.ensures.value)
