@@ -2,6 +2,7 @@
 use Rattle.std.proofs.Common.{◌≡◌, inl, inr, ℕ, ◌+◌, Bool, true, false, List, [], ◌∷◌, ◌++◌, length, refl, sym, ◌∙◌, ap, subst, Some, None}
 use Rattle.std.specs.Prelude.{Option, ◌||◌, Result, Ok, Err, IfOk, MatchResult, OnOk, OnErr, nat_eq}
 use Rattle.std.proofs.lemmas.Option.{none-some}
+use Rattle.floor_machine.specs.declared.event.Event.{Event}
 use Rattle.floor_machine.specs.declared.machine.Refusal.TheVariants.{Broken, Ended, NoMember, NoUser, Full, NoRequest, Memory}
 use Rattle.floor_room.specs.declared.refusal.RoomRefusal.TheVariants.{JournalFull, Refused as ByMachine}
 use Rattle.floor_room.specs.Outbox.{Outbox}
@@ -95,34 +96,34 @@ untaken_more [] (p ∷ ps) q h = (q.0, untaken_more [] ps q.1 tt)
 untaken_more (o ∷ os) [] q h = absurd q
 untaken_more (o ∷ os) (p ∷ ps) q h = (q.0 ∙ h.0, untaken_more os ps q.2 h.1)
 
-whole_after : (shut_by why : Option HubRefusal) (r s : Room) → is_want why ≡ false → RoomAfter shut_by why r s → (r.ledger.is_broken ≡ false) × AreUntaken r.outboxes →
+whole_after : (shut_by why : Option HubRefusal) (own : List Event) (r s : Room) → is_want why ≡ false → RoomAfter shut_by why own r s → (r.ledger.is_broken ≡ false) × AreUntaken r.outboxes →
     (s.ledger.is_broken ≡ false) × AreUntaken s.outboxes
-whole_after shut_by why r s want after h = (after.broken ∙ ap (λ (b : Bool). b || is_want why) h.0 ∙ want, untaken_more r.outboxes s.outboxes after.outboxes h.1)
+whole_after shut_by why own r s want after h = (after.broken ∙ ap (λ (b : Bool). b || is_want why) h.0 ∙ want, untaken_more r.outboxes s.outboxes after.outboxes h.1)
 
-whole_in : (shut_by why : Option HubRefusal) (x y : Option Room) (s : Room) → is_want why ≡ false → RoomAfterIn shut_by why x y → ((r : Room) → x ≡ Some r → (r.ledger.is_broken ≡ false) × AreUntaken r.outboxes) →
+whole_in : (shut_by why : Option HubRefusal) (own : Room → List Event) (x y : Option Room) (s : Room) → is_want why ≡ false → RoomAfterIn shut_by why own x y → ((r : Room) → x ≡ Some r → (r.ledger.is_broken ≡ false) × AreUntaken r.outboxes) →
     y ≡ Some s → (s.ledger.is_broken ≡ false) × AreUntaken s.outboxes
-whole_in shut_by why None y s want after h is = absurd (none-some s (sym after.0 ∙ is))
-whole_in shut_by why (Some r) None s want after h is = absurd after
-whole_in shut_by why (Some r) (Some t) s want after h is = subst (λ (x : Room). (x.ledger.is_broken ≡ false) × AreUntaken x.outboxes) (same t s is) (whole_after shut_by why r t want after (h r refl))
+whole_in shut_by why own None y s want after h is = absurd (none-some s (sym after.0 ∙ is))
+whole_in shut_by why own (Some r) None s want after h is = absurd after
+whole_in shut_by why own (Some r) (Some t) s want after h is = subst (λ (x : Room). (x.ledger.is_broken ≡ false) × AreUntaken x.outboxes) (same t s is) (whole_after shut_by why (own r) r t want after (h r refl))
   where
     same : (x y : Room) → ◌≡◌ {A = Option Room} (Some x) (Some y) → x ≡ y
     same x y e = cc
 
-pub whole_one : (shut_by why : Option HubRefusal) (c : ℕ) (old new : Hub) → OneRoom shut_by why c old new → is_want why ≡ false → AreWhole old → AreWhole new
-whole_one shut_by why c old new one want h = λ d r is. by d r (nat_eq c d) refl is
+pub whole_one : (shut_by why : Option HubRefusal) (own : Room → List Event) (c : ℕ) (old new : Hub) → OneRoom shut_by why own c old new → is_want why ≡ false → AreWhole old → AreWhole new
+whole_one shut_by why own c old new one want h = λ d r is. by d r (nat_eq c d) refl is
   where
     by : (d : ℕ) (r : Room) (t : Bool) → nat_eq c d ≡ t → room_at new d ≡ Some r → (r.ledger.is_broken ≡ false) × AreUntaken r.outboxes
     by d r true e is =
         let same : c ≡ d = Rattle.std.proofs.lemmas.Bool.eqb-true c d e in
-        whole_in shut_by why (room_at old c) (room_at new c) r want one.own (h c) (ap (room_at new) same ∙ is)
+        whole_in shut_by why own (room_at old c) (room_at new c) r want one.own (h c) (ap (room_at new) same ∙ is)
     by d r false e is = h d r (sym (one.others d e) ∙ is)
 
 pub whole_same : (old new : Hub) → ((c : ℕ) → room_at new c ≡ room_at old c) → AreWhole old → AreWhole new
 whole_same old new same h = λ c r is. h c r (sym (same c) ∙ is)
 
-pub whole_of : (shut_by why : Option HubRefusal) (x : Option Connection) (old new : Hub) → RoomOf shut_by why x old new → is_want why ≡ false → AreWhole old → AreWhole new
-whole_of shut_by why None old new h want = whole_same old new h.0.rooms
-whole_of shut_by why (Some x) old new h want = whole_one shut_by why x.conference old new h want
+pub whole_of : (shut_by why : Option HubRefusal) (own : Connection → Room → List Event) (x : Option Connection) (old new : Hub) → RoomOf shut_by why own x old new → is_want why ≡ false → AreWhole old → AreWhole new
+whole_of shut_by why own None old new h want = whole_same old new h.0.rooms
+whole_of shut_by why own (Some x) old new h want = whole_one shut_by why (own x) x.conference old new h want
 
 pub whole_opens : (config : Configuration) (old new : Hub) → Opens config old new → AreWhole old → AreWhole new
 whole_opens config old new o h = λ d r is. by d r (nat_eq config.conference d) refl is

@@ -22,6 +22,7 @@ pub mod Arriving
 pub mod Given
 pub mod Closing
 pub mod RoomSteps
+pub mod Left
 pub mod Outboxes
 pub mod Waiting
 pub mod Entries

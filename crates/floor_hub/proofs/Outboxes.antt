@@ -5,14 +5,14 @@ use Rattle.std.proofs.lemmas.Bool.{eqb-true}
 use Rattle.std.proofs.lemmas.Option.{none-some}
 use Rattle.floor_config.specs.Configuration.{Configuration}
 use Rattle.floor_machine.specs.Parcel.{Parcel}
+use Rattle.floor_machine.specs.declared.event.Event.{Event}
 use Rattle.floor_room.specs.declared.outbox.NoMember.{NoMember}
 use Rattle.floor_room.specs.Outbox.{Outbox}
 use Rattle.floor_room.specs.Room.{Room, new_room}
 use Rattle.floor_room.specs.Taking.{Gave, GivesFrom, GivesHeld, after_take, outbox_of}
 use Rattle.floor_hub.specs.declared.refusal.HubRefusal.{HubRefusal}
 use Rattle.floor_hub.specs.declared.connection.Connection.{Connection}
-use Rattle.floor_hub.specs.Connections.{Connections, SameConnections, connection_at}
-use Rattle.floor_hub.specs.steps.Slots.{Puts}
+use Rattle.floor_hub.specs.Connections.{Connections, Puts, SameConnections, connection_at}
 use Rattle.floor_hub.specs.Hub.{Hub, room_at}
 use Rattle.floor_hub.specs.Rooms.{OneRoom, QueuesMore, RoomAfterIn, RoomOf, TakenOf}
 use Rattle.floor_hub.specs.StandsFor.{HasOutbox, HaveOutboxes}
@@ -72,22 +72,22 @@ grows-same y z e = subst (Grows y) (sym e) (by y)
     by (Some r) = omega arith
 
 -- where a call was for one room
-pub grows-one : (shut_by why : Option HubRefusal) (c : ℕ) (old new : Hub) → OneRoom shut_by why c old new → (d : ℕ) → Grows (room_at old d) (room_at new d)
-grows-one shut_by why c old new a d = by (nat_eq c d) refl
+pub grows-one : (shut_by why : Option HubRefusal) (own : Room → List Event) (c : ℕ) (old new : Hub) → OneRoom shut_by why own c old new → (d : ℕ) → Grows (room_at old d) (room_at new d)
+grows-one shut_by why own c old new a d = by (nat_eq c d) refl
   where
-    own : (y z : Option Room) → RoomAfterIn shut_by why y z → Grows y z
-    own None z a = tt
-    own (Some r) None a = absurd a
-    own (Some r) (Some s) a = more-outboxes r.outboxes s.outboxes a.outboxes
+    here : (y z : Option Room) → RoomAfterIn shut_by why own y z → Grows y z
+    here None z a = tt
+    here (Some r) None a = absurd a
+    here (Some r) (Some s) a = more-outboxes r.outboxes s.outboxes a.outboxes
 
     by : (b : Bool) → nat_eq c d ≡ b → Grows (room_at old d) (room_at new d)
-    by true e = subst (λ (i : ℕ). Grows (room_at old i) (room_at new i)) (eqb-true c d e) (own (room_at old c) (room_at new c) a.own)
+    by true e = subst (λ (i : ℕ). Grows (room_at old i) (room_at new i)) (eqb-true c d e) (here (room_at old c) (room_at new c) a.own)
     by false e = grows-same (room_at old d) (room_at new d) (a.others d e)
 
 -- where it was for a connection's room
-pub grows-of : (shut_by why : Option HubRefusal) (x : Option Connection) (old new : Hub) → RoomOf shut_by why x old new → (d : ℕ) → Grows (room_at old d) (room_at new d)
-grows-of shut_by why None old new a d = grows-same (room_at old d) (room_at new d) (a.0.rooms d)
-grows-of shut_by why (Some x) old new a d = grows-one shut_by why x.conference old new a d
+pub grows-of : (shut_by why : Option HubRefusal) (own : Connection → Room → List Event) (x : Option Connection) (old new : Hub) → RoomOf shut_by why own x old new → (d : ℕ) → Grows (room_at old d) (room_at new d)
+grows-of shut_by why own None old new a d = grows-same (room_at old d) (room_at new d) (a.0.rooms d)
+grows-of shut_by why own (Some x) old new a d = grows-one shut_by why (own x) x.conference old new a d
 
 -- where a conference opens
 pub grows-opened : {T : Type 0} (P : HubRefusal → Type 0) (res : Result T HubRefusal) (config : Configuration) (old new : Hub) →

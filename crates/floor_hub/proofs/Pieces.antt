@@ -15,8 +15,7 @@ use Rattle.floor_hub.specs.World.{messages_of}
 use Rattle.floor_hub.specs.declared.connection.Connection.{Connection}
 use Rattle.floor_hub.specs.declared.step.Step.TheVariants.{Piece}
 use Rattle.floor_hub.specs.declared.step.Answer.TheVariants.{Done, Refused}
-use Rattle.floor_hub.specs.Connections.{Connections, connection_at}
-use Rattle.floor_hub.specs.steps.Slots.{Puts}
+use Rattle.floor_hub.specs.Connections.{Connections, Puts, connection_at}
 use Rattle.floor_hub.specs.World as world
 use Rattle.floor_hub.specs.World.{Part, Arrival, World, Place, Turn, place, arrival, if_live, turn, turn_at, put, offer, aim}
 use Rattle.floor_hub.specs.StandsFor.{arrival_in, live_at, RoomStands, CameTo, ArrivalStands, NumberStands, Stands}

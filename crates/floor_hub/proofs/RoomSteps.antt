@@ -1,6 +1,6 @@
 -- What a call has done to its room, in the words of the hub.
-use Rattle.std.proofs.Common.{◌≡◌, inl, inr, ℕ, ◌+◌, Bool, true, false, cond, length, List, [], ◌∷◌, ◌++◌, refl, sym, ◌∙◌, ap, subst, append-nil, Some, None}
-use Rattle.std.specs.Prelude.{Option, count_by, nat_eq, nat_le, not, ◌||◌, Result, Ok, Err, IfErr, OnOk}
+use Rattle.std.proofs.Common.{◌≡◌, inl, inr, ℕ, ◌+◌, Bool, true, false, cond, length, List, [], ◌∷◌, ◌++◌, refl, sym, ◌∙◌, ap, subst, append-nil, Some, None, map, take}
+use Rattle.std.specs.Prelude.{Option, count_by, if◌then◌else◌, is_some, nat_eq, nat_le, not, ◌||◌, Result, Ok, Err, IfErr, OnOk}
 use Rattle.std.proofs.lemmas.Option.{none-some}
 use Rattle.floor_machine.specs.declared.event.Event.{Event}
 use Rattle.floor_machine.specs.declared.event.Event.TheVariants.{Join, Message, Leave, Revoke, Close}
@@ -11,6 +11,7 @@ use Rattle.floor_machine.specs.Conference.{Conference, is_live}
 use Rattle.floor_machine.specs.Machine.{event_refusal, whole}
 use Rattle.std.specs.Option.{option_map}
 use Rattle.floor_config.specs.Lookup.{is_user}
+use Rattle.floor_wire.specs.Message.{messages}
 use Rattle.floor_machine.specs.Journal.{parcels_of, sent_to}
 use Rattle.floor_room.specs.declared.refusal.RoomRefusal.{RoomRefusal}
 use Rattle.floor_room.specs.declared.refusal.RoomRefusal.TheVariants.{JournalFull, Refused as ByMachine}
@@ -27,7 +28,7 @@ use Rattle.floor_hub.specs.Connections.{SameConnections, connection_at}
 use Rattle.floor_hub.specs.Hub.{Hub, room_at}
 use Rattle.floor_hub.specs.World.{World}
 use Rattle.floor_hub.specs.StandsFor.{StandsFor}
-use Rattle.floor_hub.specs.Rooms.{OneRoom, QueuesMore, RoomAfter, RoomAfterIn, RoomOf, by_broken, is_told, is_want, refusal_in}
+use Rattle.floor_hub.specs.Rooms.{AddsOwn, OneRoom, QueuesMore, RoomAfter, RoomAfterIn, RoomOf, attach_event, by_broken, is_told, is_want, leave_event, refusal_in, serve_event}
 use Rattle.floor_hub.proofs.Here.{here}
 use Rattle.floor_hub.specs.steps.Serving.{AttachFailsIn, LeaveFailsIn, IsServable, LeavesIn, ServeFailsIn, ServedIn, ServesIn}
 
@@ -52,13 +53,13 @@ queues-more put n e [] = queues-new put n e
 queues-more put n e (o ∷ os) = (refl, (sent_to n put, refl), queues-more put (n + 1) e os)
 
 -- nothing has changed
-pub room-same : (shut_by why : Option HubRefusal) (r s : Room) → is_want why ≡ false → (r.ledger.is_broken ≡ true → why ≡ shut_by) → (is_told why ≡ true → r.ledger.is_broken ≡ true) →
-    s ≡ r → RoomAfter shut_by why r s
-room-same shut_by why r s calm shut told e = record {
+pub room-same : (shut_by why : Option HubRefusal) (own : List Event) (r s : Room) → is_want why ≡ false → (r.ledger.is_broken ≡ true → why ≡ shut_by) →
+    (is_told why ≡ true → r.ledger.is_broken ≡ true) → AddsOwn why own r.ledger.journal r.ledger.journal → s ≡ r → RoomAfter shut_by why own r s
+room-same shut_by why own r s calm shut told adds e = record {
   broken = ap (λ (x : Room). x.ledger.is_broken) e ∙ same r.ledger.is_broken (is_want why) calm;
   shut = λ b. (shut b, e);
   told = told;
-  journal = inl (ap (λ (x : Room). x.ledger.journal) e);
+  journal = subst (λ (x : Room). AddsOwn why own r.ledger.journal x.ledger.journal) (sym e) adds;
   outboxes = subst (λ (x : Room). QueuesMore r.outboxes x.outboxes) (sym e) (queues-same r.outboxes);
 }
   where
@@ -69,22 +70,24 @@ room-same shut_by why r s calm shut told e = record {
 false_true : false ≡ true → ⊥
 false_true e = cc
 
-room-event : (shut_by why : Option HubRefusal) (r s : Room) (e : Event) (put : List Parcel) (b : Bool) → r.ledger.is_broken ≡ false → is_want why ≡ b → is_told why ≡ false →
-    s ≡ with_event r e put b → RoomAfter shut_by why r s
-room-event shut_by why r s e put b sound want told is = record {
+room-event : (shut_by why : Option HubRefusal) (own : List Event) (r s : Room) (e : Event) (put : List Parcel) (b : Bool) → r.ledger.is_broken ≡ false → is_want why ≡ b →
+    is_told why ≡ false → AddsOwn why own r.ledger.journal (r.ledger.journal ++ e ∷ []) → s ≡ with_event r e put b → RoomAfter shut_by why own r s
+room-event shut_by why own r s e put b sound want told adds is = record {
   broken = ap (λ (x : Room). x.ledger.is_broken) is ∙ sym want ∙ sym (ap (λ (x : Bool). x || is_want why) sound);
   shut = λ broken. absurd (true_false (sym broken ∙ sound));
   told = λ t. absurd (true_false (sym t ∙ told));
-  journal = inr (e, ap (λ (x : Room). x.ledger.journal) is);
+  journal = subst (λ (x : Room). AddsOwn why own r.ledger.journal x.ledger.journal) (sym is) adds;
   outboxes = subst (λ (x : Room). QueuesMore r.outboxes x.outboxes) (sym is) (queues-more put 1 e r.outboxes);
 }
 
-pub room-took : (shut_by : Option HubRefusal) (r s : Room) (e : Event) → Applied r s e → RoomAfter shut_by None r s
-room-took shut_by r s e t = room-event shut_by None r s e (parcels_of (conference_of r.ledger) e) false (allowed-open r.ledger e t.allowed).unbroken refl refl t.next
+pub room-took : (shut_by : Option HubRefusal) (own : List Event) (r s : Room) (e : Event) → own ≡ e ∷ [] → Applied r s e → RoomAfter shut_by None own r s
+room-took shut_by own r s e is t =
+    room-event shut_by None own r s e (parcels_of (conference_of r.ledger) e) false (allowed-open r.ledger e t.allowed).unbroken refl refl
+    (ap (λ (es : List Event). r.ledger.journal ++ es) (sym is)) t.next
 
 -- a room that isn't broken is broken off
-room-off : (shut_by : Option HubRefusal) (r s : Room) → r.ledger.is_broken ≡ false → s ≡ broken_room r → RoomAfter shut_by (Some (ByRoom (ByMachine Memory))) r s
-room-off shut_by r s sound e = record {
+room-off : (shut_by : Option HubRefusal) (own : List Event) (r s : Room) → r.ledger.is_broken ≡ false → s ≡ broken_room r → RoomAfter shut_by (Some (ByRoom (ByMachine Memory))) own r s
+room-off shut_by own r s sound e = record {
   broken = ap (λ (x : Room). x.ledger.is_broken) e ∙ sym (ap (λ (x : Bool). x || true) sound);
   shut = λ broken. absurd (true_false (sym broken ∙ sound));
   told = λ t. absurd (false_true t);
@@ -160,27 +163,29 @@ sound-before r e true is h = absurd (apart (shut-by (refusal r.ledger e) (ByMach
     apart e = cc
 
 -- refused, and as it was
-left-same : (r s : Room) (e : Event) (why : RoomRefusal) → is_want (Some (ByRoom why)) ≡ false → (is_told (Some (ByRoom why)) ≡ true → why ≡ ByMachine Broken) →
-    IsRefusedBy {T = Unit {0}} (refusal r.ledger e) (Err why) → s ≡ r → RoomAfter by_broken (Some (ByRoom why)) r s
-left-same r s e why calm told by same = room-same by_broken (Some (ByRoom why)) r s calm
+left-same : (own : List Event) (r s : Room) (e : Event) (why : RoomRefusal) → is_want (Some (ByRoom why)) ≡ false → (is_told (Some (ByRoom why)) ≡ true → why ≡ ByMachine Broken) →
+    AddsOwn (Some (ByRoom why)) own r.ledger.journal r.ledger.journal → IsRefusedBy {T = Unit {0}} (refusal r.ledger e) (Err why) → s ≡ r → RoomAfter by_broken (Some (ByRoom why)) own r s
+left-same own r s e why calm told adds by same = room-same by_broken (Some (ByRoom why)) own r s calm
     (λ b. ap (λ (y : RoomRefusal). Some (ByRoom y)) (shut-by (refusal r.ledger e) why (refuses-broken r.ledger e b) by))
-    (λ t. told-broken r.ledger e r.ledger.is_broken refl (subst (λ (y : RoomRefusal). IsRefusedBy {T = Unit {0}} (refusal r.ledger e) (Err y)) (told t) by)) same
+    (λ t. told-broken r.ledger e r.ledger.is_broken refl (subst (λ (y : RoomRefusal). IsRefusedBy {T = Unit {0}} (refusal r.ledger e) (Err y)) (told t) by)) adds same
 
-pub room-left : (r s : Room) (e : Event) (why : RoomRefusal) → IsRefusedBy {T = Unit {0}} (refusal r.ledger e) (Err why) → Left r s e why → RoomAfter by_broken (Some (ByRoom why)) r s
-room-left r s e JournalFull by left = left-same r s e JournalFull refl (λ t. cc) by left
-room-left r s e (ByMachine Broken) by left = left-same r s e (ByMachine Broken) refl (λ t. refl) by left
-room-left r s e (ByMachine Ended) by left = left-same r s e (ByMachine Ended) refl (λ t. cc) by left
-room-left r s e (ByMachine NoMember) by left = left-same r s e (ByMachine NoMember) refl (λ t. cc) by left
-room-left r s e (ByMachine NoUser) by left = left-same r s e (ByMachine NoUser) refl (λ t. cc) by left
-room-left r s e (ByMachine Full) by left = left-same r s e (ByMachine Full) refl (λ t. cc) by left
-room-left r s e (ByMachine NoRequest) by left = left-same r s e (ByMachine NoRequest) refl (λ t. cc) by left
-room-left r s e (ByMachine Memory) by (inl off) = room-off by_broken r s (sound-before r e r.ledger.is_broken refl by) off
-room-left r s e (ByMachine Memory) by (inr began) =
-    room-event by_broken (Some (ByRoom (ByMachine Memory))) r s e began.put true (sound-before r e r.ledger.is_broken refl by) refl refl began.next
+pub room-left : (own : List Event) (r s : Room) (e : Event) (why : RoomRefusal) → own ≡ e ∷ [] → IsRefusedBy {T = Unit {0}} (refusal r.ledger e) (Err why) → Left r s e why →
+    RoomAfter by_broken (Some (ByRoom why)) own r s
+room-left own r s e JournalFull is by left = left-same own r s e JournalFull refl (λ t. cc) refl by left
+room-left own r s e (ByMachine Broken) is by left = left-same own r s e (ByMachine Broken) refl (λ t. refl) refl by left
+room-left own r s e (ByMachine Ended) is by left = left-same own r s e (ByMachine Ended) refl (λ t. cc) refl by left
+room-left own r s e (ByMachine NoMember) is by left = left-same own r s e (ByMachine NoMember) refl (λ t. cc) refl by left
+room-left own r s e (ByMachine NoUser) is by left = left-same own r s e (ByMachine NoUser) refl (λ t. cc) refl by left
+room-left own r s e (ByMachine Full) is by left = left-same own r s e (ByMachine Full) refl (λ t. cc) refl by left
+room-left own r s e (ByMachine NoRequest) is by left = left-same own r s e (ByMachine NoRequest) refl (λ t. cc) refl by left
+room-left own r s e (ByMachine Memory) is by (inl off) = room-off by_broken own r s (sound-before r e r.ledger.is_broken refl by) off
+room-left own r s e (ByMachine Memory) is by (inr began) =
+    room-event by_broken (Some (ByRoom (ByMachine Memory))) own r s e began.put true (sound-before r e r.ledger.is_broken refl by) refl refl
+    (inr (ap (λ (es : List Event). r.ledger.journal ++ es) (sym is))) began.next
 
 -- where the room wasn't broken, what a broken one answers is another matter
-other-shut : (other shut_by why : Option HubRefusal) (r s : Room) → r.ledger.is_broken ≡ false → RoomAfter other why r s → RoomAfter shut_by why r s
-other-shut other shut_by why r s sound a = record {
+other-shut : (other shut_by why : Option HubRefusal) (own : List Event) (r s : Room) → r.ledger.is_broken ≡ false → RoomAfter other why own r s → RoomAfter shut_by why own r s
+other-shut other shut_by why own r s sound a = record {
   broken = a.broken;
   shut = λ b. absurd (true_false (sym b ∙ sound));
   told = a.told;
@@ -189,33 +194,36 @@ other-shut other shut_by why r s sound a = record {
 }
 
 -- the room was joined, and broken off then
-room-unjoined : (r mid s : Room) (e : Event) → Applied r mid e → s ≡ broken_room mid → RoomAfter by_broken (Some (ByRoom (ByMachine Memory))) r s
+room-unjoined : (r mid s : Room) (e : Event) → Applied r mid e → s ≡ broken_room mid → RoomAfter by_broken (Some (ByRoom (ByMachine Memory))) (e ∷ []) r s
 room-unjoined r mid s e t off =
-    room-event by_broken (Some (ByRoom (ByMachine Memory))) r s e (parcels_of (conference_of r.ledger) e) true (allowed-open r.ledger e t.allowed).unbroken refl refl (off ∙ ap broken_room t.next)
+    room-event by_broken (Some (ByRoom (ByMachine Memory))) (e ∷ []) r s e (parcels_of (conference_of r.ledger) e) true (allowed-open r.ledger e t.allowed).unbroken refl refl (inr refl)
+    (off ∙ ap broken_room t.next)
 
-pub room-attach-fails : (r s : Room) (user : ℕ) (why : RoomRefusal) → AttachFailsIn r s user why → RoomAfter by_broken (Some (ByRoom why)) r s
-room-attach-fails r s user why (inl f) = room-left r s (Join user) why f.0 f.1
-room-attach-fails r s user why (inr f) = subst (λ (y : RoomRefusal). RoomAfter by_broken (Some (ByRoom y)) r s) (sym f.0) (room-unjoined r f.1.0 s (Join user) f.1.1 f.1.2)
+pub room-attach-fails : (r s : Room) (user : ℕ) (why : RoomRefusal) → AttachFailsIn r s user why → RoomAfter by_broken (Some (ByRoom why)) (Join user ∷ []) r s
+room-attach-fails r s user why (inl f) = room-left (Join user ∷ []) r s (Join user) why refl f.0 f.1
+room-attach-fails r s user why (inr f) =
+    subst (λ (y : RoomRefusal). RoomAfter by_broken (Some (ByRoom y)) (Join user ∷ []) r s) (sym f.0) (room-unjoined r f.1.0 s (Join user) f.1.1 f.1.2)
 
 some_is : (y z : RoomRefusal) → ◌≡◌ {A = Option RoomRefusal} (Some y) (Some z) → y ≡ z
 some_is y z e = cc
 
 -- a closed room that was left as it was
-closed-same : (r s : Room) (why : RoomRefusal) → closed r.ledger ≡ Some why → s ≡ r → RoomAfter by_broken (Some (ByRoom why)) r s
-closed-same r s why is same = by r.ledger.is_broken (conference_of r.ledger).is_open (nat_le 1000000 (length r.ledger.journal)) refl is
+closed-same : (own : List Event) (r s : Room) (why : RoomRefusal) → closed r.ledger ≡ Some why → s ≡ r → RoomAfter by_broken (Some (ByRoom why)) own r s
+closed-same own r s why is same = by r.ledger.is_broken (conference_of r.ledger).is_open (nat_le 1000000 (length r.ledger.journal)) refl is
   where
-    so : (x : RoomRefusal) → x ≡ why → RoomAfter by_broken (Some (ByRoom x)) r s → RoomAfter by_broken (Some (ByRoom why)) r s
-    so x e a = subst (λ (y : RoomRefusal). RoomAfter by_broken (Some (ByRoom y)) r s) e a
+    so : (x : RoomRefusal) → x ≡ why → RoomAfter by_broken (Some (ByRoom x)) own r s → RoomAfter by_broken (Some (ByRoom why)) own r s
+    so x e a = subst (λ (y : RoomRefusal). RoomAfter by_broken (Some (ByRoom y)) own r s) e a
 
     by : (a b d : Bool) → r.ledger.is_broken ≡ a →
-        cond a (Some (ByMachine Broken)) (cond (not b) (Some (ByMachine Ended)) (cond d (Some JournalFull) None)) ≡ Some why → RoomAfter by_broken (Some (ByRoom why)) r s
+        cond a (Some (ByMachine Broken)) (cond (not b) (Some (ByMachine Ended)) (cond d (Some JournalFull) None)) ≡ Some why → RoomAfter by_broken (Some (ByRoom why)) own r s
     by true b d f e =
-        so (ByMachine Broken) (some_is (ByMachine Broken) why e) (room-same by_broken (Some (ByRoom (ByMachine Broken))) r s refl (λ x. refl) (λ t. f) same)
+        so (ByMachine Broken) (some_is (ByMachine Broken) why e) (room-same by_broken (Some (ByRoom (ByMachine Broken))) own r s refl (λ x. refl) (λ t. f) refl same)
     by false false d f e =
         so (ByMachine Ended) (some_is (ByMachine Ended) why e)
-        (room-same by_broken (Some (ByRoom (ByMachine Ended))) r s refl (λ x. absurd (true_false (sym x ∙ f))) (λ t. absurd (false_true t)) same)
+        (room-same by_broken (Some (ByRoom (ByMachine Ended))) own r s refl (λ x. absurd (true_false (sym x ∙ f))) (λ t. absurd (false_true t)) refl same)
     by false true true f e =
-        so JournalFull (some_is JournalFull why e) (room-same by_broken (Some (ByRoom JournalFull)) r s refl (λ x. absurd (true_false (sym x ∙ f))) (λ t. absurd (false_true t)) same)
+        so JournalFull (some_is JournalFull why e)
+        (room-same by_broken (Some (ByRoom JournalFull)) own r s refl (λ x. absurd (true_false (sym x ∙ f))) (λ t. absurd (false_true t)) refl same)
     by false true false f e = absurd (none-some why e)
 
 servable : (r : Room) → IsServable (closed r.ledger) → r.ledger.is_broken ≡ false
@@ -225,80 +233,107 @@ servable r h = by r.ledger.is_broken (conference_of r.ledger).is_open h
     by true b h = absurd h
     by false b h = refl
 
-room-serves : (r s : Room) (n : ℕ) (held rest : List ℕ) (found : Served) → ServesIn r s n held rest found → RoomAfter by_broken None r s
-room-serves r s n held rest Served.Nothing f =
-    room-same by_broken None r s refl (λ b. absurd (true_false (sym b ∙ servable r f.0))) (λ t. absurd (false_true t)) f.2
-room-serves r s n held rest Served.Message f = room-took by_broken r s (Message n f.0) f.3
+-- the event of serving is the first message that is held
+pub serves-none : (x : Connection) (r : Room) → messages x.held ≡ [] → serve_event x r ≡ []
+serves-none x r none = ap (λ (ms : List (List ℕ)). map (Message x.n) (take 1 ms)) none
 
-room-serve-fails : (r s : Room) (n : ℕ) (held rest : List ℕ) (why : RoomRefusal) → ServeFailsIn r s n held rest why → RoomAfter by_broken (Some (ByRoom why)) r s
-room-serve-fails r s n held rest why (inl f) = closed-same r s why f.0 f.2
-room-serve-fails r s n held rest why (inr (inl f)) =
-    subst (λ (y : RoomRefusal). RoomAfter by_broken (Some (ByRoom y)) r s) (sym f.0) (room-off by_broken r s (opened r.ledger (sym f.1)).unbroken f.2)
-room-serve-fails r s n held rest why (inr (inr f)) = room-left r s (Message n f.0) why f.2 f.3
+pub serves-first : (x : Connection) (r : Room) (frame rest : List ℕ) → messages x.held ≡ frame ∷ messages rest → serve_event x r ≡ Message x.n frame ∷ []
+serves-first x r frame rest first = ap (λ (ms : List (List ℕ)). map (Message x.n) (take 1 ms)) first
 
-pub room-served : (r s : Room) (n : ℕ) (held rest : List ℕ) (res : Result Served HubRefusal) → ServedIn r s n held rest res → RoomAfter by_broken (refusal_in res) r s
-room-served r s n held rest (Ok found) f = room-serves r s n held rest found f.served
-room-served r s n held rest (Err x) f = subst (λ (y : HubRefusal). RoomAfter by_broken (Some y) r s) (sym f.failed.1) (room-serve-fails r s n held rest f.failed.0 f.failed.2)
+room-serves : (r s : Room) (x : Connection) (rest : List ℕ) (found : Served) → ServesIn r s x.n x.held rest found → RoomAfter by_broken None (serve_event x r) r s
+room-serves r s x rest Served.Nothing f =
+    room-same by_broken None (serve_event x r) r s refl (λ b. absurd (true_false (sym b ∙ servable r f.0))) (λ t. absurd (false_true t))
+    (sym (append-nil r.ledger.journal) ∙ ap (λ (es : List Event). r.ledger.journal ++ es) (sym (serves-none x r f.1))) f.2
+room-serves r s x rest Served.Message f = room-took by_broken (serve_event x r) r s (Message x.n f.0) (serves-first x r f.0 rest f.1) f.3
 
-pub room-leaves : (r s : Room) (n : ℕ) → LeavesIn r s n → RoomAfter None None r s
-room-leaves r s n (inl f) = room-same None None r s refl (λ b. refl) (λ t. absurd (false_true t)) f.1
-room-leaves r s n (inr t) = room-took None r s (Leave n) t
+room-serve-fails : (r s : Room) (x : Connection) (rest : List ℕ) (why : RoomRefusal) → ServeFailsIn r s x.n x.held rest why → RoomAfter by_broken (Some (ByRoom why)) (serve_event x r) r s
+room-serve-fails r s x rest why (inl f) = closed-same (serve_event x r) r s why f.0 f.2
+room-serve-fails r s x rest why (inr (inl f)) =
+    subst (λ (y : RoomRefusal). RoomAfter by_broken (Some (ByRoom y)) (serve_event x r) r s) (sym f.0) (room-off by_broken (serve_event x r) r s (opened r.ledger (sym f.1)).unbroken f.2)
+room-serve-fails r s x rest why (inr (inr f)) = room-left (serve_event x r) r s (Message x.n f.0) why (serves-first x r f.0 rest f.4) f.2 f.3
 
-pub room-leave-fails : (r s : Room) (n : ℕ) (why : RoomRefusal) → LeaveFailsIn r s n why → RoomAfter None (Some (ByRoom why)) r s
-room-leave-fails r s n why f =
-    other-shut by_broken None (Some (ByRoom why)) r s (opened r.ledger (sym f.opened)).unbroken (room-left r s (Leave n) why f.refused f.after)
+pub room-served : (r s : Room) (x : Connection) (rest : List ℕ) (res : Result Served HubRefusal) → ServedIn r s x.n x.held rest res →
+    RoomAfter by_broken (refusal_in res) (serve_event x r) r s
+room-served r s x rest (Ok found) f = room-serves r s x rest found f.served
+room-served r s x rest (Err y) f =
+    subst (λ (z : HubRefusal). RoomAfter by_broken (Some z) (serve_event x r) r s) (sym f.failed.1) (room-serve-fails r s x rest f.failed.0 f.failed.2)
 
-module _ (shut_by why : Option HubRefusal) (c : ℕ) (old new : Hub) where
+-- the event of leaving, where the room takes events and where it takes none
+pub leaves-open : (x : Connection) (r : Room) → closed r.ledger ≡ None → leave_event x r ≡ Leave x.n ∷ []
+leaves-open x r none = ap (λ (y : Option RoomRefusal). if is_some y then [] else Leave x.n ∷ []) none
+
+leaves-closed : (x : Connection) (r : Room) → is_some (closed r.ledger) ≡ true → leave_event x r ≡ []
+leaves-closed x r some = ap (λ (b : Bool). if b then [] else Leave x.n ∷ []) some
+
+took-open : (r s : Room) (e : Event) → Applied r s e → closed r.ledger ≡ None
+took-open r s e t = first_none (closed r.ledger) (option_map ByMachine (event_refusal (whole (conference_of r.ledger)) e)) t.allowed
+  where
+    first_none : (y z : Option RoomRefusal) → first_of y z ≡ None → y ≡ None
+    first_none None z h = refl
+    first_none (Some y) z h = absurd (none-some y (sym h))
+
+pub room-leaves : (r s : Room) (x : Connection) → LeavesIn r s x.n → RoomAfter None None (leave_event x r) r s
+room-leaves r s x (inl f) =
+    room-same None None (leave_event x r) r s refl (λ b. refl) (λ t. absurd (false_true t))
+    (sym (append-nil r.ledger.journal) ∙ ap (λ (es : List Event). r.ledger.journal ++ es) (sym (leaves-closed x r f.0))) f.1
+room-leaves r s x (inr t) = room-took None (leave_event x r) r s (Leave x.n) (leaves-open x r (took-open r s (Leave x.n) t)) t
+
+pub room-leave-fails : (r s : Room) (x : Connection) (why : RoomRefusal) → LeaveFailsIn r s x.n why → RoomAfter None (Some (ByRoom why)) (leave_event x r) r s
+room-leave-fails r s x why f =
+    other-shut by_broken None (Some (ByRoom why)) (leave_event x r) r s (opened r.ledger (sym f.opened)).unbroken
+    (room-left (leave_event x r) r s (Leave x.n) why (leaves-open x r f.opened) f.refused f.after)
+
+module _ (shut_by why : Option HubRefusal) (own : Room → List Event) (c : ℕ) (old new : Hub) where
   -- there is no such room, and nothing has changed
-  pub one-none : room_at old c ≡ None → is_want why ≡ false → is_told why ≡ false → ((d : ℕ) → room_at new d ≡ room_at old d) → OneRoom shut_by why c old new
+  pub one-none : room_at old c ≡ None → is_want why ≡ false → is_told why ≡ false → ((d : ℕ) → room_at new d ≡ room_at old d) → OneRoom shut_by why own c old new
   one-none is calm told same = record {
     others = λ d ne. same d;
-    own = subst (λ (y : Option Room). RoomAfterIn shut_by why y (room_at new c)) (sym is) (same c ∙ is, calm, told);
+    own = subst (λ (y : Option Room). RoomAfterIn shut_by why own y (room_at new c)) (sym is) (same c ∙ is, calm, told);
   }
 
-  pub one-at : (r s : Room) → room_at old c ≡ Some r → room_at new c ≡ Some s → ((d : ℕ) → nat_eq c d ≡ false → room_at new d ≡ room_at old d) → RoomAfter shut_by why r s → OneRoom shut_by why c old new
+  pub one-at : (r s : Room) → room_at old c ≡ Some r → room_at new c ≡ Some s → ((d : ℕ) → nat_eq c d ≡ false → room_at new d ≡ room_at old d) → RoomAfter shut_by why (own r) r s → OneRoom shut_by why own c old new
   one-at r s is now others after = record {
     others = others;
-    own = subst (λ (y : Option Room). RoomAfterIn shut_by why y (room_at new c)) (sym is) (subst (RoomAfterIn shut_by why (Some r)) (sym now) after);
+    own = subst (λ (y : Option Room). RoomAfterIn shut_by why own y (room_at new c)) (sym is) (subst (RoomAfterIn shut_by why own (Some r)) (sym now) after);
   }
 
 module _ (c : ℕ) (e : Event) (old new : Hub) where
   event-at : (res : Result (Unit {0}) HubRefusal) (r s : Room) → OnOk res (Applied r s e) →
-      IfErr res (λ x. (why : RoomRefusal) × (x ≡ ByRoom why) × IsRefusedBy {T = Unit {0}} (refusal r.ledger e) (Err why) × Left r s e why) → RoomAfter by_broken (refusal_in res) r s
-  event-at (Ok v) r s ok err = room-took by_broken r s e ok
-  event-at (Err x) r s ok err = subst (λ (y : HubRefusal). RoomAfter by_broken (Some y) r s) (sym err.1) (room-left r s e err.0 err.2 err.3)
+      IfErr res (λ x. (why : RoomRefusal) × (x ≡ ByRoom why) × IsRefusedBy {T = Unit {0}} (refusal r.ledger e) (Err why) × Left r s e why) → RoomAfter by_broken (refusal_in res) (e ∷ []) r s
+  event-at (Ok v) r s ok err = room-took by_broken (e ∷ []) r s e refl ok
+  event-at (Err x) r s ok err = subst (λ (y : HubRefusal). RoomAfter by_broken (Some y) (e ∷ []) r s) (sym err.1) (room-left (e ∷ []) r s e err.0 refl err.2 err.3)
 
   -- an act of the administrator
   pub event-room : (res : Result (Unit {0}) HubRefusal) (y : Option Room) → room_at old c ≡ y →
       (room_at old c ≡ None → (res ≡ Err NoConference) × ((d : ℕ) → room_at new d ≡ room_at old d)) →
       ((r : Room) → room_at old c ≡ Some r → (s : Room) × (room_at new c ≡ Some s) × ((d : ℕ) → nat_eq c d ≡ false → room_at new d ≡ room_at old d) × OnOk res (Applied r s e)
       × IfErr res (λ x. (why : RoomRefusal) × (x ≡ ByRoom why) × IsRefusedBy {T = Unit {0}} (refusal r.ledger e) (Err why) × Left r s e why)) →
-      OneRoom by_broken (refusal_in res) c old new
+      OneRoom by_broken (refusal_in res) (λ (r : Room). e ∷ []) c old new
   event-room res None is absent there =
       let a = absent is in
-      subst (λ (x : Result (Unit {0}) HubRefusal). OneRoom by_broken (refusal_in x) c old new) (sym a.0) (one-none by_broken (Some NoConference) c old new is refl refl a.1)
+      subst (λ (x : Result (Unit {0}) HubRefusal). OneRoom by_broken (refusal_in x) (λ (r : Room). e ∷ []) c old new) (sym a.0) (one-none by_broken (Some NoConference) (λ (r : Room). e ∷ []) c old new is refl refl a.1)
   event-room res (Some r) is absent there =
       let t = there r is in
-      one-at by_broken (refusal_in res) c old new r t.0 is t.1 t.2 (event-at res r t.0 t.3 t.4)
+      one-at by_broken (refusal_in res) (λ (r : Room). e ∷ []) c old new r t.0 is t.1 t.2 (event-at res r t.0 t.3 t.4)
 
 -- an attach
 module _ (c user : ℕ) (old new : Hub) where
   attach-at : (res : Result (Unit {0}) HubRefusal) (r s : Room) → OnOk res (Applied r s (Join user)) →
-      IfErr res (λ x. (why : RoomRefusal) × (x ≡ ByRoom why) × AttachFailsIn r s user why) → RoomAfter by_broken (refusal_in res) r s
-  attach-at (Ok v) r s ok err = room-took by_broken r s (Join user) ok
-  attach-at (Err x) r s ok err = subst (λ (z : HubRefusal). RoomAfter by_broken (Some z) r s) (sym err.1) (room-attach-fails r s user err.0 err.2)
+      IfErr res (λ x. (why : RoomRefusal) × (x ≡ ByRoom why) × AttachFailsIn r s user why) → RoomAfter by_broken (refusal_in res) (Join user ∷ []) r s
+  attach-at (Ok v) r s ok err = room-took by_broken (Join user ∷ []) r s (Join user) refl ok
+  attach-at (Err x) r s ok err = subst (λ (z : HubRefusal). RoomAfter by_broken (Some z) (Join user ∷ []) r s) (sym err.1) (room-attach-fails r s user err.0 err.2)
 
   pub attach-room : (res : Result (Unit {0}) HubRefusal) (y : Option Room) → room_at old c ≡ y →
       (room_at old c ≡ None → (res ≡ Err NoConference) × ((d : ℕ) → room_at new d ≡ room_at old d)) →
       ((r : Room) → room_at old c ≡ Some r → (s : Room) × (room_at new c ≡ Some s) × ((d : ℕ) → nat_eq c d ≡ false → room_at new d ≡ room_at old d)
       × OnOk res (Applied r s (Join user)) × IfErr res (λ x. (why : RoomRefusal) × (x ≡ ByRoom why) × AttachFailsIn r s user why)) →
-      OneRoom by_broken (refusal_in res) c old new
+      OneRoom by_broken (refusal_in res) (attach_event user) c old new
   attach-room res None is absent there =
       let a = absent is in
-      subst (λ (x : Result (Unit {0}) HubRefusal). OneRoom by_broken (refusal_in x) c old new) (sym a.0) (one-none by_broken (Some NoConference) c old new is refl refl a.1)
+      subst (λ (x : Result (Unit {0}) HubRefusal). OneRoom by_broken (refusal_in x) (attach_event user) c old new) (sym a.0) (one-none by_broken (Some NoConference) (attach_event user) c old new is refl refl a.1)
   attach-room res (Some r) is absent there =
       let t = there r is in
-      one-at by_broken (refusal_in res) c old new r t.0 is t.1 t.2 (attach-at res r t.0 t.3 t.4)
+      one-at by_broken (refusal_in res) (attach_event user) c old new r t.0 is t.1 t.2 (attach-at res r t.0 t.3 t.4)
 
 -- where a connection's room is
 pub room_there : (h : Hub) (w : World) → StandsFor h w → (number : ℕ) (x : Connection) → connection_at h.connections number ≡ Some x → (r : Room) × (room_at h x.conference ≡ Some r)
@@ -312,17 +347,17 @@ module _ (number : ℕ) (old new : Hub) (w : World) (st : StandsFor old w) where
       new.arrivals ≡ old.arrivals →
       ((x : Connection) → connection_at old.connections number ≡ Some x → (r : Room) → room_at old x.conference ≡ Some r → (s : Room) × (rest : List ℕ) × (room_at new x.conference ≡ Some s)
       × ((d : ℕ) → nat_eq x.conference d ≡ false → room_at new d ≡ room_at old d) × ServedIn r s x.n x.held rest res) →
-      RoomOf by_broken (refusal_in res) y old new
-  serve-room res None is absent arrivals there = let a = absent is in subst (λ (z : Result Served HubRefusal). RoomOf by_broken (refusal_in z) None old new) (sym a.0) (record { rooms = a.1; connections = a.2; arrivals = arrivals }, refl, refl)
+      RoomOf by_broken (refusal_in res) serve_event y old new
+  serve-room res None is absent arrivals there = let a = absent is in subst (λ (z : Result Served HubRefusal). RoomOf by_broken (refusal_in z) serve_event None old new) (sym a.0) (record { rooms = a.1; connections = a.2; arrivals = arrivals }, refl, refl)
   serve-room res (Some x) is absent arrivals there =
       let r = room_there old w st number x is in
       let t = there x is r.0 r.1 in
-      one-at by_broken (refusal_in res) x.conference old new r.0 t.0 r.1 t.2 t.3 (room-served r.0 t.0 x.n x.held t.1 res t.4)
+      one-at by_broken (refusal_in res) (serve_event x) x.conference old new r.0 t.0 r.1 t.2 t.3 (room-served r.0 t.0 x t.1 res t.4)
 
-  leave-at : (res : Result (Unit {0}) HubRefusal) (r s : Room) (n : ℕ) → OnOk res (LeavesIn r s n) → IfErr res (λ y. (why : RoomRefusal) × (y ≡ ByRoom why) × LeaveFailsIn r s n why) →
-      RoomAfter None (refusal_in res) r s
-  leave-at (Ok v) r s n ok err = room-leaves r s n ok
-  leave-at (Err x) r s n ok err = subst (λ (y : HubRefusal). RoomAfter None (Some y) r s) (sym err.1) (room-leave-fails r s n err.0 err.2)
+  leave-at : (res : Result (Unit {0}) HubRefusal) (r s : Room) (x : Connection) → OnOk res (LeavesIn r s x.n) →
+      IfErr res (λ y. (why : RoomRefusal) × (y ≡ ByRoom why) × LeaveFailsIn r s x.n why) → RoomAfter None (refusal_in res) (leave_event x r) r s
+  leave-at (Ok v) r s x ok err = room-leaves r s x ok
+  leave-at (Err z) r s x ok err = subst (λ (y : HubRefusal). RoomAfter None (Some y) (leave_event x r) r s) (sym err.1) (room-leave-fails r s x err.0 err.2)
 
   pub leave-room : (res : Result (Unit {0}) HubRefusal) (y : Option Connection) → connection_at old.connections number ≡ y →
       (connection_at old.connections number ≡ None → (res ≡ Err NoConnection) × ((d : ℕ) → room_at new d ≡ room_at old d) × SameConnections old.connections new.connections) →
@@ -330,9 +365,9 @@ module _ (number : ℕ) (old new : Hub) (w : World) (st : StandsFor old w) where
       ((x : Connection) → connection_at old.connections number ≡ Some x → (r : Room) → room_at old x.conference ≡ Some r → (s : Room) × (room_at new x.conference ≡ Some s)
       × ((d : ℕ) → nat_eq x.conference d ≡ false → room_at new d ≡ room_at old d) × OnOk res (LeavesIn r s x.n)
       × IfErr res (λ y. (why : RoomRefusal) × (y ≡ ByRoom why) × LeaveFailsIn r s x.n why)) →
-      RoomOf None (refusal_in res) y old new
-  leave-room res None is absent arrivals there = let a = absent is in subst (λ (z : Result (Unit {0}) HubRefusal). RoomOf None (refusal_in z) None old new) (sym a.0) (record { rooms = a.1; connections = a.2; arrivals = arrivals }, refl, refl)
+      RoomOf None (refusal_in res) leave_event y old new
+  leave-room res None is absent arrivals there = let a = absent is in subst (λ (z : Result (Unit {0}) HubRefusal). RoomOf None (refusal_in z) leave_event None old new) (sym a.0) (record { rooms = a.1; connections = a.2; arrivals = arrivals }, refl, refl)
   leave-room res (Some x) is absent arrivals there =
       let r = room_there old w st number x is in
       let t = there x is r.0 r.1 in
-      one-at None (refusal_in res) x.conference old new r.0 t.0 r.1 t.1 t.2 (leave-at res r.0 t.0 x.n t.3 t.4)
+      one-at None (refusal_in res) (leave_event x) x.conference old new r.0 t.0 r.1 t.1 t.2 (leave-at res r.0 t.0 x t.3 t.4)

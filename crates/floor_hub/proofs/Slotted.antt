@@ -7,8 +7,8 @@ use Rattle.floor_hub.specs.declared.refusal.HubRefusal.TheVariants.{Memory}
 use Rattle.std.proofs.lemmas.Bool.{eqb-true, eqb-false}
 use Rattle.std.proofs.lemmas.Option.{none-some}
 use Rattle.floor_hub.specs.declared.connection.Connection.{Connection}
-use Rattle.floor_hub.specs.Connections.{Connections, at_key, connection_at, key_of, slot_of}
-use Rattle.floor_hub.specs.steps.Slots.{IsSlotted, Puts}
+use Rattle.floor_hub.specs.Connections.{Connections, Puts, at_key, connection_at, key_of, slot_of}
+use Rattle.floor_hub.specs.steps.Slots.{IsSlotted}
 
 true_false : true ≡ false → ⊥
 true_false e = cc

@@ -1,5 +1,5 @@
 -- The live connections of a hub.
-use Rattle.std.specs.Prelude.{◌≡◌, ℕ, List, nat_eq, Option, Some, None, slice_index_or}
+use Rattle.std.specs.Prelude.{◌≡◌, ℕ, List, nat_eq, false, Option, Some, None, slice_index_or}
 use Rattle.std.specs.Map.{lookup}
 use Rattle.floor_hub.specs.declared.connection.Connection.{Connection}
 
@@ -26,3 +26,8 @@ connection_at cs number = at_key (slot_of cs) (key_of cs number)
 -- the same connections under the same numbers
 abbrev pub SameConnections : Connections → Connections → Type 0
 SameConnections old new = (number : ℕ) → connection_at new number ≡ connection_at old number
+
+-- under this number stands this now, and under each other what stood there
+pub record Puts (old new : Connections) (number : ℕ) (x : Option Connection) : Type 0 where
+  pub here : connection_at new number ≡ x
+  pub others : (other : ℕ) → nat_eq number other ≡ false → connection_at new other ≡ connection_at old other

@@ -1,4 +1,4 @@
--- The laws of worlds: what holds of every list of steps, whatever a floor machine does.
+-- The laws of worlds: what holds of each world and step, and of every list of steps.
 use Rattle.std.specs.Prelude.{◌≡◌, ℕ, ◌≤◌, List, [], ◌∷◌, ◌++◌, Some, length, map}
 use Rattle.floor_config.specs.Configuration.{Configuration}
 use Rattle.floor_machine.specs.declared.event.Event.{Event}

@@ -7,6 +7,7 @@ pub mod Kept
 pub mod StandsFor
 pub mod Calls
 pub mod Rooms
+pub mod Left
 pub mod Runs
 pub mod Laws
 pub mod Examples

@@ -1,10 +1,15 @@
 -- What a call of the hub has done to the rooms.
-use Rattle.std.specs.Prelude.{◌≡◌, ◌⊎◌, ℕ, List, [], ◌∷◌, ◌++◌, ◌||◌, nat_eq, Bool, true, false, Option, Some, None, Result, Ok, Err}
+use Rattle.std.specs.Prelude.{◌≡◌, ◌⊎◌, ℕ, List, [], ◌∷◌, ◌++◌, ◌||◌, nat_eq, if◌then◌else◌, Bool, true, false, Option, Some, None, is_some, map, take, Result, Ok, Err}
 use Rattle.floor_config.specs.Configuration.{Configuration}
+use Rattle.floor_wire.specs.Message.{messages}
+use Rattle.floor_machine.specs.declared.event.Act.{Act}
 use Rattle.floor_machine.specs.declared.event.Event.{Event}
+use Rattle.floor_machine.specs.declared.event.Event.TheVariants.{Join, Message, Leave}
+use Rattle.floor_machine.specs.Machine.{event_of_act}
 use Rattle.floor_machine.specs.Parcel.{Parcel}
 use Rattle.floor_machine.specs.declared.machine.Refusal.TheVariants.{Broken, Ended, NoMember, NoUser, Full, NoRequest, Memory}
 use Rattle.floor_room.specs.declared.refusal.RoomRefusal.TheVariants.{JournalFull, Refused as ByMachine}
+use Rattle.floor_room.specs.Ledger.{closed}
 use Rattle.floor_room.specs.Outbox.{Outbox}
 use Rattle.floor_room.specs.Room.{Room, new_room}
 use Rattle.floor_room.specs.Taking.{Gave}
@@ -68,32 +73,50 @@ QueuesMore [] (p ∷ ps) = (p.taken ≡ 0) × QueuesMore [] ps
 QueuesMore (o ∷ os) [] = ⊥
 QueuesMore (o ∷ os) (p ∷ ps) = (p.taken ≡ o.taken) × ((more : List Parcel) × (p.held ≡ o.held ++ more)) × QueuesMore os ps
 
--- at most this one event has come to a journal
-abbrev pub HasOneMore : List Event → List Event → Type 0
-HasOneMore old new = (new ≡ old) ⊎ ((e : Event) × (new ≡ old ++ e ∷ []))
+-- the event of attaching a user
+abbrev pub attach_event : ℕ → Room → List Event
+attach_event user r = Join user ∷ []
 
--- A room after a call that was refused by why, if at all. Want of memory alone breaks it off, and for good. A broken room is left as it is and answers so, and no other room does.
-pub record RoomAfter (shut_by why : Option HubRefusal) (old new : Room) : Type 0 where
+-- that of an act
+abbrev pub admin_event : Act → Room → List Event
+admin_event act r = event_of_act act ∷ []
+
+-- that of serving a connection: the first message that it holds, if it holds a whole one
+abbrev pub serve_event : Connection → Room → List Event
+serve_event x r = map (Message x.n) (take 1 (messages x.held))
+
+-- that of leaving, unless the room takes no event
+abbrev pub leave_event : Connection → Room → List Event
+leave_event x r = if is_some (closed r.ledger) then [] else Leave x.n ∷ []
+
+-- A call adds its own event to the journal, and nothing else: where it was refused none, but that after want of memory it may stand there.
+abbrev pub AddsOwn : Option HubRefusal → List Event → List Event → List Event → Type 0
+AddsOwn None own old new = new ≡ old ++ own
+AddsOwn (Some (ByRoom (ByMachine Memory))) own old new = (new ≡ old) ⊎ (new ≡ old ++ own)
+AddsOwn (Some refusal) own old new = new ≡ old
+
+-- A room after a call with this event that was refused by why, if at all. Want of memory alone breaks it off, and for good. A broken room is left as it is and answers so, and no other room does.
+pub record RoomAfter (shut_by why : Option HubRefusal) (own : List Event) (old new : Room) : Type 0 where
   pub broken : new.ledger.is_broken ≡ (old.ledger.is_broken || is_want why)
   pub shut : old.ledger.is_broken ≡ true → (why ≡ shut_by) × (new ≡ old)
   pub told : is_told why ≡ true → old.ledger.is_broken ≡ true
-  pub journal : HasOneMore old.ledger.journal new.ledger.journal
+  pub journal : AddsOwn why own old.ledger.journal new.ledger.journal
   pub outboxes : QueuesMore old.outboxes new.outboxes
 
-abbrev pub RoomAfterIn : Option HubRefusal → Option HubRefusal → Option Room → Option Room → Type 0
-RoomAfterIn shut_by why None new = (new ≡ None) × (is_want why ≡ false) × (is_told why ≡ false)
-RoomAfterIn shut_by why (Some r) None = ⊥
-RoomAfterIn shut_by why (Some r) (Some s) = RoomAfter shut_by why r s
+abbrev pub RoomAfterIn : Option HubRefusal → Option HubRefusal → (Room → List Event) → Option Room → Option Room → Type 0
+RoomAfterIn shut_by why own None new = (new ≡ None) × (is_want why ≡ false) × (is_told why ≡ false)
+RoomAfterIn shut_by why own (Some r) None = ⊥
+RoomAfterIn shut_by why own (Some r) (Some s) = RoomAfter shut_by why (own r) r s
 
 -- The call was for this conference's room: every other is as it was.
-pub record OneRoom (shut_by why : Option HubRefusal) (c : ℕ) (old new : Hub) : Type 0 where
+pub record OneRoom (shut_by why : Option HubRefusal) (event : Room → List Event) (c : ℕ) (old new : Hub) : Type 0 where
   pub others : (d : ℕ) → nat_eq c d ≡ false → room_at new d ≡ room_at old d
-  pub own : RoomAfterIn shut_by why (room_at old c) (room_at new c)
+  pub own : RoomAfterIn shut_by why event (room_at old c) (room_at new c)
 
 -- The call was for this connection's room; without a connection nothing has changed.
-abbrev pub RoomOf : Option HubRefusal → Option HubRefusal → Option Connection → Hub → Hub → Type 0
-RoomOf shut_by why None old new = SameHub old new × (is_want why ≡ false) × (is_told why ≡ false)
-RoomOf shut_by why (Some x) old new = OneRoom shut_by why x.conference old new
+abbrev pub RoomOf : Option HubRefusal → Option HubRefusal → (Connection → Room → List Event) → Option Connection → Hub → Hub → Type 0
+RoomOf shut_by why own None old new = SameHub old new × (is_want why ≡ false) × (is_told why ≡ false)
+RoomOf shut_by why own (Some x) old new = OneRoom shut_by why (own x) x.conference old new
 
 -- the conference has a room now, and the others are as they were
 pub record Opens (config : Configuration) (old new : Hub) : Type 0 where

@@ -5,8 +5,7 @@ ghost use Rattle.std.specs.Prelude.{is_some, ◌≢◌, ◌≡◌, ◌++◌, ℕ
 ghost use Rattle.indexmap.specs.IndexMap.{Updates as Changes, get as found};
 ghost use Rattle.slab.specs.Slab.{Updates, get};
 ghost use Rattle.floor_room.specs.Room.{Room as Kept};
-ghost use Rattle.floor_hub.specs.Connections.{SameConnections, connection_at};
-ghost use Rattle.floor_hub.specs.steps.Slots.{Puts};
+ghost use Rattle.floor_hub.specs.Connections.{Puts, SameConnections, connection_at};
 ghost use Rattle.floor_hub.specs.steps.Serving.{ServedIn};
 
 use crate::connection::{ConnNo, Connection};

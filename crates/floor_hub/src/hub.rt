@@ -11,10 +11,10 @@ ghost use Rattle.floor_room.specs.declared.outbox.NoMember.{NoMember};
 ghost use Rattle.floor_room.specs.declared.refusal.RoomRefusal.{RoomRefusal};
 ghost use Rattle.floor_room.specs.Ledger.{conference_of};
 ghost use Rattle.floor_room.specs.Room.{IsRoom, Room as Kept};
-ghost use Rattle.floor_hub.specs.Connections.{SameConnections, connection_at};
-ghost use Rattle.floor_hub.specs.steps.Slots.{Puts};
+ghost use Rattle.floor_hub.specs.Connections.{Puts, SameConnections, connection_at};
 ghost use Rattle.floor_hub.specs.Hub.{room_at};
-ghost use Rattle.floor_hub.specs.Rooms.{OneRoom, Opens, RoomOf, SameHub, TakenOf, by_broken, refusal_in};
+ghost use Rattle.floor_hub.specs.Left.{LeftAt, LeftLeaving, LeftServing};
+ghost use Rattle.floor_hub.specs.Rooms.{OneRoom, Opens, RoomOf, SameHub, TakenOf, admin_event, attach_event, by_broken, leave_event, refusal_in, serve_event};
 ghost use Rattle.floor_hub.specs.steps.Running.{QueuedIn};
 ghost use Rattle.floor_hub.specs.StandsFor.{StandsFor};
 ghost use Rattle.floor_hub.specs.Calls.{Fails, FailsGone, FailsSame, Turns, answer_of};
@@ -108,7 +108,9 @@ impl Hub {
         ensures next { (w : World) → StandsFor self.old w → MatchResult result
             (λ number. Turns self.new w (Attach conference user) (Attached number))
             (λ r. Fails self.new w (Attach conference user) r) }
-        ensures room { OneRoom by_broken (refusal_in result) conference self.old self.new }
+        ensures room { OneRoom by_broken (refusal_in result) (attach_event user) conference
+            self.old self.new }
+        ensures left { IfErr result (LeftAt (attach_event user) conference self.old self.new) }
     {
         let number = self.arrivals + 1;
         let joined = attach_at(
@@ -147,8 +149,10 @@ impl Hub {
         ensures next { (w : World) → StandsFor self.old w → MatchResult result
             (λ found. Turns self.new w (Serve number) (answer_of found))
             (λ r. Fails self.new w (Serve number) r) }
-        ensures room { RoomOf by_broken (refusal_in result)
+        ensures room { RoomOf by_broken (refusal_in result) serve_event
             (connection_at self.old.connections number) self.old self.new }
+        ensures left { IfErr result (LeftServing number
+            (connection_at self.old.connections number) self.old self.new) }
     {
         self.connections.serve(&mut self.rooms, number)
     }
@@ -160,8 +164,10 @@ impl Hub {
         ensures next { (w : World) → StandsFor self.old w → MatchResult result
             (λ _. Turns self.new w (Leave number) Done)
             (λ r. FailsGone self.new w (Leave number) r) }
-        ensures room { RoomOf None (refusal_in result)
+        ensures room { RoomOf None (refusal_in result) leave_event
             (connection_at self.old.connections number) self.old self.new }
+        ensures left { IfErr result (LeftLeaving number
+            (connection_at self.old.connections number) self.old self.new) }
     {
         leave_at(&mut self.rooms, &mut self.connections, number)
     }
@@ -173,7 +179,9 @@ impl Hub {
         ensures next { (w : World) → StandsFor self.old w → MatchResult result
             (λ _. Turns self.new w (Admin conference act) Done)
             (λ r. Fails self.new w (Admin conference act) r) }
-        ensures room { OneRoom by_broken (refusal_in result) conference self.old self.new }
+        ensures room { OneRoom by_broken (refusal_in result) (admin_event act) conference
+            self.old self.new }
+        ensures left { IfErr result (LeftAt (admin_event act) conference self.old self.new) }
     {
         admin_at(&mut self.rooms, conference, act)
     }

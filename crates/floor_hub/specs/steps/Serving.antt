@@ -27,8 +27,9 @@ ServesIn old new n held rest Served.Message = (frame : List ℕ) × (messages he
 abbrev pub ServeFailsIn : Room → Room → ℕ → List ℕ → List ℕ → RoomRefusal → Type 0
 ServeFailsIn old new n held rest why =
     ((closed old.ledger ≡ Some why) × (why ≡ JournalFull → messages held ≢ []) × (new ≡ old) × (rest ≡ held))
-    ⊎ (((why ≡ ByMachine Memory) × (closed old.ledger ≡ None) × (new ≡ broken_room old))
-    ⊎ ((frame : List ℕ) × (closed old.ledger ≡ None) × IsRefusedBy {T = Unit {0}} (refusal old.ledger (Message n frame)) (Err why) × Left old new (Message n frame) why))
+    ⊎ (((why ≡ ByMachine Memory) × (closed old.ledger ≡ None) × (new ≡ broken_room old) × (rest ≡ held))
+    ⊎ ((frame : List ℕ) × (closed old.ledger ≡ None) × IsRefusedBy {T = Unit {0}} (refusal old.ledger (Message n frame)) (Err why) × Left old new (Message n frame) why
+    × (messages held ≡ frame ∷ messages rest) × (held ≡ frame ++ rest)))
 
 -- what serving n has done, or why it has failed
 pub record ServedIn (old new : Room) (n : ℕ) (held rest : List ℕ) (result : Result Served HubRefusal) : Type 0 where

@@ -8,4 +8,4 @@ use Rattle.floor_hub.proofs.running.admin.Goals as goal
 pub returns : goal.returns
 returns c = λ places. further c.args.hub.now c.admin.new.self (Admin c.args.conference c.args.act) (λ v. Done)
     (λ w. Fails c.admin.new.self w (Admin c.args.conference c.args.act)) c.admin.result c.done.result places (λ v. tt) c.done.ensures c.admin.ensures.next
-    (λ w. fails c.admin.new.self w (Admin c.args.conference c.args.act)) (whole_one _ (refusal_in c.admin.result) c.args.conference c.args.hub.now c.admin.new.self c.admin.ensures.room)
+    (λ w. fails c.admin.new.self w (Admin c.args.conference c.args.act)) (whole_one _ (refusal_in c.admin.result) _ c.args.conference c.args.hub.now c.admin.new.self c.admin.ensures.room)

@@ -1,6 +1,5 @@
 use Rattle.std.proofs.Common.{Some, subst}
-use Rattle.floor_hub.specs.Connections.{Connections}
-use Rattle.floor_hub.specs.steps.Slots.{Puts}
+use Rattle.floor_hub.specs.Connections.{Connections, Puts}
 use Rattle.floor_hub.proofs.Slotted.{inserted, inserted_slotted}
 use Rattle.floor_hub.proofs.connections.Connections.insert.Goals as goal
 

@@ -2,8 +2,7 @@ use Rattle.std.proofs.Common.{refl, sym, subst, ◌≡◌, ◌∙◌, ap, Some}
 use Rattle.slab.specs.Slab.{get}
 use Rattle.std.specs.Prelude.{MatchResult}
 use Rattle.floor_hub.specs.declared.refusal.HubRefusal.TheVariants.{Memory}
-use Rattle.floor_hub.specs.Connections.{connection_at}
-use Rattle.floor_hub.specs.steps.Slots.{Puts}
+use Rattle.floor_hub.specs.Connections.{Puts, connection_at}
 use Rattle.floor_hub.proofs.Slotted.{pushed, pushed_slotted, slot_is, there}
 use Rattle.floor_hub.proofs.connections.Connections.push.Goals as goal
 

@@ -1,17 +1,23 @@
 use Rattle.floor_hub.proofs.Acting.{acted}
+use Rattle.floor_hub.proofs.Left.{left-at}
 use Rattle.floor_hub.proofs.RoomSteps.{event-room}
 use Rattle.std.proofs.Common.{◌≡◌, ◌⊎◌, refl, sym, subst}
-use Rattle.std.specs.Prelude.{MatchResult}
+use Rattle.std.specs.Prelude.{IfErr, MatchResult, OnErr, Result, Ok, Err}
 use Rattle.floor_machine.specs.declared.machine.Refusal.TheVariants.{Memory, Broken}
 use Rattle.floor_machine.specs.Machine.{event_of_act}
+use Rattle.floor_room.specs.declared.refusal.RoomRefusal.{RoomRefusal}
 use Rattle.floor_room.specs.declared.refusal.RoomRefusal.TheVariants.{Refused as ByMachine}
+use Rattle.floor_room.specs.Calls.{Left}
+use Rattle.floor_room.specs.Ledger.{IsRefusedBy, refusal}
+use Rattle.floor_room.specs.Room.{Room}
 use Rattle.floor_hub.specs.declared.refusal.HubRefusal.{HubRefusal}
 use Rattle.floor_hub.specs.declared.refusal.HubRefusal.TheVariants.{ByRoom}
 use Rattle.floor_hub.specs.declared.step.Step.TheVariants.{Admin}
 use Rattle.floor_hub.specs.declared.step.Answer.TheVariants.{Done}
-use Rattle.floor_hub.specs.Connections.{connection_at}
+use Rattle.floor_hub.specs.Connections.{SameConnections, connection_at}
 use Rattle.floor_hub.specs.Hub.{Hub, room_at}
-use Rattle.floor_hub.specs.Rooms.{by_broken, OneRoom, refusal_in}
+use Rattle.floor_hub.specs.Left.{LeftAt}
+use Rattle.floor_hub.specs.Rooms.{OneRoom, admin_event, by_broken, refusal_in}
 use Rattle.floor_hub.specs.StandsFor.{StandsFor}
 use Rattle.floor_hub.specs.Calls.{Fails, Turns}
 use Rattle.floor_hub.specs.World.{World}
@@ -36,7 +42,7 @@ turns c w st =
     c.admin_at.result (room_at (old c) c.args.conference) refl c.admin_at.ensures.absent
     (λ r is. let t = c.admin_at.ensures.rooms r is in (t.0, t.1.1, t.1.2, t.2, t.3)))
 
-room : (c : goal.After-admin_at) → OneRoom by_broken (refusal_in c.admin_at.result) c.args.conference (old c) (new c)
+room : (c : goal.After-admin_at) → OneRoom by_broken (refusal_in c.admin_at.result) (admin_event c.args.act) c.args.conference (old c) (new c)
 room c =
     event-room c.args.conference (event_of_act c.args.act) (old c) (new c) c.admin_at.result (room_at (old c) c.args.conference) refl c.admin_at.ensures.absent
     (λ r is. let t = c.admin_at.ensures.rooms r is in (t.0, t.1.1, t.1.2, t.2, t.3))
@@ -45,11 +51,29 @@ pub invariant_of-self : goal.invariant_of-self
 invariant_of-self c =
     let w = c.self.invariant.0 in
     stood (new c) w w (Admin c.args.conference c.args.act) Want (λ v. Done) c.admin_at.result (turns c w c.self.invariant.1)
-    (keeps-outboxes (old c) (new c) (grows-one by_broken (refusal_in c.admin_at.result) c.args.conference (old c) (new c) (room c))
+    (keeps-outboxes (old c) (new c) (grows-one by_broken (refusal_in c.admin_at.result) (admin_event c.args.act) c.args.conference (old c) (new c) (room c))
     (were-same (old c).connections (new c).connections (λ k. refl)) c.self.invariant.2)
 
 pub returns-clause-next : goal.returns-clause-next
 returns-clause-next c = λ w st. turns c w (subst (λ h. StandsFor h w) (sym c.self.view_is) st)
 
 pub returns-clause-room : goal.returns-clause-room
-returns-clause-room c = subst (λ h. OneRoom by_broken (refusal_in c.admin_at.result) c.args.conference h (new c)) c.self.view_is (room c)
+returns-clause-room c = subst (λ h. OneRoom by_broken (refusal_in c.admin_at.result) (admin_event c.args.act) c.args.conference h (new c)) c.self.view_is (room c)
+
+-- what the room's refusal has left
+fails : (c : goal.After-admin_at) (r s : Room) (res : Result (Unit {0}) HubRefusal) →
+    IfErr res (λ x. (why : RoomRefusal) × (x ≡ ByRoom why) × IsRefusedBy {T = Unit {0}} (refusal r.ledger (event_of_act c.args.act)) (Err why) × Left r s (event_of_act c.args.act) why) →
+    IfErr res (λ x. (why : RoomRefusal) × (x ≡ ByRoom why) × Left r s (event_of_act c.args.act) why)
+fails c r s (Ok v) h = tt
+fails c r s (Err x) h = (h.0, h.1, h.3)
+
+-- an act leaves the connections
+same : (c : goal.After-admin_at) (res : Result (Unit {0}) HubRefusal) → OnErr res (SameConnections (old c).connections (new c).connections)
+same c (Ok v) = tt
+same c (Err x) = λ k. refl
+
+pub returns-clause-left : goal.returns-clause-left
+returns-clause-left c =
+    subst (λ h. IfErr c.admin_at.result (LeftAt (admin_event c.args.act) c.args.conference h (new c))) c.self.view_is
+    (left-at (admin_event c.args.act) (event_of_act c.args.act) c.args.conference (old c) (new c) (λ r. refl) refl c.admin_at.result (room_at (old c) c.args.conference) refl c.admin_at.ensures.absent
+    (λ r is. let t = c.admin_at.ensures.rooms r is in (t.0, t.1.1, t.1.2, fails c r t.0 c.admin_at.result t.3)) (same c c.admin_at.result))

@@ -8,12 +8,14 @@ use Rattle.floor_hub.specs.declared.step.Step.TheVariants.{Attach}
 use Rattle.floor_hub.specs.declared.step.Answer.TheVariants.{Attached}
 use Rattle.floor_hub.specs.Connections.{connection_at}
 use Rattle.floor_hub.specs.Hub.{Hub, room_at}
-use Rattle.floor_hub.specs.Rooms.{by_broken, OneRoom}
+use Rattle.floor_hub.specs.Left.{LeftAt}
+use Rattle.floor_hub.specs.Rooms.{OneRoom, attach_event, by_broken}
 use Rattle.floor_hub.specs.StandsFor.{HasOutbox, HaveOutboxes, StandsFor}
 use Rattle.floor_hub.specs.Calls.{Fails, Turns}
 use Rattle.floor_hub.specs.World.{World}
 use Rattle.floor_hub.proofs.Arriving.{attach_result}
 use Rattle.floor_hub.proofs.Closing.{ended, good, stood}
+use Rattle.floor_hub.proofs.Left.{left-attach}
 use Rattle.floor_hub.proofs.Numbers.{places_fit}
 use Rattle.floor_hub.proofs.RoomSteps.{attach-room}
 use Rattle.floor_room.specs.Ledger.{conference_of}
@@ -44,7 +46,7 @@ turns_ok c w st =
     c.args.conference c.args.user st.stands st.kept (Ok tt) (room_at (old_ok c) c.args.conference) refl c.in-Ok.ensures.absent c.in-Ok.ensures.left
     (λ r is. let t = c.in-Ok.ensures.rooms r is in (t.0, t.1, t.2, (t.3.0, (t.3.1.here, t.3.1.others)), tt)))
 
-room_ok : (c : goal.After-self-1) → OneRoom by_broken None c.args.conference (old_ok c) (new_ok c)
+room_ok : (c : goal.After-self-1) → OneRoom by_broken None (attach_event c.args.user) c.args.conference (old_ok c) (new_ok c)
 room_ok c =
     attach-room c.args.conference c.args.user (old_ok c) (new_ok c) (Ok tt) (room_at (old_ok c) c.args.conference) refl c.in-Ok.ensures.absent
     (λ r is. let t = c.in-Ok.ensures.rooms r is in (t.0, t.1, t.2, t.3.0, tt))
@@ -61,7 +63,7 @@ has_outboxes c (Some r) is =
     let first : 1 ≤ n = omega arith in
     let last : n ≤ length t.0.outboxes = omega (arith, t.3.2) in
     has-joined (old_ok c) (new_ok c) (c.self.inside.arrivals + 1) (record { conference = c.args.conference; n = n; held = [] })
-    (grows-one by_broken None c.args.conference (old_ok c) (new_ok c) (room_ok c)) t.3.1 (subst (λ (z : Option Room). HasOutbox z n) (sym t.1) (first, last)) c.self.invariant.2
+    (grows-one by_broken None (attach_event c.args.user) c.args.conference (old_ok c) (new_ok c) (room_ok c)) t.3.1 (subst (λ (z : Option Room). HasOutbox z n) (sym t.1) (first, last)) c.self.invariant.2
 
 pub invariant_of-self : goal.invariant_of-self
 invariant_of-self c =
@@ -74,7 +76,7 @@ returns-in-Ok-clause-next c = λ w st. turns_ok c w (subst (λ h. StandsFor h w)
 
 pub returns-in-Ok-clause-room : goal.returns-in-Ok-clause-room
 returns-in-Ok-clause-room c =
-    subst (λ h. OneRoom by_broken None c.args.conference h (new_ok c)) c.self.view_is (room_ok c)
+    subst (λ h. OneRoom by_broken None (attach_event c.args.user) c.args.conference h (new_ok c)) c.self.view_is (room_ok c)
 
 abbrev old_err : goal.In-Err → Hub
 old_err c = record { rooms = c.self.inside.rooms.entries; connections = c.self.inside.connections; arrivals = c.self.inside.arrivals }
@@ -90,7 +92,7 @@ turns_err c w st =
     c.args.conference c.args.user st.stands st.kept (Err c.in-Err.refusal) (room_at (old_err c) c.args.conference) refl c.in-Err.ensures.absent c.in-Err.ensures.left
     c.in-Err.ensures.rooms)
 
-room_err : (c : goal.In-Err) → OneRoom by_broken (Some c.in-Err.refusal) c.args.conference (old_err c) (new_err c)
+room_err : (c : goal.In-Err) → OneRoom by_broken (Some c.in-Err.refusal) (attach_event c.args.user) c.args.conference (old_err c) (new_err c)
 room_err c =
     attach-room c.args.conference c.args.user (old_err c) (new_err c) (Err c.in-Err.refusal) (room_at (old_err c) c.args.conference) refl c.in-Err.ensures.absent
     c.in-Err.ensures.rooms
@@ -99,7 +101,7 @@ pub invariant_of-self-in-Err : goal.invariant_of-self-in-Err
 invariant_of-self-in-Err c =
     let w = c.self.invariant.0 in
     stood {T = Unit {0}} (new_err c) w w (Attach c.args.conference c.args.user) Want (λ v. Attached (c.self.inside.arrivals + 1)) (Err c.in-Err.refusal) (turns_err c w c.self.invariant.1)
-    (keeps-outboxes (old_err c) (new_err c) (grows-one by_broken (Some c.in-Err.refusal) c.args.conference (old_err c) (new_err c) (room_err c))
+    (keeps-outboxes (old_err c) (new_err c) (grows-one by_broken (Some c.in-Err.refusal) (attach_event c.args.user) c.args.conference (old_err c) (new_err c) (room_err c))
     (were-same (old_err c).connections (new_err c).connections c.in-Err.ensures.left) c.self.invariant.2)
 
 pub returns-in-Err-clause-next : goal.returns-in-Err-clause-next
@@ -107,4 +109,10 @@ returns-in-Err-clause-next c = λ w st. turns_err c w (subst (λ h. StandsFor h 
 
 pub returns-in-Err-clause-room : goal.returns-in-Err-clause-room
 returns-in-Err-clause-room c =
-    subst (λ h. OneRoom by_broken (Some c.in-Err.refusal) c.args.conference h (new_err c)) c.self.view_is (room_err c)
+    subst (λ h. OneRoom by_broken (Some c.in-Err.refusal) (attach_event c.args.user) c.args.conference h (new_err c)) c.self.view_is (room_err c)
+
+pub returns-in-Err-clause-left : goal.returns-in-Err-clause-left
+returns-in-Err-clause-left c =
+    subst (λ h. LeftAt (attach_event c.args.user) c.args.conference h (new_err c) c.in-Err.refusal) c.self.view_is
+    (left-attach c.args.user c.args.conference (old_err c) (new_err c) c.in-Err.refusal refl (room_at (old_err c) c.args.conference) refl c.in-Err.ensures.absent
+    (λ r is. let t = c.in-Err.ensures.rooms r is in (t.0, t.1, t.2, t.4)) c.in-Err.ensures.left)

@@ -1,7 +1,8 @@
 use Rattle.floor_hub.proofs.Departing.{leave_result}
+use Rattle.floor_hub.proofs.Left.{left-leave}
 use Rattle.floor_hub.proofs.RoomSteps.{leave-room}
 use Rattle.std.proofs.Common.{◌≡◌, refl, sym, subst}
-use Rattle.std.specs.Prelude.{MatchResult, Option}
+use Rattle.std.specs.Prelude.{IfErr, MatchResult, Option}
 use Rattle.floor_machine.specs.declared.machine.Refusal.TheVariants.{Memory}
 use Rattle.floor_room.specs.declared.refusal.RoomRefusal.TheVariants.{Refused as ByMachine}
 use Rattle.floor_hub.specs.declared.refusal.HubRefusal.{HubRefusal}
@@ -10,7 +11,8 @@ use Rattle.floor_hub.specs.declared.step.Step.TheVariants.{Leave}
 use Rattle.floor_hub.specs.declared.step.Answer.TheVariants.{Done}
 use Rattle.floor_hub.specs.Connections.{connection_at}
 use Rattle.floor_hub.specs.Hub.{Hub, room_at}
-use Rattle.floor_hub.specs.Rooms.{RoomOf, refusal_in}
+use Rattle.floor_hub.specs.Left.{LeftLeaving}
+use Rattle.floor_hub.specs.Rooms.{RoomOf, leave_event, refusal_in}
 use Rattle.floor_hub.specs.StandsFor.{StandsFor}
 use Rattle.floor_hub.specs.Calls.{FailsGone, Turns}
 use Rattle.floor_hub.specs.World.{World, turn}
@@ -38,7 +40,7 @@ turns c w st =
 abbrev none : Option HubRefusal
 none = Rattle.std.proofs.Common.None
 
-room : (c : goal.After-leave_at) → RoomOf none (refusal_in c.leave_at.result) (connection_at (old c).connections c.args.number) (old c) (new c)
+room : (c : goal.After-leave_at) → RoomOf none (refusal_in c.leave_at.result) leave_event (connection_at (old c).connections c.args.number) (old c) (new c)
 room c =
     leave-room c.args.number (old c) (new c) c.self.invariant.0 c.self.invariant.1 c.leave_at.result (connection_at c.self.inside.connections c.args.number) refl c.leave_at.ensures.absent refl
     c.leave_at.ensures.there
@@ -47,7 +49,7 @@ pub invariant_of-self : goal.invariant_of-self
 invariant_of-self c =
     let w = c.self.invariant.0 in
     stood (new c) w (turn w (Leave c.args.number)).world (Leave c.args.number) Want (λ v. Done) c.leave_at.result (turns c w c.self.invariant.1)
-    (keeps-outboxes (old c) (new c) (grows-of none (refusal_in c.leave_at.result) (connection_at (old c).connections c.args.number) (old c) (new c) (room c))
+    (keeps-outboxes (old c) (new c) (grows-of none (refusal_in c.leave_at.result) leave_event (connection_at (old c).connections c.args.number) (old c) (new c) (room c))
     (were-of (old c).connections (new c).connections c.args.number (connection_at (old c).connections c.args.number) refl (λ none. (c.leave_at.ensures.absent none).2)
     (λ x there. (Rattle.std.proofs.Common.None, tt, c.leave_at.ensures.gone x there)))
     c.self.invariant.2)
@@ -56,4 +58,10 @@ pub returns-clause-next : goal.returns-clause-next
 returns-clause-next c = λ w st. turns c w (subst (λ h. StandsFor h w) (sym c.self.view_is) st)
 
 pub returns-clause-room : goal.returns-clause-room
-returns-clause-room c = subst (λ h. RoomOf none (refusal_in c.leave_at.result) (connection_at h.connections c.args.number) h (new c)) c.self.view_is (room c)
+returns-clause-room c = subst (λ h. RoomOf none (refusal_in c.leave_at.result) leave_event (connection_at h.connections c.args.number) h (new c)) c.self.view_is (room c)
+
+pub returns-clause-left : goal.returns-clause-left
+returns-clause-left c =
+    subst (λ h. IfErr c.leave_at.result (LeftLeaving c.args.number (connection_at h.connections c.args.number) h (new c))) c.self.view_is
+    (left-leave c.args.number (old c) (new c) refl c.self.invariant.0 c.self.invariant.1 c.leave_at.result (connection_at c.self.inside.connections c.args.number) refl c.leave_at.ensures.absent
+    c.leave_at.ensures.gone (λ x is r room. let t = c.leave_at.ensures.there x is r room in (t.0, t.1, t.2, t.4)))

@@ -5,8 +5,7 @@ use Rattle.floor_hub.specs.declared.refusal.HubRefusal.{HubRefusal}
 use Rattle.floor_hub.specs.declared.refusal.HubRefusal.TheVariants.{Memory as NoMemory, NoConnection}
 use Rattle.floor_hub.specs.declared.step.Step.TheVariants.{Piece}
 use Rattle.floor_hub.specs.declared.step.Answer.TheVariants.{Done}
-use Rattle.floor_hub.specs.Connections.{SameConnections, connection_at}
-use Rattle.floor_hub.specs.steps.Slots.{Puts}
+use Rattle.floor_hub.specs.Connections.{Puts, SameConnections, connection_at}
 use Rattle.floor_hub.specs.Hub.{Hub, room_at}
 use Rattle.floor_hub.specs.StandsFor.{StandsFor}
 use Rattle.floor_hub.specs.Calls.{FailsSame, Turns}

@@ -1,7 +1,8 @@
 use Rattle.floor_hub.proofs.Attending.{serve_result}
+use Rattle.floor_hub.proofs.Left.{left-serve}
 use Rattle.floor_hub.proofs.RoomSteps.{serve-room}
 use Rattle.std.proofs.Common.{◌≡◌, ◌⊎◌, Some, refl, sym, subst}
-use Rattle.std.specs.Prelude.{MatchResult}
+use Rattle.std.specs.Prelude.{IfErr, MatchResult}
 use Rattle.floor_machine.specs.declared.machine.Refusal.TheVariants.{Memory, Broken}
 use Rattle.floor_room.specs.declared.refusal.RoomRefusal.TheVariants.{Refused as ByMachine}
 use Rattle.floor_hub.specs.declared.refusal.HubRefusal.{HubRefusal}
@@ -9,7 +10,8 @@ use Rattle.floor_hub.specs.declared.refusal.HubRefusal.TheVariants.{ByRoom}
 use Rattle.floor_hub.specs.declared.step.Step.TheVariants.{Serve}
 use Rattle.floor_hub.specs.Connections.{connection_at}
 use Rattle.floor_hub.specs.Hub.{Hub, room_at}
-use Rattle.floor_hub.specs.Rooms.{by_broken, RoomOf, refusal_in}
+use Rattle.floor_hub.specs.Left.{LeftServing}
+use Rattle.floor_hub.specs.Rooms.{RoomOf, by_broken, refusal_in, serve_event}
 use Rattle.floor_hub.specs.StandsFor.{StandsFor}
 use Rattle.floor_hub.specs.Calls.{Fails, Turns, answer_of}
 use Rattle.floor_hub.specs.World.{World}
@@ -34,7 +36,7 @@ turns c w st =
     c.serve.result (connection_at c.self.inside.connections c.args.number) refl c.serve.ensures.absent
     (λ x is r room. let t = c.serve.ensures.there x is r room in (t.0, t.1, t.2.1, t.2.2, t.3.here, t.3.others, t.4)))
 
-room : (c : goal.After-serve) → RoomOf by_broken (refusal_in c.serve.result) (connection_at (old c).connections c.args.number) (old c) (new c)
+room : (c : goal.After-serve) → RoomOf by_broken (refusal_in c.serve.result) serve_event (connection_at (old c).connections c.args.number) (old c) (new c)
 room c =
     serve-room c.args.number (old c) (new c) c.self.invariant.0 c.self.invariant.1 c.serve.result (connection_at c.self.inside.connections c.args.number) refl c.serve.ensures.absent refl
     (λ x is r room. let t = c.serve.ensures.there x is r room in (t.0, t.1, t.2.1, t.2.2, t.4))
@@ -43,7 +45,7 @@ pub invariant_of-self : goal.invariant_of-self
 invariant_of-self c =
     let w = c.self.invariant.0 in
     stood (new c) w w (Serve c.args.number) Want (λ v. answer_of v) c.serve.result (turns c w c.self.invariant.1)
-    (keeps-outboxes (old c) (new c) (grows-of by_broken (refusal_in c.serve.result) (connection_at (old c).connections c.args.number) (old c) (new c) (room c))
+    (keeps-outboxes (old c) (new c) (grows-of by_broken (refusal_in c.serve.result) serve_event (connection_at (old c).connections c.args.number) (old c) (new c) (room c))
     (were-of (old c).connections (new c).connections c.args.number (connection_at (old c).connections c.args.number) refl (λ none. (c.serve.ensures.absent none).2)
     (λ x there.
     let r = outbox-room (room_at (old c) x.conference) x.n (c.self.invariant.2 c.args.number x there) in
@@ -55,4 +57,10 @@ pub returns-clause-next : goal.returns-clause-next
 returns-clause-next c = λ w st. turns c w (subst (λ h. StandsFor h w) (sym c.self.view_is) st)
 
 pub returns-clause-room : goal.returns-clause-room
-returns-clause-room c = subst (λ h. RoomOf by_broken (refusal_in c.serve.result) (connection_at h.connections c.args.number) h (new c)) c.self.view_is (room c)
+returns-clause-room c = subst (λ h. RoomOf by_broken (refusal_in c.serve.result) serve_event (connection_at h.connections c.args.number) h (new c)) c.self.view_is (room c)
+
+pub returns-clause-left : goal.returns-clause-left
+returns-clause-left c =
+    subst (λ h. IfErr c.serve.result (LeftServing c.args.number (connection_at h.connections c.args.number) h (new c))) c.self.view_is
+    (left-serve c.args.number (old c) (new c) refl c.self.invariant.0 c.self.invariant.1 c.serve.result (connection_at c.self.inside.connections c.args.number) refl c.serve.ensures.absent
+    (λ x is r room. let t = c.serve.ensures.there x is r room in (t.0, t.1, t.2.1, t.2.2, t.3, t.4)))

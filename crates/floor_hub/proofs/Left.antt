@@ -1,0 +1,207 @@
+-- What a refused call has left.
+use Rattle.std.proofs.Common.{◌≡◌, inl, inr, ℕ, Bool, true, false, cond, List, [], ◌∷◌, length, refl, sym, ◌∙◌, ap, subst, append-nil, Some, None}
+use Rattle.std.specs.Prelude.{Option, nat_eq, nat_le, not, Result, Ok, Err, IfErr, OnErr}
+use Rattle.std.proofs.lemmas.Bool.{eqb-true, ne_eqb}
+use Rattle.std.proofs.lemmas.Option.{none-some}
+use Rattle.floor_machine.specs.declared.event.Event.{Event}
+use Rattle.floor_machine.specs.declared.event.Event.TheVariants.{Join, Message, Leave}
+use Rattle.floor_machine.specs.declared.machine.Refusal.TheVariants.{Broken, Ended, NoMember, NoUser, Full, NoRequest, Memory}
+use Rattle.floor_machine.specs.Journal.{parcels_of}
+use Rattle.floor_room.specs.declared.refusal.RoomRefusal.{RoomRefusal}
+use Rattle.floor_room.specs.declared.refusal.RoomRefusal.TheVariants.{JournalFull, Refused as ByMachine}
+use Rattle.floor_room.specs.Calls.{Left}
+use Rattle.floor_room.specs.Ledger.{IsRefusedBy, closed, conference_of, refusal}
+use Rattle.floor_room.specs.Room.{Room, broken_room}
+use Rattle.floor_hub.specs.declared.connection.Connection.{Connection}
+use Rattle.floor_hub.specs.declared.refusal.HubRefusal.{HubRefusal}
+use Rattle.floor_hub.specs.declared.refusal.HubRefusal.TheVariants.{NoConference, NoConnection, ByRoom}
+use Rattle.floor_hub.specs.declared.step.Served.{Served}
+use Rattle.floor_hub.specs.Connections.{Puts, SameConnections, connection_at}
+use Rattle.floor_hub.specs.Hub.{Hub, room_at}
+use Rattle.floor_hub.specs.Left.{BreaksOff, IsBrokenOff, LeftAt, LeftLeaving, LeftServing}
+use Rattle.floor_hub.specs.Rooms.{SameHub, attach_event, leave_event, serve_event}
+use Rattle.floor_hub.specs.StandsFor.{StandsFor}
+use Rattle.floor_hub.specs.World.{World}
+use Rattle.floor_hub.specs.steps.Serving.{AttachFailsIn, LeaveFailsIn, ServeFailsIn, ServedIn}
+use Rattle.floor_hub.proofs.Attending.{by_memory, member_live, no_refusal}
+use Rattle.floor_hub.proofs.Here.{here}
+use Rattle.floor_hub.proofs.RoomSteps.{leaves-open, serves-first}
+
+-- after want of memory the room is broken off
+broken-off : (own : List Event) (r s : Room) (e : Event) → own ≡ e ∷ [] → Left r s e (ByMachine Memory) → IsBrokenOff own r s
+broken-off own r s e is (inl off) = inl off
+broken-off own r s e is (inr began) = inr (e, is, began)
+
+-- that an attach failed, also behind its join, has left what the room's refusal leaves
+attach-left : (r s : Room) (user : ℕ) (why : RoomRefusal) → AttachFailsIn r s user why → Left r s (Join user) why
+attach-left r s user why (inl f) = f.1
+attach-left r s user why (inr f) = subst (Left r s (Join user)) (sym f.0) (inr (record {
+  lawful = f.1.1.lawful;
+  put = parcels_of (conference_of r.ledger) (Join user);
+  rest = [];
+  all = sym (append-nil (parcels_of (conference_of r.ledger) (Join user)));
+  next = f.1.2 ∙ ap broken_room f.1.1.next;
+}))
+
+err_is : {T : Type 0} (x y : HubRefusal) → ◌≡◌ {A = Result T HubRefusal} (Err x) (Err y) → x ≡ y
+err_is x y e = cc
+
+ok_err : {T : Type 0} (v : T) (x : HubRefusal) → ◌≡◌ {A = Result T HubRefusal} (Ok v) (Err x) → ⊥
+ok_err v x e = cc
+
+some_is : {A : Type 0} (y z : A) → ◌≡◌ {A = Option A} (Some y) (Some z) → y ≡ z
+some_is y z e = cc
+
+module _ (c : ℕ) (old new : Hub) (r s : Room) (was : room_at old c ≡ Some r) (now : room_at new c ≡ Some s)
+    (others : (d : ℕ) → nat_eq c d ≡ false → room_at new d ≡ room_at old d) (arrivals : new.arrivals ≡ old.arrivals) where
+  -- nothing has changed
+  unchanged : s ≡ r → SameConnections old.connections new.connections → SameHub old new
+  unchanged same connections = record { rooms = λ d. by d (nat_eq c d) refl; connections = connections; arrivals = arrivals }
+    where
+      by : (d : ℕ) (b : Bool) → nat_eq c d ≡ b → room_at new d ≡ room_at old d
+      by d true e =
+          ap (room_at new) (sym (eqb-true c d e)) ∙ now ∙ ap (λ (x : Room). Some x) same ∙ sym was ∙ ap (room_at old) (eqb-true c d e)
+      by d false e = others d e
+
+  breaks : (own : Room → List Event) → IsBrokenOff (own r) r s → BreaksOff own c old new
+  breaks own broken = record { before = r; after = s; was = was; now = now; broken = broken; others = others; arrivals = arrivals }
+
+  -- the room has refused the event
+  left-room : (own : Room → List Event) (e : Event) (why : RoomRefusal) → own r ≡ e ∷ [] → Left r s e why → SameConnections old.connections new.connections → LeftAt own c old new (ByRoom why)
+  left-room own e JournalFull is left same = unchanged left same
+  left-room own e (ByMachine Broken) is left same = unchanged left same
+  left-room own e (ByMachine Ended) is left same = unchanged left same
+  left-room own e (ByMachine NoMember) is left same = unchanged left same
+  left-room own e (ByMachine NoUser) is left same = unchanged left same
+  left-room own e (ByMachine Full) is left same = unchanged left same
+  left-room own e (ByMachine NoRequest) is left same = unchanged left same
+  left-room own e (ByMachine Memory) is left same = (breaks own (broken-off (own r) r s e is left), same)
+
+module _ (own : Room → List Event) (e : Event) (c : ℕ) (old new : Hub) (is : (r : Room) → own r ≡ e ∷ []) (arrivals : new.arrivals ≡ old.arrivals) where
+  -- a call for a conference, whose own event is this
+  pub left-at : {T : Type 0} (res : Result T HubRefusal) (y : Option Room) → room_at old c ≡ y →
+      (room_at old c ≡ None → (res ≡ Err NoConference) × ((d : ℕ) → room_at new d ≡ room_at old d)) →
+      ((r : Room) → room_at old c ≡ Some r → (s : Room) × (room_at new c ≡ Some s) × ((d : ℕ) → nat_eq c d ≡ false → room_at new d ≡ room_at old d)
+      × IfErr res (λ x. (why : RoomRefusal) × (x ≡ ByRoom why) × Left r s e why)) →
+      OnErr res (SameConnections old.connections new.connections) → IfErr res (LeftAt own c old new)
+  left-at (Ok v) y was absent there same = tt
+  left-at (Err x) None was absent there same =
+      let a = absent was in
+      subst (LeftAt own c old new) (sym (err_is x NoConference a.0)) (record { rooms = a.1; connections = same; arrivals = arrivals })
+  left-at (Err x) (Some r) was absent there same =
+      let t = there r was in
+      subst (LeftAt own c old new) (sym t.3.1) (left-room c old new r t.0 was t.1 t.2 arrivals own e t.3.0 (is r) t.3.2 same)
+
+-- an attach
+pub left-attach : (user c : ℕ) (old new : Hub) (x : HubRefusal) → new.arrivals ≡ old.arrivals → (y : Option Room) → room_at old c ≡ y →
+    (room_at old c ≡ None → (◌≡◌ {A = Result (Unit {0}) HubRefusal} (Err x) (Err NoConference)) × ((d : ℕ) → room_at new d ≡ room_at old d)) →
+    ((r : Room) → room_at old c ≡ Some r → (s : Room) × (room_at new c ≡ Some s) × ((d : ℕ) → nat_eq c d ≡ false → room_at new d ≡ room_at old d)
+    × ((why : RoomRefusal) × (x ≡ ByRoom why) × AttachFailsIn r s user why)) →
+    SameConnections old.connections new.connections → LeftAt (attach_event user) c old new x
+left-attach user c old new x arrivals y was absent there same =
+    left-at (attach_event user) (Join user) c old new (λ r. refl) arrivals {T = Unit {0}} (Err x) y was absent
+    (λ r is. let t = there r is in (t.0, t.1, t.2, (t.3.0, t.3.1, attach-left r t.0 user t.3.0 t.3.2))) same
+
+module _ (number : ℕ) (old new : Hub) (arrivals : new.arrivals ≡ old.arrivals) (w : World) (st : StandsFor old w) where
+  abbrev rooms : ℕ → Option Room
+  rooms = room_at old
+
+  abbrev now : ℕ → Option Room
+  now = room_at new
+
+  abbrev xs : ℕ → Option Connection
+  xs = connection_at old.connections
+
+  abbrev now_xs : ℕ → Option Connection
+  now_xs = connection_at new.connections
+
+  -- the connection's member is live where the room takes events
+  live : (x : Connection) (is : xs number ≡ Some x) (r s : Room) → rooms x.conference ≡ Some r → now x.conference ≡ Some s →
+      ((d : ℕ) → nat_eq x.conference d ≡ false → now d ≡ rooms d) → ((k : ℕ) → nat_eq number k ≡ false → now_xs k ≡ xs k) →
+      (e : Event) → refusal r.ledger e ≡ refusal r.ledger (Leave x.n) → (why : RoomRefusal) → closed r.ledger ≡ None →
+      IsRefusedBy {T = Unit {0}} (refusal r.ledger e) (Err why) → why ≡ ByMachine Memory
+  live x is r s was is_now other_rooms others e alike why none refused =
+      let h = here rooms xs old.arrivals w number x st.stands is in
+      let same : h.r ≡ r = some_is h.r r (sym h.room ∙ ap rooms (sym h.conference) ∙ was) in
+      let open_now : closed h.r.ledger ≡ None = ap (λ (y : Room). closed y.ledger) same ∙ none in
+      let alive = member_live rooms now xs now_xs old.arrivals w number st.stands st.kept x h s (ap now (sym h.conference) ∙ is_now)
+      (λ d ne. other_rooms d (ne_eqb x.conference d (λ e. ne (sym e ∙ h.conference)))) (λ k ne. others k (ne_eqb number k (λ e. ne (sym e)))) open_now in
+      by_memory (refusal r.ledger e) why
+      (alike ∙ ap (λ (y : Room). refusal y.ledger (Leave x.n)) (sym same) ∙ no_refusal h.r x.n open_now alive) refused
+
+  -- the connection holds what it held
+  still : (x : Connection) (rest : List ℕ) → xs number ≡ Some x → Puts old.connections new.connections number (Some (record { conference = x.conference; n = x.n; held = rest })) → rest ≡ x.held →
+      SameConnections old.connections new.connections
+  still x rest is puts held = λ k. by k (nat_eq number k) refl
+    where
+      by : (k : ℕ) (b : Bool) → nat_eq number k ≡ b → now_xs k ≡ xs k
+      by k true e =
+          ap now_xs (sym (eqb-true number k e)) ∙ puts.here ∙ ap (λ (y : List ℕ). Some (record { conference = x.conference; n = x.n; held = y })) held
+          ∙ sym is ∙ ap xs (eqb-true number k e)
+      by k false e = puts.others k e
+
+  -- a room is closed by something else than want of memory
+  left-closed : (x : Connection) (b o f : Bool) (why : RoomRefusal) →
+      cond b (Some (ByMachine Broken)) (cond (not o) (Some (ByMachine Ended)) (cond f (Some JournalFull) None)) ≡ Some why → SameHub old new → LeftServing number (Some x) old new (ByRoom why)
+  left-closed x true o f why e same = subst (λ (y : RoomRefusal). LeftServing number (Some x) old new (ByRoom y)) (some_is (ByMachine Broken) why e) same
+  left-closed x false false f why e same = subst (λ (y : RoomRefusal). LeftServing number (Some x) old new (ByRoom y)) (some_is (ByMachine Ended) why e) same
+  left-closed x false true true why e same = subst (λ (y : RoomRefusal). LeftServing number (Some x) old new (ByRoom y)) (some_is JournalFull why e) same
+  left-closed x false true false why e same = absurd (none-some why e)
+
+  serve-fails : (x : Connection) (is : xs number ≡ Some x) (r s : Room) (rest : List ℕ) (why : RoomRefusal) → rooms x.conference ≡ Some r → now x.conference ≡ Some s →
+      ((d : ℕ) → nat_eq x.conference d ≡ false → now d ≡ rooms d) → Puts old.connections new.connections number (Some (record { conference = x.conference; n = x.n; held = rest })) →
+      ServeFailsIn r s x.n x.held rest why → LeftServing number (Some x) old new (ByRoom why)
+  serve-fails x is r s rest why was is_now others puts (inl f) =
+      left-closed x r.ledger.is_broken (conference_of r.ledger).is_open (nat_le 1000000 (length r.ledger.journal)) why f.0
+      (unchanged x.conference old new r s was is_now others arrivals f.2 (still x rest is puts f.3))
+  serve-fails x is r s rest why was is_now others puts (inr (inl f)) =
+      subst (λ (y : RoomRefusal). LeftServing number (Some x) old new (ByRoom y)) (sym f.0)
+      (inl (breaks x.conference old new r s was is_now others arrivals (λ r. []) (inl f.2), still x rest is puts f.3))
+  serve-fails x is r s rest why was is_now others puts (inr (inr f)) =
+      let memory : why ≡ ByMachine Memory = live x is r s was is_now others puts.others (Message x.n f.0) refl why f.1 f.2 in
+      subst (λ (y : RoomRefusal). LeftServing number (Some x) old new (ByRoom y)) (sym memory)
+      (inr (
+        breaks x.conference old new r s was is_now others arrivals (serve_event x)
+            (broken-off (serve_event x r) r s (Message x.n f.0) (serves-first x r f.0 rest f.4) (subst (Left r s (Message x.n f.0)) memory f.3)),
+        record { frame = f.0; rest = rest; first = f.4; held = f.5; next = puts },
+      ))
+
+  pub left-serve : (res : Result Served HubRefusal) (y : Option Connection) → xs number ≡ y →
+      (xs number ≡ None → (res ≡ Err NoConnection) × ((d : ℕ) → now d ≡ rooms d) × SameConnections old.connections new.connections) →
+      ((x : Connection) → xs number ≡ Some x → (r : Room) → rooms x.conference ≡ Some r → (s : Room) × (rest : List ℕ) × (now x.conference ≡ Some s)
+      × ((d : ℕ) → nat_eq x.conference d ≡ false → now d ≡ rooms d)
+      × Puts old.connections new.connections number (Some (record { conference = x.conference; n = x.n; held = rest })) × ServedIn r s x.n x.held rest res) →
+      IfErr res (LeftServing number y old new)
+  left-serve (Ok v) y is absent there = tt
+  left-serve (Err z) None is absent there =
+      let a = absent is in
+      subst (LeftServing number None old new) (sym (err_is z NoConnection a.0)) (record { rooms = a.1; connections = a.2; arrivals = arrivals })
+  left-serve (Err z) (Some x) is absent there =
+      let h = here rooms xs old.arrivals w number x st.stands is in
+      let was : rooms x.conference ≡ Some h.r = ap rooms h.conference ∙ h.room in
+      let t = there x is h.r was in
+      let f = t.5.failed in
+      subst (LeftServing number (Some x) old new) (sym f.1) (serve-fails x is h.r t.0 t.1 f.0 was t.2 t.3 t.4 f.2)
+
+  pub left-leave : (res : Result (Unit {0}) HubRefusal) (y : Option Connection) → xs number ≡ y →
+      (xs number ≡ None → (res ≡ Err NoConnection) × ((d : ℕ) → now d ≡ rooms d) × SameConnections old.connections new.connections) →
+      ((x : Connection) → xs number ≡ Some x → Puts old.connections new.connections number None) →
+      ((x : Connection) → xs number ≡ Some x → (r : Room) → rooms x.conference ≡ Some r → (s : Room) × (now x.conference ≡ Some s)
+      × ((d : ℕ) → nat_eq x.conference d ≡ false → now d ≡ rooms d) × IfErr res (λ z. (why : RoomRefusal) × (z ≡ ByRoom why) × LeaveFailsIn r s x.n why)) →
+      IfErr res (LeftLeaving number y old new)
+  left-leave (Ok v) y is absent went there = tt
+  left-leave (Err z) None is absent went there =
+      let a = absent is in
+      subst (LeftLeaving number None old new) (sym (err_is z NoConnection a.0)) (record { rooms = a.1; connections = a.2; arrivals = arrivals })
+  left-leave (Err z) (Some x) is absent went there =
+      let h = here rooms xs old.arrivals w number x st.stands is in
+      let was : rooms x.conference ≡ Some h.r = ap rooms h.conference ∙ h.room in
+      let t = there x is h.r was in
+      let f = t.3.2 in
+      let gone = went x is in
+      let memory : t.3.0 ≡ ByMachine Memory = live x is h.r t.0 was t.1 t.2 gone.others (Leave x.n) refl t.3.0 f.opened f.refused in
+      subst (LeftLeaving number (Some x) old new) (sym (t.3.1 ∙ ap (λ (y : RoomRefusal). ByRoom y) memory)) (
+        breaks x.conference old new h.r t.0 was t.1 t.2 arrivals (leave_event x)
+            (broken-off (leave_event x h.r) h.r t.0 (Leave x.n) (leaves-open x h.r f.opened) (subst (Left h.r t.0 (Leave x.n)) memory f.after)),
+        gone,
+      )
