@@ -17,7 +17,6 @@ use Rattle.floor_machine.specs.Outgoing.{outgoing_bytes}
 use Rattle.floor_machine.specs.Reply.{reply}
 use Rattle.floor_machine.specs.Told.{changed_requests, changed_floors, due}
 use Rattle.floor_machine.specs.Journal.{parcels_of}
-use Rattle.floor_machine.specs.Next.{next, told}
 use Rattle.floor_room.specs.declared.refusal.RoomRefusal.TheVariants.{Refused as ByMachine}
 use Rattle.floor_hub.specs.declared.refusal.HubRefusal.TheVariants.{Used, NoConference, NoConnection, ByRoom}
 use Rattle.floor_hub.specs.declared.step.Step.{Step}

@@ -1,28 +1,26 @@
 -- The requests that an event ended are ones that could be added.
-use Rattle.std.proofs.Common.{◌≡◌, ℕ, suc, ◌+◌, Bool, true, false, cond, List, [], ◌∷◌, map, Option, Some, None, refl, sym, subst, ◌∙◌, ap, arith}
+use Rattle.std.proofs.Common.{◌≡◌, ℕ, suc, ◌+◌, cond, List, [], ◌∷◌, map, Option, Some, None, refl, sym, subst, ◌∙◌, ap, arith}
 use Rattle.std.specs.Prelude.{All}
-use Rattle.std.specs.List.{list_any}
 use Rattle.std.proofs.lemmas.List.Elements.{All-nil, All-cons}
 use Rattle.floor_config.specs.Configuration.{Configuration}
 use Rattle.floor_config.specs.declared.floors.Floor.{Floor}
 use Rattle.floor_queue.specs.declared.request.Request.{Request}
 use Rattle.floor_queue.specs.Queue.{IsAddable, IsQueue, first_request, new_of}
-use Rattle.floor_message.specs.declared.ask.Ask.{Ask}
-use Rattle.floor_message.specs.declared.ask.Ask.TheVariants.{FloorRequest, FloorRelease, FloorRequestQuery, UserQuery, FloorQuery, ChairAction, Hello}
 use Rattle.floor_message.specs.declared.status.RequestStatus.{RequestStatus}
 use Rattle.floor_machine.specs.declared.course.Course.{Course}
 use Rattle.floor_machine.specs.declared.course.Ended.{Ended}
-use Rattle.floor_machine.specs.declared.change.judged.Judged.{Judged}
-use Rattle.floor_machine.specs.declared.change.judged.Judged.TheVariants.{Accepted, Refused, Unanswered}
+use Rattle.floor_machine.specs.declared.decision.Change.{Change as Decided}
+use Rattle.floor_machine.specs.declared.decision.Change.TheVariants as to
 use Rattle.floor_machine.specs.declared.conference.State.{State}
 use Rattle.floor_machine.specs.declared.event.Event.TheVariants.{Leave, Revoke}
 use Rattle.floor_machine.specs.Conference.{Conference, user_of}
 use Rattle.floor_machine.specs.Shown.{Entry, entry_of}
-use Rattle.floor_machine.specs.Checks.{beneficiary_of}
-use Rattle.floor_machine.specs.Change.{Change, change, leaving, ends_without, ending, ends_at, entries_after, released, dismissed, decided_at, is_final}
+use Rattle.floor_machine.specs.Change.{Change, change, leaving, ends_without, ending, ends_at, dismissed, decided_at}
 use Rattle.floor_machine.specs.steps.Telling.{entry_of_ended}
-use Rattle.floor_machine.specs.steps.Serving.{IsChanged, MayServe, ended_of, judged_change}
-use Rattle.floor_machine.specs.steps.Fitting.{AreAddable, DetailsFit}
+use Rattle.floor_machine.specs.steps.Deciding.{change_adding, change_by}
+use Rattle.floor_machine.specs.steps.Ending.{ending_by}
+use Rattle.floor_machine.specs.steps.Serving.{IsChanged, ended_of}
+use Rattle.floor_machine.specs.steps.Fitting.{AreAddable}
 use Rattle.floor_machine.proofs.Entries.{ended_of-entries}
 use Rattle.floor_machine.proofs.Changing.{ended_of-decided, none-ended-added}
 
@@ -47,25 +45,13 @@ noted_all P (d ∷ ended) h = All-cons (λ d. P d.request) d ended (h 0 (entry_o
 none_all : (P : Request → Type 0) (es : List Entry) → es ≡ [] → All (λ e. P e.request) es
 none_all P es same = let Q : List Entry → Type 0 = λ xs. All (λ e. P e.request) xs in subst Q (sym same) (All-nil (λ e. P e.request))
 
-asked_all : (P : Request → Type 0) (s : Conference) (user : ℕ) (a : Ask) → All P s.ongoing → All (λ e. P e.request) (ended_of (entries_after s user a))
-asked_all P s user (FloorRequest beneficiary floors priority info) h =
-    none_all P (ended_of (entries_after s user (FloorRequest beneficiary floors priority info))) (none-ended-added s.ongoing (first_request s.config.floors (s.given + 1)
-    record { requester = user; beneficiary = beneficiary_of user beneficiary; floors = floors; priority = priority; info = info }))
-asked_all P s user (FloorRelease request) h = ending_all P (ends_at request released) s.ongoing h
-asked_all P s user (FloorRequestQuery request) h = none_all P (ended_of (map entry_of s.ongoing)) (ended_of-entries s.ongoing)
-asked_all P s user (UserQuery beneficiary) h = none_all P (ended_of (map entry_of s.ongoing)) (ended_of-entries s.ongoing)
-asked_all P s user (FloorQuery floors) h = none_all P (ended_of (map entry_of s.ongoing)) (ended_of-entries s.ongoing)
-asked_all P s user (ChairAction request verdicts) h = by (list_any (λ v. is_final v.1) verdicts)
-  where
-    by : (b : Bool) → All (λ e. P e.request) (ended_of (cond b (ending s (ends_at request dismissed)) (map (λ r. entry_of (decided_at request verdicts r)) s.ongoing)))
-    by true = ending_all P (ends_at request dismissed) s.ongoing h
-    by false = none_all P (ended_of (map (λ r. entry_of (decided_at request verdicts r)) s.ongoing)) (ended_of-decided request verdicts s.ongoing)
-asked_all P s user Hello h = none_all P (ended_of (map entry_of s.ongoing)) (ended_of-entries s.ongoing)
-
-judged_all : (P : Request → Type 0) (s : Conference) (n : ℕ) (j : Judged) → All P s.ongoing → All (λ e. P e.request) (ended_of (judged_change s n j).entries)
-judged_all P s n (Accepted a) h = asked_all P s _ a h
-judged_all P s n (Refused code details) h = none_all P (ended_of (map entry_of s.ongoing)) (ended_of-entries s.ongoing)
-judged_all P s n Unanswered h = none_all P (ended_of (map entry_of s.ongoing)) (ended_of-entries s.ongoing)
+decided_all : (P : Request → Type 0) (s : Conference) (n : ℕ) (c : Decided) → All P s.ongoing → All (λ e. P e.request) (ended_of (change_by s n c).entries)
+decided_all P s n to.Nothing h = none_all P (ended_of (map entry_of s.ongoing)) (ended_of-entries s.ongoing)
+decided_all P s n (to.Add new) h =
+    none_all P (ended_of (change_adding s new).entries) (none-ended-added s.ongoing (first_request s.config.floors (s.given + 1) new))
+decided_all P s n (to.End request by) h = ending_all P (ends_at request (ending_by by)) s.ongoing h
+decided_all P s n (to.Words request verdicts) h = none_all P (ended_of (map (λ r. entry_of (decided_at request verdicts r)) s.ongoing)) (ended_of-decided request verdicts s.ongoing)
+decided_all P s n (to.Watch floors) h = none_all P (ended_of (map entry_of s.ongoing)) (ended_of-entries s.ongoing)
 
 -- where the entries that ended are ones that could be added, so are those that the course has noted
 noted_addable : (floors : List Floor) (ended : List Ended) (es : List Entry) → map entry_of_ended ended ≡ es → All (λ e. IsAddable floors (new_of e.request)) es → AreAddable floors ended
@@ -106,16 +92,10 @@ pub revoked_addable : (s t : Conference) (request : ℕ) (course : Course) → A
 unfolding change
 revoked_addable s t request course h changed = changed_addable s t (change s (Revoke request)) (ends_at request dismissed) course h changed refl
 
--- those that a judged message ended, by the configuration that the change leaves
-pub judged_addable : (s t : Conference) (n : ℕ) (j : Judged) (course : Course) → All (λ r. IsAddable s.config.floors (new_of r)) s.ongoing →
-    IsChanged s (judged_change s n j) t course → AreAddable t.config.floors course.ended.items
-judged_addable s t n j course h changed =
+-- those that a decision ended, by the configuration that the change leaves
+pub decided_addable : (s t : Conference) (n : ℕ) (c : Decided) (course : Course) → All (λ r. IsAddable s.config.floors (new_of r)) s.ongoing →
+    IsChanged s (change_by s n c) t course → AreAddable t.config.floors course.ended.items
+decided_addable s t n c course h changed =
     let Q : List Floor → Type 0 = λ fs. AreAddable fs course.ended.items in
     subst Q (sym (ap (λ (k : Configuration). k.floors) changed.config))
-    (noted_addable s.config.floors course.ended.items (ended_of (judged_change s n j).entries) changed.ended (judged_all (λ r. IsAddable s.config.floors (new_of r)) s n j h))
-
--- the details of what may be served fit
-pub details_fit : (s : Conference) (user : ℕ) (j : Judged) → MayServe s user j → DetailsFit j
-details_fit s user (Accepted a) h = tt
-details_fit s user (Refused code details) h = h
-details_fit s user Unanswered h = tt
+    (noted_addable s.config.floors course.ended.items (ended_of (change_by s n c).entries) changed.ended (decided_all (λ r. IsAddable s.config.floors (new_of r)) s n c h))

@@ -1,6 +1,6 @@
 -- What no check refuses may be done.
-use Rattle.std.proofs.Common.{◌≡◌, ◌≢◌, ℕ, zero, suc, ◌<◌, ◌≤◌, Bool, true, false, List, [], ◌∷◌, length, get_or, Option, Some, None, refl, sym, arith}
-use Rattle.std.specs.Prelude.{◌==◌, ◌||◌, ◌&&◌, not, nat_lt, nat_le, All, IsTrue, IfSome, IsSome, IsSomeAnd}
+use Rattle.std.proofs.Common.{◌≡◌, ◌≢◌, ℕ, zero, suc, ◌<◌, ◌≤◌, Bool, true, false, List, [], ◌∷◌, length, get_or, cond, Option, Some, None, Result, Ok, Err, refl, sym, subst, arith}
+use Rattle.std.specs.Prelude.{◌==◌, ◌||◌, ◌&&◌, not, nat_lt, nat_le, All, IsTrue, IfOk, IfSome, IsSome, IsSomeAnd}
 use Rattle.std.specs.List.{list_any, list_all}
 use Rattle.std.specs.Option.{option_map_or}
 use Rattle.std.proofs.lemmas.Bool.Decides.{nat_tests}
@@ -9,19 +9,24 @@ use Rattle.floor_config.specs.Doubles.{AllDiffer}
 use Rattle.floor_config.specs.Lookup.{is_floor, is_user, has_proxy, chair_is}
 use Rattle.floor_queue.specs.declared.request.Request.{Request}
 use Rattle.floor_queue.specs.Order.{names}
-use Rattle.floor_queue.specs.Queue.{request_at}
+use Rattle.floor_queue.specs.Queue.{MaySetFloor, Queue, request_at}
 use Rattle.floor_message.specs.Picked.{IsOnceBy}
 use Rattle.floor_message.specs.Fits.{AskPartsFit, FloorRequestFits, TextFits}
 use Rattle.floor_message.specs.Laws.{CountsFit}
 use Rattle.floor_message.specs.declared.ask.Ask.{Ask}
 use Rattle.floor_message.specs.declared.verdicts.Verdict.{Verdict}
+use Rattle.floor_message.specs.declared.verdicts.Verdict.TheVariants.{Accepted, Granted, Denied, Revoked}
 use Rattle.floor_message.specs.declared.ask.Ask.TheVariants.{FloorRequest, FloorRelease, FloorRequestQuery, UserQuery, FloorQuery, ChairAction, Hello}
 use Rattle.floor_message.specs.declared.code.ErrorCode.{ErrorCode}
 use Rattle.floor_message.specs.declared.code.ErrorCode.TheVariants.{FloorRequestIdDoesNotExist, UnauthorizedOperation, UserDoesNotExist, InvalidFloorId, GenericError, MaximumFloorRequestsReached}
-use Rattle.floor_machine.specs.declared.change.judged.Judged.TheVariants.{Accepted}
 use Rattle.floor_machine.specs.Conference.{Conference}
 use Rattle.floor_machine.specs.Checks.{Check, when, first_of, beneficiary_of, requests_for, release_checks, chair_checks, is_allowed, refusal}
-use Rattle.floor_machine.specs.steps.Serving.{HasRoom, MayServe}
+use Rattle.floor_machine.specs.Change.{is_final}
+use Rattle.floor_machine.specs.declared.decision.Change.TheVariants as to
+use Rattle.floor_machine.specs.declared.decision.Decision.{Decision}
+use Rattle.floor_machine.specs.declared.decision.EndedBy.TheVariants.{Chair}
+use Rattle.floor_machine.specs.steps.Deciding.{HasRoom, MayChange, MayDecide, MayServe, accepted, asked, refused_by}
+use Rattle.floor_machine.specs.steps.Fitting.{DetailsFit}
 use Rattle.floor_machine.proofs.Found.{and_left, and_right}
 
 -- of six checks that none refuses by, the third, the fourth and the sixth don't apply
@@ -112,7 +117,7 @@ decidable s user verdicts (Some r) h =
     (not_false (list_all (λ v. names r v.0) verdicts) free.0, not_false (list_all (λ v. is_allowed r.is_granted v.1) verdicts) free.1)
 
 -- what no own check refuses, and is read of a message, may be done
-pub may_serve : (s : Conference) (user : ℕ) (a : Ask) → (CountsFit a → AskPartsFit a) → None ≡ refusal s user a → MayServe s user (Accepted a)
+pub may_serve : (s : Conference) (user : ℕ) (a : Ask) → (CountsFit a → AskPartsFit a) → None ≡ refusal s user a → MayServe s user a
 unfolding refusal
 may_serve s user (FloorRequest beneficiary floors priority info) fits none =
     let b = beneficiary_of user beneficiary in
@@ -138,3 +143,83 @@ may_serve s user (UserQuery beneficiary) fits none = tt
 may_serve s user (FloorQuery floors) fits none = tt
 may_serve s user (ChairAction request verdicts) fits none = decidable s user verdicts (request_at s.ongoing request) (sym none)
 may_serve s user Hello fits none = tt
+
+-- a verdict that a request allows, and that doesn't end it, finds it not granted
+not_granted : (b : Bool) (v : Verdict) → is_allowed b v ≡ true → is_final v ≡ false → not b ≡ true
+not_granted b Accepted h k = h
+not_granted b Granted h k = h
+not_granted b Denied h k = cc
+not_granted b Revoked h k = cc
+
+may_each : (r : Request) (verdicts : List (ℕ × Verdict)) → list_all (λ v. names r v.0) verdicts ≡ true → list_all (λ v. is_allowed r.is_granted v.1) verdicts ≡ true →
+    list_any (λ v. is_final v.1) verdicts ≡ false → All (λ v. IsTrue (names r v.0) × IsTrue (not r.is_granted)) verdicts
+may_each r [] named allowed lasting = All-nil (λ v. IsTrue (names r v.0) × IsTrue (not r.is_granted))
+may_each r (v ∷ verdicts) named allowed lasting =
+    All-cons (λ v. IsTrue (names r v.0) × IsTrue (not r.is_granted)) v verdicts
+    (and_left (names r v.0) _ named, not_granted r.is_granted v.1 (and_left (is_allowed r.is_granted v.1) _ allowed) (or_first (is_final v.1) _ lasting))
+    (may_each r verdicts (and_right (names r v.0) _ named) (and_right (is_allowed r.is_granted v.1) _ allowed) (or_second (is_final v.1) _ lasting))
+
+-- verdicts that may be done, none of which ends the request, may leave their words
+pub may_words : (q : Queue) (request : ℕ) (verdicts : List (ℕ × Verdict)) → MayDecide q.ongoing request verdicts → list_any (λ v. is_final v.1) verdicts ≡ false →
+    All (λ v. MaySetFloor q request v.0) verdicts
+may_words q request verdicts may lasting = by (request_at q.ongoing request) may
+  where
+    by : (o : Option Request) → IsSomeAnd o (λ r. (list_all (λ v. names r v.0) verdicts ≡ true) × (list_all (λ v. is_allowed r.is_granted v.1) verdicts ≡ true)) →
+        All (λ v. IsSomeAnd o (λ r. IsTrue (names r v.0) × IsTrue (not r.is_granted))) verdicts
+    by None h = absurd h
+    by (Some r) h = may_each r verdicts h.0 h.1 lasting
+
+-- so may what it comes to
+may_accept : (s : Conference) (user : ℕ) (a : Ask) → MayServe s user a → MayChange s (accepted user a).change
+may_accept s user (FloorRequest beneficiary floors priority info) may = may
+may_accept s user (FloorRelease request) may = may
+may_accept s user (FloorRequestQuery request) may = tt
+may_accept s user (UserQuery beneficiary) may = tt
+may_accept s user (FloorQuery floors) may = tt
+may_accept s user (ChairAction request verdicts) may = by (list_any (λ v. is_final v.1) verdicts) refl
+  where
+    ongoing : (P : Request → Type 0) (o : Option Request) → IsSomeAnd o P → IsSome o
+    ongoing P None h = absurd h
+    ongoing P (Some r) h = refl
+
+    by : (b : Bool) → list_any (λ v. is_final v.1) verdicts ≡ b → MayChange s (cond b (to.End request Chair) (to.Words request verdicts))
+    by true is = ongoing _ (request_at s.ongoing request) may
+    by false is = (may, is)
+may_accept s user Hello may = tt
+
+-- what is asked comes to what may be done
+may_asked : (s : Conference) (user : ℕ) (a : Ask) → (CountsFit a → AskPartsFit a) → MayChange s (asked s user a).change
+may_asked s user a fits = by (refusal s user a) refl
+  where
+    by : (o : Option ErrorCode) → o ≡ refusal s user a → MayChange s (option_map_or refused_by o (accepted user a)).change
+    by None free = may_accept s user a (may_serve s user a fits free)
+    by (Some code) free = tt
+
+details_accepted : (user : ℕ) (a : Ask) → DetailsFit (accepted user a).reply
+details_accepted user (FloorRequest beneficiary floors priority info) = tt
+details_accepted user (FloorRelease request) = tt
+details_accepted user (FloorRequestQuery request) = tt
+details_accepted user (UserQuery beneficiary) = tt
+details_accepted user (FloorQuery floors) = tt
+details_accepted user (ChairAction request verdicts) = tt
+details_accepted user Hello = tt
+
+-- and the details of its Error, if it is answered by one, fit
+details_asked : (s : Conference) (user : ℕ) (a : Ask) → DetailsFit (asked s user a).reply
+details_asked s user a = by (refusal s user a)
+  where
+    by : (o : Option ErrorCode) → DetailsFit (option_map_or refused_by o (accepted user a)).reply
+    by None = details_accepted user a
+    by (Some code) = omega arith
+
+if_same : {E : Type 0} (P : Decision → Type 0) (d : Decision) (r : Result Decision E) → P d → IfOk r (λ x. x ≡ d) → IfOk r P
+if_same P d (Ok x) h same = subst P (sym same) h
+if_same P d (Err e) h same = tt
+
+-- what is decided of what is asked may be done
+pub may_decided : {E : Type 0} (s : Conference) (user : ℕ) (a : Ask) (r : Result Decision E) → (CountsFit a → AskPartsFit a) → IfOk r (λ d. d ≡ asked s user a) → IfOk r (λ d. MayChange s d.change)
+may_decided s user a r fits same = if_same (λ d. MayChange s d.change) (asked s user a) r (may_asked s user a fits) same
+
+-- and the details of its Error fit
+pub details_decided : {E : Type 0} (s : Conference) (user : ℕ) (a : Ask) (r : Result Decision E) → IfOk r (λ d. d ≡ asked s user a) → IfOk r (λ d. DetailsFit d.reply)
+details_decided s user a r same = if_same (λ d. DetailsFit d.reply) (asked s user a) r (details_asked s user a) same

@@ -12,8 +12,8 @@ use Rattle.floor_message.specs.declared.code.ErrorCode.{ErrorCode}
 use Rattle.floor_message.specs.declared.tell.Tell.TheVariants.{FloorRequestStatus}
 use Rattle.floor_machine.specs.declared.event.Event.{Event}
 use Rattle.floor_machine.specs.declared.event.Event.TheVariants.{Message}
-use Rattle.floor_machine.specs.declared.change.judged.Judged.{Judged}
-use Rattle.floor_machine.specs.declared.change.judged.Judged.TheVariants.{Accepted, Refused}
+use Rattle.floor_machine.specs.declared.decision.Change.{Change as Decided}
+use Rattle.floor_machine.specs.declared.decision.Decision.{Decision}
 use Rattle.floor_machine.specs.declared.member.Member.{Member}
 use Rattle.floor_machine.specs.Conference.{Conference, binding, member_with, opening, user_of}
 use Rattle.floor_machine.specs.Change.{change, settled}
@@ -23,7 +23,7 @@ use Rattle.floor_machine.specs.Outgoing.{Outgoing, notice, outgoing_bytes}
 use Rattle.floor_machine.specs.Parcel.{Parcel}
 use Rattle.floor_machine.specs.Reachable.{LeavesAlone, Sent, is_unaccepted}
 use Rattle.floor_machine.specs.Reply.{floor_status_tell, reply}
-use Rattle.floor_machine.specs.steps.Serving.{changes_requests, judged, members_judged}
+use Rattle.floor_machine.specs.steps.Deciding.{accepted, changes_requests, decision_of, members_by, refused_by}
 use Rattle.floor_machine.specs.Told.{Changed, changed_floors, changed_requests, is_told, reply_to, due_to}
 use Rattle.floor_machine.proofs.Found.{and_left}
 use Rattle.floor_machine.proofs.Kept.{IsKept, event-kept, settled-message}
@@ -32,16 +32,16 @@ use Rattle.floor_machine.proofs.Sent.{sent_is_told}
 use Rattle.floor_machine.proofs.Telling.{due-member}
 
 -- what isn't accepted changes no request and no member
-record ChangesNothing (members : List Member) (n : ℕ) (j : Judged) : Type 0 where
-  requests : changes_requests j ≡ false
-  members_kept : members_judged members n j ≡ members
+record ChangesNothing (members : List Member) (n : ℕ) (c : Decided) : Type 0 where
+  requests : changes_requests c ≡ false
+  members_kept : members_by members n c ≡ members
 
-unaccepted : (s : Conference) (n user : ℕ) (a : Answer) → is_unaccepted s user a ≡ true → ChangesNothing s.members n (judged s user a)
+unaccepted : (s : Conference) (n user : ℕ) (a : Answer) → is_unaccepted s user a ≡ true → ChangesNothing s.members n (decision_of s user a).change
 unaccepted s n user unanswered h = record { requests = refl; members_kept = refl }
 unaccepted s n user (refused code details) h = record { requests = refl; members_kept = refl }
 unaccepted s n user (asks a) h = by (refusal s user a) h
   where
-    by : (o : Option ErrorCode) → is_some o ≡ true → ChangesNothing s.members n (option_map_or (λ code. Refused code []) o (Accepted a))
+    by : (o : Option ErrorCode) → is_some o ≡ true → ChangesNothing s.members n (option_map_or refused_by o (accepted user a)).change
     by None h = cc
     by (Some code) h = record { requests = refl; members_kept = refl }
 
@@ -78,9 +78,9 @@ pub leaves_alone : (s : Conference) (n : ℕ) (bytes : List ℕ) → settle s.co
     is_unaccepted s (user_of s n) (ask bytes (binding s n)) ≡ true → LeavesAlone s n bytes
 leaves_alone s n bytes is_settled ascending refused_is =
     let e : Event = Message n bytes in
-    let j : Judged = judged s (user_of s n) (ask bytes (binding s n)) in
-    let nothing : ChangesNothing s.members n j = unaccepted s n (user_of s n) (ask bytes (binding s n)) refused_is in
-    let k : IsKept s (members_judged s.members n j) (change s e) = event-kept s n bytes j refl nothing.requests in
+    let j : Decision = decision_of s (user_of s n) (ask bytes (binding s n)) in
+    let nothing : ChangesNothing s.members n j.change = unaccepted s n (user_of s n) (ask bytes (binding s n)) refused_is in
+    let k : IsKept s (members_by s.members n j.change) (change s e) = event-kept s n bytes j refl nothing.requests in
     record {
       next = sym (settled-message s n bytes j refl nothing.requests is_settled) ∙ ap (λ (ms : List Member). record s { members = ms }) nothing.members_kept;
       told = λ i other. due-member s e i refl

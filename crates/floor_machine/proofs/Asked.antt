@@ -1,26 +1,26 @@
 -- What a state is after an accepted message.
-use Rattle.std.proofs.Common.{◌≡◌, ℕ, ◌+◌, ◌≤◌, Bool, true, false, cond, List, [], ◌∷◌, ◌++◌, map, Option, Some, None, Result, Ok, Err, refl, sym, ap, ◌∙◌, arith, append-nil}
-use Rattle.std.specs.Prelude.{◌==◌, All, OnOk, IfSome, IsSome, IsSomeAnd}
-use Rattle.std.specs.List.{flat_map, list_any}
+use Rattle.std.proofs.Common.{◌≡◌, ℕ, ◌+◌, ◌≤◌, true, false, cond, List, [], ◌∷◌, ◌++◌, map, Option, Some, None, Result, Ok, Err, refl, sym, ap, ◌∙◌, arith, append-nil}
+use Rattle.std.specs.Prelude.{◌==◌, All, OnOk, IfSome, IsSome}
+use Rattle.std.specs.List.{flat_map}
 use Rattle.std.specs.Option.{option_map_or}
 use Rattle.std.proofs.lemmas.Bool.Decides.{nat_tests}
 use Rattle.std.proofs.lemmas.Grind.{flat_map-append}
 use Rattle.std.proofs.lemmas.List.Elements.{All-head, All-tail}
 use Rattle.floor_config.specs.declared.floors.Floor.{Floor}
+use Rattle.floor_queue.specs.declared.request.New.{New}
 use Rattle.floor_queue.specs.declared.request.Request.{Request}
 use Rattle.floor_queue.specs.Queue.{IsQueue, request_at, numbers_of, is_ascending, first_request, after_add, after_end}
-use Rattle.floor_message.specs.declared.ask.Ask.TheVariants.{FloorRequest, ChairAction}
 use Rattle.floor_message.specs.declared.verdicts.Verdict.{Verdict}
 use Rattle.floor_message.specs.declared.status.RequestStatus.{RequestStatus}
 use Rattle.floor_machine.specs.declared.course.Course.{Course}
 use Rattle.floor_machine.specs.declared.course.Ended.{Ended}
 use Rattle.floor_machine.specs.declared.conference.State.{State}
-use Rattle.floor_machine.specs.Shown.{entry_of}
-use Rattle.floor_machine.specs.Conference.{Conference, user_of}
-use Rattle.floor_machine.specs.Change.{Change, no_change, asked_change, ending, ends_at, dismissed, is_final, decided_at}
+use Rattle.floor_machine.specs.Conference.{Conference}
+use Rattle.floor_machine.specs.Change.{no_change, ending, ends_at, decided_at}
 use Rattle.floor_machine.specs.steps.Telling.{entry_of_ended, listed}
 use Rattle.floor_machine.specs.steps.Marks.{AreNoted}
-use Rattle.floor_machine.specs.steps.Serving.{IsChanged, MayDecide, after_decide, conference_of, ended_by, is_rising, new_of_ask, with_requests}
+use Rattle.floor_machine.specs.steps.Deciding.{change_adding, change_words}
+use Rattle.floor_machine.specs.steps.Serving.{IsChanged, conference_of, is_rising, with_requests}
 use Rattle.floor_machine.proofs.Found.{request_at_place}
 use Rattle.floor_machine.proofs.Noting.{noted-none}
 use Rattle.floor_machine.proofs.Entries.{ongoing_of-entries, ended_of-entries, numbers_in-entries}
@@ -75,24 +75,17 @@ begun s course h numbers ended = record {
   noted = noted-none s.config.floors s.ongoing course.marks.items;
 }
 
--- the request that a FloorRequest makes
-abbrev pub made : State → ℕ → Option ℕ → List ℕ → ℕ → Option (List ℕ) → List Floor → Request
-made s user beneficiary floors priority info known = first_request known (s.requests.given + 1) (new_of_ask user beneficiary floors priority info)
-
--- a FloorRequest has added its request
-pub changed-request : (s : State) (course course' : Course) (n user : ℕ) (beneficiary : Option ℕ) (floors : List ℕ) (priority : ℕ) (info : Option (List ℕ)) →
-    IsQueue s.requests → IsChanged (conference_of s) (no_change (conference_of s)) (conference_of s) course → user ≡ user_of (conference_of s) n →
+-- a request has been added
+pub changed-add : (s : State) (course course' : Course) (new : New) →
+    IsQueue s.requests → IsChanged (conference_of s) (no_change (conference_of s)) (conference_of s) course →
     course'.numbers.items ≡ course.numbers.items ++ (s.requests.given + 1) ∷ [] → course'.ended ≡ course.ended →
-    AreNoted s.config.floors s.requests.ongoing (after_add s.requests (new_of_ask user beneficiary floors priority info)).ongoing course'.marks.items →
-    IsChanged (conference_of s) (asked_change (conference_of s) n (FloorRequest beneficiary floors priority info))
-    (with_requests (conference_of s) (after_add s.requests (new_of_ask user beneficiary floors priority info))) course'
-changed-request s course course' n user beneficiary floors priority info queue begun is_user numbers ended noted =
+    AreNoted s.config.floors s.requests.ongoing (after_add s.requests new).ongoing course'.marks.items →
+    IsChanged (conference_of s) (change_adding (conference_of s) new) (with_requests (conference_of s) (after_add s.requests new)) course'
+changed-add s course course' new queue begun numbers ended noted =
     let rs = s.requests.ongoing in
-    let mine = made s user beneficiary floors priority info s.requests.floors in
-    let spec = made s (user_of (conference_of s) n) beneficiary floors priority info s.config.floors in
-    let same : mine ≡ spec =
-    ap (λ (u : ℕ). made s u beneficiary floors priority info s.requests.floors) is_user
-    ∙ ap (made s (user_of (conference_of s) n) beneficiary floors priority info) s.same_floors in
+    let mine : Request = first_request s.requests.floors (s.requests.given + 1) new in
+    let spec : Request = first_request s.config.floors (s.requests.given + 1) new in
+    let same : mine ≡ spec = ap (λ (fs : List Floor). first_request fs (s.requests.given + 1) new) s.same_floors in
     record {
       config = refl;
       given = refl;
@@ -148,16 +141,12 @@ changed-end s how course course' request queue begun ongoing told numbers noted 
     by None some h = cc
     by (Some r) some h = ap (map entry_of_ended) (h ∙ ap (λ (es : List Ended). es ++ record { request = r; ending = how r } ∷ []) (none-ended (conference_of s) course begun))
 
--- the requests after verdicts that end none
-abbrev words_change : Conference → ℕ → List (ℕ × Verdict) → Change
-words_change s request verdicts = record (no_change s) { entries = map (λ r. entry_of (decided_at request verdicts r)) s.ongoing }
-
 -- verdicts that end no request have left their words
-changed-words : (s : State) (course course' : Course) (request : ℕ) (verdicts : List (ℕ × Verdict)) →
+pub changed-words : (s : State) (course course' : Course) (request : ℕ) (verdicts : List (ℕ × Verdict)) →
     IsQueue s.requests → IsChanged (conference_of s) (no_change (conference_of s)) (conference_of s) course →
-    course'.ended.items ≡ course.ended.items ++ [] → course'.numbers ≡ course.numbers →
+    course'.ended ≡ course.ended → course'.numbers ≡ course.numbers →
     AreNoted s.config.floors s.requests.ongoing (map (decided_at request verdicts) s.requests.ongoing) course'.marks.items →
-    IsChanged (conference_of s) (words_change (conference_of s) request verdicts)
+    IsChanged (conference_of s) (change_words (conference_of s) request verdicts)
     (with_requests (conference_of s) (record s.requests { ongoing = map (decided_at request verdicts) s.requests.ongoing })) course'
 changed-words s course course' request verdicts queue begun ended numbers noted =
     let rs = s.requests.ongoing in
@@ -168,40 +157,9 @@ changed-words s course course' request verdicts queue begun ended numbers noted 
       members = refl;
       is_open = refl;
       ongoing = sym (ongoing_of-decided request verdicts rs);
-      ended = ap (map entry_of_ended) (ended ∙ append-nil course.ended.items ∙ none-ended (conference_of s) course begun) ∙ sym (ended_of-decided request verdicts rs);
+      ended = ap (map entry_of_ended) (ap (λ x. x.items) ended ∙ none-ended (conference_of s) course begun) ∙ sym (ended_of-decided request verdicts rs);
       numbers = same ∙ sym (numbers_in-decided request verdicts rs);
       rising = ap is_rising same ∙ rising-numbers rs ∙ queue.ascending;
       old = ap (λ (ns : List ℕ). flat_map (λ n. listed (request_at rs n)) ns) (ap (λ x. x.items) numbers) ∙ begun.old;
       noted = noted;
     }
-
--- the requests after the verdicts, of which one ends the request or none does
-abbrev decide_change : Bool → Conference → ℕ → List (ℕ × Verdict) → Change
-decide_change b s request verdicts =
-    record (no_change s) { entries = cond b (ending s (ends_at request dismissed)) (map (λ r. entry_of (decided_at request verdicts r)) s.ongoing) }
-
--- a ChairAction has ended its request, or left its words
-pub changed-decide : (s : State) (course course' : Course) (n request : ℕ) (verdicts : List (ℕ × Verdict)) →
-    IsQueue s.requests → IsChanged (conference_of s) (no_change (conference_of s)) (conference_of s) course →
-    MayDecide s.requests.ongoing request verdicts →
-    course'.ended.items ≡ course.ended.items ++ ended_by s.requests request verdicts → course'.numbers ≡ course.numbers →
-    AreNoted s.config.floors s.requests.ongoing (after_decide s.requests request verdicts).ongoing course'.marks.items →
-    IsChanged (conference_of s) (asked_change (conference_of s) n (ChairAction request verdicts)) (with_requests (conference_of s) (after_decide s.requests request verdicts)) course'
-changed-decide s course course' n request verdicts queue begun may ended numbers noted = by (list_any (λ v. is_final v.1) verdicts) ended noted
-  where
-    found : (P : Request → Type 0) (o : Option Request) → IsSomeAnd o P → IsSome o
-    found P None h = absurd h
-    found P (Some r) h = refl
-
-    told : (o : Option Request) → course'.ended.items ≡ course.ended.items ++ option_map_or (λ r. record { request = r; ending = dismissed r } ∷ []) o [] →
-        IfSome o (λ r. course'.ended.items ≡ course.ended.items ++ record { request = r; ending = dismissed r } ∷ [])
-    told None h = tt
-    told (Some r) h = h
-
-    by : (b : Bool) → course'.ended.items ≡ course.ended.items ++ cond b (option_map_or (λ r. record { request = r; ending = dismissed r } ∷ []) (request_at s.requests.ongoing request) []) [] →
-        AreNoted s.config.floors s.requests.ongoing (cond b (after_end s.requests request) (record s.requests { ongoing = map (decided_at request verdicts) s.requests.ongoing })).ongoing course'.marks.items →
-        IsChanged (conference_of s) (decide_change b (conference_of s) request verdicts)
-        (with_requests (conference_of s) (cond b (after_end s.requests request) (record s.requests { ongoing = map (decided_at request verdicts) s.requests.ongoing }))) course'
-    by true h noted =
-        changed-end s dismissed course course' request queue begun (found _ (request_at s.requests.ongoing request) may) (told (request_at s.requests.ongoing request) h) numbers noted
-    by false h noted = changed-words s course course' request verdicts queue begun h numbers noted

@@ -16,7 +16,7 @@ use Rattle.floor_machine.specs.declared.event.Event.{Event}
 use Rattle.floor_machine.specs.declared.event.Event.TheVariants.{Close}
 use Rattle.floor_machine.specs.declared.member.Member.{Member}
 use Rattle.floor_machine.specs.declared.tell.changed.FloorUpdate.{FloorUpdate}
-use Rattle.floor_machine.specs.declared.reply.Reply.{Reply}
+use Rattle.floor_machine.specs.declared.replied.Replied.{Replied}
 use Rattle.floor_machine.specs.declared.tell.changed.Update.{Update}
 use Rattle.floor_machine.specs.declared.conference.State.{State}
 use Rattle.floor_machine.specs.Conference.{Conference, member_with}
@@ -53,7 +53,7 @@ answered_all head (tell ∷ tells) h =
     (All-head IsShown tell tells h) (answered_all (record head { transaction = 0 }) tells (All-tail IsShown tell tells h))
 
 -- the reply
-reply_all : (o : Option Reply) (k : ℕ) → IsReplyShown o → AreMessagesShown (answered_to o k)
+reply_all : (o : Option Replied) (k : ℕ) → IsReplyShown o → AreMessagesShown (answered_to o k)
 reply_all None k h = All-nil (λ message. IsShown message.tell)
 reply_all (Some r) k h = by (is_to k r)
   where
@@ -77,7 +77,7 @@ member_all s e n m found replied requests floors =
     All-append S (reply_to s e m.n ++ request_notices s e m) (floor_notices s e m) (All-append S (reply_to s e m.n) (request_notices s e m) replied of_requests) of_floors
 
 -- what is due to anyone
-pub due-shown : (s : Conference) (e : Event) (o : Option Reply) → is_telling e ≡ true → ((k : ℕ) → answered_to o k ≡ reply_to s e k) → IsReplyShown o →
+pub due-shown : (s : Conference) (e : Event) (o : Option Replied) → is_telling e ≡ true → ((k : ℕ) → answered_to o k ≡ reply_to s e k) → IsReplyShown o →
     AreUpdatesShown (map update_for (changed_requests s e)) → AreFloorsShown (filter (is_watched_by (settled s e).members) (map (floor_update (infos (settled s e))) (changed_floors s e))) →
     (n : ℕ) → AreMessagesShown (due s e n)
 due-shown s e o telling replied shown requests floors n = subst AreMessagesShown (sym (due-member s e n telling)) (by (member_with (settled s e).members n) refl)
@@ -87,7 +87,7 @@ due-shown s e o telling replied shown requests floors n = subst AreMessagesShown
     by (Some m) is = member_all s e n m is (subst AreMessagesShown (replied m.n) (reply_all o m.n shown)) requests floors
 
 -- what the steps of an event find shown is shown of what it tells
-pub served-shown : (s : Conference) (e : Event) (t : Conference) (course : Course) (o : Option Reply) → is_telling e ≡ true → t ≡ settled s e →
+pub served-shown : (s : Conference) (e : Event) (t : Conference) (course : Course) (o : Option Replied) → is_telling e ≡ true → t ≡ settled s e →
     map entry_of_ended course.ended.items ≡ ended_of (shown s e) → course.numbers.items ≡ numbers_in (shown s e) → is_rising course.numbers.items ≡ true → course.before.items ≡ infos s →
     ((k : ℕ) → answered_to o k ≡ reply_to s e k) → IsReplyShown o →
     AreUpdatesShown (updates t.config t.ongoing course.ended.items course.before.items course.numbers.items) →

@@ -37,8 +37,7 @@ use Rattle.floor_message.specs.declared.status.RequestStatus.{RequestStatus}
 use Rattle.floor_message.specs.Head.{response_head}
 use Rattle.floor_machine.specs.declared.event.Event.{Event}
 use Rattle.floor_machine.specs.declared.event.Event.TheVariants.{Join, Message, Leave, Revoke, Close}
-use Rattle.floor_machine.specs.declared.change.judged.Judged.{Judged}
-use Rattle.floor_machine.specs.declared.change.judged.Judged.TheVariants.{Accepted, Refused}
+use Rattle.floor_machine.specs.declared.decision.Decision.{Decision}
 use Rattle.floor_machine.specs.declared.member.Member.{Member}
 use Rattle.floor_machine.specs.Amount.{MessageIsShort}
 use Rattle.floor_machine.specs.Conference.{Conference, binding, member_with, opening, user_of}
@@ -50,7 +49,8 @@ use Rattle.floor_machine.specs.Reply.{answer_tells, floor_answers, floor_status_
 use Rattle.floor_machine.specs.Outgoing.{Outgoing, notice, outgoing_bytes}
 use Rattle.floor_machine.specs.Told.{Changed, changed_floors, changed_of, changed_requests, floor_notices, is_changed, is_sender, is_told, reply_to, request_notices, due, due_to}
 use Rattle.floor_machine.specs.Journal.{after_from, told_from, IsLawfulFrom}
-use Rattle.floor_machine.specs.steps.Serving.{MayServe, is_rising, judged, members_judged, numbers_in}
+use Rattle.floor_machine.specs.steps.Deciding.{MayServe, accepted, decision_of, members_by, refused_by}
+use Rattle.floor_machine.specs.steps.Serving.{is_rising, numbers_in}
 use Rattle.floor_machine.specs.Next.{next, told}
 use Rattle.floor_machine.proofs.Allowed.{may_serve, once_differ}
 use Rattle.floor_machine.proofs.AskedOnce.{asked_once}
@@ -100,7 +100,7 @@ added-few s r k room next_number =
     (omega (arith, length-append (numbers_of s.ongoing) ((s.given + 1) ∷ []), length-map s.ongoing (λ (r : Request). r.number), room))
     (rising-next s.ongoing s.given k.queue.ascending k.queue.numbers)
 
-few-asked : (s : Conference) (user : ℕ) (a : Ask) → Keeps s → MayServe s user (Accepted a) → AreFew (entries_after s user a)
+few-asked : (s : Conference) (user : ℕ) (a : Ask) → Keeps s → MayServe s user a → AreFew (entries_after s user a)
 few-asked s user (FloorRequest beneficiary floors priority info) k may = added-few s _ k may.1.few refl
 few-asked s user (FloorRelease request) k may = of_ongoing s _ k (numbers_in-ends (ends_at request released) s.ongoing)
 few-asked s user (FloorRequestQuery request) k may = of_ongoing s _ k (numbers_in-entries s.ongoing)
@@ -233,10 +233,10 @@ sum-queried : (s : Conference) (n : ℕ) (bytes : List ℕ) (floors : List ℕ) 
     Keeps s → length s.config.floors ≤ 32 → Sum s (Message n bytes) (length (floor_answers (settled s (Message n bytes)) floors))
 sum-queried s n bytes floors is none k most =
     let e : Event = Message n bytes in
-    let j : Judged = Accepted (FloorQuery floors) in
-    let heard : j ≡ judged s (user_of s n) (ask bytes (binding s n)) =
-    ap (λ (o : Option ErrorCode). option_map_or (λ code. Refused code []) o j) none ∙ ap (judged s (user_of s n)) (sym is) in
-    let kept : IsKept s (members_judged s.members n j) (change s e) = event-kept s n bytes j heard refl in
+    let j : Decision = accepted (user_of s n) (FloorQuery floors) in
+    let heard : j ≡ decision_of s (user_of s n) (ask bytes (binding s n)) =
+    ap (λ (o : Option ErrorCode). option_map_or refused_by o j) none ∙ ap (decision_of s (user_of s n)) (sym is) in
+    let kept : IsKept s (members_by s.members n j.change) (change s e) = event-kept s n bytes j heard refl in
     let no_requests : length (changed_requests s e) ≡ 0 = ap (λ (cs : List Changed). length cs) (requests-kept s e kept.entries k.settled k.queue.ascending) in
     let no_floors : length (changed_floors s e) ≡ 0 = ap (λ (fs : List Floor). length fs) (floors-kept s e kept.entries k.settled) in
     let known : list_all (is_floor s.config.floors) floors ≡ true = queried-floors s (user_of s n) floors none in

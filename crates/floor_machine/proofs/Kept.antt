@@ -7,15 +7,15 @@ use Rattle.floor_queue.specs.Order.{settle}
 use Rattle.floor_queue.specs.Queue.{is_ascending}
 use Rattle.floor_message.specs.Ask.{ask}
 use Rattle.floor_message.specs.Shown.{IsShown}
-use Rattle.floor_message.specs.declared.ask.Ask.TheVariants.{FloorRequest, FloorRelease, FloorRequestQuery, UserQuery, FloorQuery, ChairAction, Hello}
 use Rattle.floor_message.specs.Head.{response_head}
 use Rattle.floor_machine.specs.declared.event.Event.{Event}
 use Rattle.floor_machine.specs.declared.event.Event.TheVariants.{Message}
-use Rattle.floor_machine.specs.declared.change.judged.Judged.{Judged}
-use Rattle.floor_machine.specs.declared.change.judged.Judged.TheVariants.{Accepted, Refused, Unanswered}
+use Rattle.floor_machine.specs.declared.decision.Change.{Change as Decided}
+use Rattle.floor_machine.specs.declared.decision.Change.TheVariants as to
+use Rattle.floor_machine.specs.declared.decision.Decision.{Decision}
 use Rattle.floor_machine.specs.declared.member.Member.{Member}
 use Rattle.floor_machine.specs.declared.tell.changed.FloorUpdate.{FloorUpdate}
-use Rattle.floor_machine.specs.declared.reply.Reply.{Reply}
+use Rattle.floor_machine.specs.declared.replied.Replied.{Replied}
 use Rattle.floor_machine.specs.declared.tell.changed.Update.{Update}
 use Rattle.floor_machine.specs.Conference.{Conference, binding, user_of, is_numbered_from}
 use Rattle.floor_machine.specs.Shown.{Entry, entry_of}
@@ -23,7 +23,8 @@ use Rattle.floor_machine.specs.Change.{Change, change, settled, shown}
 use Rattle.floor_machine.specs.steps.Fitting.{AreFloorsShown, AreUpdatesShown, IsReplyShown, IsToldShown}
 use Rattle.floor_machine.specs.Journal.{parcels_of}
 use Rattle.floor_machine.specs.Reply.{infos}
-use Rattle.floor_machine.specs.steps.Serving.{IsJudged, changes_requests, ended_of, is_rising, judged_change, judged_tells, members_judged, numbers_in}
+use Rattle.floor_machine.specs.steps.Deciding.{IsDecided, change_by, changes_requests, members_by}
+use Rattle.floor_machine.specs.steps.Serving.{ended_of, is_rising, tells_by, numbers_in}
 use Rattle.floor_machine.specs.steps.Telling.{answered_to, floor_update, is_watched_by, parcels_to_all}
 use Rattle.floor_machine.specs.Told.{Changed, reply_to}
 use Rattle.floor_machine.proofs.Bounds.{due-shown}
@@ -31,7 +32,7 @@ use Rattle.floor_machine.proofs.Changing.{rising-numbers}
 use Rattle.floor_machine.proofs.Entries.{ended_of-entries, numbers_in-entries}
 use Rattle.floor_machine.proofs.Quiet.{floors-kept, settled-kept, parcels-kept, requests-kept, shown-kept}
 use Rattle.floor_machine.proofs.Sent.{numbered-settled}
-use Rattle.floor_machine.proofs.Served.{change-judged, reply-answered}
+use Rattle.floor_machine.proofs.Served.{change-decided, reply-answered}
 use Rattle.floor_machine.proofs.Telling.{update_for}
 
 -- a change of the members alone
@@ -42,61 +43,57 @@ pub record IsKept (s : Conference) (left : List Member) (c : Change) : Type 0 wh
   pub members : c.members ≡ left
 
 -- what changes no request changes the members at the most
-pub kept : (s : Conference) (n : ℕ) (j : Judged) → changes_requests j ≡ false → IsKept s (members_judged s.members n j) (judged_change s n j)
-kept s n (Accepted (FloorRequest beneficiary floors priority info)) h = cc
-kept s n (Accepted (FloorRelease request)) h = cc
-kept s n (Accepted (FloorRequestQuery request)) h = record { entries = refl; given = refl; is_open = refl; members = refl }
-kept s n (Accepted (UserQuery beneficiary)) h = record { entries = refl; given = refl; is_open = refl; members = refl }
-kept s n (Accepted (FloorQuery floors)) h = record { entries = refl; given = refl; is_open = refl; members = refl }
-kept s n (Accepted (ChairAction request verdicts)) h = cc
-kept s n (Accepted Hello) h = record { entries = refl; given = refl; is_open = refl; members = refl }
-kept s n (Refused code details) h = record { entries = refl; given = refl; is_open = refl; members = refl }
-kept s n Unanswered h = record { entries = refl; given = refl; is_open = refl; members = refl }
+pub kept : (s : Conference) (n : ℕ) (c : Decided) → changes_requests c ≡ false → IsKept s (members_by s.members n c) (change_by s n c)
+kept s n to.Nothing h = record { entries = refl; given = refl; is_open = refl; members = refl }
+kept s n (to.Add new) h = cc
+kept s n (to.End request by) h = cc
+kept s n (to.Words request verdicts) h = cc
+kept s n (to.Watch floors) h = record { entries = refl; given = refl; is_open = refl; members = refl }
 
 -- so the event changes the members at the most
-pub event-kept : (s : Conference) (n : ℕ) (bytes : List ℕ) (j : Judged) → IsJudged s n bytes j → changes_requests j ≡ false →
-    IsKept s (members_judged s.members n j) (change s (Message n bytes))
+pub event-kept : (s : Conference) (n : ℕ) (bytes : List ℕ) (j : Decision) → IsDecided s n bytes j → changes_requests j.change ≡ false →
+    IsKept s (members_by s.members n j.change) (change s (Message n bytes))
 event-kept s n bytes j is keeps =
-    subst (IsKept s (members_judged s.members n j)) (sym (change-judged s n bytes (ask bytes (binding s n)) refl ∙ ap (judged_change s n) (sym is))) (kept s n j keeps)
+    subst (IsKept s (members_by s.members n j.change)) (sym (change-decided s n bytes (ask bytes (binding s n)) refl ∙ ap (λ (d : Decision). change_by s n d.change) (sym is))) (kept s n j.change keeps)
 
 -- the conference after it
-pub settled-message : (s : Conference) (n : ℕ) (bytes : List ℕ) (j : Judged) → IsJudged s n bytes j → changes_requests j ≡ false → settle s.config.floors s.ongoing ≡ s.ongoing →
-    record s { members = members_judged s.members n j } ≡ settled s (Message n bytes)
+pub settled-message : (s : Conference) (n : ℕ) (bytes : List ℕ) (j : Decision) → IsDecided s n bytes j → changes_requests j.change ≡ false → settle s.config.floors s.ongoing ≡ s.ongoing →
+    record s { members = members_by s.members n j.change } ≡ settled s (Message n bytes)
 settled-message s n bytes j is keeps is_settled =
-    let k : IsKept s (members_judged s.members n j) (change s (Message n bytes)) = event-kept s n bytes j is keeps in
+    let k : IsKept s (members_by s.members n j.change) (change s (Message n bytes)) = event-kept s n bytes j is keeps in
     ap (λ (members : List Member). record s { members = members }) (sym k.members) ∙ settled-kept s (Message n bytes) k.entries is_settled k.given k.is_open
 
 -- the reply to it
-pub replied-message : (s : Conference) (n : ℕ) (bytes : List ℕ) (j : Judged) (r : Reply) → IsJudged s n bytes j → changes_requests j ≡ false →
+pub replied-message : (s : Conference) (n : ℕ) (bytes : List ℕ) (j : Decision) (r : Replied) → IsDecided s n bytes j → changes_requests j.change ≡ false →
     settle s.config.floors s.ongoing ≡ s.ongoing → is_ascending s.ongoing ≡ true →
-    r.n ≡ n → r.head ≡ response_head bytes → r.tells ≡ judged_tells (settled s (Message n bytes)) [] (user_of s n) j →
+    r.n ≡ n → r.head ≡ response_head bytes → r.tells ≡ tells_by (settled s (Message n bytes)) [] (user_of s n) j.reply →
     (k : ℕ) → answered_to (Some r) k ≡ reply_to s (Message n bytes) k
 replied-message s n bytes j r is keeps is_settled ascending to head tells =
     let e : Event = Message n bytes in
-    let k : IsKept s (members_judged s.members n j) (change s e) = event-kept s n bytes j is keeps in
+    let k : IsKept s (members_by s.members n j.change) (change s e) = event-kept s n bytes j is keeps in
     let same : shown s e ≡ map entry_of s.ongoing = shown-kept s e k.entries is_settled in
     reply-answered s n bytes r (ask bytes (binding s n)) [] refl
     (sym (ap ended_of same ∙ ended_of-entries s.ongoing))
     (ap (λ (es : List Entry). is_rising (numbers_in es)) same ∙ ap is_rising (numbers_in-entries s.ongoing) ∙ rising-numbers s.ongoing ∙ ascending)
-    to head (tells ∙ ap (judged_tells (settled s e) [] (user_of s n)) is)
+    to head (tells ∙ ap (λ (d : Decision). tells_by (settled s e) [] (user_of s n) d.reply) is)
 
 -- the parcels that it calls for
-pub parcels-message : (s : Conference) (n : ℕ) (bytes : List ℕ) (j : Judged) (r : Reply) → IsJudged s n bytes j → changes_requests j ≡ false →
+pub parcels-message : (s : Conference) (n : ℕ) (bytes : List ℕ) (j : Decision) (r : Replied) → IsDecided s n bytes j → changes_requests j.change ≡ false →
     settle s.config.floors s.ongoing ≡ s.ongoing → is_ascending s.ongoing ≡ true → is_numbered_from 1 s.members ≡ true →
     ((k : ℕ) → answered_to (Some r) k ≡ reply_to s (Message n bytes) k) →
     parcels_to_all s.config.conference (Some r) [] [] (settled s (Message n bytes)).members ≡ parcels_of s (Message n bytes)
 parcels-message s n bytes j r is keeps is_settled ascending numbered replied =
     let e : Event = Message n bytes in
-    let k : IsKept s (members_judged s.members n j) (change s e) = event-kept s n bytes j is keeps in
+    let k : IsKept s (members_by s.members n j.change) (change s e) = event-kept s n bytes j is keeps in
     parcels-kept s e (Some r) refl (numbered-settled s e numbered) replied (requests-kept s e k.entries is_settled ascending) (floors-kept s e k.entries is_settled)
 
 -- what it tells shows no more than a conference has
-pub shown-message : (s : Conference) (n : ℕ) (bytes : List ℕ) (j : Judged) (r : Reply) → IsJudged s n bytes j → changes_requests j ≡ false →
+pub shown-message : (s : Conference) (n : ℕ) (bytes : List ℕ) (j : Decision) (r : Replied) → IsDecided s n bytes j → changes_requests j.change ≡ false →
     settle s.config.floors s.ongoing ≡ s.ongoing → is_ascending s.ongoing ≡ true →
     ((k : ℕ) → answered_to (Some r) k ≡ reply_to s (Message n bytes) k) → IsReplyShown (Some r) → IsToldShown s (Message n bytes)
 shown-message s n bytes j r is keeps is_settled ascending replied reply =
     let e : Event = Message n bytes in
-    let k : IsKept s (members_judged s.members n j) (change s e) = event-kept s n bytes j is keeps in
+    let k : IsKept s (members_by s.members n j.change) (change s e) = event-kept s n bytes j is keeps in
     let U : List Changed → Type 0 = λ cs. AreUpdatesShown (map update_for cs) in
     let F : List Floor → Type 0 = λ fs. AreFloorsShown (filter (is_watched_by (settled s e).members) (map (floor_update (infos (settled s e))) fs)) in
     due-shown s e (Some r) refl replied reply

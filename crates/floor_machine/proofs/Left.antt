@@ -14,7 +14,7 @@ use Rattle.floor_machine.specs.Conference.{Conference, user_of, is_present}
 use Rattle.floor_machine.specs.Change.{Change, no_change, change, ending, ends_at, ends_without, leaving, released, dismissed}
 use Rattle.floor_machine.specs.steps.Telling.{entry_of_ended, listed}
 use Rattle.floor_machine.specs.steps.Marks.{AreNoted}
-use Rattle.floor_machine.specs.declared.change.ending.EndedBy.TheVariants.{Chair}
+use Rattle.floor_machine.specs.declared.decision.EndedBy.TheVariants.{Chair}
 use Rattle.floor_machine.specs.steps.Ending.{change_ending}
 use Rattle.floor_machine.specs.steps.Serving.{IsChanged, conference_of, after_release_for, is_rising, released_for, with_requests}
 use Rattle.floor_machine.proofs.Entries.{numbers_in-entries}

@@ -9,7 +9,7 @@ use Rattle.floor_message.specs.Head.{notice_head}
 use Rattle.floor_machine.specs.declared.member.Member.{Member}
 use Rattle.floor_machine.specs.Parcel.{Parcel}
 use Rattle.floor_machine.specs.declared.tell.changed.FloorUpdate.{FloorUpdate}
-use Rattle.floor_machine.specs.declared.reply.Reply.{Reply}
+use Rattle.floor_machine.specs.declared.replied.Replied.{Replied}
 use Rattle.floor_machine.specs.declared.tell.changed.Update.{Update}
 use Rattle.floor_machine.specs.Journal.{parcel}
 use Rattle.floor_machine.specs.Outgoing.{notice, outgoing_bytes}
@@ -51,7 +51,7 @@ noticed-floors conference m q all (u ∷ us) = by (q u) (all u) (noticed-floors 
     by true seen h = passes (is_watched m u) h
     by false seen h = fails (is_watched m u) seen h
 
-noticed-member : (conference : ℕ) (reply : Option Reply) (requests : List Update) (q : FloorUpdate → Bool) (us : List FloorUpdate) (m : Member) →
+noticed-member : (conference : ℕ) (reply : Option Replied) (requests : List Update) (q : FloorUpdate → Bool) (us : List FloorUpdate) (m : Member) →
     ((u : FloorUpdate) → is_watched m u ≡ true → q u ≡ true) →
     noticed_to conference reply requests (map (floor_notice conference) (filter q us)) m ≡ parcels_to conference reply requests us m
 noticed-member conference reply requests q us m all =
@@ -59,13 +59,13 @@ noticed-member conference reply requests q us m all =
     (noticed-floors conference m q all us)
 
 -- a member that isn't live is put nothing
-noticed-live : (conference : ℕ) (reply : Option Reply) (requests : List Update) (q : FloorUpdate → Bool) (us : List FloorUpdate) (m : Member) (live : Bool) →
+noticed-live : (conference : ℕ) (reply : Option Replied) (requests : List Update) (q : FloorUpdate → Bool) (us : List FloorUpdate) (m : Member) (live : Bool) →
     ((u : FloorUpdate) → (live && is_watched m u) ≡ true → q u ≡ true) →
     cond live (noticed_to conference reply requests (map (floor_notice conference) (filter q us)) m) [] ≡ cond live (parcels_to conference reply requests us m) []
 noticed-live conference reply requests q us m true all = noticed-member conference reply requests q us m all
 noticed-live conference reply requests q us m false all = refl
 
-noticed-some : (conference : ℕ) (reply : Option Reply) (requests : List Update) (q : FloorUpdate → Bool) (us : List FloorUpdate) (members : List Member) →
+noticed-some : (conference : ℕ) (reply : Option Replied) (requests : List Update) (q : FloorUpdate → Bool) (us : List FloorUpdate) (members : List Member) →
     ((u : FloorUpdate) → is_watched_by members u ≡ true → q u ≡ true) →
     noticed_to_all conference reply requests (map (floor_notice conference) (filter q us)) members ≡ parcels_to_all conference reply requests us members
 noticed-some conference reply requests q us [] all = refl
@@ -76,6 +76,6 @@ noticed-some conference reply requests q us (m ∷ members) all =
     (noticed-some conference reply requests q us members (λ u seen. all u (or_right (m.is_live && is_watched m u) (is_watched_by members u) seen)))
 
 -- the parcels of all are the same, however often a status is written, and though one that nobody watches isn't
-pub noticed-all : (conference : ℕ) (reply : Option Reply) (requests : List Update) (us : List FloorUpdate) (members : List Member) →
+pub noticed-all : (conference : ℕ) (reply : Option Replied) (requests : List Update) (us : List FloorUpdate) (members : List Member) →
     noticed_to_all conference reply requests (map (floor_notice conference) (filter (is_watched_by members) us)) members ≡ parcels_to_all conference reply requests us members
 noticed-all conference reply requests us members = noticed-some conference reply requests (is_watched_by members) us members (λ u seen. seen)

@@ -15,7 +15,7 @@ use Rattle.floor_machine.specs.declared.event.Event.{Event}
 use Rattle.floor_machine.specs.declared.event.Event.TheVariants.{Join, Close}
 use Rattle.floor_machine.specs.declared.member.Member.{Member}
 use Rattle.floor_machine.specs.Parcel.{Parcel}
-use Rattle.floor_machine.specs.declared.reply.Reply.{Reply}
+use Rattle.floor_machine.specs.declared.replied.Replied.{Replied}
 use Rattle.floor_machine.specs.Conference.{Conference, member_with, is_numbered_from}
 use Rattle.floor_machine.specs.Shown.{Entry, entry_of, ongoing_of, settle_entries, info, info_of}
 use Rattle.floor_machine.specs.Same.{same_info, same_infos}
@@ -152,7 +152,7 @@ settled-kept s e kept is_settled given opened =
     ∙ sym (settled-made s e)
 
 -- the reply is all that it tells
-pub parcels-kept : (s : Conference) (e : Event) (reply : Option Reply) → is_telling e ≡ true → is_numbered_from 1 (settled s e).members ≡ true →
+pub parcels-kept : (s : Conference) (e : Event) (reply : Option Replied) → is_telling e ≡ true → is_numbered_from 1 (settled s e).members ≡ true →
     ((k : ℕ) → answered_to reply k ≡ reply_to s e k) → changed_requests s e ≡ [] → changed_floors s e ≡ [] →
     parcels_to_all s.config.conference reply [] [] (settled s e).members ≡ parcels_of s e
 parcels-kept s e reply telling numbered replied requests floors =

@@ -20,7 +20,6 @@ use Rattle.floor_message.specs.declared.verdicts.Verdict.{Verdict}
 use Rattle.floor_message.specs.declared.code.ErrorCode.{ErrorCode}
 use Rattle.floor_machine.specs.declared.event.Event.{Event}
 use Rattle.floor_machine.specs.declared.event.Event.TheVariants.{Join, Message, Leave, Revoke, Close}
-use Rattle.floor_machine.specs.declared.change.judged.Judged.TheVariants.{Accepted}
 use Rattle.floor_machine.specs.declared.member.Member.{Member}
 use Rattle.floor_machine.specs.Conference.{Conference, binding, is_numbered_from, is_present, opening, user_of}
 use Rattle.floor_machine.specs.Shown.{Entry, entry_of, ongoing_of, settle_entries}
@@ -28,7 +27,7 @@ use Rattle.floor_machine.specs.Checks.{refusal}
 use Rattle.floor_machine.specs.Change.{Change, IsLawful, asked_change, change, decided_at, dismissed, ending, ends_at, ends_without, entries_after, given_after, is_final, leaving, members_after, message_change, settled, no_change, released, shown, watching, word_of}
 use Rattle.floor_machine.specs.Journal.{IsLawfulFrom, after_from}
 use Rattle.floor_machine.specs.Reachable.{IsReachable}
-use Rattle.floor_machine.specs.steps.Serving.{MayServe, new_of_ask}
+use Rattle.floor_machine.specs.steps.Deciding.{MayServe, new_of_ask}
 use Rattle.floor_machine.specs.Next.{next}
 use Rattle.floor_machine.proofs.Allowed.{may_serve}
 use Rattle.floor_machine.proofs.Changing.{entries-added, ongoing_of-decided, ongoing_of-ending}
@@ -66,7 +65,7 @@ queue-decided q k (v ∷ verdicts) h =
     (IsQueue-set_floor (record q { ongoing = map (decided_at k verdicts) q.ongoing }) k v.0 (word_of v.1) (queue-decided q k verdicts h))
 
 -- after what an accepted message does
-queue-asked : (s : Conference) (user : ℕ) (a : Ask) → MayServe s user (Accepted a) → IsQueue (queue_of s) → IsQueue (queue_changed s (given_after s a) (ongoing_of (entries_after s user a)))
+queue-asked : (s : Conference) (user : ℕ) (a : Ask) → MayServe s user a → IsQueue (queue_of s) → IsQueue (queue_changed s (given_after s a) (ongoing_of (entries_after s user a)))
 queue-asked s user (FloorRequest beneficiary floors priority info) may h =
     queue-of_entries s (s.given + 1) (entries_after s user (FloorRequest beneficiary floors priority info))
     (s.ongoing ++ first_request s.config.floors (s.given + 1) (new_of_ask user beneficiary floors priority info) ∷ [])

@@ -1,6 +1,7 @@
 -- A message is served step by step: the conference after it is the next one, and its parcels are those that it calls for.
-use Rattle.std.proofs.Common.{◌≡◌, ℕ, ◌+◌, Bool, true, cond, List, [], ◌∷◌, map, Option, Some, None, refl, sym, ap, ◌∙◌}
+use Rattle.std.proofs.Common.{◌≡◌, ℕ, ◌+◌, Bool, true, false, cond, List, [], ◌∷◌, map, Option, Some, None, refl, sym, ap, ◌∙◌}
 use Rattle.std.specs.Prelude.{◌==◌, is_some, filter, option_map, unwrap_or}
+use Rattle.std.specs.List.{list_any}
 use Rattle.std.specs.Option.{option_map_or}
 use Rattle.floor_config.specs.Configuration.{Configuration}
 use Rattle.floor_config.specs.declared.floors.Floor.{Floor}
@@ -19,43 +20,66 @@ use Rattle.floor_message.specs.declared.tell.Tell.TheVariants.{FloorRequestStatu
 use Rattle.floor_message.specs.Head.{response_head}
 use Rattle.floor_machine.specs.declared.course.Course.{Course}
 use Rattle.floor_machine.specs.declared.course.Ended.{Ended}
-use Rattle.floor_machine.specs.declared.change.judged.Judged.TheVariants.{Accepted, Refused}
+use Rattle.floor_machine.specs.declared.decision.Change.TheVariants as to
+use Rattle.floor_machine.specs.declared.decision.EndedBy.TheVariants.{Chair}
 use Rattle.floor_machine.specs.declared.member.Member.{Member}
 use Rattle.floor_machine.specs.Parcel.{Parcel}
-use Rattle.floor_machine.specs.declared.reply.Reply.{Reply}
+use Rattle.floor_machine.specs.declared.replied.Replied.{Replied}
 use Rattle.floor_machine.specs.declared.conference.State.{State}
 use Rattle.floor_machine.specs.declared.tell.changed.Update.{Update}
 use Rattle.floor_machine.specs.declared.tell.changed.FloorUpdate.{FloorUpdate}
 use Rattle.floor_machine.specs.Conference.{Conference, user_of, binding, is_numbered_from}
 use Rattle.floor_machine.specs.declared.event.Event.{Event}
 use Rattle.floor_machine.specs.declared.event.Event.TheVariants.{Message}
-use Rattle.floor_machine.specs.Shown.{Entry, ongoing_of, settle_entries, info_of, described}
+use Rattle.floor_machine.specs.Shown.{Entry, entry_of, ongoing_of, settle_entries, info_of, described}
 use Rattle.floor_machine.specs.Checks.{refusal}
-use Rattle.floor_machine.specs.Change.{Change, change, message_change, no_change, asked_change, given_after, shown, settled}
+use Rattle.floor_machine.specs.Change.{Change, asked_change, change, decided_at, dismissed, ending, ends_at, given_after, is_final, message_change, no_change, settled, shown}
 use Rattle.floor_machine.specs.Outgoing.{Outgoing}
 use Rattle.floor_machine.specs.Reply.{infos, infos_of_user, request_answer, answer_tells, reply_tells, headed, reply}
 use Rattle.floor_machine.specs.Told.{changed_of, changed_requests, changed_floors, is_changed, reply_to}
 use Rattle.floor_machine.specs.Journal.{parcels_of}
 use Rattle.floor_machine.specs.steps.Telling.{entry_of_ended, entry_at, shown_of, infos_of, updates, floor_update, floor_updates, answered, answered_to, parcels_to_all}
-use Rattle.floor_machine.specs.steps.Serving.{IsChanged, conference_of, judged, judged_change, judged_tells, accepted_tells, status_tells, ended_of, numbers_in, is_rising, with_requests}
+use Rattle.floor_machine.specs.steps.Deciding.{accepted, change_by, decision_of, refused_by}
+use Rattle.floor_machine.specs.steps.Serving.{IsChanged, conference_of, tells_by, status_tells, ended_of, numbers_in, is_rising, with_requests}
 use Rattle.floor_machine.proofs.Configs.{config-change}
 use Rattle.floor_machine.proofs.Entries.{ongoing_of-settled, ended_of-settled, numbers_in-settled, entry_with, filter-number}
 use Rattle.floor_machine.proofs.Sent.{numbered-settled}
 use Rattle.floor_machine.proofs.Telling.{is_telling, finds, update_for, updates-changed, headed-answered, parcels-told}
 
--- a message changes what it changes once it is judged
-pub change-judged : (s : Conference) (n : ℕ) (bytes : List ℕ) (a : Answer) → a ≡ ask bytes (binding s n) → change s (Message n bytes) ≡ judged_change s n (judged s (user_of s n) a)
-unfolding change
-change-judged s n bytes a same = ap (message_change s n) (sym same) ∙ by a
+-- what is asked, and no check refuses, changes what its decision does
+accepts : (s : Conference) (n : ℕ) (a : Ask) → asked_change s n a ≡ change_by s n (accepted (user_of s n) a).change
+accepts s n (FloorRequest beneficiary floors priority info) = refl
+accepts s n (FloorRelease request) = refl
+accepts s n (FloorRequestQuery request) = refl
+accepts s n (UserQuery beneficiary) = refl
+accepts s n (FloorQuery floors) = refl
+accepts s n (ChairAction request verdicts) = by (list_any (λ v. is_final v.1) verdicts)
   where
-    by_code : (a : Ask) (o : Option ErrorCode) → cond (is_some o) (no_change s) (asked_change s n a) ≡ judged_change s n (option_map_or (λ code. Refused code []) o (Accepted a))
-    by_code a None = refl
+    by : (b : Bool) → record (no_change s) { entries = cond b (ending s (ends_at request dismissed)) (map (λ r. entry_of (decided_at request verdicts r)) s.ongoing) }
+        ≡ change_by s n (cond b (to.End request Chair) (to.Words request verdicts))
+    by true = refl
+    by false = refl
+accepts s n Hello = refl
+
+-- a message changes what its decision does
+pub change-decided : (s : Conference) (n : ℕ) (bytes : List ℕ) (a : Answer) → a ≡ ask bytes (binding s n) → change s (Message n bytes) ≡ change_by s n (decision_of s (user_of s n) a).change
+unfolding change
+change-decided s n bytes a same = ap (message_change s n) (sym same) ∙ by a
+  where
+    by_code : (a : Ask) (o : Option ErrorCode) → cond (is_some o) (no_change s) (asked_change s n a) ≡ change_by s n (option_map_or refused_by o (accepted (user_of s n) a)).change
+    by_code a None = accepts s n a
     by_code a (Some code) = refl
 
-    by : (a : Answer) → message_change s n a ≡ judged_change s n (judged s (user_of s n) a)
+    by : (a : Answer) → message_change s n a ≡ change_by s n (decision_of s (user_of s n) a).change
     by unanswered = refl
     by (refused code details) = refl
     by (asks a) = by_code a (refusal s (user_of s n) a)
+
+-- what is asked, and no check refuses, is changed
+change-accepted : (s : Conference) (n : ℕ) (bytes : List ℕ) (a : Ask) → asks a ≡ ask bytes (binding s n) → None ≡ refusal s (user_of s n) a → change s (Message n bytes) ≡ asked_change s n a
+unfolding change
+change-accepted s n bytes a read accepted =
+    ap (message_change s n) (sym read) ∙ ap (λ (o : Option ErrorCode). cond (is_some o) (no_change s) (asked_change s n a)) (sym accepted)
 
 -- the entries after the event are the changed ones, settled
 pub shown-changed : (s : Conference) (e : Event) (c : Change) → change s e ≡ c → shown s e ≡ settle_entries s.config.floors c.entries
@@ -124,7 +148,7 @@ status-settled s n bytes ended k =
 pub tells-accepted : (s : Conference) (n : ℕ) (bytes : List ℕ) (user : ℕ) (a : Ask) (ended : List Ended) →
     map entry_of_ended ended ≡ ended_of (shown s (Message n bytes)) → is_rising (numbers_in (shown s (Message n bytes))) ≡ true →
     (settled s (Message n bytes)).given ≡ given_after s a →
-    answer_tells s (Message n bytes) user a ≡ accepted_tells (settled s (Message n bytes)) ended user a
+    answer_tells s (Message n bytes) user a ≡ tells_by (settled s (Message n bytes)) ended user (accepted user a).reply
 tells-accepted s n bytes user (FloorRequest beneficiary floors priority info) ended same rising given =
     status-shown s.config (shown s (Message n bytes)) ended (s.given + 1) same rising
     ∙ status-settled s n bytes ended (s.given + 1)
@@ -140,35 +164,34 @@ tells-accepted s n bytes user (ChairAction request verdicts) ended same rising g
 tells-accepted s n bytes user Hello ended same rising given = refl
 
 -- the answer to a message, as the steps make it
-pub tells-judged : (s : Conference) (n : ℕ) (bytes : List ℕ) (a : Answer) (ended : List Ended) → a ≡ ask bytes (binding s n) →
+pub tells-decided : (s : Conference) (n : ℕ) (bytes : List ℕ) (a : Answer) (ended : List Ended) → a ≡ ask bytes (binding s n) →
     map entry_of_ended ended ≡ ended_of (shown s (Message n bytes)) → is_rising (numbers_in (shown s (Message n bytes))) ≡ true →
-    reply_tells s (Message n bytes) (user_of s n) a ≡ judged_tells (settled s (Message n bytes)) ended (user_of s n) (judged s (user_of s n) a)
-tells-judged s n bytes unanswered ended read same rising = refl
-tells-judged s n bytes (refused code details) ended read same rising = refl
-tells-judged s n bytes (asks a) ended read same rising = by (refusal s (user_of s n) a) refl
+    reply_tells s (Message n bytes) (user_of s n) a ≡ tells_by (settled s (Message n bytes)) ended (user_of s n) (decision_of s (user_of s n) a).reply
+tells-decided s n bytes unanswered ended read same rising = refl
+tells-decided s n bytes (refused code details) ended read same rising = refl
+tells-decided s n bytes (asks a) ended read same rising = by (refusal s (user_of s n) a) refl
   where
     given : None ≡ refusal s (user_of s n) a → (settled s (Message n bytes)).given ≡ given_after s a
     given accepted =
         ap (λ (t : Conference). t.given) (settled-made s (Message n bytes))
-        ∙ ap (λ (c : Change). c.given) (change-judged s n bytes (asks a) read)
-        ∙ ap (λ (o : Option ErrorCode). (judged_change s n (option_map_or (λ code. Refused code []) o (Accepted a))).given) (sym accepted)
+        ∙ ap (λ (c : Change). c.given) (change-accepted s n bytes a read accepted)
 
     by : (o : Option ErrorCode) → o ≡ refusal s (user_of s n) a →
         option_map_or (λ code. Error (code_number code) [] ∷ []) o (answer_tells s (Message n bytes) (user_of s n) a)
-        ≡ judged_tells (settled s (Message n bytes)) ended (user_of s n) (option_map_or (λ code. Refused code []) o (Accepted a))
-    by None accepted = tells-accepted s n bytes (user_of s n) a ended same rising (given accepted)
-    by (Some code) accepted = refl
+        ≡ tells_by (settled s (Message n bytes)) ended (user_of s n) (option_map_or refused_by o (accepted (user_of s n) a)).reply
+    by None free = tells-accepted s n bytes (user_of s n) a ended same rising (given free)
+    by (Some code) free = refl
 
 -- the reply that the steps put is the reply to the message
-pub reply-answered : (s : Conference) (n : ℕ) (bytes : List ℕ) (r : Reply) (a : Answer) (ended : List Ended) → a ≡ ask bytes (binding s n) →
+pub reply-answered : (s : Conference) (n : ℕ) (bytes : List ℕ) (r : Replied) (a : Answer) (ended : List Ended) → a ≡ ask bytes (binding s n) →
     map entry_of_ended ended ≡ ended_of (shown s (Message n bytes)) → is_rising (numbers_in (shown s (Message n bytes))) ≡ true →
-    r.n ≡ n → r.head ≡ response_head bytes → r.tells ≡ judged_tells (settled s (Message n bytes)) ended (user_of s n) (judged s (user_of s n) a) →
+    r.n ≡ n → r.head ≡ response_head bytes → r.tells ≡ tells_by (settled s (Message n bytes)) ended (user_of s n) (decision_of s (user_of s n) a).reply →
     (k : ℕ) → answered_to (Some r) k ≡ reply_to s (Message n bytes) k
 unfolding reply
 reply-answered s n bytes r a ended read same rising to head tells k =
     ap (λ (m : ℕ). cond (m == k) (answered r.head r.tells) []) to
     ∙ ap (λ (h : Head). cond (n == k) (answered h r.tells) []) head
-    ∙ ap (λ (ts : List Tell). cond (n == k) (answered (response_head bytes) ts) []) (tells ∙ sym (tells-judged s n bytes a ended read same rising))
+    ∙ ap (λ (ts : List Tell). cond (n == k) (answered (response_head bytes) ts) []) (tells ∙ sym (tells-decided s n bytes a ended read same rising))
     ∙ ap (λ (ms : List Outgoing). cond (n == k) ms []) (sym (headed-answered (response_head bytes) (reply_tells s (Message n bytes) (user_of s n) a)))
     ∙ ap (λ (x : Answer). cond (n == k) (headed (response_head bytes) (reply_tells s (Message n bytes) (user_of s n) x)) []) read
 
@@ -191,7 +214,7 @@ floors-message s e before now b n =
     ∙ ap (λ (config : Configuration). floor_updates (infos s) (infos (settled s e)) config.floors) (sym (settled-config s e))
 
 -- the parcels that the steps put are those that the event calls for
-pub parcels-served : (s : Conference) (e : Event) (t : Conference) (course : Course) (reply : Option Reply) → is_telling e ≡ true → t ≡ settled s e →
+pub parcels-served : (s : Conference) (e : Event) (t : Conference) (course : Course) (reply : Option Replied) → is_telling e ≡ true → t ≡ settled s e →
     is_numbered_from 1 s.members ≡ true →
     map entry_of_ended course.ended.items ≡ ended_of (shown s e) → course.numbers.items ≡ numbers_in (shown s e) →
     is_rising course.numbers.items ≡ true → course.before.items ≡ infos s → ((k : ℕ) → answered_to reply k ≡ reply_to s e k) →

@@ -9,7 +9,7 @@ use Rattle.floor_message.specs.declared.information.Info.{Info}
 use Rattle.floor_machine.specs.declared.course.Course.{Course}
 use Rattle.floor_machine.specs.declared.tell.renewing.Changes.{Changes}
 use Rattle.floor_machine.specs.declared.tell.changed.FloorUpdate.{FloorUpdate}
-use Rattle.floor_machine.specs.declared.reply.Reply.{Reply}
+use Rattle.floor_machine.specs.declared.replied.Replied.{Replied}
 use Rattle.floor_machine.specs.declared.tell.changed.Update.{Update}
 use Rattle.floor_machine.specs.declared.conference.State.{State}
 use Rattle.floor_machine.specs.Conference.{Conference}
@@ -37,7 +37,7 @@ floors-settled t u course changes h =
     ∙ changed-floors course.before.items now changes.floors.items t.config.floors h.floors
 
 -- the parcels are those of the changes
-pub parcels-settled : (t u : State) (course : Course) (changes : Changes) (reply : Option Reply) → IsSettledTo t u course changes →
+pub parcels-settled : (t u : State) (course : Course) (changes : Changes) (reply : Option Replied) → IsSettledTo t u course changes →
     parcels_to_all u.config.conference reply changes.updates (floors_changed u.shown.items changes.floors.items u.config.floors) u.members
     ≡ parcels_to_all t.config.conference reply (updates t.config (after_settle t.requests).ongoing course.ended.items course.before.items course.numbers.items)
     (floor_updates course.before.items (infos_of t.config (after_settle t.requests).ongoing) t.config.floors) t.members

@@ -15,7 +15,7 @@ use Rattle.floor_message.specs.declared.tell.Tell.TheVariants.{FloorRequestStatu
 use Rattle.floor_machine.specs.declared.member.Member.{Member}
 use Rattle.floor_machine.specs.Parcel.{Parcel}
 use Rattle.floor_machine.specs.declared.course.Ended.{Ended}
-use Rattle.floor_machine.specs.declared.reply.Reply.{Reply}
+use Rattle.floor_machine.specs.declared.replied.Replied.{Replied}
 use Rattle.floor_machine.specs.declared.tell.changed.Update.{Update}
 use Rattle.floor_machine.specs.Conference.{Conference, member_with, is_numbered_from}
 use Rattle.floor_machine.specs.declared.event.Event.{Event}
@@ -100,7 +100,7 @@ any-answered k head [] = refl
 any-answered k head (tell ∷ tells) = ap (λ (b : Bool). is_status_of k tell || b) (any-answered k (record head { transaction = 0 }) tells)
 
 -- the test of the steps, whether the reply to n is a status already
-is_answered-any : (reply : Option Reply) (n k : ℕ) → list_any (λ message. is_status_of k message.tell) (answered_to reply n) ≡ is_answered reply n k
+is_answered-any : (reply : Option Replied) (n k : ℕ) → list_any (λ message. is_status_of k message.tell) (answered_to reply n) ≡ is_answered reply n k
 is_answered-any None n k = refl
 is_answered-any (Some r) n k = by (is_to n r)
   where
@@ -109,20 +109,20 @@ is_answered-any (Some r) n k = by (is_to n r)
     by false = refl
 
 -- the steps' parcels of the changed requests, to a member
-abbrev requests_put : Conference → Event → Option Reply → Member → List Parcel
+abbrev requests_put : Conference → Event → Option Replied → Member → List Parcel
 requests_put s e reply m = map (λ u. parcel m.n (update_to s.config.conference m u)) (filter (is_due_to reply m) (map update_for (changed_requests s e)))
 
 -- the steps' parcels of the changed floors, to a member
 abbrev floors_put : Conference → Event → Member → List Parcel
 floors_put s e m = map (λ u. parcel m.n (floor_update_to s.config.conference m u)) (filter (is_watched m) (map (floor_update (infos (settled s e))) (changed_floors s e)))
 
-due-told : (s : Conference) (e : Event) (reply : Option Reply) (m : Member) → answered_to reply m.n ≡ reply_to s e m.n → (c : Changed) →
+due-told : (s : Conference) (e : Event) (reply : Option Replied) (m : Member) → answered_to reply m.n ≡ reply_to s e m.n → (c : Changed) →
     is_due_to reply m (update_for c) ≡ is_told (reply_to s e m.n) m.user c
 due-told s e reply m replied c =
     ap (λ (b : Bool). involves c.request m.user && not b)
     (sym (is_answered-any reply m.n c.request.number) ∙ ap (λ (ms : List Outgoing). list_any (λ message. is_status_of c.request.number message.tell) ms) replied)
 
-requests-told : (s : Conference) (e : Event) (reply : Option Reply) (m : Member) → answered_to reply m.n ≡ reply_to s e m.n → requests_put s e reply m ≡ map (parcel m.n) (request_notices s e m)
+requests-told : (s : Conference) (e : Event) (reply : Option Replied) (m : Member) → answered_to reply m.n ≡ reply_to s e m.n → requests_put s e reply m ≡ map (parcel m.n) (request_notices s e m)
 requests-told s e reply m replied =
     fused (is_due_to reply m) (is_told (reply_to s e m.n) m.user) update_for (λ u. parcel m.n (update_to s.config.conference m u)) (λ c. notice s.config.conference m.user (FloorRequestStatus c.info)) (parcel m.n) (due-told s e reply m replied) (λ c. refl) (changed_requests s e)
 
@@ -131,7 +131,7 @@ floors-told s e m =
     fused (is_watched m) (λ f. list_any (λ floor. floor == f.id) m.watched) (floor_update (infos (settled s e))) (λ u. parcel m.n (floor_update_to s.config.conference m u)) (λ f. notice s.config.conference m.user (floor_status_tell (settled s e) f.id)) (parcel m.n) (λ f. refl) (λ f. refl) (changed_floors s e)
 
 -- what the steps put for a member is what the event tells it
-member-told : (s : Conference) (e : Event) (reply : Option Reply) (m : Member) → answered_to reply m.n ≡ reply_to s e m.n →
+member-told : (s : Conference) (e : Event) (reply : Option Replied) (m : Member) → answered_to reply m.n ≡ reply_to s e m.n →
     parcels_to s.config.conference reply (map update_for (changed_requests s e)) (map (floor_update (infos (settled s e))) (changed_floors s e)) m ≡ map (parcel m.n) (due_to s e m)
 member-told s e reply m replied =
     ap (λ (ms : List Outgoing). map (parcel m.n) ms ++ requests_put s e reply m ++ floors_put s e m) replied
@@ -215,7 +215,7 @@ parcels_of-members s e telling h =
     ∙ members-told (due_to s e) (settled s e).members (settled s e).members 1 h (λ k l. refl)
 
 -- the parcels that the steps of an event put are those that it calls for
-pub parcels-told : (s : Conference) (e : Event) (reply : Option Reply) → is_telling e ≡ true → is_numbered_from 1 (settled s e).members ≡ true →
+pub parcels-told : (s : Conference) (e : Event) (reply : Option Replied) → is_telling e ≡ true → is_numbered_from 1 (settled s e).members ≡ true →
     ((k : ℕ) → answered_to reply k ≡ reply_to s e k) →
     parcels_to_all s.config.conference reply (map update_for (changed_requests s e)) (map (floor_update (infos (settled s e))) (changed_floors s e)) (settled s e).members
     ≡ parcels_of s e

@@ -11,7 +11,7 @@ use Rattle.floor_machine.specs.declared.member.Member.{Member}
 use Rattle.floor_machine.specs.Conference.{member_with}
 use Rattle.floor_machine.specs.Parcel.{Parcel}
 use Rattle.floor_machine.specs.declared.tell.changed.FloorUpdate.{FloorUpdate}
-use Rattle.floor_machine.specs.declared.reply.Reply.{Reply}
+use Rattle.floor_machine.specs.declared.replied.Replied.{Replied}
 use Rattle.floor_machine.specs.declared.tell.changed.Update.{Update}
 use Rattle.floor_machine.specs.Journal.{parcel}
 use Rattle.floor_machine.specs.steps.Telling.{answered_to, floor_update, floor_update_to, floors_changed, has_watcher, is_due_to, is_floor_watched, is_one_of, is_watched, is_watched_by, parcels_to, parcels_to_all, update_to}
@@ -58,7 +58,7 @@ picked p q all (u ∷ us) = by (q u) (all u) (picked p q all us)
     by true seen h = here (p u) h
     by false seen h = gone (p u) seen h
 
-passed-live : (conference : ℕ) (reply : Option Reply) (requests : List Update) (q : FloorUpdate → Bool) (us : List FloorUpdate) (m : Member) (live : Bool) →
+passed-live : (conference : ℕ) (reply : Option Replied) (requests : List Update) (q : FloorUpdate → Bool) (us : List FloorUpdate) (m : Member) (live : Bool) →
     ((u : FloorUpdate) → (live && is_watched m u) ≡ true → q u ≡ true) →
     cond live (parcels_to conference reply requests (filter q us) m) [] ≡ cond live (parcels_to conference reply requests us m) []
 passed-live conference reply requests q us m true all =
@@ -66,7 +66,7 @@ passed-live conference reply requests q us m true all =
     (picked (is_watched m) q all us)
 passed-live conference reply requests q us m false all = refl
 
-passed-some : (conference : ℕ) (reply : Option Reply) (requests : List Update) (q : FloorUpdate → Bool) (us : List FloorUpdate) (members : List Member) →
+passed-some : (conference : ℕ) (reply : Option Replied) (requests : List Update) (q : FloorUpdate → Bool) (us : List FloorUpdate) (members : List Member) →
     ((u : FloorUpdate) → is_watched_by members u ≡ true → q u ≡ true) →
     parcels_to_all conference reply requests (filter q us) members ≡ parcels_to_all conference reply requests us members
 passed-some conference reply requests q us [] all = refl
@@ -77,7 +77,7 @@ passed-some conference reply requests q us (m ∷ members) all =
     (passed-some conference reply requests q us members (λ u seen. all u (or_right (m.is_live && is_watched m u) (is_watched_by members u) seen)))
 
 -- the parcels of all are the same where the status of a floor that nobody watches isn't made
-pub parcels-watched : (conference : ℕ) (reply : Option Reply) (requests : List Update) (now : List Info) (changed : List ℕ) (floors : List Floor) (members : List Member) →
+pub parcels-watched : (conference : ℕ) (reply : Option Replied) (requests : List Update) (now : List Info) (changed : List ℕ) (floors : List Floor) (members : List Member) →
     parcels_to_all conference reply requests (floors_changed now changed (filter (is_floor_watched members) floors)) members
     ≡ parcels_to_all conference reply requests (floors_changed now changed floors) members
 parcels-watched conference reply requests now changed floors members =

@@ -17,7 +17,7 @@ use Rattle.floor_machine.specs.Outgoing.{outgoing_bytes}
 use Rattle.floor_machine.specs.Reply.{reply}
 use Rattle.floor_machine.specs.Told.{changed_requests, changed_floors, due}
 use Rattle.floor_machine.specs.Journal.{Q, after, parcels_of, parcels_from}
-use Rattle.floor_machine.specs.Next.{next, told}
+use Rattle.floor_machine.specs.Next.{told}
 
 -- a user without name, URI and port
 abbrev plain : ℕ → User

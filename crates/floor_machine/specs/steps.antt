@@ -3,6 +3,7 @@ pub mod Fitting
 pub mod Telling
 pub mod Marks
 pub mod Ending
+pub mod Deciding
 pub mod Renewing
 pub mod Serving
 pub mod Live

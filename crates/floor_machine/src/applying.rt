@@ -14,9 +14,9 @@ ghost use Rattle.floor_machine.specs.steps.Renewing.{IsCourse};
 ghost use Rattle.floor_machine.specs.steps.Serving.{IsAtRest, conference_of, with_requests};
 ghost use Rattle.floor_machine.specs.steps.Telling.{AreChanged, infos_of, updates};
 
-use crate::change::ending::EndedBy;
 use crate::conference::State;
 use crate::course::{Course, begin};
+use crate::decision::EndedBy;
 use crate::information::settled::Settled;
 use crate::marks::mark_granted;
 use crate::outcome::Outcome;
@@ -50,15 +50,15 @@ impl State {
         let user = self.user_of(n);
         // The requests ascend, so that no two have one number.
         let _ongoing = self.requests.ongoing();
-        let judged = self.judge(alloc, user, frame)?;
-        match self.change(alloc, n, user, &judged)? {
+        let decision = self.decide(alloc, user, frame)?;
+        match self.change(alloc, n, decision.change)? {
             Some(mut course) => {
                 let changes = self.settle(alloc, &mut course)?;
                 let outcome = Outcome {
                     state: self,
                     ended: &course.ended,
                 };
-                let reply = outcome.reply(alloc, n, user, frame, &judged)?;
+                let reply = outcome.reply(alloc, n, user, frame, decision.reply)?;
                 outcome.tell(alloc, &changes, &Some(reply), out)
             }
             // Its sender alone is told anything, and nothing that is shown is looked at.
@@ -67,7 +67,7 @@ impl State {
                     state: self,
                     ended: &[],
                 };
-                let reply = outcome.reply(alloc, n, user, frame, &judged)?;
+                let reply = outcome.reply(alloc, n, user, frame, decision.reply)?;
                 outcome.tell_reply(alloc, &Some(reply), out)
             }
         }

@@ -1,13 +1,12 @@
-//! What an event changes in a conference: each primitive with its own checks, what it does, and what
-//! its sender is answered, and the members and the administrator beside them. Nothing here knows what
-//! others are told of the change.
+//! What an event comes to, and what that changes in a conference: each primitive with its own checks and
+//! the decision that it comes to, what each decision does, and what its sender is answered; the members
+//! and the administrator beside them. What others are told of the change stands in tell/.
 
 pub(crate) mod administrator;
 pub(crate) mod chair_action;
 pub(crate) mod ending;
 pub(crate) mod floor_release;
 pub(crate) mod floor_request;
-pub(crate) mod judged;
 pub(crate) mod membership;
 pub(crate) mod message;
 pub(crate) mod queries;

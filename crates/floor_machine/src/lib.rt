@@ -7,6 +7,7 @@ mod applying;
 mod change;
 mod conference;
 mod course;
+mod decision;
 mod event;
 mod information;
 mod joined;
@@ -17,7 +18,7 @@ mod member;
 mod members;
 mod outcome;
 mod parcel;
-mod reply;
+mod replied;
 mod running;
 mod tell;
 

@@ -106,18 +106,10 @@ impl Members {
     }
 
     /// The member with this number watches these floors from now on.
-    pub(crate) fn watch(
-        &mut self,
-        alloc: Global,
-        n: u32,
-        floors: &Numbers,
-    ) -> Result<(), AllocError>
-        ensures next { OnOk result (self.new ≡ map (change.watching n floors.now) self.old) }
-        ensures left { OnErr result (self.new ≡ self.old) }
+    pub(crate) fn watch(&mut self, n: u32, floors: Numbers)
+        ensures { self.new ≡ map (change.watching n floors) self.old }
     {
-        let watched = floors.copy(alloc)?;
-        self.joined.watch(n, watched);
-        Ok(())
+        self.joined.watch(n, floors);
     }
 
     /// The member with this number is no longer live.

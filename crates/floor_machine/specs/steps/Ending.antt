@@ -1,8 +1,8 @@
 -- How a floor request ends, by who ends it.
 use Rattle.std.specs.Prelude.{ℕ}
 use Rattle.floor_queue.specs.declared.request.Request.{Request}
-use Rattle.floor_machine.specs.declared.change.ending.EndedBy.{EndedBy}
-use Rattle.floor_machine.specs.declared.change.ending.EndedBy.TheVariants.{Chair, Participant}
+use Rattle.floor_machine.specs.declared.decision.EndedBy.{EndedBy}
+use Rattle.floor_machine.specs.declared.decision.EndedBy.TheVariants.{Chair, Participant}
 use Rattle.floor_message.specs.declared.status.RequestStatus.{RequestStatus}
 use Rattle.floor_machine.specs.Conference.{Conference}
 use Rattle.floor_machine.specs.Change.{Change, dismissed, ending, ends_at, no_change, released}

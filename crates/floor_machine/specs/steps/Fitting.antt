@@ -5,9 +5,9 @@ use Rattle.floor_queue.specs.declared.request.Request.{Request}
 use Rattle.floor_queue.specs.Queue.{IsAddable, new_of}
 use Rattle.floor_message.specs.Shown.{IsShown}
 use Rattle.floor_machine.specs.declared.course.Ended.{Ended}
-use Rattle.floor_machine.specs.declared.change.judged.Judged.{Judged}
-use Rattle.floor_machine.specs.declared.change.judged.Judged.TheVariants.{Accepted, Refused, Unanswered}
-use Rattle.floor_machine.specs.declared.reply.Reply.{Reply}
+use Rattle.floor_machine.specs.declared.decision.Reply.{Reply as Replying}
+use Rattle.floor_machine.specs.declared.decision.Reply.TheVariants as say
+use Rattle.floor_machine.specs.declared.replied.Replied.{Replied}
 use Rattle.floor_machine.specs.declared.tell.changed.Update.{Update}
 use Rattle.floor_machine.specs.declared.tell.changed.FloorUpdate.{FloorUpdate}
 use Rattle.floor_machine.specs.declared.event.Event.{Event}
@@ -25,14 +25,13 @@ pub record HasNumbers (r : Request) : Type 0 where
 abbrev pub AreAddable : List Floor → List Ended → Type 0
 AreAddable floors ended = All (λ d. IsAddable floors (new_of d.request)) ended
 
--- the details of a refusal are at most 252 bytes
-abbrev pub DetailsFit : Judged → Type 0
-DetailsFit (Accepted a) = Unit {0}
-DetailsFit (Refused code details) = length details ≤ 252
-DetailsFit Unanswered = Unit {0}
+-- the details of an Error are at most 252 bytes
+abbrev pub DetailsFit : Replying → Type 0
+DetailsFit (say.Error code details) = length details ≤ 252
+DetailsFit _ = Unit {0}
 
 -- the messages of the reply, if there is one, show no more than a conference has
-abbrev pub IsReplyShown : Option Reply → Type 0
+abbrev pub IsReplyShown : Option Replied → Type 0
 IsReplyShown reply = IfSome reply (λ r. All IsShown r.tells)
 
 -- so do the statuses of the changed requests

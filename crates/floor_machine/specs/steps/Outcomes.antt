@@ -13,7 +13,7 @@ pub record Outcome : Type 0 where
   pub ended : List Ended
 
 -- what the sender of a message is answered: its number, the head of the first message, and the messages
-pub record Reply : Type 0 where
+pub record Replied : Type 0 where
   pub n : ℕ
   pub head : Head
   pub tells : List Tell

@@ -19,7 +19,7 @@ use Rattle.floor_machine.specs.declared.member.Member.{Member}
 use Rattle.floor_machine.specs.Parcel.{Parcel}
 use Rattle.floor_machine.specs.declared.course.Ended.{Ended}
 use Rattle.floor_machine.specs.declared.information.shown.Shown.{Shown}
-use Rattle.floor_machine.specs.declared.reply.Reply.{Reply}
+use Rattle.floor_machine.specs.declared.replied.Replied.{Replied}
 use Rattle.floor_machine.specs.declared.tell.changed.Update.{Update}
 use Rattle.floor_machine.specs.declared.tell.parcels.FloorNotice.{FloorNotice}
 use Rattle.floor_machine.specs.declared.tell.changed.FloorUpdate.{FloorUpdate}
@@ -150,19 +150,19 @@ answered head [] = []
 answered head (tell ∷ tells) = record { head = head; tell = tell } ∷ answered (record head { transaction = 0 }) tells
 
 -- the reply is to n
-abbrev pub is_to : ℕ → Reply → Bool
+abbrev pub is_to : ℕ → Replied → Bool
 is_to n reply = reply.n == n
 
 -- what the reply tells n
-abbrev pub answered_to : Option Reply → ℕ → List Outgoing
+abbrev pub answered_to : Option Replied → ℕ → List Outgoing
 answered_to reply n = option_map_or (λ r. if is_to n r then answered r.head r.tells else []) reply []
 
 -- the reply to n is already the status of this request
-abbrev pub is_answered : Option Reply → ℕ → ℕ → Bool
+abbrev pub is_answered : Option Replied → ℕ → ℕ → Bool
 is_answered reply n number = option_map_or (λ r. is_to n r && list_any (is_status_of number) r.tells) reply false
 
 -- a changed request is told to its requester and its beneficiary, unless the reply to the member is its status already
-abbrev pub is_due_to : Option Reply → Member → Update → Bool
+abbrev pub is_due_to : Option Replied → Member → Update → Bool
 is_due_to reply m update =
     (update.requester == m.user || update.beneficiary == m.user) && not (is_answered reply m.n update.number)
 
@@ -191,14 +191,14 @@ abbrev pub floor_update_to : ℕ → Member → FloorUpdate → Outgoing
 floor_update_to conference m update = notice conference m.user update.tell
 
 -- the parcels of a member: the reply to it, the changed requests of its user, and the changed floors that it watches
-abbrev pub parcels_to : ℕ → Option Reply → List Update → List FloorUpdate → Member → List Parcel
+abbrev pub parcels_to : ℕ → Option Replied → List Update → List FloorUpdate → Member → List Parcel
 parcels_to conference reply requests floors m =
     map (parcel m.n) (answered_to reply m.n)
     ++ map (λ u. parcel m.n (update_to conference m u)) (filter (is_due_to reply m) requests)
     ++ map (λ u. parcel m.n (floor_update_to conference m u)) (filter (is_watched m) floors)
 
 -- the parcels of the live members, in their order
-abbrev pub parcels_to_all : ℕ → Option Reply → List Update → List FloorUpdate → List Member → List Parcel
+abbrev pub parcels_to_all : ℕ → Option Replied → List Update → List FloorUpdate → List Member → List Parcel
 parcels_to_all conference reply requests floors members =
     flat_map (λ m. if m.is_live then parcels_to conference reply requests floors m else []) members
 
@@ -215,13 +215,13 @@ abbrev pub is_noticed : Member → FloorNotice → Bool
 is_noticed m notice = list_any (λ floor. floor == notice.floor) m.watched
 
 -- the parcels of a member, where the statuses of the changed floors are written already
-abbrev pub noticed_to : ℕ → Option Reply → List Update → List FloorNotice → Member → List Parcel
+abbrev pub noticed_to : ℕ → Option Replied → List Update → List FloorNotice → Member → List Parcel
 noticed_to conference reply requests notices m =
     map (parcel m.n) (answered_to reply m.n)
     ++ map (λ u. parcel m.n (update_to conference m u)) (filter (is_due_to reply m) requests)
     ++ map (floor_notice_to m) (filter (is_noticed m) notices)
 
 -- the parcels of the live members, in their order
-abbrev pub noticed_to_all : ℕ → Option Reply → List Update → List FloorNotice → List Member → List Parcel
+abbrev pub noticed_to_all : ℕ → Option Replied → List Update → List FloorNotice → List Member → List Parcel
 noticed_to_all conference reply requests notices members =
     flat_map (λ m. if m.is_live then noticed_to conference reply requests notices m else []) members

@@ -1,29 +1,53 @@
-//! A ChairAction: its own checks, and what the verdicts do to the floor request (RFC 8855, sections
-//! 11.1 and 13.6).
+//! A ChairAction: its own checks, the decision that it comes to, and the words that its verdicts leave
+//! (RFC 8855, sections 11.1 and 13.6).
 
 ghost use Rattle.std.specs.List.{list_all, list_any};
-ghost use Rattle.std.specs.Prelude.{◌≡◌, ◌++◌, All, IfOk, OnOk, map};
+ghost use Rattle.std.specs.Prelude.{◌≡◌, All, IfOk, OnOk, false, map};
 ghost use Rattle.floor_config.specs.Lookup.{chair_is};
 ghost use Rattle.floor_queue.specs.Order.{names};
 ghost use Rattle.floor_queue.specs.Queue.{MaySetFloor};
+ghost use Rattle.floor_message.specs.declared.ask.Ask.TheVariants.{ChairAction};
 ghost use Rattle.floor_machine.specs.Change as change;
 ghost use Rattle.floor_machine.specs.Checks as checks;
 ghost use Rattle.floor_machine.specs.Checks.{chair_checks, first_of, on_request};
+ghost use Rattle.floor_machine.specs.steps.Deciding as deciding;
+ghost use Rattle.floor_machine.specs.steps.Deciding.{MayDecide, asked, change_words};
 ghost use Rattle.floor_machine.specs.steps.Marks.{KeepsNoted};
-ghost use Rattle.floor_machine.specs.steps.Serving.{IsChanged, MayDecide, after_decide, conference_of, ended_by};
+ghost use Rattle.floor_machine.specs.steps.Serving.{IsChanged, conference_of};
 
-use crate::change::ending::{EndedBy, end_request};
 use crate::conference::State;
-use crate::course::{Course, Ended, begin};
+use crate::course::{Course, begin};
+use crate::decision::{Change, Decision, EndedBy, Reply};
 use crate::marks::{Mark, mark_ongoing};
 use floor_config::Config;
-use floor_message::{Ask, ErrorCode, Verdict};
+use floor_message::{ErrorCode, Verdict, Verdicts};
 use floor_queue::{Request, Requests, Word};
 use std::alloc::{AllocError, Global};
 
 impl State {
+    /// What a ChairAction of this user comes to: a verdict that ends the request ends it, and else
+    /// each of their floors is Accepted.
+    #[tactic(auto, unfolding(crate::specs::Checks::refusal))]
+    pub(crate) fn decide_action(
+        &self,
+        alloc: Global,
+        user: u16,
+        request: u16,
+        verdicts: Verdicts,
+    ) -> Decision
+        ensures value { result ≡ asked (conference_of self.now) user (ChairAction request verdicts) }
+    {
+        match self.chair_refusal(user, request, verdicts.as_slice()) {
+            Some(code) => Decision::refused(alloc, code),
+            None => Decision {
+                change: verdicts_change(request, verdicts),
+                reply: Reply::Ack,
+            },
+        }
+    }
+
     /// The error code by which the own checks refuse a ChairAction.
-    pub(crate) fn chair_refusal(
+    fn chair_refusal(
         &self,
         user: u16,
         request: u16,
@@ -37,31 +61,6 @@ impl State {
             None => Some(ErrorCode::FloorRequestIdDoesNotExist),
             Some(found) => self.verdicts_refusal(user, found, verdicts),
         }
-    }
-
-    /// Does what the verdicts of a ChairAction of member n say, before the requests are settled.
-    pub(crate) fn chair_action(
-        &mut self,
-        alloc: Global,
-        n: u32,
-        request: u16,
-        verdicts: &[(u16, Verdict)],
-    ) -> Result<Course, AllocError>
-        requires decide { MayDecide self.old.requests.ongoing request verdicts.now }
-        ensures changed { IfOk result (λ course. IsChanged (conference_of self.old)
-            (change.asked_change (conference_of self.old) n (Ask.ChairAction request verdicts.now))
-            (conference_of self.new) course) }
-        ensures before { IfOk result (λ course. course.before.items ≡ self.old.shown.items) }
-    {
-        let mut course = begin(alloc, &self.requests, &mut self.shown)?;
-        decide(
-            &mut self.requests,
-            &mut course.ended,
-            &mut course.marks,
-            request,
-            verdicts,
-        )?;
-        Ok(course)
     }
 
     fn verdicts_refusal(
@@ -83,6 +82,25 @@ impl State {
             return Some(ErrorCode::GenericError);
         }
         None
+    }
+
+    /// The verdicts leave their words on the floors of a request, before the requests are settled.
+    pub(crate) fn leave_words(
+        &mut self,
+        alloc: Global,
+        request: u16,
+        verdicts: &[(u16, Verdict)],
+    ) -> Result<Course, AllocError>
+        requires decide { MayDecide self.old.requests.ongoing request verdicts.now }
+        requires words { list_any (λ v. change.is_final v.1) verdicts.now ≡ false }
+        ensures changed { IfOk result (λ course. IsChanged (conference_of self.old)
+            (change_words (conference_of self.old) request verdicts.now)
+            (conference_of self.new) course) }
+        ensures before { IfOk result (λ course. course.before.items ≡ self.old.shown.items) }
+    {
+        let mut course = begin(alloc, &self.requests, &mut self.shown)?;
+        leave_words(&mut self.requests, &mut course.marks, request, verdicts)?;
+        Ok(course)
     }
 }
 
@@ -118,27 +136,15 @@ fn are_allowed(is_granted: bool, verdicts: &[(u16, Verdict)]) -> bool
     verdicts.iter().all(|v| is_allowed(is_granted, v.1))
 }
 
-/// Does what the verdicts say: one that ends the request ends it, and else each of their floors is
-/// Accepted.
-pub(crate) fn decide(
-    requests: &mut Requests,
-    ended: &mut Vec<Ended>,
-    marks: &mut Vec<Mark>,
-    request: u16,
-    verdicts: &[(u16, Verdict)],
-) -> Result<(), AllocError>
-    requires { MayDecide requests.old.ongoing request verdicts.now }
-    ensures next { OnOk result (requests.new ≡ after_decide requests.old request verdicts.now) }
-    ensures ended { OnOk result (ended.new.items ≡ ended.old.items
-        ++ ended_by requests.old request verdicts.now) }
-    ensures noted { OnOk result (KeepsNoted requests.old.ongoing marks.old.items
-        requests.new.ongoing marks.new.items) }
-    ensures floors { requests.new.floors ≡ requests.old.floors }
+/// What verdicts on a request change.
+fn verdicts_change(request: u16, verdicts: Verdicts) -> Change
+    ensures { result ≡ deciding.verdicts_change request verdicts }
 {
-    if has_final(verdicts) {
-        return end_request(requests, ended, marks, request, EndedBy::Chair);
+    if has_final(verdicts.as_slice()) {
+        Change::End(request, EndedBy::Chair)
+    } else {
+        Change::Words(request, verdicts)
     }
-    leave_words(requests, marks, request, verdicts)
 }
 
 /// Stores the words on the floors of a request, and marks it as it was and as it is.

@@ -9,19 +9,11 @@ ghost use Rattle.floor_machine.specs.steps.Serving.{IsChanged, conference_of};
 
 use crate::conference::State;
 use crate::course::{Course, Ended, begin};
+use crate::decision::EndedBy;
 use crate::marks::{Mark, mark_request};
 use floor_message::RequestStatus;
 use floor_queue::{Request, Requests};
 use std::alloc::{AllocError, Global};
-
-/// Who ends a floor request.
-#[derive(Clone, Copy, Debug)]
-pub(crate) enum EndedBy {
-    /// Its requester or its beneficiary, who gives it back.
-    Participant,
-    /// A chair, or the administrator.
-    Chair,
-}
 
 /// How a request ends that is given back.
 fn released(request: &Request) -> RequestStatus

@@ -1,33 +1,58 @@
-//! A FloorRequest: its own checks, and the request that it adds (RFC 8855, sections 10.1 and 13.1).
+//! A FloorRequest: its own checks, the decision that it comes to, and the request that it adds (RFC 8855,
+//! sections 10.1 and 13.1).
 
 ghost use Rattle.std.specs.List.{list_any};
 ghost use Rattle.std.specs.Prelude.{◌≡◌, ◌++◌, ◌+◌, ◌∷◌, [], IfOk, OnOk, nat_le};
 ghost use Rattle.floor_queue.specs.Queue.{IsAddable, after_add};
-ghost use Rattle.floor_machine.specs.Change as change;
+ghost use Rattle.floor_message.specs.declared.ask.Ask.TheVariants.{FloorRequest};
 ghost use Rattle.floor_machine.specs.Checks as checks;
 ghost use Rattle.floor_machine.specs.Checks.{first_of, request_checks};
-ghost use Rattle.floor_machine.specs.Conference.{user_of};
+ghost use Rattle.floor_machine.specs.steps.Deciding.{HasRoom, asked, change_adding};
 ghost use Rattle.floor_machine.specs.steps.Marks.{KeepsNoted};
-ghost use Rattle.floor_machine.specs.steps.Serving as serving;
-ghost use Rattle.floor_machine.specs.steps.Serving.{HasRoom, IsChanged, conference_of, with_requests};
+ghost use Rattle.floor_machine.specs.steps.Serving.{IsChanged, conference_of};
 
 use crate::conference::State;
 use crate::course::{Course, begin};
-use crate::information::showing::copied;
+use crate::decision::{Change, Decision, Reply};
 use crate::marks::{Mark, mark_ongoing};
-use floor_message::{Ask, ErrorCode};
+use floor_message::ErrorCode;
 use floor_queue::{MAX_FLOORS, MAX_ONGOING, New, Request, Requests};
 use floor_wire::{Numbers, Octets};
 use std::alloc::{AllocError, Global};
 
 impl State {
-    /// The error code by which the own checks refuse a FloorRequest.
-    pub(crate) fn request_refusal(
+    /// What a FloorRequest of this user comes to.
+    #[tactic(auto, unfolding(crate::specs::Checks::refusal))]
+    pub(crate) fn decide_request(
         &self,
+        alloc: Global,
         user: u16,
-        beneficiary: u16,
-        floors: &[u16],
-    ) -> Option<ErrorCode>
+        beneficiary: Option<u16>,
+        floors: Numbers,
+        priority: u8,
+        info: Option<Octets>,
+    ) -> Decision
+        ensures value { result ≡ asked (conference_of self.now) user
+            (FloorRequest beneficiary floors priority info) }
+    {
+        let whom = beneficiary.unwrap_or(user);
+        match self.request_refusal(user, whom, floors.as_slice()) {
+            Some(code) => Decision::refused(alloc, code),
+            None => Decision {
+                change: Change::Add(New {
+                    requester: user,
+                    beneficiary: whom,
+                    floors,
+                    priority,
+                    info,
+                }),
+                reply: Reply::Added,
+            },
+        }
+    }
+
+    /// The error code by which the own checks refuse a FloorRequest.
+    fn request_refusal(&self, user: u16, beneficiary: u16, floors: &[u16]) -> Option<ErrorCode>
         ensures { result
             ≡ first_of (request_checks (conference_of self.now) user beneficiary floors.now) }
     {
@@ -57,77 +82,22 @@ impl State {
         None
     }
 
-    /// Adds the request that a FloorRequest of member n asks for, before the requests are settled.
-    pub(crate) fn floor_request(
-        &mut self,
-        alloc: Global,
-        n: u32,
-        user: u16,
-        beneficiary: Option<u16>,
-        floors: &Numbers,
-        priority: u8,
-        info: &Option<Octets>,
-    ) -> Result<Course, AllocError>
-        requires addable { IsAddable self.old.config.floors
-            (serving.new_of_ask user beneficiary floors.now priority info.now) }
+    /// Adds a request, before the requests are settled.
+    pub(crate) fn add_request(&mut self, alloc: Global, new: New) -> Result<Course, AllocError>
+        requires addable { IsAddable self.old.config.floors new }
         requires room { HasRoom self.old.requests.ongoing self.old.requests.given }
-        requires user { user ≡ user_of (conference_of self.old) n }
         ensures changed { IfOk result (λ course. IsChanged (conference_of self.old)
-            (change.asked_change (conference_of self.old) n
-            (Ask.FloorRequest beneficiary floors.now priority info.now))
-            (conference_of self.new) course) }
+            (change_adding (conference_of self.old) new) (conference_of self.new) course) }
         ensures before { IfOk result (λ course. course.before.items ≡ self.old.shown.items) }
     {
         let mut course = begin(alloc, &self.requests, &mut self.shown)?;
-        self.request(
-            alloc,
-            &mut course,
-            user,
-            beneficiary,
-            floors,
-            priority,
-            info,
-        )?;
-        Ok(course)
-    }
-
-    /// Adds the request that a user asks for.
-    fn request(
-        &mut self,
-        alloc: Global,
-        course: &mut Course,
-        user: u16,
-        beneficiary: Option<u16>,
-        floors: &Numbers,
-        priority: u8,
-        info: &Option<Octets>,
-    ) -> Result<(), AllocError>
-        requires addable { IsAddable self.old.requests.floors
-            (serving.new_of_ask user beneficiary floors.now priority info.now) }
-        requires room { HasRoom self.old.requests.ongoing self.old.requests.given }
-        ensures next { OnOk result (conference_of self.new
-            ≡ with_requests (conference_of self.old) (after_add self.old.requests
-            (serving.new_of_ask user beneficiary floors.now priority info.now))) }
-        ensures course { OnOk result (course.new.numbers.items ≡ course.old.numbers.items
-            ++ (self.old.requests.given + 1) ∷ []) }
-        ensures noted { OnOk result (KeepsNoted self.old.requests.ongoing course.old.marks.items
-            self.new.requests.ongoing course.new.marks.items) }
-        ensures before { course.new.before ≡ course.old.before }
-        ensures ended { course.new.ended ≡ course.old.ended }
-    {
-        let new = New {
-            requester: user,
-            beneficiary: beneficiary.unwrap_or(user),
-            floors: floors.copy(alloc)?,
-            priority,
-            info: copied(alloc, info)?,
-        };
         add_request(
             &mut self.requests,
             &mut course.numbers,
             &mut course.marks,
             new,
-        )
+        )?;
+        Ok(course)
     }
 }
 

@@ -10,9 +10,10 @@ ghost use Rattle.floor_machine.specs.steps.Fitting.{IsToldShown};
 ghost use Rattle.floor_machine.specs.steps.Marks.{KeepsNoted};
 ghost use Rattle.floor_machine.specs.steps.Serving.{IsAtRest, IsBegun, IsChanged, after_release_for, conference_of, released_for};
 
-use crate::change::ending::{EndedBy, end_request};
+use crate::change::ending::end_request;
 use crate::conference::State;
 use crate::course::{Course, Ended};
+use crate::decision::EndedBy;
 use crate::marks::Mark;
 use floor_queue::Requests;
 use std::alloc::AllocError;

@@ -1,46 +1,44 @@
-//! What the message of a member changes, and what answers it (RFC 8855, section 13).
+//! What the message of a member comes to, what that changes, and what answers it (RFC 8855, section 13).
 
 ghost use Rattle.std.specs.Prelude.{◌≡◌, All, IfOk};
 ghost use Rattle.floor_config.specs.Configuration.{user_ids};
-ghost use Rattle.floor_message.specs.Ask.{Answer, ask, asks};
+ghost use Rattle.floor_message.specs.Ask.{Answer, ask};
 ghost use Rattle.floor_message.specs.Fits.{AskPartsFit};
 ghost use Rattle.floor_message.specs.Head.{response_head};
 ghost use Rattle.floor_message.specs.Laws.{CountsFit};
 ghost use Rattle.floor_message.specs.Shown.{IsShown};
-ghost use Rattle.floor_machine.specs.Checks as checks;
-ghost use Rattle.floor_machine.specs.Conference.{user_of};
+ghost use Rattle.floor_machine.specs.steps.Deciding.{MayChange, asked, decision_of};
 ghost use Rattle.floor_machine.specs.steps.Fitting.{DetailsFit};
-ghost use Rattle.floor_machine.specs.steps.Serving as serving;
-ghost use Rattle.floor_machine.specs.steps.Serving.{IsTaken, MayServe, conference_of};
+ghost use Rattle.floor_machine.specs.steps.Serving.{IsTaken, conference_of, tells_by};
 
-use crate::change::ending::EndedBy;
-use crate::change::judged::Judged;
 use crate::change::queries::hello_tells;
 use crate::change::reply::one;
 use crate::conference::State;
 use crate::course::Course;
+use crate::decision::{Change, Decision, Reply};
 use crate::outcome::Outcome;
-use crate::reply::Reply;
-use floor_message::{Ask, AskFault, Binding, ErrorCode, Head, Tell, read_ask, what_is_asked_fits};
-use floor_wire::{Frame, Octets};
+use crate::replied::Replied;
+use floor_message::{Ask, AskFault, Binding, Head, Tell, read_ask, what_is_asked_fits};
+use floor_wire::Frame;
 use std::alloc::{AllocError, Global};
 
 impl State {
-    /// What becomes of the message of a user.
-    pub(crate) fn judge(
+    /// What the message of a user comes to.
+    pub(crate) fn decide(
         &self,
         alloc: Global,
         user: u16,
         frame: &Frame,
-    ) -> Result<Judged, AllocError>
-        ensures judged { IfOk result (λ judged. (a : Answer)
+    ) -> Result<Decision, AllocError>
+        ensures value { IfOk result (λ decision. (a : Answer)
             → a ≡ ask frame.now record {
               conference = self.now.config.conference;
               user = user;
               users = user_ids self.now.config.users;
             }
-            → judged ≡ serving.judged (conference_of self.now) user a) }
-        ensures may { IfOk result (MayServe (conference_of self.now) user) }
+            → decision ≡ decision_of (conference_of self.now) user a) }
+        ensures may { IfOk result (λ decision. MayChange (conference_of self.now) decision.change) }
+        ensures details { IfOk result (λ decision. DetailsFit decision.reply) }
     {
         what_is_asked_fits();
         let binding = Binding {
@@ -50,79 +48,33 @@ impl State {
         };
         match read_ask(alloc, frame, &binding) {
             Err(AskFault::Memory) => Err(AllocError),
-            Err(AskFault::Error { code, details }) => Ok(Judged::Refused { code, details }),
-            Ok(None) => Ok(Judged::Unanswered),
-            Ok(Some(ask)) => Ok(self.judge_ask(alloc, user, ask)),
+            Err(AskFault::Error { code, details }) => Ok(Decision {
+                change: Change::Nothing,
+                reply: Reply::Error(code, details),
+            }),
+            Ok(None) => Ok(Decision {
+                change: Change::Nothing,
+                reply: Reply::Nothing,
+            }),
+            Ok(Some(ask)) => self.decide_ask(alloc, user, ask),
         }
     }
 
-    /// What becomes of what a user asks.
-    fn judge_ask(&self, alloc: Global, user: u16, ask: Ask) -> Judged
+    /// What a user asks comes to.
+    fn decide_ask(&self, alloc: Global, user: u16, ask: Ask) -> Result<Decision, AllocError>
         requires { CountsFit ask → AskPartsFit ask }
-        ensures judged { result ≡ serving.judged (conference_of self.now) user (asks ask) }
-        ensures may { MayServe (conference_of self.now) user result }
+        ensures value { IfOk result (λ decision. decision
+            ≡ asked (conference_of self.now) user ask) }
+        ensures may { IfOk result (λ decision. MayChange (conference_of self.now) decision.change) }
+        ensures details { IfOk result (λ decision. DetailsFit decision.reply) }
     {
-        match self.refusal(user, &ask) {
-            None => Judged::Accepted(ask),
-            Some(code) => Judged::Refused {
-                code,
-                details: Octets::from_vec(Vec::new(alloc)),
-            },
-        }
+        self.by_primitive(alloc, user, ask)
     }
 
-    /// The error code by which the own checks refuse what a user asks, the first that applies.
-    #[tactic(auto, unfolding(crate::specs::Checks::refusal))]
-    pub(crate) fn refusal(&self, user: u16, ask: &Ask) -> Option<ErrorCode>
-        ensures { result ≡ checks.refusal (conference_of self.now) user ask.now }
-    {
-        match ask {
-            Ask::FloorRequest {
-                beneficiary,
-                floors,
-                ..
-            } => self.request_refusal(user, beneficiary.unwrap_or(user), floors.as_slice()),
-            Ask::FloorRelease { request } => self.release_refusal(user, *request),
-            Ask::FloorRequestQuery { request } => self.query_refusal(*request),
-            Ask::UserQuery { beneficiary } => self.user_refusal(*beneficiary),
-            Ask::FloorQuery { floors } => self.floors_refusal(floors.as_slice()),
-            Ask::ChairAction { request, verdicts } => {
-                self.chair_refusal(user, *request, verdicts.as_slice())
-            }
-            Ask::Hello => None,
-        }
-    }
-
-    /// Does what a judged message of member n asks, before the requests are settled. What changes
-    /// requests gives the course of its event.
-    pub(crate) fn change(
-        &mut self,
-        alloc: Global,
-        n: u32,
-        user: u16,
-        judged: &Judged,
-    ) -> Result<Option<Course>, AllocError>
-        requires may { MayServe (conference_of self.old) user judged.now }
-        requires user { user ≡ user_of (conference_of self.old) n }
-        ensures taken { IfOk result (IsTaken self.old n judged.now self.new) }
-    {
-        match judged {
-            Judged::Accepted(ask) => self.change_asked(alloc, n, user, ask),
-            Judged::Refused { .. } | Judged::Unanswered => Ok(None),
-        }
-    }
-
-    /// Does what an accepted message asks: each primitive does its own.
-    fn change_asked(
-        &mut self,
-        alloc: Global,
-        n: u32,
-        user: u16,
-        ask: &Ask,
-    ) -> Result<Option<Course>, AllocError>
-        requires may { MayServe (conference_of self.old) user (Judged.Accepted ask.now) }
-        requires user { user ≡ user_of (conference_of self.old) n }
-        ensures taken { IfOk result (IsTaken self.old n (Judged.Accepted ask.now) self.new) }
+    /// What a user asks comes to: each primitive has its own checks.
+    fn by_primitive(&self, alloc: Global, user: u16, ask: Ask) -> Result<Decision, AllocError>
+        ensures value { IfOk result (λ decision. decision
+            ≡ asked (conference_of self.now) user ask) }
     {
         match ask {
             Ask::FloorRequest {
@@ -130,94 +82,98 @@ impl State {
                 floors,
                 priority,
                 info,
-            } => {
-                let course = self.floor_request(
-                    alloc,
-                    n,
-                    user,
-                    *beneficiary,
-                    floors,
-                    *priority,
-                    info,
-                )?;
-                Ok(Some(course))
-            }
-            Ask::FloorRelease { request } => {
-                let course = self.end_ongoing(alloc, *request, EndedBy::Participant)?;
-                Ok(Some(course))
-            }
+            } => Ok(self.decide_request(alloc, user, beneficiary, floors, priority, info)),
+            Ask::FloorRelease { request } => Ok(self.decide_release(alloc, user, request)),
+            Ask::FloorRequestQuery { request } => Ok(self.decide_query(alloc, request)),
+            Ask::UserQuery { beneficiary } => Ok(self.decide_user(alloc, beneficiary)),
+            Ask::FloorQuery { floors } => self.decide_floors(alloc, floors),
             Ask::ChairAction { request, verdicts } => {
-                let course = self.chair_action(alloc, n, *request, verdicts.as_slice())?;
+                Ok(self.decide_action(alloc, user, request, verdicts))
+            }
+            Ask::Hello => Ok(self.decide_hello()),
+        }
+    }
+
+    /// Does what is decided for member n, before the requests are settled. What changes requests gives
+    /// the course of its event.
+    pub(crate) fn change(
+        &mut self,
+        alloc: Global,
+        n: u32,
+        change: Change,
+    ) -> Result<Option<Course>, AllocError>
+        requires may { MayChange (conference_of self.old) change }
+        ensures taken { IfOk result (IsTaken self.old n change self.new) }
+    {
+        match change {
+            Change::Nothing => Ok(None),
+            Change::Add(new) => {
+                let course = self.add_request(alloc, new)?;
                 Ok(Some(course))
             }
-            Ask::FloorQuery { floors } => {
-                self.members.watch(alloc, n, floors)?;
+            Change::End(request, by) => {
+                let course = self.end_ongoing(alloc, request, by)?;
+                Ok(Some(course))
+            }
+            Change::Words(request, verdicts) => {
+                let course = self.leave_words(alloc, request, verdicts.as_slice())?;
+                Ok(Some(course))
+            }
+            Change::Watch(floors) => {
+                self.members.watch(n, floors);
                 Ok(None)
             }
-            Ask::FloorRequestQuery { .. } | Ask::UserQuery { .. } | Ask::Hello => Ok(None),
         }
     }
 }
 
 impl Outcome<'_> {
-    /// What the sender of a judged message is answered, after the event.
+    /// What the sender of a message is answered, after the event.
     pub(crate) fn reply(
         &self,
         alloc: Global,
         n: u32,
         user: u16,
         frame: &Frame,
-        judged: &Judged,
-    ) -> Result<Reply, AllocError>
-        requires details { DetailsFit judged.now }
-        ensures to { IfOk result (λ reply. reply.n ≡ n) }
-        ensures head { IfOk result (λ reply. reply.head ≡ response_head frame.now) }
-        ensures tells { IfOk result (λ reply. reply.tells
-            ≡ serving.judged_tells self.now.conference self.now.ended user judged.now) }
-        ensures shown { IfOk result (λ reply. All IsShown reply.tells) }
+        reply: Reply,
+    ) -> Result<Replied, AllocError>
+        requires details { DetailsFit reply }
+        ensures to { IfOk result (λ replied. replied.n ≡ n) }
+        ensures head { IfOk result (λ replied. replied.head ≡ response_head frame.now) }
+        ensures tells { IfOk result (λ replied. replied.tells
+            ≡ tells_by self.now.conference self.now.ended user reply) }
+        ensures shown { IfOk result (λ replied. All IsShown replied.tells) }
     {
-        let tells = self.answer(alloc, user, judged)?;
-        Ok(Reply {
+        let tells = self.tells(alloc, user, reply)?;
+        Ok(Replied {
             n,
             head: Head::response(frame),
             tells,
         })
     }
 
-    /// What a judged message is answered by, after the event.
-    fn answer(&self, alloc: Global, user: u16, judged: &Judged) -> Result<Vec<Tell>, AllocError>
-        requires details { DetailsFit judged.now }
+    /// The messages that answer this user.
+    fn tells(&self, alloc: Global, user: u16, reply: Reply) -> Result<Vec<Tell>, AllocError>
+        requires details { DetailsFit reply }
         ensures value { IfOk result (λ tells. tells.items
-            ≡ serving.judged_tells self.now.conference self.now.ended user judged.now) }
+            ≡ tells_by self.now.conference self.now.ended user reply) }
         ensures shown { IfOk result (λ tells. All IsShown tells.items) }
     {
-        match judged {
-            Judged::Accepted(ask) => self.accepted_tells(alloc, user, ask),
-            Judged::Refused { code, details } => one(
+        match reply {
+            Reply::Nothing => Ok(Vec::new(alloc)),
+            Reply::Status(request) => self.status_tells(alloc, request),
+            Reply::Added => self.status_tells(alloc, self.state.requests.given()),
+            Reply::User(beneficiary) => self.user_tells(alloc, user, beneficiary),
+            Reply::Floors(floors) => self.floor_tells(alloc, floors.as_slice()),
+            Reply::Ack => one(alloc, Tell::ChairActionAck),
+            Reply::Hello => hello_tells(alloc),
+            Reply::Error(code, details) => one(
                 alloc,
                 Tell::Error {
                     code: code.number(),
-                    details: details.copy(alloc)?,
+                    details,
                 },
             ),
-            Judged::Unanswered => Ok(Vec::new(alloc)),
-        }
-    }
-
-    /// What an accepted message is answered by, after the event.
-    fn accepted_tells(&self, alloc: Global, user: u16, ask: &Ask) -> Result<Vec<Tell>, AllocError>
-        ensures value { IfOk result (λ tells. tells.items
-            ≡ serving.accepted_tells self.now.conference self.now.ended user ask.now) }
-        ensures shown { IfOk result (λ tells. All IsShown tells.items) }
-    {
-        match ask {
-            Ask::FloorRequest { .. } => self.status_tells(alloc, self.state.requests.given()),
-            Ask::FloorRelease { request } => self.status_tells(alloc, *request),
-            Ask::FloorRequestQuery { request } => self.status_tells(alloc, *request),
-            Ask::UserQuery { beneficiary } => self.user_tells(alloc, user, *beneficiary),
-            Ask::Hello => hello_tells(alloc),
-            Ask::FloorQuery { floors } => self.floor_tells(alloc, floors.as_slice()),
-            Ask::ChairAction { .. } => one(alloc, Tell::ChairActionAck),
         }
     }
 }

@@ -1,29 +1,96 @@
-//! The queries and Hello: their own checks, and what answers them (RFC 8855, sections 12 and 13).
+//! The queries and Hello: their own checks, the decisions that they come to, and what answers them
+//! (RFC 8855, sections 12 and 13).
 
 ghost use Rattle.std.specs.List.{list_all};
 ghost use Rattle.std.specs.Option.{option_map_or};
-ghost use Rattle.std.specs.Prelude.{◌≡◌, ◌∷◌, [], All, IfOk, IfSome, Some, map, not, option_map, true, unwrap_or};
+ghost use Rattle.std.specs.Prelude.{ℕ, ◌≡◌, ◌∷◌, [], All, IfOk, IfSome, Some, map, not, option_map, true, unwrap_or};
 ghost use Rattle.floor_config.specs.Lookup.{is_floor, is_user};
 ghost use Rattle.floor_message.specs.Shown.{AreShown, IsDescribed, IsShown};
+ghost use Rattle.floor_message.specs.declared.ask.Ask.TheVariants.{FloorQuery, FloorRequestQuery, Hello, UserQuery};
 ghost use Rattle.floor_machine.specs.Checks.{first_of, on_request, when};
 ghost use Rattle.floor_machine.specs.Reply as reply;
 ghost use Rattle.floor_machine.specs.Shown as shown;
+ghost use Rattle.floor_machine.specs.steps.Deciding.{asked};
 ghost use Rattle.floor_machine.specs.steps.Serving.{conference_of};
 ghost use Rattle.floor_machine.specs.steps.Telling.{infos_with_user};
 
 use crate::change::reply::one;
 use crate::conference::State;
+use crate::decision::{Change, Decision, Reply};
 use crate::information::copying::{floor_status, infos_with_user};
 use crate::information::showing::described;
 use crate::outcome::Outcome;
 use floor_config::Config;
 use floor_message::{ErrorCode, Info, Infos, Tell, Who};
-use floor_wire::Octets;
+use floor_wire::{Numbers, Octets};
 use std::alloc::{AllocError, Global};
 
 impl State {
+    /// What a FloorRequestQuery comes to.
+    #[tactic(auto, unfolding(crate::specs::Checks::refusal))]
+    pub(crate) fn decide_query(&self, alloc: Global, request: u16) -> Decision
+        ensures value { (user : ℕ)
+            → result ≡ asked (conference_of self.now) user (FloorRequestQuery request) }
+    {
+        match self.query_refusal(request) {
+            Some(code) => Decision::refused(alloc, code),
+            None => Decision {
+                change: Change::Nothing,
+                reply: Reply::Status(request),
+            },
+        }
+    }
+
+    /// What a UserQuery comes to.
+    #[tactic(auto, unfolding(crate::specs::Checks::refusal))]
+    pub(crate) fn decide_user(&self, alloc: Global, beneficiary: Option<u16>) -> Decision
+        ensures value { (user : ℕ)
+            → result ≡ asked (conference_of self.now) user (UserQuery beneficiary) }
+    {
+        match self.user_refusal(beneficiary) {
+            Some(code) => Decision::refused(alloc, code),
+            None => Decision {
+                change: Change::Nothing,
+                reply: Reply::User(beneficiary),
+            },
+        }
+    }
+
+    /// What a FloorQuery comes to.
+    #[tactic(auto, unfolding(crate::specs::Checks::refusal))]
+    pub(crate) fn decide_floors(
+        &self,
+        alloc: Global,
+        floors: Numbers,
+    ) -> Result<Decision, AllocError>
+        ensures value { IfOk result (λ decision. (user : ℕ)
+            → decision ≡ asked (conference_of self.now) user (FloorQuery floors)) }
+    {
+        match self.floors_refusal(floors.as_slice()) {
+            Some(code) => Ok(Decision::refused(alloc, code)),
+            None => {
+                let watched = floors.copy(alloc)?;
+                Ok(Decision {
+                    change: Change::Watch(watched),
+                    reply: Reply::Floors(floors),
+                })
+            }
+        }
+    }
+
+    /// What a Hello comes to: it has no checks of its own. Takes no memory.
+    #[tactic(auto, unfolding(crate::specs::Checks::refusal))]
+    pub(crate) fn decide_hello(&self) -> Decision
+        ensures value { (user : ℕ) → result ≡ asked (conference_of self.now) user Hello }
+    {
+        Decision {
+            change: Change::Nothing,
+            reply: Reply::Hello,
+        }
+    }
+
     /// The error code by which the own checks refuse a FloorRequestQuery.
-    pub(crate) fn query_refusal(&self, request: u16) -> Option<ErrorCode>
+    fn query_refusal(&self, request: u16) -> Option<ErrorCode>
         ensures { result ≡ on_request (conference_of self.now) request (λ r. []) }
     {
         match self.requests.get(request) {
@@ -33,7 +100,7 @@ impl State {
     }
 
     /// The error code by which the own checks refuse a UserQuery.
-    pub(crate) fn user_refusal(&self, beneficiary: Option<u16>) -> Option<ErrorCode>
+    fn user_refusal(&self, beneficiary: Option<u16>) -> Option<ErrorCode>
         ensures { result
             ≡ first_of (when (not (option_map_or (is_user self.now.config) beneficiary true))
             ErrorCode.UserDoesNotExist ∷ []) }
@@ -51,7 +118,7 @@ impl State {
     }
 
     /// The error code by which the own checks refuse a FloorQuery.
-    pub(crate) fn floors_refusal(&self, floors: &[u16]) -> Option<ErrorCode>
+    fn floors_refusal(&self, floors: &[u16]) -> Option<ErrorCode>
         ensures { result
             ≡ first_of (when (not (list_all (is_floor self.now.config.floors) floors.now))
             ErrorCode.InvalidFloorId ∷ []) }

@@ -14,7 +14,7 @@ use crate::member::Member;
 use crate::members::Members;
 use crate::outcome::Outcome;
 use crate::parcel::Parcel;
-use crate::reply::Reply;
+use crate::replied::Replied;
 use crate::tell::changed::{FloorUpdate, Update, Updates, floor_updates};
 use crate::tell::renewing::Changes;
 use crate::tell::watching::{is_watched, watched_floors, watches};
@@ -38,7 +38,7 @@ impl Outcome<'_> {
         &self,
         alloc: Global,
         changes: &Changes,
-        reply: &Option<Reply>,
+        reply: &Option<Replied>,
         out: &mut Vec<Parcel>,
     ) -> Result<(), AllocError>
         ensures told { OnOk result (out.new.items ≡ out.old.items
@@ -77,7 +77,7 @@ impl Outcome<'_> {
     pub(crate) fn tell_reply(
         &self,
         alloc: Global,
-        reply: &Option<Reply>,
+        reply: &Option<Replied>,
         out: &mut Vec<Parcel>,
     ) -> Result<(), AllocError>
         ensures told { OnOk result (out.new.items ≡ out.old.items
@@ -107,7 +107,7 @@ pub(crate) fn put_all(
     out: &mut Vec<Parcel>,
     conference: u32,
     members: &Members,
-    reply: &Option<Reply>,
+    reply: &Option<Replied>,
     updates: &Updates,
     floor_updates: &[FloorUpdate],
 ) -> Result<(), AllocError>
@@ -137,7 +137,7 @@ fn put_members(
     out: &mut Vec<Parcel>,
     conference: u32,
     members: &Members,
-    reply: &Option<Reply>,
+    reply: &Option<Replied>,
     updates: &Updates,
     notices: &[FloorNotice],
 ) -> Result<(), AllocError>
@@ -158,7 +158,7 @@ fn put_live(
     conference: u32,
     members: &Members,
     n: u32,
-    reply: &Option<Reply>,
+    reply: &Option<Replied>,
     updates: &Updates,
     notices: &[FloorNotice],
 ) -> Result<(), AllocError>
@@ -178,7 +178,7 @@ fn put_member(
     out: &mut Vec<Parcel>,
     conference: u32,
     member: &Member,
-    reply: &Option<Reply>,
+    reply: &Option<Replied>,
     updates: &Updates,
     notices: &[FloorNotice],
 ) -> Result<(), AllocError>
@@ -195,7 +195,7 @@ fn put_reply(
     alloc: Global,
     out: &mut Vec<Parcel>,
     n: u32,
-    reply: &Option<Reply>,
+    reply: &Option<Replied>,
 ) -> Result<(), AllocError>
     ensures { OnOk result (out.new.items ≡ out.old.items
         ++ map (parcel n) (answered_to reply.now n)) }
@@ -234,7 +234,7 @@ fn put_updates(
     out: &mut Vec<Parcel>,
     conference: u32,
     member: &Member,
-    reply: &Option<Reply>,
+    reply: &Option<Replied>,
     updates: &Updates,
 ) -> Result<(), AllocError>
     ensures { OnOk result (out.new.items ≡ out.old.items
@@ -341,7 +341,7 @@ fn put(
 }
 
 /// Whether the member is told of the changed request.
-fn is_due_to(reply: &Option<Reply>, member: &Member, update: &Update) -> bool
+fn is_due_to(reply: &Option<Replied>, member: &Member, update: &Update) -> bool
     ensures { result ≡ is_due_to reply.now member.now update.now }
 {
     (update.requester == member.user || update.beneficiary == member.user)
@@ -349,7 +349,7 @@ fn is_due_to(reply: &Option<Reply>, member: &Member, update: &Update) -> bool
 }
 
 /// Whether the reply to this member is already the status of the request.
-fn is_answered(reply: &Option<Reply>, n: u32, request: u16) -> bool
+fn is_answered(reply: &Option<Replied>, n: u32, request: u16) -> bool
     ensures { result ≡ is_answered reply.now n request }
 {
     match reply {

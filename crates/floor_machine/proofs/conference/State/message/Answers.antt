@@ -4,8 +4,8 @@ use Rattle.floor_config.specs.declared.floors.Floor.{Floor}
 use Rattle.floor_queue.specs.Order.{settle}
 use Rattle.floor_queue.specs.Queue.{after_settle}
 use Rattle.floor_message.specs.Ask.{Answer, ask}
-use Rattle.floor_machine.specs.declared.change.judged.Judged.{Judged}
-use Rattle.floor_machine.specs.declared.reply.Reply.{Reply}
+use Rattle.floor_machine.specs.declared.decision.Decision.{Decision}
+use Rattle.floor_machine.specs.declared.replied.Replied.{Replied}
 use Rattle.floor_machine.specs.declared.conference.State.{State}
 use Rattle.floor_machine.specs.declared.course.Course.{Course}
 use Rattle.floor_machine.specs.declared.course.Ended.{Ended}
@@ -16,14 +16,15 @@ use Rattle.floor_machine.specs.Conference.{Conference, binding, user_of}
 use Rattle.floor_machine.specs.Change.{change, settled}
 use Rattle.floor_machine.specs.Told.{reply_to}
 use Rattle.floor_machine.specs.steps.Fitting.{AreAddable, AreUpdatesShown}
-use Rattle.floor_machine.specs.steps.Serving.{IsChanged, IsTaken, conference_of, is_rising, judged, judged_change, judged_tells, with_requests}
+use Rattle.floor_machine.specs.steps.Deciding.{change_by, decision_of}
+use Rattle.floor_machine.specs.steps.Serving.{IsChanged, IsTaken, conference_of, is_rising, tells_by, with_requests}
 use Rattle.floor_machine.specs.steps.Telling.{answered_to, parcels_to_all}
-use Rattle.floor_machine.proofs.Addable.{judged_addable, queue_addable}
+use Rattle.floor_machine.proofs.Addable.{decided_addable, queue_addable}
 use Rattle.floor_machine.proofs.Asked.{on_ok, on_ok_all}
 use Rattle.floor_machine.proofs.Bounds.{served-shown}
 use Rattle.floor_machine.proofs.Courses.{course-changed}
 use Rattle.floor_machine.proofs.Kept.{settled-message, parcels-message, replied-message, shown-message}
-use Rattle.floor_machine.proofs.Served.{change-judged, settled-state, ended-shown, settled-config, numbers-shown, reply-answered, parcels-served}
+use Rattle.floor_machine.proofs.Served.{change-decided, settled-state, ended-shown, settled-config, numbers-shown, reply-answered, parcels-served}
 use Rattle.floor_machine.proofs.Settled.{IsSettledTo, floors-shown, parcels-settled}
 use Rattle.floor_machine.proofs.conference.State.message.Goals as goal
 
@@ -32,215 +33,215 @@ settle-requires-clause-course c =
     let S : State = c.args.self.now in
     let s = conference_of S in
     let n = c.args.n in
-    let j : Judged = c.in_ok-judged.judged in
+    let j : Decision = c.in_ok-decision.decision in
     let course : Course = c.in-Some.course in
     let before : State = c.change.new.self in
-    let T : Option Course → Type 0 = λ o. IsTaken S n j before o in
-    let taken : IsTaken S n j before (Some course) = subst T c.in-Some.is c.in_ok-course.ensures.taken in
-    let changed : IsChanged s (judged_change s n j) (conference_of before) course = taken.0 in
-    course-changed s (conference_of before) (judged_change s n j) course changed (taken.1 ∙ c.requires.rest.shows.infos)
-    (judged_addable s (conference_of before) n j course (queue_addable S c.ongoing-ongoing.ensures.kept) changed)
+    let T : Option Course → Type 0 = λ o. IsTaken S n j.change before o in
+    let taken : IsTaken S n j.change before (Some course) = subst T c.in-Some.is c.in_ok-course.ensures.taken in
+    let changed : IsChanged s (change_by s n j.change) (conference_of before) course = taken.0 in
+    course-changed s (conference_of before) (change_by s n j.change) course changed (taken.1 ∙ c.requires.rest.shows.infos)
+    (decided_addable s (conference_of before) n j.change course (queue_addable S c.ongoing-ongoing.ensures.kept) changed)
 
 pub invariant_of-outcome : goal.invariant_of-outcome
 invariant_of-outcome c =
     let S : State = c.args.self.now in
     let s = conference_of S in
     let n = c.args.n in
-    let j : Judged = c.in_ok-judged.judged in
+    let j : Decision = c.in_ok-decision.decision in
     let course : Course = c.in-Some.course in
     let before : State = c.change.new.self in
-    let T : Option Course → Type 0 = λ o. IsTaken S n j before o in
-    let taken : IsTaken S n j before (Some course) = subst T c.in-Some.is c.in_ok-course.ensures.taken in
+    let T : Option Course → Type 0 = λ o. IsTaken S n j.change before o in
+    let taken : IsTaken S n j.change before (Some course) = subst T c.in-Some.is c.in_ok-course.ensures.taken in
     let P : List Ended → Type 0 = λ ended. AreAddable before.config.floors ended in
     let F : List Floor → Type 0 = λ fs. AreAddable fs c.deref.result.now in (
       c.in_ok-changes-in-Some.ensures.rest,
       subst F (sym (ap (λ (x : Conference). x.config.floors) c.in_ok-changes-in-Some.ensures.next))
           (subst P (sym (c.deref.ensures.value ∙ ap (λ x. x.items) c.settle.ensures.ended))
-          (judged_addable s (conference_of before) n j course (queue_addable S c.ongoing-ongoing.ensures.kept) taken.0)),
+          (decided_addable s (conference_of before) n j.change course (queue_addable S c.ongoing-ongoing.ensures.kept) taken.0)),
     )
 
-pub returns-in-Some-clause-next : goal.returns-in-Some-clause-next
-returns-in-Some-clause-next c =
+pub returns-in_ok-reply-in-Some-clause-next : goal.returns-in_ok-reply-in-Some-clause-next
+returns-in_ok-reply-in-Some-clause-next c =
     let S : State = c.args.self.now in
     let s = conference_of S in
     let n = c.args.n in
     let bytes = c.args.frame.now in
     let e : Event = Message n bytes in
-    let j : Judged = c.in_ok-judged.judged in
+    let j : Decision = c.in_ok-decision.decision in
     let user = c.user_of-user.result in
     let is_user : user ≡ user_of s n = c.user_of-user.ensures in
-    let J : ℕ → Type 0 = λ u. j ≡ judged s u (ask bytes record { conference = s.config.conference; user = u; users = user_ids s.config.users }) in
-    let is_judged : j ≡ judged s (user_of s n) (ask bytes (binding s n)) = subst J is_user (c.in_ok-judged.ensures.judged (ask bytes record { conference = s.config.conference; user = user; users = user_ids s.config.users }) refl) in
+    let J : ℕ → Type 0 = λ u. j ≡ decision_of s u (ask bytes record { conference = s.config.conference; user = u; users = user_ids s.config.users }) in
+    let is_decided : j ≡ decision_of s (user_of s n) (ask bytes (binding s n)) = subst J is_user (c.in_ok-decision.ensures.value (ask bytes record { conference = s.config.conference; user = user; users = user_ids s.config.users }) refl) in
     let a : Answer = ask bytes (binding s n) in
     let course : Course = c.in-Some.course in
     let before : State = c.change.new.self in
     let after : State = c.settle.new.self in
-    let T : Option Course → Type 0 = λ o. IsTaken S n j before o in
-    let taken : IsTaken S n j before (Some course) = subst T c.in-Some.is c.in_ok-course.ensures.taken in
-    let changed : IsChanged s (judged_change s n j) (conference_of before) course = taken.0 in
-    let changes : change s e ≡ judged_change s n j = change-judged s n bytes a refl ∙ ap (judged_change s n) (sym is_judged) in
+    let T : Option Course → Type 0 = λ o. IsTaken S n j.change before o in
+    let taken : IsTaken S n j.change before (Some course) = subst T c.in-Some.is c.in_ok-course.ensures.taken in
+    let changed : IsChanged s (change_by s n j.change) (conference_of before) course = taken.0 in
+    let changes : change s e ≡ change_by s n j.change = change-decided s n bytes a refl ∙ ap (λ (d : Decision). change_by s n d.change) (sym is_decided) in
     let t : Conference = with_requests (conference_of before) (after_settle before.requests) in
-    let is_next : t ≡ settled s e = settled-state s e (judged_change s n j) before course (after_settle before.requests) changes changed refl in
+    let is_next : t ≡ settled s e = settled-state s e (change_by s n j.change) before course (after_settle before.requests) changes changed refl in
     let done = c.in_ok-changes-in-Some.ensures in
     let to : IsSettledTo before after course c.in_ok-changes-in-Some.changes = record { next = done.next; shows = done.rest.shows; updates = done.updates; floors = done.floors } in
     on_ok_all c.tell.result (to.next ∙ is_next)
 
-pub returns-in-Some-clause-out : goal.returns-in-Some-clause-out
-returns-in-Some-clause-out c =
+pub returns-in_ok-reply-in-Some-clause-out : goal.returns-in_ok-reply-in-Some-clause-out
+returns-in_ok-reply-in-Some-clause-out c =
     let S : State = c.args.self.now in
     let s = conference_of S in
     let n = c.args.n in
     let bytes = c.args.frame.now in
     let e : Event = Message n bytes in
-    let j : Judged = c.in_ok-judged.judged in
+    let j : Decision = c.in_ok-decision.decision in
     let user = c.user_of-user.result in
     let is_user : user ≡ user_of s n = c.user_of-user.ensures in
-    let J : ℕ → Type 0 = λ u. j ≡ judged s u (ask bytes record { conference = s.config.conference; user = u; users = user_ids s.config.users }) in
-    let is_judged : j ≡ judged s (user_of s n) (ask bytes (binding s n)) = subst J is_user (c.in_ok-judged.ensures.judged (ask bytes record { conference = s.config.conference; user = user; users = user_ids s.config.users }) refl) in
+    let J : ℕ → Type 0 = λ u. j ≡ decision_of s u (ask bytes record { conference = s.config.conference; user = u; users = user_ids s.config.users }) in
+    let is_decided : j ≡ decision_of s (user_of s n) (ask bytes (binding s n)) = subst J is_user (c.in_ok-decision.ensures.value (ask bytes record { conference = s.config.conference; user = user; users = user_ids s.config.users }) refl) in
     let a : Answer = ask bytes (binding s n) in
     let course : Course = c.in-Some.course in
     let before : State = c.change.new.self in
     let after : State = c.settle.new.self in
-    let T : Option Course → Type 0 = λ o. IsTaken S n j before o in
-    let taken : IsTaken S n j before (Some course) = subst T c.in-Some.is c.in_ok-course.ensures.taken in
-    let changed : IsChanged s (judged_change s n j) (conference_of before) course = taken.0 in
-    let changes : change s e ≡ judged_change s n j = change-judged s n bytes a refl ∙ ap (judged_change s n) (sym is_judged) in
+    let T : Option Course → Type 0 = λ o. IsTaken S n j.change before o in
+    let taken : IsTaken S n j.change before (Some course) = subst T c.in-Some.is c.in_ok-course.ensures.taken in
+    let changed : IsChanged s (change_by s n j.change) (conference_of before) course = taken.0 in
+    let changes : change s e ≡ change_by s n j.change = change-decided s n bytes a refl ∙ ap (λ (d : Decision). change_by s n d.change) (sym is_decided) in
     let t : Conference = with_requests (conference_of before) (after_settle before.requests) in
-    let is_next : t ≡ settled s e = settled-state s e (judged_change s n j) before course (after_settle before.requests) changes changed refl in
+    let is_next : t ≡ settled s e = settled-state s e (change_by s n j.change) before course (after_settle before.requests) changes changed refl in
     let done = c.in_ok-changes-in-Some.ensures in
     let to : IsSettledTo before after course c.in_ok-changes-in-Some.changes = record { next = done.next; shows = done.rest.shows; updates = done.updates; floors = done.floors } in
-    let ended = ended-shown s e (judged_change s n j) (conference_of before) course changes changed in
-    let numbers = numbers-shown s e (judged_change s n j) (conference_of before) course changes changed in
-    let r : Reply = c.in_ok-reply-in-Some.reply in
-    let tells : r.tells ≡ judged_tells (settled s e) course.ended.items (user_of s n) (judged s (user_of s n) a) =
+    let ended = ended-shown s e (change_by s n j.change) (conference_of before) course changes changed in
+    let numbers = numbers-shown s e (change_by s n j.change) (conference_of before) course changes changed in
+    let r : Replied = c.in_ok-reply-in-Some.reply in
+    let tells : r.tells ≡ tells_by (settled s e) course.ended.items (user_of s n) (decision_of s (user_of s n) a).reply =
     c.in_ok-reply-in-Some.ensures.tells
-    ∙ ap (λ (x : Conference). judged_tells x c.deref.result.now user j) to.next
-    ∙ ap (λ (d : List Ended). judged_tells t d user j) (c.deref.ensures.value ∙ ap (λ x. x.items) c.settle.ensures.ended)
-    ∙ ap (λ (x : Conference). judged_tells x course.ended.items user j) is_next
-    ∙ ap (λ (u : ℕ). judged_tells (settled s e) course.ended.items u j) is_user
-    ∙ ap (judged_tells (settled s e) course.ended.items (user_of s n)) is_judged in
+    ∙ ap (λ (x : Conference). tells_by x c.deref.result.now user j.reply) to.next
+    ∙ ap (λ (d : List Ended). tells_by t d user j.reply) (c.deref.ensures.value ∙ ap (λ x. x.items) c.settle.ensures.ended)
+    ∙ ap (λ (x : Conference). tells_by x course.ended.items user j.reply) is_next
+    ∙ ap (λ (u : ℕ). tells_by (settled s e) course.ended.items u j.reply) is_user
+    ∙ ap (λ (d : Decision). tells_by (settled s e) course.ended.items (user_of s n) d.reply) is_decided in
     let answered = reply-answered s n bytes r a course.ended.items refl ended (ap is_rising (sym numbers) ∙ changed.rising) c.in_ok-reply-in-Some.ensures.to c.in_ok-reply-in-Some.ensures.head tells in
     on_ok c.tell.result (λ told. told ∙ ap (λ (ps : List Parcel). c.args.out.now.items ++ ps)
     (parcels-settled before after course c.in_ok-changes-in-Some.changes (Some r) to
     ∙ parcels-served s e t course (Some r) refl is_next c.allocator-alloc.ensures.kept ended numbers changed.rising (taken.1 ∙ c.requires.rest.shows.infos) answered))
     c.tell.ensures.told
 
-pub returns-in-Some-clause-shown : goal.returns-in-Some-clause-shown
-returns-in-Some-clause-shown c =
+pub returns-in_ok-reply-in-Some-clause-shown : goal.returns-in_ok-reply-in-Some-clause-shown
+returns-in_ok-reply-in-Some-clause-shown c =
     let S : State = c.args.self.now in
     let s = conference_of S in
     let n = c.args.n in
     let bytes = c.args.frame.now in
     let e : Event = Message n bytes in
-    let j : Judged = c.in_ok-judged.judged in
+    let j : Decision = c.in_ok-decision.decision in
     let user = c.user_of-user.result in
     let is_user : user ≡ user_of s n = c.user_of-user.ensures in
-    let J : ℕ → Type 0 = λ u. j ≡ judged s u (ask bytes record { conference = s.config.conference; user = u; users = user_ids s.config.users }) in
-    let is_judged : j ≡ judged s (user_of s n) (ask bytes (binding s n)) = subst J is_user (c.in_ok-judged.ensures.judged (ask bytes record { conference = s.config.conference; user = user; users = user_ids s.config.users }) refl) in
+    let J : ℕ → Type 0 = λ u. j ≡ decision_of s u (ask bytes record { conference = s.config.conference; user = u; users = user_ids s.config.users }) in
+    let is_decided : j ≡ decision_of s (user_of s n) (ask bytes (binding s n)) = subst J is_user (c.in_ok-decision.ensures.value (ask bytes record { conference = s.config.conference; user = user; users = user_ids s.config.users }) refl) in
     let a : Answer = ask bytes (binding s n) in
     let course : Course = c.in-Some.course in
     let before : State = c.change.new.self in
     let after : State = c.settle.new.self in
-    let T : Option Course → Type 0 = λ o. IsTaken S n j before o in
-    let taken : IsTaken S n j before (Some course) = subst T c.in-Some.is c.in_ok-course.ensures.taken in
-    let changed : IsChanged s (judged_change s n j) (conference_of before) course = taken.0 in
-    let changes : change s e ≡ judged_change s n j = change-judged s n bytes a refl ∙ ap (judged_change s n) (sym is_judged) in
+    let T : Option Course → Type 0 = λ o. IsTaken S n j.change before o in
+    let taken : IsTaken S n j.change before (Some course) = subst T c.in-Some.is c.in_ok-course.ensures.taken in
+    let changed : IsChanged s (change_by s n j.change) (conference_of before) course = taken.0 in
+    let changes : change s e ≡ change_by s n j.change = change-decided s n bytes a refl ∙ ap (λ (d : Decision). change_by s n d.change) (sym is_decided) in
     let t : Conference = with_requests (conference_of before) (after_settle before.requests) in
-    let is_next : t ≡ settled s e = settled-state s e (judged_change s n j) before course (after_settle before.requests) changes changed refl in
+    let is_next : t ≡ settled s e = settled-state s e (change_by s n j.change) before course (after_settle before.requests) changes changed refl in
     let done = c.in_ok-changes-in-Some.ensures in
     let to : IsSettledTo before after course c.in_ok-changes-in-Some.changes = record { next = done.next; shows = done.rest.shows; updates = done.updates; floors = done.floors } in
-    let ended = ended-shown s e (judged_change s n j) (conference_of before) course changes changed in
-    let numbers = numbers-shown s e (judged_change s n j) (conference_of before) course changes changed in
-    let r : Reply = c.in_ok-reply-in-Some.reply in
-    let tells : r.tells ≡ judged_tells (settled s e) course.ended.items (user_of s n) (judged s (user_of s n) a) =
+    let ended = ended-shown s e (change_by s n j.change) (conference_of before) course changes changed in
+    let numbers = numbers-shown s e (change_by s n j.change) (conference_of before) course changes changed in
+    let r : Replied = c.in_ok-reply-in-Some.reply in
+    let tells : r.tells ≡ tells_by (settled s e) course.ended.items (user_of s n) (decision_of s (user_of s n) a).reply =
     c.in_ok-reply-in-Some.ensures.tells
-    ∙ ap (λ (x : Conference). judged_tells x c.deref.result.now user j) to.next
-    ∙ ap (λ (d : List Ended). judged_tells t d user j) (c.deref.ensures.value ∙ ap (λ x. x.items) c.settle.ensures.ended)
-    ∙ ap (λ (x : Conference). judged_tells x course.ended.items user j) is_next
-    ∙ ap (λ (u : ℕ). judged_tells (settled s e) course.ended.items u j) is_user
-    ∙ ap (judged_tells (settled s e) course.ended.items (user_of s n)) is_judged in
+    ∙ ap (λ (x : Conference). tells_by x c.deref.result.now user j.reply) to.next
+    ∙ ap (λ (d : List Ended). tells_by t d user j.reply) (c.deref.ensures.value ∙ ap (λ x. x.items) c.settle.ensures.ended)
+    ∙ ap (λ (x : Conference). tells_by x course.ended.items user j.reply) is_next
+    ∙ ap (λ (u : ℕ). tells_by (settled s e) course.ended.items u j.reply) is_user
+    ∙ ap (λ (d : Decision). tells_by (settled s e) course.ended.items (user_of s n) d.reply) is_decided in
     let answered = reply-answered s n bytes r a course.ended.items refl ended (ap is_rising (sym numbers) ∙ changed.rising) c.in_ok-reply-in-Some.ensures.to c.in_ok-reply-in-Some.ensures.head tells in
     on_ok c.tell.result (λ floors.
     served-shown s e t course (Some r) refl is_next ended numbers changed.rising (taken.1 ∙ c.requires.rest.shows.infos) answered c.in_ok-reply-in-Some.ensures.shown
     (subst AreUpdatesShown to.updates done.shown) (floors-shown before after course c.in_ok-changes-in-Some.changes to floors))
     c.tell.ensures.floors_shown
 
-pub returns-clause-next : goal.returns-clause-next
-returns-clause-next c =
+pub returns-in_ok-reply-in-None-clause-next : goal.returns-in_ok-reply-in-None-clause-next
+returns-in_ok-reply-in-None-clause-next c =
     let S : State = c.args.self.now in
     let s = conference_of S in
     let n = c.args.n in
     let bytes = c.args.frame.now in
     let e : Event = Message n bytes in
-    let j : Judged = c.in_ok-judged.judged in
+    let j : Decision = c.in_ok-decision.decision in
     let user = c.user_of-user.result in
     let is_user : user ≡ user_of s n = c.user_of-user.ensures in
-    let J : ℕ → Type 0 = λ u. j ≡ judged s u (ask bytes record { conference = s.config.conference; user = u; users = user_ids s.config.users }) in
-    let is_judged : j ≡ judged s (user_of s n) (ask bytes (binding s n)) = subst J is_user (c.in_ok-judged.ensures.judged (ask bytes record { conference = s.config.conference; user = user; users = user_ids s.config.users }) refl) in
+    let J : ℕ → Type 0 = λ u. j ≡ decision_of s u (ask bytes record { conference = s.config.conference; user = u; users = user_ids s.config.users }) in
+    let is_decided : j ≡ decision_of s (user_of s n) (ask bytes (binding s n)) = subst J is_user (c.in_ok-decision.ensures.value (ask bytes record { conference = s.config.conference; user = user; users = user_ids s.config.users }) refl) in
     let after : State = c.change.new.self in
-    let T : Option Course → Type 0 = λ o. IsTaken S n j after o in
+    let T : Option Course → Type 0 = λ o. IsTaken S n j.change after o in
     let taken = subst T c.in-None.is c.in_ok-course.ensures.taken in
     let F : List Floor → Type 0 = λ fs. settle fs s.ongoing ≡ s.ongoing in
     let is_settled : settle s.config.floors s.ongoing ≡ s.ongoing = subst F S.same_floors c.requires.rest.settled in
-    let is_next : conference_of after ≡ settled s e = ap (λ (x : State). conference_of x) taken.1 ∙ settled-message s n bytes j is_judged taken.0 is_settled in
+    let is_next : conference_of after ≡ settled s e = ap (λ (x : State). conference_of x) taken.1 ∙ settled-message s n bytes j is_decided taken.0 is_settled in
     on_ok_all c.tell_reply.result is_next
 
-pub returns-clause-out : goal.returns-clause-out
-returns-clause-out c =
+pub returns-in_ok-reply-in-None-clause-out : goal.returns-in_ok-reply-in-None-clause-out
+returns-in_ok-reply-in-None-clause-out c =
     let S : State = c.args.self.now in
     let s = conference_of S in
     let n = c.args.n in
     let bytes = c.args.frame.now in
     let e : Event = Message n bytes in
-    let j : Judged = c.in_ok-judged.judged in
+    let j : Decision = c.in_ok-decision.decision in
     let user = c.user_of-user.result in
     let is_user : user ≡ user_of s n = c.user_of-user.ensures in
-    let J : ℕ → Type 0 = λ u. j ≡ judged s u (ask bytes record { conference = s.config.conference; user = u; users = user_ids s.config.users }) in
-    let is_judged : j ≡ judged s (user_of s n) (ask bytes (binding s n)) = subst J is_user (c.in_ok-judged.ensures.judged (ask bytes record { conference = s.config.conference; user = user; users = user_ids s.config.users }) refl) in
+    let J : ℕ → Type 0 = λ u. j ≡ decision_of s u (ask bytes record { conference = s.config.conference; user = u; users = user_ids s.config.users }) in
+    let is_decided : j ≡ decision_of s (user_of s n) (ask bytes (binding s n)) = subst J is_user (c.in_ok-decision.ensures.value (ask bytes record { conference = s.config.conference; user = user; users = user_ids s.config.users }) refl) in
     let after : State = c.change.new.self in
-    let T : Option Course → Type 0 = λ o. IsTaken S n j after o in
+    let T : Option Course → Type 0 = λ o. IsTaken S n j.change after o in
     let taken = subst T c.in-None.is c.in_ok-course.ensures.taken in
     let F : List Floor → Type 0 = λ fs. settle fs s.ongoing ≡ s.ongoing in
     let is_settled : settle s.config.floors s.ongoing ≡ s.ongoing = subst F S.same_floors c.requires.rest.settled in
-    let is_next : conference_of after ≡ settled s e = ap (λ (x : State). conference_of x) taken.1 ∙ settled-message s n bytes j is_judged taken.0 is_settled in
-    let r : Reply = c.in_ok-reply-in-None.reply in
-    let tells : r.tells ≡ judged_tells (settled s e) [] (user_of s n) j =
+    let is_next : conference_of after ≡ settled s e = ap (λ (x : State). conference_of x) taken.1 ∙ settled-message s n bytes j is_decided taken.0 is_settled in
+    let r : Replied = c.in_ok-reply-in-None.reply in
+    let tells : r.tells ≡ tells_by (settled s e) [] (user_of s n) j.reply =
     c.in_ok-reply-in-None.ensures.tells
-    ∙ ap (λ (x : Conference). judged_tells x [] user j) is_next
-    ∙ ap (λ (u : ℕ). judged_tells (settled s e) [] u j) is_user in
+    ∙ ap (λ (x : Conference). tells_by x [] user j.reply) is_next
+    ∙ ap (λ (u : ℕ). tells_by (settled s e) [] u j.reply) is_user in
     let ascending = c.ongoing-ongoing.ensures.kept.ascending in
     let replied : (k : ℕ) → answered_to (Some r) k ≡ reply_to s e k =
-    replied-message s n bytes j r is_judged taken.0 is_settled ascending c.in_ok-reply-in-None.ensures.to c.in_ok-reply-in-None.ensures.head tells in
+    replied-message s n bytes j r is_decided taken.0 is_settled ascending c.in_ok-reply-in-None.ensures.to c.in_ok-reply-in-None.ensures.head tells in
     on_ok c.tell_reply.result (λ told. told ∙ ap (λ (ps : List Parcel). c.args.out.now.items ++ ps)
     (ap (λ (x : Conference). parcels_to_all x.config.conference (Some r) [] [] x.members) is_next
     ∙ ap (λ (config : Configuration). parcels_to_all config.conference (Some r) [] [] (settled s e).members) (settled-config s e)
-    ∙ parcels-message s n bytes j r is_judged taken.0 is_settled ascending c.allocator-alloc.ensures.kept replied))
+    ∙ parcels-message s n bytes j r is_decided taken.0 is_settled ascending c.allocator-alloc.ensures.kept replied))
     c.tell_reply.ensures.told
 
-pub returns-clause-shown : goal.returns-clause-shown
-returns-clause-shown c =
+pub returns-in_ok-reply-in-None-clause-shown : goal.returns-in_ok-reply-in-None-clause-shown
+returns-in_ok-reply-in-None-clause-shown c =
     let S : State = c.args.self.now in
     let s = conference_of S in
     let n = c.args.n in
     let bytes = c.args.frame.now in
     let e : Event = Message n bytes in
-    let j : Judged = c.in_ok-judged.judged in
+    let j : Decision = c.in_ok-decision.decision in
     let user = c.user_of-user.result in
     let is_user : user ≡ user_of s n = c.user_of-user.ensures in
-    let J : ℕ → Type 0 = λ u. j ≡ judged s u (ask bytes record { conference = s.config.conference; user = u; users = user_ids s.config.users }) in
-    let is_judged : j ≡ judged s (user_of s n) (ask bytes (binding s n)) = subst J is_user (c.in_ok-judged.ensures.judged (ask bytes record { conference = s.config.conference; user = user; users = user_ids s.config.users }) refl) in
+    let J : ℕ → Type 0 = λ u. j ≡ decision_of s u (ask bytes record { conference = s.config.conference; user = u; users = user_ids s.config.users }) in
+    let is_decided : j ≡ decision_of s (user_of s n) (ask bytes (binding s n)) = subst J is_user (c.in_ok-decision.ensures.value (ask bytes record { conference = s.config.conference; user = user; users = user_ids s.config.users }) refl) in
     let after : State = c.change.new.self in
-    let T : Option Course → Type 0 = λ o. IsTaken S n j after o in
+    let T : Option Course → Type 0 = λ o. IsTaken S n j.change after o in
     let taken = subst T c.in-None.is c.in_ok-course.ensures.taken in
     let F : List Floor → Type 0 = λ fs. settle fs s.ongoing ≡ s.ongoing in
     let is_settled : settle s.config.floors s.ongoing ≡ s.ongoing = subst F S.same_floors c.requires.rest.settled in
-    let is_next : conference_of after ≡ settled s e = ap (λ (x : State). conference_of x) taken.1 ∙ settled-message s n bytes j is_judged taken.0 is_settled in
-    let r : Reply = c.in_ok-reply-in-None.reply in
-    let tells : r.tells ≡ judged_tells (settled s e) [] (user_of s n) j =
+    let is_next : conference_of after ≡ settled s e = ap (λ (x : State). conference_of x) taken.1 ∙ settled-message s n bytes j is_decided taken.0 is_settled in
+    let r : Replied = c.in_ok-reply-in-None.reply in
+    let tells : r.tells ≡ tells_by (settled s e) [] (user_of s n) j.reply =
     c.in_ok-reply-in-None.ensures.tells
-    ∙ ap (λ (x : Conference). judged_tells x [] user j) is_next
-    ∙ ap (λ (u : ℕ). judged_tells (settled s e) [] u j) is_user in
+    ∙ ap (λ (x : Conference). tells_by x [] user j.reply) is_next
+    ∙ ap (λ (u : ℕ). tells_by (settled s e) [] u j.reply) is_user in
     let ascending = c.ongoing-ongoing.ensures.kept.ascending in
     let replied : (k : ℕ) → answered_to (Some r) k ≡ reply_to s e k =
-    replied-message s n bytes j r is_judged taken.0 is_settled ascending c.in_ok-reply-in-None.ensures.to c.in_ok-reply-in-None.ensures.head tells in
-    on_ok_all c.tell_reply.result (shown-message s n bytes j r is_judged taken.0 is_settled ascending replied c.in_ok-reply-in-None.ensures.shown)
+    replied-message s n bytes j r is_decided taken.0 is_settled ascending c.in_ok-reply-in-None.ensures.to c.in_ok-reply-in-None.ensures.head tells in
+    on_ok_all c.tell_reply.result (shown-message s n bytes j r is_decided taken.0 is_settled ascending replied c.in_ok-reply-in-None.ensures.shown)

@@ -5,7 +5,7 @@ use std::marker::Model;
 
 /// What the sender of a message is answered. Each message shows no more than a conference has.
 #[derive(Debug, Drop)]
-pub(crate) struct Reply {
+pub(crate) struct Replied {
     /// The number of the member that sent it.
     pub n: u32,
     /// The head of the first message.
@@ -14,12 +14,12 @@ pub(crate) struct Reply {
     pub tells: Vec<Tell>,
 }
 
-impl Model for Reply {
+impl Model for Replied {
     ghost use Rattle.std.specs.Prelude.{All};
     ghost use Rattle.floor_message.specs.Shown.{IsShown};
-    ghost use Rattle.floor_machine.specs.steps.Outcomes.{Reply};
+    ghost use Rattle.floor_machine.specs.steps.Outcomes.{Replied};
 
-    ghost Value = { Reply };
+    ghost Value = { Replied };
 
     ghost view = { λ r. record {
       n = r.n;

@@ -1,0 +1,129 @@
+-- What a message comes to once it is checked, what that changes, and what it answers.
+use Rattle.std.specs.Prelude.{◌≡◌, ◌≢◌, ◌≤◌, ◌<◌, ℕ, ◌+◌, Bool, true, false, List, [], ◌∷◌, ◌++◌, length, map, Option, IsSome, IsSomeAnd, if◌then◌else◌}
+use Rattle.std.specs.List.{list_any, list_all}
+use Rattle.std.specs.Option.{option_map_or}
+use Rattle.floor_queue.specs.declared.request.New.{New}
+use Rattle.floor_queue.specs.declared.request.Request.{Request}
+use Rattle.floor_queue.specs.Order.{names}
+use Rattle.floor_queue.specs.Queue.{IsAddable, first_request, request_at}
+use Rattle.floor_message.specs.declared.verdicts.Verdict.{Verdict}
+use Rattle.floor_message.specs.Ask.{Answer, ask, asks, refused, unanswered}
+use Rattle.floor_message.specs.declared.ask.Ask.{Ask}
+use Rattle.floor_message.specs.declared.ask.Ask.TheVariants.{FloorRequest, FloorRelease, FloorRequestQuery, UserQuery, FloorQuery, ChairAction, Hello}
+use Rattle.floor_message.specs.declared.code.ErrorCode.{ErrorCode}
+use Rattle.floor_machine.specs.declared.decision.Change.{Change as Decided}
+use Rattle.floor_machine.specs.declared.decision.Change.TheVariants as to
+use Rattle.floor_machine.specs.declared.decision.Reply.TheVariants as say
+use Rattle.floor_machine.specs.declared.decision.Decision.{Decision}
+use Rattle.floor_machine.specs.declared.decision.EndedBy.TheVariants.{Chair, Participant}
+use Rattle.floor_machine.specs.declared.member.Member.{Member}
+use Rattle.floor_machine.specs.Conference.{Conference, binding, user_of}
+use Rattle.floor_machine.specs.Shown.{entry_of}
+use Rattle.floor_machine.specs.Checks.{refusal, beneficiary_of, is_allowed}
+use Rattle.floor_machine.specs.Change.{Change, no_change, is_final, decided_at, watching}
+use Rattle.floor_machine.specs.steps.Ending.{change_ending}
+
+-- the request that a FloorRequest of this user asks for
+abbrev pub new_of_ask : ℕ → Option ℕ → List ℕ → ℕ → Option (List ℕ) → New
+new_of_ask user beneficiary floors priority info =
+    record { requester = user; beneficiary = beneficiary_of user beneficiary; floors = floors; priority = priority; info = info }
+
+-- what is refused by this error code comes to its Error
+abbrev pub refused_by : ErrorCode → Decision
+refused_by code = record { change = to.Nothing; reply = say.Error code [] }
+
+-- what verdicts on a request change: one that ends it ends it, and all others leave their words
+abbrev pub verdicts_change : ℕ → List (ℕ × Verdict) → Decided
+verdicts_change request verdicts = if list_any (λ v. is_final v.1) verdicts then to.End request Chair else to.Words request verdicts
+
+-- what is asked by this user comes to this, where no check refuses it
+abbrev pub accepted : ℕ → Ask → Decision
+accepted user (FloorRequest beneficiary floors priority info) =
+    record { change = to.Add (new_of_ask user beneficiary floors priority info); reply = say.Added }
+accepted user (FloorRelease request) = record { change = to.End request Participant; reply = say.Status request }
+accepted user (FloorRequestQuery request) = record { change = to.Nothing; reply = say.Status request }
+accepted user (UserQuery beneficiary) = record { change = to.Nothing; reply = say.User beneficiary }
+accepted user (FloorQuery floors) = record { change = to.Watch floors; reply = say.Floors floors }
+accepted user (ChairAction request verdicts) = record { change = verdicts_change request verdicts; reply = say.Ack }
+accepted user Hello = record { change = to.Nothing; reply = say.Hello }
+
+-- what is asked by this user comes to this, by the checks of its own
+abbrev pub asked : Conference → ℕ → Ask → Decision
+asked s user a = option_map_or refused_by (refusal s user a) (accepted user a)
+
+-- what a message of this user comes to, as it is read
+abbrev pub decision_of : Conference → ℕ → Answer → Decision
+decision_of s user unanswered = record { change = to.Nothing; reply = say.Nothing }
+decision_of s user (refused code details) = record { change = to.Nothing; reply = say.Error code details }
+decision_of s user (asks a) = asked s user a
+
+-- what this message of n comes to
+abbrev pub IsDecided : Conference → ℕ → List ℕ → Decision → Type 0
+IsDecided s n bytes d = d ≡ decision_of s (user_of s n) (ask bytes (binding s n))
+
+-- this request is added
+abbrev pub change_adding : Conference → New → Change
+change_adding s new =
+    record (no_change s) {
+      given = s.given + 1;
+      entries = map entry_of s.ongoing ++ entry_of (first_request s.config.floors (s.given + 1) new) ∷ [];
+    }
+
+-- the verdicts leave their words on the floors of a request
+abbrev pub change_words : Conference → ℕ → List (ℕ × Verdict) → Change
+change_words s request verdicts = record (no_change s) { entries = map (λ r. entry_of (decided_at request verdicts r)) s.ongoing }
+
+-- what is decided for n changes this
+abbrev pub change_by : Conference → ℕ → Decided → Change
+change_by s n to.Nothing = no_change s
+change_by s n (to.Add new) = change_adding s new
+change_by s n (to.End request by) = change_ending s request by
+change_by s n (to.Words request verdicts) = change_words s request verdicts
+change_by s n (to.Watch floors) = record (no_change s) { members = map (watching n floors) s.members }
+
+-- it may change requests: what doesn't is told to its sender alone
+abbrev pub changes_requests : Decided → Bool
+changes_requests to.Nothing = false
+changes_requests (to.Add new) = true
+changes_requests (to.End request by) = true
+changes_requests (to.Words request verdicts) = true
+changes_requests (to.Watch floors) = false
+
+-- the members after it
+abbrev pub members_by : List Member → ℕ → Decided → List Member
+members_by members n to.Nothing = members
+members_by members n (to.Add new) = members
+members_by members n (to.End request by) = members
+members_by members n (to.Words request verdicts) = members
+members_by members n (to.Watch floors) = map (watching n floors) members
+
+-- the verdicts may be done: the request is ongoing, names each of their floors, and its state allows each
+abbrev pub MayDecide : List Request → ℕ → List (ℕ × Verdict) → Type 0
+MayDecide ongoing request verdicts =
+    IsSomeAnd (request_at ongoing request)
+    (λ r. (list_all (λ v. names r v.0) verdicts ≡ true) × (list_all (λ v. is_allowed r.is_granted v.1) verdicts ≡ true))
+
+-- there is room for one more request: fewer than 256 are ongoing, and the last number isn't given yet
+pub record HasRoom (ongoing : List Request) (given : ℕ) : Type 0 where
+  pub few : length ongoing < 256
+  pub left : given ≢ 65535
+
+-- It may be done: a request that is added may be, and there is room for it, one that ends is ongoing, and verdicts that leave words
+-- may be done, and none of them ends the request.
+abbrev pub MayChange : Conference → Decided → Type 0
+MayChange s to.Nothing = Unit {0}
+MayChange s (to.Add new) = IsAddable s.config.floors new × HasRoom s.ongoing s.given
+MayChange s (to.End request by) = IsSome (request_at s.ongoing request)
+MayChange s (to.Words request verdicts) = MayDecide s.ongoing request verdicts × (list_any (λ v. is_final v.1) verdicts ≡ false)
+MayChange s (to.Watch floors) = Unit {0}
+
+-- what is asked by this user, and no check refuses, may be done
+abbrev pub MayServe : Conference → ℕ → Ask → Type 0
+MayServe s user (FloorRequest beneficiary floors priority info) =
+    IsAddable s.config.floors (new_of_ask user beneficiary floors priority info) × HasRoom s.ongoing s.given
+MayServe s user (FloorRelease request) = IsSome (request_at s.ongoing request)
+MayServe s user (FloorRequestQuery request) = Unit {0}
+MayServe s user (UserQuery beneficiary) = Unit {0}
+MayServe s user (FloorQuery floors) = Unit {0}
+MayServe s user (ChairAction request verdicts) = MayDecide s.ongoing request verdicts
+MayServe s user Hello = Unit {0}
