@@ -24,9 +24,6 @@ const RELEASE: [u8; 16] = [0x20, 2, 0, 1, 0, 0, 0, 1, 0, 3, 0, 10, 0x06, 4, 0, 1
 /// The fewest bytes that a message has (section 5.1).
 const HEADER_LEN: usize = 12;
 
-/// How many parcels are sent to a connection at once at most: what one event tells it at most.
-const MAX_PARCELS: u32 = 289;
-
 fn main(rt: HostRuntime) -> ExitCode {
     match converse(rt.alloc(), &mut rt.stdout()) {
         Ok(()) => ExitCode::SUCCESS,
@@ -38,7 +35,8 @@ fn main(rt: HostRuntime) -> ExitCode {
 }
 
 /// Two users ask for a floor that has room for one, and the first gives it back. The second one's
-/// message comes in two pieces.
+/// message comes in two pieces. A refusal ends this program; it concerns one connection or one
+/// conference, so a bridge gives up those and goes on.
 fn converse<W: Write>(alloc: Global, output: &mut W) -> Result<(), Fault> {
     let mut hub = Hub::new(alloc);
     hub.open(alloc, Config::demonstration(alloc)?)?;
@@ -49,10 +47,13 @@ fn converse<W: Write>(alloc: Global, output: &mut W) -> Result<(), Fault> {
     receive(&mut hub, second, &ANOTHER[5..])?;
     receive(&mut hub, first, &RELEASE)?;
     tell(alloc, &mut hub, first, output)?;
-    tell(alloc, &mut hub, second, output)
+    tell(alloc, &mut hub, second, output)?;
+    hub.leave(second)?;
+    Ok(())
 }
 
-/// Hands in the bytes that a connection gave, and serves each message that is whole with them.
+/// Hands in the bytes that a connection gave, and serves each message that is whole with them. What
+/// that tells may wait for every connection of the conference: all of them are sent to next.
 fn receive(hub: &mut Hub, connection: ConnNo, bytes: &[u8]) -> Result<(), Fault> {
     hub.piece(connection, bytes)?;
     for _ in 0..=bytes.len() / HEADER_LEN {
@@ -63,9 +64,9 @@ fn receive(hub: &mut Hub, connection: ConnNo, bytes: &[u8]) -> Result<(), Fault>
     Ok(())
 }
 
-/// Sends what waits for a connection.
+/// Sends all that waits for a connection. What waits when it leaves can't be had any more.
 fn send<W: Write>(hub: &mut Hub, connection: ConnNo, socket: &mut W) -> Result<(), Fault> {
-    for _ in 0..MAX_PARCELS {
+    for _ in 0..u64::MAX {
         let Some(parcel) = hub.take(connection)? else {
             break;
         };
