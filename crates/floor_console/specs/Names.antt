@@ -2,9 +2,7 @@
 use Rattle.std.specs.Prelude.{ℕ, Bool, true, false, List, codes}
 use Rattle.floor_config.specs.Names as configuration
 use Rattle.floor_config.specs.declared.fault.ConfigFault.TheVariants as fault
-use Rattle.floor_machine.specs.declared.machine.Refusal.TheVariants as machine
 use Rattle.floor_room.specs.Names as room
-use Rattle.floor_room.specs.declared.refusal.RoomRefusal.TheVariants.{Refused}
 use Rattle.floor_console.specs.declared.command.ConsoleFault.{ConsoleFault}
 use Rattle.floor_console.specs.declared.command.ConsoleFault.TheVariants as line
 use Rattle.floor_console.specs.declared.board.BoardRefusal.{BoardRefusal}
@@ -29,6 +27,6 @@ name_of_refusal Memory = codes "Memory"
 -- the refusal is want of memory
 abbrev pub is_memory : BoardRefusal → Bool
 is_memory Memory = true
-is_memory (ByRoom (Refused machine.Memory)) = true
+is_memory (ByRoom refusal) = room.is_memory refusal
 is_memory (ByConfiguration fault.Memory) = true
 is_memory _ = false

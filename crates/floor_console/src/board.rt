@@ -1,7 +1,7 @@
 //! What a console's lines are about.
 
 use floor_config::{ConfigFault, Text};
-use floor_room::{Refusal, RoomRefusal, Status};
+use floor_room::{RoomRefusal, Status};
 use std::alloc::AllocError;
 
 /// Why a board does not do what a line asks for.
@@ -46,12 +46,11 @@ impl BoardRefusal {
     pub fn is_memory(&self) -> bool
         ensures value { result ≡ is_memory self.now }
     {
-        matches!(
-            self,
-            BoardRefusal::Memory
-                | BoardRefusal::ByRoom(RoomRefusal::Refused(Refusal::Memory))
-                | BoardRefusal::ByConfiguration(ConfigFault::Memory)
-        )
+        match self {
+            BoardRefusal::Memory | BoardRefusal::ByConfiguration(ConfigFault::Memory) => true,
+            BoardRefusal::ByRoom(refusal) => refusal.is_memory(),
+            _ => false,
+        }
     }
 }
 

@@ -1,23 +1,23 @@
 -- A step of a run is the world's, and all that was queued still waits.
-use Rattle.std.proofs.Common.{◌≡◌, inl, inr, ℕ, ◌+◌, Bool, true, false, List, [], ◌∷◌, ◌++◌, length, refl, sym, ◌∙◌, ap, subst, Some, None}
-use Rattle.std.specs.Prelude.{Option, ◌||◌, Result, Ok, Err, IfOk, MatchResult, OnOk, OnErr, nat_eq}
+use Rattle.std.proofs.Common.{◌≡◌, ◌≢◌, inl, inr, ℕ, ◌+◌, Bool, true, false, List, [], ◌∷◌, ◌++◌, length, refl, sym, ◌∙◌, ap, subst, Some, None}
+use Rattle.std.specs.Prelude.{Option, Result, Ok, Err, IfOk, MatchResult, OnOk, OnErr, nat_eq}
 use Rattle.std.proofs.lemmas.Option.{none-some}
 use Rattle.floor_machine.specs.declared.event.Event.{Event}
-use Rattle.floor_machine.specs.declared.machine.Refusal.TheVariants.{Broken, Ended, NoMember, NoUser, Full, NoRequest, Memory}
-use Rattle.floor_room.specs.declared.refusal.RoomRefusal.TheVariants.{JournalFull, Refused as ByMachine}
+use Rattle.floor_machine.specs.declared.machine.Refusal.TheVariants.{Memory}
+use Rattle.floor_room.specs.declared.refusal.RoomRefusal.TheVariants.{Refused as ByMachine}
 use Rattle.floor_room.specs.Outbox.{Outbox}
 use Rattle.floor_room.specs.Room.{Room}
 use Rattle.floor_config.specs.Configuration.{Configuration}
 use Rattle.floor_hub.specs.declared.connection.Connection.{Connection}
 use Rattle.floor_hub.specs.declared.connection.Place.{Place}
 use Rattle.floor_hub.specs.declared.refusal.HubRefusal.{HubRefusal}
-use Rattle.floor_hub.specs.declared.refusal.HubRefusal.TheVariants.{NoConference, NoConnection, Used, ByRoom, Memory as NoMemory}
+use Rattle.floor_hub.specs.declared.refusal.HubRefusal.TheVariants.{ByRoom}
 use Rattle.floor_hub.specs.declared.running.Memory.{Memory as OutOfMemory}
 use Rattle.floor_hub.specs.declared.step.Step.{Step}
 use Rattle.floor_hub.specs.declared.step.Answer.{Answer}
 use Rattle.floor_hub.specs.declared.step.Answer.TheVariants.{Done, Attached, Nothing, Served, Refused}
 use Rattle.floor_hub.specs.Hub.{Hub, room_at}
-use Rattle.floor_hub.specs.Rooms.{OneRoom, Opens, QueuesMore, RoomAfter, RoomAfterIn, RoomOf, SameHub, is_want, refusal_in}
+use Rattle.floor_hub.specs.Rooms.{OneRoom, Opens, QueuesMore, RoomAfter, RoomAfterIn, RoomOf, SameHub, by_memory, refusal_in}
 use Rattle.floor_hub.specs.steps.Running.{AreUntaken, AreWhole, Goes, IsRunning, place_of, IsRunOn}
 use Rattle.floor_hub.specs.StandsFor.{ArrivalStands, NumberStands, RoomStands, StandsFor, live_at}
 use Rattle.floor_hub.specs.Calls.{Fails, FailsGone, FailsSame, Turns}
@@ -48,19 +48,11 @@ places_kept : (w : World) (x : Option Aim) → NoNumber (turn_at w x).answer →
 places_kept w None h = refl
 places_kept w (Some a) h = places_at w.places a.conference (offer (w.parts a.conference) a.step).answer h
 
-no_want : (r : HubRefusal) → IsRunOn r → is_want (Some r) ≡ false
-no_want (ByRoom (ByMachine Memory)) h = absurd (h.1 refl)
-no_want (ByRoom (ByMachine Broken)) h = refl
-no_want (ByRoom (ByMachine Ended)) h = refl
-no_want (ByRoom (ByMachine NoMember)) h = refl
-no_want (ByRoom (ByMachine NoUser)) h = refl
-no_want (ByRoom (ByMachine Full)) h = refl
-no_want (ByRoom (ByMachine NoRequest)) h = refl
-no_want (ByRoom JournalFull) h = refl
-no_want NoConference h = refl
-no_want NoConnection h = refl
-no_want Used h = refl
-no_want NoMemory h = refl
+no_want : (r : HubRefusal) → IsRunOn r → Some r ≢ by_memory
+no_want r h e = h.1 (same r (ByRoom (ByMachine Memory)) e)
+  where
+    same : (x y : HubRefusal) → ◌≡◌ {A = Option HubRefusal} (Some x) (Some y) → x ≡ y
+    same x y e = cc
 
 pub fails_same : (new : Hub) (w : World) (s : Step) (r : HubRefusal) → IsRunOn r → FailsSame new w s r → Turns new w s (Refused r)
 fails_same new w s r on (inl h) = absurd (on.0 h.0)
@@ -80,12 +72,12 @@ pub further : {T : Type 0} (old new : Hub) (s : Step) (answer : T → Answer) (F
     IfOk out (λ a. MatchResult res (λ v. a ≡ answer v) (λ r. (a ≡ Refused r) × IsRunOn r)) →
     ((w : World) → StandsFor old w → MatchResult res (λ v. Turns new w s (answer v)) (λ r. F w r)) →
     ((w : World) (r : HubRefusal) → IsRunOn r → F w r → Turns new w s (Refused r)) →
-    (is_want (refusal_in res) ≡ false → AreWhole old → AreWhole new) →
+    (refusal_in res ≢ by_memory → AreWhole old → AreWhole new) →
     Goes old new before before s out
 further old new s answer F res (Err m) before none said next fails whole = λ w h. tt
 further old new s answer F (Ok v) (Ok a) before none said next fails whole = λ w h.
     let t = next w h.stands in
-    (record { stands = t.0; places = h.places ∙ sym (places_kept w (aimed w s) (subst NoNumber (sym t.1) (none v))); whole = whole refl h.whole }, t.1 ∙ sym said)
+    (record { stands = t.0; places = h.places ∙ sym (places_kept w (aimed w s) (subst NoNumber (sym t.1) (none v))); whole = whole (λ w. none-some (ByRoom (ByMachine Memory)) w) h.whole }, t.1 ∙ sym said)
 further old new s answer F (Err r) (Ok a) before none said next fails whole = λ w h.
     let t = fails w r said.1 (next w h.stands) in
     (record { stands = t.0; places = h.places ∙ sym (places_kept w (aimed w s) (subst NoNumber (sym t.1) tt)); whole = whole (no_want r said.1) h.whole }, t.1 ∙ sym said.0)
@@ -96,11 +88,18 @@ untaken_more [] (p ∷ ps) q h = (q.0, untaken_more [] ps q.1 tt)
 untaken_more (o ∷ os) [] q h = absurd q
 untaken_more (o ∷ os) (p ∷ ps) q h = (q.0 ∙ h.0, untaken_more os ps q.2 h.1)
 
-whole_after : (shut_by why : Option HubRefusal) (own : List Event) (r s : Room) → is_want why ≡ false → RoomAfter shut_by why own r s → (r.ledger.is_broken ≡ false) × AreUntaken r.outboxes →
+whole_after : (shut_by why : Option HubRefusal) (own : List Event) (r s : Room) → why ≢ by_memory → RoomAfter shut_by why own r s → (r.ledger.is_broken ≡ false) × AreUntaken r.outboxes →
     (s.ledger.is_broken ≡ false) × AreUntaken s.outboxes
-whole_after shut_by why own r s want after h = (after.broken ∙ ap (λ (b : Bool). b || is_want why) h.0 ∙ want, untaken_more r.outboxes s.outboxes after.outboxes h.1)
+whole_after shut_by why own r s want after h = (by s.ledger.is_broken refl, untaken_more r.outboxes s.outboxes after.outboxes h.1)
+  where
+    true_false : true ≡ false → ⊥
+    true_false e = cc
 
-whole_in : (shut_by why : Option HubRefusal) (own : Room → List Event) (x y : Option Room) (s : Room) → is_want why ≡ false → RoomAfterIn shut_by why own x y → ((r : Room) → x ≡ Some r → (r.ledger.is_broken ≡ false) × AreUntaken r.outboxes) →
+    by : (b : Bool) → s.ledger.is_broken ≡ b → s.ledger.is_broken ≡ false
+    by false e = e
+    by true e = elim (after.broken.0 e) [ inl t ↦ absurd (true_false (sym t ∙ h.0)) | inr w ↦ absurd (want w) ]
+
+whole_in : (shut_by why : Option HubRefusal) (own : Room → List Event) (x y : Option Room) (s : Room) → why ≢ by_memory → RoomAfterIn shut_by why own x y → ((r : Room) → x ≡ Some r → (r.ledger.is_broken ≡ false) × AreUntaken r.outboxes) →
     y ≡ Some s → (s.ledger.is_broken ≡ false) × AreUntaken s.outboxes
 whole_in shut_by why own None y s want after h is = absurd (none-some s (sym after.0 ∙ is))
 whole_in shut_by why own (Some r) None s want after h is = absurd after
@@ -109,7 +108,7 @@ whole_in shut_by why own (Some r) (Some t) s want after h is = subst (λ (x : Ro
     same : (x y : Room) → ◌≡◌ {A = Option Room} (Some x) (Some y) → x ≡ y
     same x y e = cc
 
-pub whole_one : (shut_by why : Option HubRefusal) (own : Room → List Event) (c : ℕ) (old new : Hub) → OneRoom shut_by why own c old new → is_want why ≡ false → AreWhole old → AreWhole new
+pub whole_one : (shut_by why : Option HubRefusal) (own : Room → List Event) (c : ℕ) (old new : Hub) → OneRoom shut_by why own c old new → why ≢ by_memory → AreWhole old → AreWhole new
 whole_one shut_by why own c old new one want h = λ d r is. by d r (nat_eq c d) refl is
   where
     by : (d : ℕ) (r : Room) (t : Bool) → nat_eq c d ≡ t → room_at new d ≡ Some r → (r.ledger.is_broken ≡ false) × AreUntaken r.outboxes
@@ -121,7 +120,7 @@ whole_one shut_by why own c old new one want h = λ d r is. by d r (nat_eq c d) 
 pub whole_same : (old new : Hub) → ((c : ℕ) → room_at new c ≡ room_at old c) → AreWhole old → AreWhole new
 whole_same old new same h = λ c r is. h c r (sym (same c) ∙ is)
 
-pub whole_of : (shut_by why : Option HubRefusal) (own : Connection → Room → List Event) (x : Option Connection) (old new : Hub) → RoomOf shut_by why own x old new → is_want why ≡ false → AreWhole old → AreWhole new
+pub whole_of : (shut_by why : Option HubRefusal) (own : Connection → Room → List Event) (x : Option Connection) (old new : Hub) → RoomOf shut_by why own x old new → why ≢ by_memory → AreWhole old → AreWhole new
 whole_of shut_by why own None old new h want = whole_same old new h.0.rooms
 whole_of shut_by why own (Some x) old new h want = whole_one shut_by why (own x) x.conference old new h want
 
@@ -204,7 +203,7 @@ attached old new c user number p before x next whole there conference n = λ w h
 -- an attach that is refused
 pub unattached : (old new : Hub) (s : Step) (r : HubRefusal) (out : Result Answer OutOfMemory) (before : List Place) →
     IfOk out (λ a. (a ≡ Refused r) × IsRunOn r) → ((w : World) → StandsFor old w → Fails new w s r) →
-    (is_want (Some r) ≡ false → AreWhole old → AreWhole new) → Goes old new before before s out
+    (Some r ≢ by_memory → AreWhole old → AreWhole new) → Goes old new before before s out
 unattached old new s r (Err m) before said next whole = λ w h. tt
 unattached old new s r (Ok a) before said next whole = λ w h.
     let t : Turns new w s (Refused r) = fails new w s r said.1 (next w h.stands) in

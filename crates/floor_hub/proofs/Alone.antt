@@ -5,7 +5,7 @@ use Rattle.std.specs.Option.{option_map_or}
 use Rattle.std.proofs.lemmas.Bool.{eqb-true, eqb-false}
 use Rattle.std.proofs.lemmas.Map.{update_here, update_apart}
 use Rattle.floor_machine.specs.declared.event.Event.{Event}
-use Rattle.floor_machine.specs.declared.event.Event.TheVariants.{Join}
+use Rattle.floor_machine.specs.declared.event.Event.TheVariants.{Join, Message}
 use Rattle.std.proofs.lemmas.Option.{slice_get-get_or, slice_get_past}
 use Rattle.std.proofs.Math.Seq.{get_or-append_seam}
 use Rattle.std.proofs.Math.ListN.{get_or-append}
@@ -45,14 +45,13 @@ piece_counts : (p : Part) (n : ℕ) (bytes : List ℕ) (a : Option Arrival) → 
 piece_counts p n bytes None = refl
 piece_counts p n bytes (Some a) = set_counts p.arrivals n _
 
-message_counts : (p : Part) (n : ℕ) (a : Arrival) (m : List ℕ) (full : Bool)
-    → world.is_full p ≡ full → CountsOffer (length p.arrivals) (world.serve_message p n a (Some m))
-message_counts p n a m true e = rw e refl
-message_counts p n a m false e = rw e (set_counts p.arrivals n _)
+message_counts : (p : Part) (n : ℕ) (a : Arrival) (m : List ℕ) (r : Option RoomRefusal) → CountsOffer (length p.arrivals) (world.take_message p n a m r)
+message_counts p n a m (Some r) = refl
+message_counts p n a m None = set_counts p.arrivals n _
 
 serve_counts : (p : Part) (n : ℕ) (a : Arrival) (m : Option (List ℕ)) → CountsOffer (length p.arrivals) (world.serve_message p n a m)
 serve_counts p n a None = refl
-serve_counts p n a (Some m) = message_counts p n a m (world.is_full p) refl
+serve_counts p n a (Some m) = message_counts p n a m (world.refused p (Message n m))
 
 ended_counts : (p : Part) (n : ℕ) (a : Arrival) (ended : Bool) → not (world.state_of p).is_open ≡ ended
     → CountsOffer (length p.arrivals) (world.serve p n (Some a))

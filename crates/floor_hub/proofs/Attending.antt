@@ -1,11 +1,10 @@
 -- A served message, and an arrival that leaves.
-use Rattle.std.proofs.Common.{◌≡◌, ◌≢◌, ◌⊎◌, inl, inr, ℕ, ◌+◌, ◌<◌, Bool, true, false, cond, List, [], ◌∷◌, ◌++◌, length, refl, sym, ◌∙◌, ap, subst, arith, length-append, append_assoc, append-nil, Some, None}
+use Rattle.std.proofs.Common.{◌≡◌, ◌≢◌, ◌⊎◌, inl, inr, ℕ, ◌+◌, Bool, true, false, cond, List, [], ◌∷◌, ◌++◌, length, refl, sym, ◌∙◌, ap, subst, length-append, append_assoc, append-nil, Some, None}
 use Rattle.std.specs.Prelude.{Option, not, nat_le, if◌then◌else◌, ◌==◌, nat_eq, Result, Ok, Err, MatchResult}
 use Rattle.std.specs.List.{concat}
 use Rattle.std.specs.Option.{option_map}
 use Rattle.std.specs.Map.{update}
 use Rattle.std.proofs.lemmas.Bool.{eqb-true, eqb-false, ne_eqb}
-use Rattle.std.proofs.lemmas.Bool.Decides.{nat_tests}
 use Rattle.std.proofs.lemmas.Option.{none-some}
 use Rattle.floor_config.specs.Configuration.{Configuration}
 use Rattle.floor_wire.specs.Message.{messages}
@@ -14,7 +13,7 @@ use Rattle.floor_machine.specs.declared.event.Event.TheVariants.{Message}
 use Rattle.floor_machine.specs.declared.machine.Refusal.TheVariants.{Broken, Ended, NoMember, Memory}
 use Rattle.floor_machine.specs.Conference.{Conference, is_live, opening}
 use Rattle.floor_machine.specs.Journal.{IsLawfulFrom, after}
-use Rattle.floor_machine.specs.Machine.{member_refusal, whole}
+use Rattle.floor_machine.specs.Machine.{event_refusal, member_refusal, whole}
 use Rattle.floor_room.specs.declared.refusal.RoomRefusal.{RoomRefusal}
 use Rattle.floor_room.specs.declared.refusal.RoomRefusal.TheVariants.{JournalFull, Refused as ByMachine}
 use Rattle.floor_room.specs.Ledger.{conference_of}
@@ -35,6 +34,7 @@ use Rattle.floor_hub.specs.StandsFor.{RoomStands, CameTo, ArrivalStands, Stands}
 use Rattle.floor_hub.specs.Calls.{answer_of}
 use Rattle.floor_hub.specs.steps.Serving.{IsServable, ServeFailsIn, ServedIn, ServesIn}
 use Rattle.floor_hub.specs.Kept.{IsKept, IsKeptPart, KeptIn}
+use Rattle.floor_hub.proofs.Acting.{refusal-part}
 use Rattle.floor_hub.proofs.Changes.{changed}
 use Rattle.floor_hub.proofs.Here.{Here, WantsLive, concat-append, gone, here, messages-append}
 use Rattle.floor_hub.proofs.Pieces.{arrival_set, arrival_set_other, stands_again}
@@ -62,9 +62,6 @@ closed_part r p sound config journal =
     ap (λ (b : Bool). closed (record { config = r.ledger.config; journal = r.ledger.journal; is_broken = b })) sound
     ∙ ap (λ c. closed (record { config = c; journal = r.ledger.journal; is_broken = false })) config
     ∙ ap (λ (es : List Event). closed (record { config = p.config; journal = es; is_broken = false })) journal
-
-not_full : (n : ℕ) → n < 1000000 → nat_le 1000000 n ≡ false
-not_full n h = grind (arith, nat_tests)
 
 servable : (r : Room) → IsServable (closed r.ledger) → (r.ledger.is_broken ≡ false) × ((conference_of r.ledger).is_open ≡ true)
 servable r h = by r.ledger.is_broken (conference_of r.ledger).is_open h
@@ -196,7 +193,8 @@ module _ (rooms now : ℕ → Option Room) (xs now_xs : ℕ → Option Connectio
       let sound : h.r.ledger.is_broken ≡ false = room.unbroken in
       let events : h.r.ledger.journal ≡ part.events = h.stands.1 sound in
       let un : unserved h.a ≡ Some frame = next_held sound ∙ ap first next_one in
-      let full : world.is_full part ≡ false = ap (λ (es : List Event). nat_le 1000000 (length es)) (sym events) ∙ not_full (length h.r.ledger.journal) room.few in
+      let allowed : world.refused part (Message n frame) ≡ None =
+      ap (λ (i : ℕ). world.refused part (Message i frame)) (sym h.n) ∙ sym (refusal-part h.r part (Message x.n frame) sound h.stands.0 events) ∙ t.allowed in
       let b : Arrival = record { bytes = h.a.bytes; served = h.a.served + 1; live = h.a.live } in
       let after_part : Part = with_arrival (with_events part (Message n frame ∷ [])) n b in
       let journal : new.ledger.journal ≡ h.r.ledger.journal ++ Message x.n frame ∷ [] = ap (λ (y : Room). y.ledger.journal) t.next in
@@ -219,7 +217,7 @@ module _ (rooms now : ℕ → Option Room) (xs now_xs : ℕ → Option Connectio
       let own : ArrivalStands now h.p (Some now_x) (Some b) = (h.conference, h.n, subst (λ (y : Option Room). CameTo y now_x b) (sym now_here) came) in
       turned (record { part = Some after_part; answer = HasServed }) HasServed
       (serve_open (open_part sound room.open_now) (Some frame) un
-      ∙ ap (λ (f : Bool). if f then world.refuses (Some part) (ByRoom JournalFull) else record { part = Some after_part; answer = HasServed }) full) (
+      ∙ ap (world.take_message part n h.a frame) allowed) (
         changed rooms now xs now_xs k w number h.p part after_part st (record {
           at_place = h.at_place;
           was = h.was;
@@ -267,12 +265,12 @@ module _ (rooms now : ℕ → Option Room) (xs now_xs : ℕ → Option Connectio
           (back, ap (λ (y : RoomRefusal). Refused (ByRoom y)) (sym (some_is (ByMachine Ended) why e))))
       by false true true eb eo ef e =
           let one = held_one (messages x.held) (ready (some_is JournalFull why e)) in
-          let full : world.is_full part ≡ true = ap (λ (es : List Event). nat_le 1000000 (length es)) (sym (h.stands.1 eb)) ∙ ef in
-          inr (turned (world.refuses (Some part) (ByRoom JournalFull)) (Refused (ByRoom why))
-          (serve_open (open_part eb eo) (Some one.0) (next_held eb ∙ one.1)
-          ∙ ap (λ (f : Bool). if f then world.refuses (Some part) (ByRoom JournalFull)
-          else record { part = Some (with_arrival (with_events part (Message n one.0 ∷ [])) n (record { bytes = h.a.bytes; served = h.a.served + 1; live = h.a.live })); answer = HasServed }) full)
-          (back, ap (λ (y : RoomRefusal). Refused (ByRoom y)) (sym (some_is JournalFull why e))))
+          let refuses : world.refused part (Message n one.0) ≡ Some why =
+          ap (λ (y : Option RoomRefusal). first_of y (option_map ByMachine (event_refusal (whole (state_of part)) (Message n one.0))))
+          (sym (closed_part h.r part eb h.stands.0 (h.stands.1 eb)) ∙ is) in
+          inr (turned (world.refuses (Some part) (ByRoom why)) (Refused (ByRoom why))
+          (serve_open (open_part eb eo) (Some one.0) (next_held eb ∙ one.1) ∙ ap (world.take_message part n h.a one.0) refuses)
+          (back, refl))
       by false true false eb eo ef e = absurd (none-some why e)
 
   -- the member of the connection is live

@@ -5,7 +5,7 @@ use Rattle.std.specs.Map.{update}
 use Rattle.std.proofs.lemmas.Bool.{eqb-true, eqb-false}
 use Rattle.std.proofs.lemmas.Map.{update_here, update_apart}
 use Rattle.floor_machine.specs.declared.event.Event.{Event}
-use Rattle.floor_machine.specs.declared.event.Event.TheVariants.{Join}
+use Rattle.floor_machine.specs.declared.event.Event.TheVariants.{Join, Message}
 use Rattle.floor_machine.specs.Machine.{event_of_act}
 use Rattle.floor_room.specs.declared.refusal.RoomRefusal.{RoomRefusal}
 use Rattle.floor_hub.specs.declared.step.Step.{Step}
@@ -28,13 +28,13 @@ piece_stays : (p : Part) (n : ℕ) (bytes : List ℕ) (a : Option Arrival) → S
 piece_stays p n bytes None h = refl
 piece_stays p n bytes (Some a) h = absurd h
 
-message_stays : (p : Part) (n : ℕ) (a : Arrival) (m : List ℕ) (full : Bool) → world.is_full p ≡ full → Stays (Some p) (world.serve_message p n a (Some m))
-message_stays p n a m true e = rw e (λ h. refl)
-message_stays p n a m false e = rw e (λ h. absurd h)
+message_stays : (p : Part) (n : ℕ) (a : Arrival) (m : List ℕ) (r : Option RoomRefusal) → Stays (Some p) (world.take_message p n a m r)
+message_stays p n a m (Some r) = λ h. refl
+message_stays p n a m None = λ h. absurd h
 
 serve_stays : (p : Part) (n : ℕ) (a : Arrival) (m : Option (List ℕ)) → Stays (Some p) (world.serve_message p n a m)
 serve_stays p n a None = λ h. refl
-serve_stays p n a (Some m) = message_stays p n a m (world.is_full p) refl
+serve_stays p n a (Some m) = message_stays p n a m (world.refused p (Message n m))
 
 ended_stays : (p : Part) (n : ℕ) (a : Arrival) (ended : Bool) → not (world.state_of p).is_open ≡ ended → Stays (Some p) (world.serve p n (Some a))
 ended_stays p n a true e = rw e (λ h. refl)

@@ -1,10 +1,9 @@
 -- Each step of the world keeps a kept world.
 use Rattle.std.proofs.Common.{◌≡◌, ◌≢◌, ◌⊎◌, inl, inr, ℕ, zero, suc, ◌+◌, ◌<◌, Bool, true, false, cond, List, [], ◌∷◌, ◌++◌, length, refl, sym, ◌∙◌, ap, subst, arith, length-append, Some, None}
-use Rattle.std.specs.Prelude.{Option, not, nat_le, is_some, if◌then◌else◌, ◌==◌, map, slice_get, nat_eq}
+use Rattle.std.specs.Prelude.{Option, not, is_some, if◌then◌else◌, ◌==◌, map, slice_get, nat_eq}
 use Rattle.std.specs.Option.{option_map, option_map_or}
 use Rattle.std.specs.Map.{update}
 use Rattle.std.proofs.lemmas.Bool.{eqb-true, eqb-false}
-use Rattle.std.proofs.lemmas.Bool.Decides.{nat_tests}
 use Rattle.std.proofs.lemmas.Option.{none-some, slice_get_within, get_or_from_slice_get}
 use Rattle.std.proofs.lemmas.List.Elements.{All-get_or}
 use Rattle.std.proofs.lemmas.List.{map-append}
@@ -201,22 +200,19 @@ next_is_message a m h =
     let within : a.served < length (messages a.bytes) = slice_get_within (messages a.bytes) a.served m h in
     subst IsMessage (get_or_from_slice_get (messages a.bytes) a.served m m h) (All-get_or IsMessage (messages a.bytes) a.served m within (messages_are_messages a.bytes))
 
-pub fewer : (n : ℕ) → nat_le 1000000 n ≡ false → n < 1000000
-fewer n e = grind (arith, nat_tests)
-
 pub open_when : (b : Bool) → not b ≡ false → b ≡ true
 open_when true h = refl
 open_when false h = cc
 
 module _ (p : Part) (n : ℕ) (k : IsKeptPart p) where
-  message_kept : (a : Arrival) (m : List ℕ) (full : Bool) → world.is_full p ≡ full → (state_of p).is_open ≡ true → arrival p n ≡ Some a → a.live ≡ true → unserved a ≡ Some m →
-      KeptIn (world.serve_message p n a (Some m)).part
-  message_kept a m true e open_now there live next_one = rw e k
-  message_kept a m false e open_now there live next_one =
+  message_kept : (a : Arrival) (m : List ℕ) (r : Option RoomRefusal) → refused p (Message n m) ≡ r → (state_of p).is_open ≡ true → arrival p n ≡ Some a → a.live ≡ true → unserved a ≡ Some m →
+      KeptIn (world.take_message p n a m r).part
+  message_kept a m (Some r) e open_now there live next_one = k
+  message_kept a m None e open_now there live next_one =
       let c : Arrival = record { bytes = a.bytes; served = a.served + 1; live = a.live } in
       let lawful : IsLawful (state_of p) (Message n m) = (open_now, k.live n a open_now there live, next_is_message a m next_one) in
-      rw e (kept_event p (Message n m) (with_arrival p n c).arrivals k lawful (fewer (length p.events) e) (set_count p n c ∙ omega arith)
-      (λ i b h alive. by a b i c there live alive (set_from p n i a b c there h)))
+      kept_event p (Message n m) (with_arrival p n c).arrivals k lawful (adding.allowed-open (ledger_of p) (Message n m) e).few (set_count p n c ∙ omega arith)
+      (λ i b h alive. by a b i c there live alive (set_from p n i a b c there h))
     where
       by : (a b : Arrival) (i : ℕ) (c : Arrival) → arrival p n ≡ Some a → a.live ≡ true → b.live ≡ true → IsSetFrom p n c i b →
           ((x : Arrival) × (arrival p i ≡ Some x) × (x.live ≡ true) × StaysIn i (Message n m)) ⊎ (is_live (next (state_of p) (Message n m)) i ≡ true)
@@ -227,7 +223,7 @@ module _ (p : Part) (n : ℕ) (k : IsKeptPart p) where
       KeptIn (if ended then world.refuses (Some p) (HubRefusal.ByRoom (ByMachine Ended)) else world.serve_message p n a m).part
   serve_kept a m true e there live is = k
   serve_kept a None false e there live is = k
-  serve_kept a (Some m) false e there live is = message_kept a m (world.is_full p) refl (open_when (state_of p).is_open e) there live is
+  serve_kept a (Some m) false e there live is = message_kept a m (refused p (Message n m)) refl (open_when (state_of p).is_open e) there live is
 
   any_serve_kept : (a : Option Arrival) → world.if_live (arrival p n) ≡ a → KeptIn (world.serve p n a).part
   any_serve_kept None is = k

@@ -1,6 +1,6 @@
 -- What a call has done to its room, in the words of the hub.
-use Rattle.std.proofs.Common.{◌≡◌, inl, inr, ℕ, ◌+◌, Bool, true, false, cond, length, List, [], ◌∷◌, ◌++◌, refl, sym, ◌∙◌, ap, subst, append-nil, Some, None, map, take}
-use Rattle.std.specs.Prelude.{Option, count_by, if◌then◌else◌, is_some, nat_eq, nat_le, not, ◌||◌, Result, Ok, Err, IfErr, OnOk}
+use Rattle.std.proofs.Common.{◌≡◌, ◌≢◌, inl, inr, ℕ, ◌+◌, Bool, true, false, cond, length, List, [], ◌∷◌, ◌++◌, refl, sym, ◌∙◌, ap, subst, append-nil, Some, None, map, take}
+use Rattle.std.specs.Prelude.{Option, ◌↔◌, count_by, if◌then◌else◌, is_some, nat_eq, nat_le, not, Result, Ok, Err, IfErr, OnOk}
 use Rattle.std.proofs.lemmas.Option.{none-some}
 use Rattle.floor_machine.specs.declared.event.Event.{Event}
 use Rattle.floor_machine.specs.declared.event.Event.TheVariants.{Join, Message, Leave, Revoke, Close}
@@ -28,7 +28,7 @@ use Rattle.floor_hub.specs.Connections.{SameConnections, connection_at}
 use Rattle.floor_hub.specs.Hub.{Hub, room_at}
 use Rattle.floor_hub.specs.World.{World}
 use Rattle.floor_hub.specs.StandsFor.{StandsFor}
-use Rattle.floor_hub.specs.Rooms.{AddsOwn, OneRoom, QueuesMore, RoomAfter, RoomAfterIn, RoomOf, attach_event, by_broken, is_told, is_want, leave_event, refusal_in, serve_event}
+use Rattle.floor_hub.specs.Rooms.{AddsOwn, OneRoom, QueuesMore, RoomAfter, RoomAfterIn, RoomOf, attach_event, by_broken, by_memory, leave_event, refusal_in, serve_event}
 use Rattle.floor_hub.proofs.Here.{here}
 use Rattle.floor_hub.specs.steps.Serving.{AttachFailsIn, LeaveFailsIn, IsServable, LeavesIn, ServeFailsIn, ServedIn, ServesIn}
 
@@ -53,44 +53,46 @@ queues-more put n e [] = queues-new put n e
 queues-more put n e (o ∷ os) = (refl, (sent_to n put, refl), queues-more put (n + 1) e os)
 
 -- nothing has changed
-pub room-same : (shut_by why : Option HubRefusal) (own : List Event) (r s : Room) → is_want why ≡ false → (r.ledger.is_broken ≡ true → why ≡ shut_by) →
-    (is_told why ≡ true → r.ledger.is_broken ≡ true) → AddsOwn why own r.ledger.journal r.ledger.journal → s ≡ r → RoomAfter shut_by why own r s
-room-same shut_by why own r s calm shut told adds e = record {
-  broken = ap (λ (x : Room). x.ledger.is_broken) e ∙ same r.ledger.is_broken (is_want why) calm;
-  shut = λ b. (shut b, e);
-  told = told;
-  journal = subst (λ (x : Room). AddsOwn why own r.ledger.journal x.ledger.journal) (sym e) adds;
-  outboxes = subst (λ (x : Room). QueuesMore r.outboxes x.outboxes) (sym e) (queues-same r.outboxes);
-}
-  where
-    same : (a b : Bool) → b ≡ false → a ≡ (a || b)
-    same true b e = refl
-    same false b e = sym e
+pub room-same : (shut_by why : Option HubRefusal) (own : List Event) (r s : Room) → why ≢ by_memory → (r.ledger.is_broken ≡ true → why ≡ shut_by) →
+    (why ≡ by_broken → r.ledger.is_broken ≡ true) → AddsOwn why own r.ledger.journal r.ledger.journal → s ≡ r → RoomAfter shut_by why own r s
+room-same shut_by why own r s calm shut told adds e =
+    let same : s.ledger.is_broken ≡ r.ledger.is_broken = ap (λ (x : Room). x.ledger.is_broken) e in record {
+      broken = (λ b. inl (sym same ∙ b), λ h. elim h [ inl b ↦ same ∙ b | inr want ↦ absurd (calm want) ]);
+      shut = λ b. (shut b, e);
+      told = told;
+      journal = subst (λ (x : Room). AddsOwn why own r.ledger.journal x.ledger.journal) (sym e) adds;
+      outboxes = subst (λ (x : Room). QueuesMore r.outboxes x.outboxes) (sym e) (queues-same r.outboxes);
+    }
 
 false_true : false ≡ true → ⊥
 false_true e = cc
 
-room-event : (shut_by why : Option HubRefusal) (own : List Event) (r s : Room) (e : Event) (put : List Parcel) (b : Bool) → r.ledger.is_broken ≡ false → is_want why ≡ b →
-    is_told why ≡ false → AddsOwn why own r.ledger.journal (r.ledger.journal ++ e ∷ []) → s ≡ with_event r e put b → RoomAfter shut_by why own r s
-room-event shut_by why own r s e put b sound want told adds is = record {
-  broken = ap (λ (x : Room). x.ledger.is_broken) is ∙ sym want ∙ sym (ap (λ (x : Bool). x || is_want why) sound);
-  shut = λ broken. absurd (true_false (sym broken ∙ sound));
-  told = λ t. absurd (true_false (sym t ∙ told));
-  journal = subst (λ (x : Room). AddsOwn why own r.ledger.journal x.ledger.journal) (sym is) adds;
-  outboxes = subst (λ (x : Room). QueuesMore r.outboxes x.outboxes) (sym is) (queues-more put 1 e r.outboxes);
-}
+room-event : (shut_by why : Option HubRefusal) (own : List Event) (r s : Room) (e : Event) (put : List Parcel) (b : Bool) → r.ledger.is_broken ≡ false → (b ≡ true) ↔ (why ≡ by_memory) →
+    why ≢ by_broken → AddsOwn why own r.ledger.journal (r.ledger.journal ++ e ∷ []) → s ≡ with_event r e put b → RoomAfter shut_by why own r s
+room-event shut_by why own r s e put b sound want told adds is =
+    let now : s.ledger.is_broken ≡ b = ap (λ (x : Room). x.ledger.is_broken) is in record {
+      broken = (λ t. inr (want.0 (sym now ∙ t)), λ h. elim h [ inl t ↦ absurd (true_false (sym t ∙ sound)) | inr w ↦ now ∙ want.1 w ]);
+      shut = λ broken. absurd (true_false (sym broken ∙ sound));
+      told = λ t. absurd (told t);
+      journal = subst (λ (x : Room). AddsOwn why own r.ledger.journal x.ledger.journal) (sym is) adds;
+      outboxes = subst (λ (x : Room). QueuesMore r.outboxes x.outboxes) (sym is) (queues-more put 1 e r.outboxes);
+    }
 
 pub room-took : (shut_by : Option HubRefusal) (own : List Event) (r s : Room) (e : Event) → own ≡ e ∷ [] → Applied r s e → RoomAfter shut_by None own r s
 room-took shut_by own r s e is t =
-    room-event shut_by None own r s e (parcels_of (conference_of r.ledger) e) false (allowed-open r.ledger e t.allowed).unbroken refl refl
+    room-event shut_by None own r s e (parcels_of (conference_of r.ledger) e) false (allowed-open r.ledger e t.allowed).unbroken
+    (λ f. absurd (false_true f), λ w. absurd (none-some (ByRoom (ByMachine Memory)) w)) (λ w. none-some (ByRoom (ByMachine Broken)) w)
     (ap (λ (es : List Event). r.ledger.journal ++ es) (sym is)) t.next
 
+memory_broken : by_memory ≡ by_broken → ⊥
+memory_broken e = cc
+
 -- a room that isn't broken is broken off
-room-off : (shut_by : Option HubRefusal) (own : List Event) (r s : Room) → r.ledger.is_broken ≡ false → s ≡ broken_room r → RoomAfter shut_by (Some (ByRoom (ByMachine Memory))) own r s
+room-off : (shut_by : Option HubRefusal) (own : List Event) (r s : Room) → r.ledger.is_broken ≡ false → s ≡ broken_room r → RoomAfter shut_by by_memory own r s
 room-off shut_by own r s sound e = record {
-  broken = ap (λ (x : Room). x.ledger.is_broken) e ∙ sym (ap (λ (x : Bool). x || true) sound);
+  broken = (λ b. inr refl, λ h. ap (λ (x : Room). x.ledger.is_broken) e);
   shut = λ broken. absurd (true_false (sym broken ∙ sound));
-  told = λ t. absurd (false_true t);
+  told = λ t. absurd (memory_broken t);
   journal = inl (ap (λ (x : Room). x.ledger.journal) e);
   outboxes = subst (λ (x : Room). QueuesMore r.outboxes x.outboxes) (sym e) (queues-same r.outboxes);
 }
@@ -163,24 +165,27 @@ sound-before r e true is h = absurd (apart (shut-by (refusal r.ledger e) (ByMach
     apart e = cc
 
 -- refused, and as it was
-left-same : (own : List Event) (r s : Room) (e : Event) (why : RoomRefusal) → is_want (Some (ByRoom why)) ≡ false → (is_told (Some (ByRoom why)) ≡ true → why ≡ ByMachine Broken) →
+left-same : (own : List Event) (r s : Room) (e : Event) (why : RoomRefusal) → Some (ByRoom why) ≢ by_memory →
     AddsOwn (Some (ByRoom why)) own r.ledger.journal r.ledger.journal → IsRefusedBy {T = Unit {0}} (refusal r.ledger e) (Err why) → s ≡ r → RoomAfter by_broken (Some (ByRoom why)) own r s
-left-same own r s e why calm told adds by same = room-same by_broken (Some (ByRoom why)) own r s calm
+left-same own r s e why calm adds by same = room-same by_broken (Some (ByRoom why)) own r s calm
     (λ b. ap (λ (y : RoomRefusal). Some (ByRoom y)) (shut-by (refusal r.ledger e) why (refuses-broken r.ledger e b) by))
-    (λ t. told-broken r.ledger e r.ledger.is_broken refl (subst (λ (y : RoomRefusal). IsRefusedBy {T = Unit {0}} (refusal r.ledger e) (Err y)) (told t) by)) adds same
+    (λ t. told-broken r.ledger e r.ledger.is_broken refl (subst (λ (y : RoomRefusal). IsRefusedBy {T = Unit {0}} (refusal r.ledger e) (Err y)) (why_is why (ByMachine Broken) t) by)) adds same
+  where
+    why_is : (x y : RoomRefusal) → ◌≡◌ {A = Option HubRefusal} (Some (ByRoom x)) (Some (ByRoom y)) → x ≡ y
+    why_is x y e = cc
 
 pub room-left : (own : List Event) (r s : Room) (e : Event) (why : RoomRefusal) → own ≡ e ∷ [] → IsRefusedBy {T = Unit {0}} (refusal r.ledger e) (Err why) → Left r s e why →
     RoomAfter by_broken (Some (ByRoom why)) own r s
-room-left own r s e JournalFull is by left = left-same own r s e JournalFull refl (λ t. cc) refl by left
-room-left own r s e (ByMachine Broken) is by left = left-same own r s e (ByMachine Broken) refl (λ t. refl) refl by left
-room-left own r s e (ByMachine Ended) is by left = left-same own r s e (ByMachine Ended) refl (λ t. cc) refl by left
-room-left own r s e (ByMachine NoMember) is by left = left-same own r s e (ByMachine NoMember) refl (λ t. cc) refl by left
-room-left own r s e (ByMachine NoUser) is by left = left-same own r s e (ByMachine NoUser) refl (λ t. cc) refl by left
-room-left own r s e (ByMachine Full) is by left = left-same own r s e (ByMachine Full) refl (λ t. cc) refl by left
-room-left own r s e (ByMachine NoRequest) is by left = left-same own r s e (ByMachine NoRequest) refl (λ t. cc) refl by left
+room-left own r s e JournalFull is by left = left-same own r s e JournalFull (λ w. cc) refl by left
+room-left own r s e (ByMachine Broken) is by left = left-same own r s e (ByMachine Broken) (λ w. cc) refl by left
+room-left own r s e (ByMachine Ended) is by left = left-same own r s e (ByMachine Ended) (λ w. cc) refl by left
+room-left own r s e (ByMachine NoMember) is by left = left-same own r s e (ByMachine NoMember) (λ w. cc) refl by left
+room-left own r s e (ByMachine NoUser) is by left = left-same own r s e (ByMachine NoUser) (λ w. cc) refl by left
+room-left own r s e (ByMachine Full) is by left = left-same own r s e (ByMachine Full) (λ w. cc) refl by left
+room-left own r s e (ByMachine NoRequest) is by left = left-same own r s e (ByMachine NoRequest) (λ w. cc) refl by left
 room-left own r s e (ByMachine Memory) is by (inl off) = room-off by_broken own r s (sound-before r e r.ledger.is_broken refl by) off
 room-left own r s e (ByMachine Memory) is by (inr began) =
-    room-event by_broken (Some (ByRoom (ByMachine Memory))) own r s e began.put true (sound-before r e r.ledger.is_broken refl by) refl refl
+    room-event by_broken by_memory own r s e began.put true (sound-before r e r.ledger.is_broken refl by) (λ t. refl, λ w. refl) memory_broken
     (inr (ap (λ (es : List Event). r.ledger.journal ++ es) (sym is))) began.next
 
 -- where the room wasn't broken, what a broken one answers is another matter
@@ -194,9 +199,9 @@ other-shut other shut_by why own r s sound a = record {
 }
 
 -- the room was joined, and broken off then
-room-unjoined : (r mid s : Room) (e : Event) → Applied r mid e → s ≡ broken_room mid → RoomAfter by_broken (Some (ByRoom (ByMachine Memory))) (e ∷ []) r s
+room-unjoined : (r mid s : Room) (e : Event) → Applied r mid e → s ≡ broken_room mid → RoomAfter by_broken by_memory (e ∷ []) r s
 room-unjoined r mid s e t off =
-    room-event by_broken (Some (ByRoom (ByMachine Memory))) (e ∷ []) r s e (parcels_of (conference_of r.ledger) e) true (allowed-open r.ledger e t.allowed).unbroken refl refl (inr refl)
+    room-event by_broken by_memory (e ∷ []) r s e (parcels_of (conference_of r.ledger) e) true (allowed-open r.ledger e t.allowed).unbroken (λ x. refl, λ w. refl) memory_broken (inr refl)
     (off ∙ ap broken_room t.next)
 
 pub room-attach-fails : (r s : Room) (user : ℕ) (why : RoomRefusal) → AttachFailsIn r s user why → RoomAfter by_broken (Some (ByRoom why)) (Join user ∷ []) r s
@@ -217,13 +222,13 @@ closed-same own r s why is same = by r.ledger.is_broken (conference_of r.ledger)
     by : (a b d : Bool) → r.ledger.is_broken ≡ a →
         cond a (Some (ByMachine Broken)) (cond (not b) (Some (ByMachine Ended)) (cond d (Some JournalFull) None)) ≡ Some why → RoomAfter by_broken (Some (ByRoom why)) own r s
     by true b d f e =
-        so (ByMachine Broken) (some_is (ByMachine Broken) why e) (room-same by_broken (Some (ByRoom (ByMachine Broken))) own r s refl (λ x. refl) (λ t. f) refl same)
+        so (ByMachine Broken) (some_is (ByMachine Broken) why e) (room-same by_broken by_broken own r s (λ w. memory_broken (sym w)) (λ x. refl) (λ t. f) refl same)
     by false false d f e =
         so (ByMachine Ended) (some_is (ByMachine Ended) why e)
-        (room-same by_broken (Some (ByRoom (ByMachine Ended))) own r s refl (λ x. absurd (true_false (sym x ∙ f))) (λ t. absurd (false_true t)) refl same)
+        (room-same by_broken (Some (ByRoom (ByMachine Ended))) own r s (λ w. cc) (λ x. absurd (true_false (sym x ∙ f))) (λ t. absurd (cc)) refl same)
     by false true true f e =
         so JournalFull (some_is JournalFull why e)
-        (room-same by_broken (Some (ByRoom JournalFull)) own r s refl (λ x. absurd (true_false (sym x ∙ f))) (λ t. absurd (false_true t)) refl same)
+        (room-same by_broken (Some (ByRoom JournalFull)) own r s (λ w. cc) (λ x. absurd (true_false (sym x ∙ f))) (λ t. absurd (cc)) refl same)
     by false true false f e = absurd (none-some why e)
 
 servable : (r : Room) → IsServable (closed r.ledger) → r.ledger.is_broken ≡ false
@@ -242,7 +247,8 @@ serves-first x r frame rest first = ap (λ (ms : List (List ℕ)). map (Message 
 
 room-serves : (r s : Room) (x : Connection) (rest : List ℕ) (found : Served) → ServesIn r s x.n x.held rest found → RoomAfter by_broken None (serve_event x r) r s
 room-serves r s x rest Served.Nothing f =
-    room-same by_broken None (serve_event x r) r s refl (λ b. absurd (true_false (sym b ∙ servable r f.0))) (λ t. absurd (false_true t))
+    room-same by_broken None (serve_event x r) r s (λ w. none-some (ByRoom (ByMachine Memory)) w) (λ b. absurd (true_false (sym b ∙ servable r f.0)))
+    (λ t. absurd (none-some (ByRoom (ByMachine Broken)) t))
     (sym (append-nil r.ledger.journal) ∙ ap (λ (es : List Event). r.ledger.journal ++ es) (sym (serves-none x r f.1))) f.2
 room-serves r s x rest Served.Message f = room-took by_broken (serve_event x r) r s (Message x.n f.0) (serves-first x r f.0 rest f.1) f.3
 
@@ -274,7 +280,7 @@ took-open r s e t = first_none (closed r.ledger) (option_map ByMachine (event_re
 
 pub room-leaves : (r s : Room) (x : Connection) → LeavesIn r s x.n → RoomAfter None None (leave_event x r) r s
 room-leaves r s x (inl f) =
-    room-same None None (leave_event x r) r s refl (λ b. refl) (λ t. absurd (false_true t))
+    room-same None None (leave_event x r) r s (λ w. none-some (ByRoom (ByMachine Memory)) w) (λ b. refl) (λ t. absurd (none-some (ByRoom (ByMachine Broken)) t))
     (sym (append-nil r.ledger.journal) ∙ ap (λ (es : List Event). r.ledger.journal ++ es) (sym (leaves-closed x r f.0))) f.1
 room-leaves r s x (inr t) = room-took None (leave_event x r) r s (Leave x.n) (leaves-open x r (took-open r s (Leave x.n) t)) t
 
@@ -285,7 +291,7 @@ room-leave-fails r s x why f =
 
 module _ (shut_by why : Option HubRefusal) (own : Room → List Event) (c : ℕ) (old new : Hub) where
   -- there is no such room, and nothing has changed
-  pub one-none : room_at old c ≡ None → is_want why ≡ false → is_told why ≡ false → ((d : ℕ) → room_at new d ≡ room_at old d) → OneRoom shut_by why own c old new
+  pub one-none : room_at old c ≡ None → why ≢ by_memory → why ≢ by_broken → ((d : ℕ) → room_at new d ≡ room_at old d) → OneRoom shut_by why own c old new
   one-none is calm told same = record {
     others = λ d ne. same d;
     own = subst (λ (y : Option Room). RoomAfterIn shut_by why own y (room_at new c)) (sym is) (same c ∙ is, calm, told);
@@ -311,7 +317,7 @@ module _ (c : ℕ) (e : Event) (old new : Hub) where
       OneRoom by_broken (refusal_in res) (λ (r : Room). e ∷ []) c old new
   event-room res None is absent there =
       let a = absent is in
-      subst (λ (x : Result (Unit {0}) HubRefusal). OneRoom by_broken (refusal_in x) (λ (r : Room). e ∷ []) c old new) (sym a.0) (one-none by_broken (Some NoConference) (λ (r : Room). e ∷ []) c old new is refl refl a.1)
+      subst (λ (x : Result (Unit {0}) HubRefusal). OneRoom by_broken (refusal_in x) (λ (r : Room). e ∷ []) c old new) (sym a.0) (one-none by_broken (Some NoConference) (λ (r : Room). e ∷ []) c old new is (λ w. cc) (λ w. cc) a.1)
   event-room res (Some r) is absent there =
       let t = there r is in
       one-at by_broken (refusal_in res) (λ (r : Room). e ∷ []) c old new r t.0 is t.1 t.2 (event-at res r t.0 t.3 t.4)
@@ -330,7 +336,7 @@ module _ (c user : ℕ) (old new : Hub) where
       OneRoom by_broken (refusal_in res) (attach_event user) c old new
   attach-room res None is absent there =
       let a = absent is in
-      subst (λ (x : Result (Unit {0}) HubRefusal). OneRoom by_broken (refusal_in x) (attach_event user) c old new) (sym a.0) (one-none by_broken (Some NoConference) (attach_event user) c old new is refl refl a.1)
+      subst (λ (x : Result (Unit {0}) HubRefusal). OneRoom by_broken (refusal_in x) (attach_event user) c old new) (sym a.0) (one-none by_broken (Some NoConference) (attach_event user) c old new is (λ w. cc) (λ w. cc) a.1)
   attach-room res (Some r) is absent there =
       let t = there r is in
       one-at by_broken (refusal_in res) (attach_event user) c old new r t.0 is t.1 t.2 (attach-at res r t.0 t.3 t.4)
@@ -348,7 +354,7 @@ module _ (number : ℕ) (old new : Hub) (w : World) (st : StandsFor old w) where
       ((x : Connection) → connection_at old.connections number ≡ Some x → (r : Room) → room_at old x.conference ≡ Some r → (s : Room) × (rest : List ℕ) × (room_at new x.conference ≡ Some s)
       × ((d : ℕ) → nat_eq x.conference d ≡ false → room_at new d ≡ room_at old d) × ServedIn r s x.n x.held rest res) →
       RoomOf by_broken (refusal_in res) serve_event y old new
-  serve-room res None is absent arrivals there = let a = absent is in subst (λ (z : Result Served HubRefusal). RoomOf by_broken (refusal_in z) serve_event None old new) (sym a.0) (record { rooms = a.1; connections = a.2; arrivals = arrivals }, refl, refl)
+  serve-room res None is absent arrivals there = let a = absent is in subst (λ (z : Result Served HubRefusal). RoomOf by_broken (refusal_in z) serve_event None old new) (sym a.0) (record { rooms = a.1; connections = a.2; arrivals = arrivals }, (λ w. cc), (λ w. cc))
   serve-room res (Some x) is absent arrivals there =
       let r = room_there old w st number x is in
       let t = there x is r.0 r.1 in
@@ -366,7 +372,7 @@ module _ (number : ℕ) (old new : Hub) (w : World) (st : StandsFor old w) where
       × ((d : ℕ) → nat_eq x.conference d ≡ false → room_at new d ≡ room_at old d) × OnOk res (LeavesIn r s x.n)
       × IfErr res (λ y. (why : RoomRefusal) × (y ≡ ByRoom why) × LeaveFailsIn r s x.n why)) →
       RoomOf None (refusal_in res) leave_event y old new
-  leave-room res None is absent arrivals there = let a = absent is in subst (λ (z : Result (Unit {0}) HubRefusal). RoomOf None (refusal_in z) leave_event None old new) (sym a.0) (record { rooms = a.1; connections = a.2; arrivals = arrivals }, refl, refl)
+  leave-room res None is absent arrivals there = let a = absent is in subst (λ (z : Result (Unit {0}) HubRefusal). RoomOf None (refusal_in z) leave_event None old new) (sym a.0) (record { rooms = a.1; connections = a.2; arrivals = arrivals }, (λ w. cc), (λ w. cc))
   leave-room res (Some x) is absent arrivals there =
       let r = room_there old w st number x is in
       let t = there x is r.0 r.1 in

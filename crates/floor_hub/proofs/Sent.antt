@@ -58,20 +58,20 @@ piece_adds : (p : Part) (n : ℕ) (bytes : List ℕ) (a : Option Arrival) → Ad
 piece_adds p n bytes None = stays p (Piece n bytes) (Refused NoConnection) refl
 piece_adds p n bytes (Some a) = record { part = _; is = refl; config = refl; events = sym (append-nil p.events) }
 
-message_adds : (p : Part) (n : ℕ) (a : Arrival) (m : List ℕ) (full : Bool) → world.is_full p ≡ full
-    → world.arrival p n ≡ Some a → world.unserved a ≡ Some m → Adds p (Serve n) (world.serve_message p n a (Some m))
-message_adds p n a m true e h g = rw e (stays p (Serve n) (Refused _) refl)
-message_adds p n a m false e h g = rw e (record {
+message_adds : (p : Part) (n : ℕ) (a : Arrival) (m : List ℕ) (r : Option RoomRefusal)
+    → world.arrival p n ≡ Some a → world.unserved a ≡ Some m → Adds p (Serve n) (world.take_message p n a m r)
+message_adds p n a m (Some r) h g = stays p (Serve n) (Refused _) refl
+message_adds p n a m None h g = record {
   part = _;
   is = refl;
   config = refl;
   events = ap (λ ms. p.events ++ map (Message n) ms) (sym (ap world.messages_next h ∙ ap (λ x. option_map_or (λ y. y ∷ []) x []) g));
-})
+}
 
 serve_adds : (p : Part) (n : ℕ) (a : Arrival) (m : Option (List ℕ)) → world.arrival p n ≡ Some a → world.unserved a ≡ m
     → Adds p (Serve n) (world.serve_message p n a m)
 serve_adds p n a None h g = stays p (Serve n) Nothing refl
-serve_adds p n a (Some m) h g = message_adds p n a m (world.is_full p) refl h g
+serve_adds p n a (Some m) h g = message_adds p n a m (world.refused p (Message n m)) h g
 
 ended_adds : (p : Part) (n : ℕ) (a : Arrival) (ended : Bool) → not (world.state_of p).is_open ≡ ended → world.arrival p n ≡ Some a
     → Adds p (Serve n) (world.serve p n (Some a))

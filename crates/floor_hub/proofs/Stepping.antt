@@ -31,7 +31,6 @@ use Rattle.floor_room.specs.Ledger.{closed, first_of}
 use Rattle.floor_hub.specs.declared.refusal.HubRefusal.TheVariants.{ByRoom}
 use Rattle.floor_hub.specs.declared.step.Step.{Step}
 use Rattle.floor_hub.specs.declared.step.Step.TheVariants.{Open, Attach, Piece, Serve, Leave, Admin}
-use Rattle.floor_hub.specs.declared.step.Answer.TheVariants.{Served}
 use Rattle.floor_hub.specs.World as world
 use Rattle.floor_hub.specs.World.{World, Part, Arrival, Place, Aim, aim, aimed, arrival, if_live, is_full, joined, nothing, offer, opened, place, put, refused, ledger_of, state_of, turn, turn_at, unserved, with_arrival, with_events}
 use Rattle.floor_hub.specs.Kept.{IsKeptPart, KeptIn, arrivals_in}
@@ -303,7 +302,7 @@ module _ (c : ℕ) (v : World) (p : Part) (n : ℕ) (m : List ℕ) (a : Arrival)
       ap (λ (x : Option Arrival). (world.serve first n x).part) (there_live (arrival first n) come come_there live)
       ∙ ap (λ (x : Bool). (if not x then world.refuses (Some first) (ByRoom (ByMachine Ended)) else world.serve_message first n come (unserved come)).part) lawful.0
       ∙ ap (λ (x : Option (List ℕ)). (world.serve_message first n come x).part) (next_unserved a m a.live (f.idle n a there) lawful.2)
-      ∙ ap (λ (x : Bool). (if x then world.refuses (Some first) (ByRoom JournalFull) else record { part = Some last; answer = Served }).part) (unfull (length p.events) few)
+      ∙ ap (λ (x : Option RoomRefusal). (world.take_message first n come m x).part) (accepted first (Message n m) lawful.2 lawful few)
 
   at_first : At c (turn v (Piece n m)).world first
   at_first = moved c v p first (Piece n m) f.at (ap (aim (λ i. Piece i m)) (placed c v p n a f.at there)) piece_is

@@ -1,5 +1,5 @@
--- How the hub's refusals are called.
-use Rattle.std.specs.Prelude.{ℕ, List, codes}
+-- How the hub's refusals are called, and which of them are want of memory.
+use Rattle.std.specs.Prelude.{ℕ, Bool, true, false, List, codes}
 use Rattle.floor_room.specs.Names as room
 use Rattle.floor_hub.specs.declared.refusal.HubRefusal.{HubRefusal}
 use Rattle.floor_hub.specs.declared.refusal.HubRefusal.TheVariants.{NoConference, NoConnection, Used, ByRoom, Memory}
@@ -11,3 +11,9 @@ name_of NoConference = codes "NoConference"
 name_of NoConnection = codes "NoConnection"
 name_of Memory = codes "Memory"
 name_of (ByRoom refusal) = room.name_of refusal
+
+-- the refusal is want of memory, in a room or outside
+abbrev pub is_memory : HubRefusal → Bool
+is_memory Memory = true
+is_memory (ByRoom refusal) = room.is_memory refusal
+is_memory _ = false

@@ -1,5 +1,5 @@
 -- What a call of the hub has done to the rooms.
-use Rattle.std.specs.Prelude.{◌≡◌, ◌⊎◌, ℕ, List, [], ◌∷◌, ◌++◌, ◌||◌, nat_eq, if◌then◌else◌, Bool, true, false, Option, Some, None, is_some, map, take, Result, Ok, Err}
+use Rattle.std.specs.Prelude.{◌≡◌, ◌≢◌, ◌↔◌, ◌⊎◌, ℕ, List, [], ◌∷◌, ◌++◌, nat_eq, if◌then◌else◌, true, false, Option, Some, None, is_some, map, take, Result, Ok, Err}
 use Rattle.floor_config.specs.Configuration.{Configuration}
 use Rattle.floor_wire.specs.Message.{messages}
 use Rattle.floor_machine.specs.declared.event.Act.{Act}
@@ -7,14 +7,14 @@ use Rattle.floor_machine.specs.declared.event.Event.{Event}
 use Rattle.floor_machine.specs.declared.event.Event.TheVariants.{Join, Message, Leave}
 use Rattle.floor_machine.specs.Machine.{event_of_act}
 use Rattle.floor_machine.specs.Parcel.{Parcel}
-use Rattle.floor_machine.specs.declared.machine.Refusal.TheVariants.{Broken, Ended, NoMember, NoUser, Full, NoRequest, Memory}
-use Rattle.floor_room.specs.declared.refusal.RoomRefusal.TheVariants.{JournalFull, Refused as ByMachine}
+use Rattle.floor_machine.specs.declared.machine.Refusal.TheVariants.{Broken, Memory}
+use Rattle.floor_room.specs.declared.refusal.RoomRefusal.TheVariants.{Refused as ByMachine}
 use Rattle.floor_room.specs.Ledger.{closed}
 use Rattle.floor_room.specs.Outbox.{Outbox}
 use Rattle.floor_room.specs.Room.{Room, new_room}
 use Rattle.floor_room.specs.Taking.{Gave}
 use Rattle.floor_hub.specs.declared.refusal.HubRefusal.{HubRefusal}
-use Rattle.floor_hub.specs.declared.refusal.HubRefusal.TheVariants.{NoConference, NoConnection, Used, ByRoom, Memory as NoMemory}
+use Rattle.floor_hub.specs.declared.refusal.HubRefusal.TheVariants.{NoConnection, ByRoom}
 use Rattle.floor_hub.specs.declared.connection.Connection.{Connection}
 use Rattle.floor_hub.specs.Connections.{SameConnections}
 use Rattle.floor_hub.specs.Hub.{Hub, room_at}
@@ -30,37 +30,9 @@ abbrev pub refusal_in : {T : Type 0} → Result T HubRefusal → Option HubRefus
 refusal_in (Ok v) = None
 refusal_in (Err r) = Some r
 
--- a room met want of memory
-abbrev pub is_want : Option HubRefusal → Bool
-is_want (Some (ByRoom (ByMachine Memory))) = true
-is_want (Some (ByRoom (ByMachine Broken))) = false
-is_want (Some (ByRoom (ByMachine Ended))) = false
-is_want (Some (ByRoom (ByMachine NoMember))) = false
-is_want (Some (ByRoom (ByMachine NoUser))) = false
-is_want (Some (ByRoom (ByMachine Full))) = false
-is_want (Some (ByRoom (ByMachine NoRequest))) = false
-is_want (Some (ByRoom JournalFull)) = false
-is_want (Some NoConference) = false
-is_want (Some NoConnection) = false
-is_want (Some Used) = false
-is_want (Some NoMemory) = false
-is_want None = false
-
--- the call was told that the room is broken
-abbrev pub is_told : Option HubRefusal → Bool
-is_told (Some (ByRoom (ByMachine Broken))) = true
-is_told (Some (ByRoom (ByMachine Memory))) = false
-is_told (Some (ByRoom (ByMachine Ended))) = false
-is_told (Some (ByRoom (ByMachine NoMember))) = false
-is_told (Some (ByRoom (ByMachine NoUser))) = false
-is_told (Some (ByRoom (ByMachine Full))) = false
-is_told (Some (ByRoom (ByMachine NoRequest))) = false
-is_told (Some (ByRoom JournalFull)) = false
-is_told (Some NoConference) = false
-is_told (Some NoConnection) = false
-is_told (Some Used) = false
-is_told (Some NoMemory) = false
-is_told None = false
+-- what a room answers that finds no memory
+abbrev pub by_memory : Option HubRefusal
+by_memory = Some (ByRoom (ByMachine Memory))
 
 -- what a broken room answers
 abbrev pub by_broken : Option HubRefusal
@@ -97,14 +69,14 @@ AddsOwn (Some refusal) own old new = new ≡ old
 
 -- A room after a call with this event that was refused by why, if at all. Want of memory alone breaks it off, and for good. A broken room is left as it is and answers so, and no other room does.
 pub record RoomAfter (shut_by why : Option HubRefusal) (own : List Event) (old new : Room) : Type 0 where
-  pub broken : new.ledger.is_broken ≡ (old.ledger.is_broken || is_want why)
+  pub broken : (new.ledger.is_broken ≡ true) ↔ ((old.ledger.is_broken ≡ true) ⊎ (why ≡ by_memory))
   pub shut : old.ledger.is_broken ≡ true → (why ≡ shut_by) × (new ≡ old)
-  pub told : is_told why ≡ true → old.ledger.is_broken ≡ true
+  pub told : why ≡ by_broken → old.ledger.is_broken ≡ true
   pub journal : AddsOwn why own old.ledger.journal new.ledger.journal
   pub outboxes : QueuesMore old.outboxes new.outboxes
 
 abbrev pub RoomAfterIn : Option HubRefusal → Option HubRefusal → (Room → List Event) → Option Room → Option Room → Type 0
-RoomAfterIn shut_by why own None new = (new ≡ None) × (is_want why ≡ false) × (is_told why ≡ false)
+RoomAfterIn shut_by why own None new = (new ≡ None) × (why ≢ by_memory) × (why ≢ by_broken)
 RoomAfterIn shut_by why own (Some r) None = ⊥
 RoomAfterIn shut_by why own (Some r) (Some s) = RoomAfter shut_by why (own r) r s
 
@@ -115,7 +87,7 @@ pub record OneRoom (shut_by why : Option HubRefusal) (event : Room → List Even
 
 -- The call was for this connection's room; without a connection nothing has changed.
 abbrev pub RoomOf : Option HubRefusal → Option HubRefusal → (Connection → Room → List Event) → Option Connection → Hub → Hub → Type 0
-RoomOf shut_by why own None old new = SameHub old new × (is_want why ≡ false) × (is_told why ≡ false)
+RoomOf shut_by why own None old new = SameHub old new × (why ≢ by_memory) × (why ≢ by_broken)
 RoomOf shut_by why own (Some x) old new = OneRoom shut_by why (own x) x.conference old new
 
 -- the conference has a room now, and the others are as they were

@@ -11,7 +11,7 @@ use Rattle.floor_machine.specs.declared.machine.Refusal.TheVariants.{Ended}
 use Rattle.floor_machine.specs.Journal.{MAX_EVENTS, after}
 use Rattle.floor_machine.specs.Machine.{event_of_act}
 use Rattle.floor_room.specs.declared.refusal.RoomRefusal.{RoomRefusal}
-use Rattle.floor_room.specs.declared.refusal.RoomRefusal.TheVariants.{JournalFull, Refused as ByMachine}
+use Rattle.floor_room.specs.declared.refusal.RoomRefusal.TheVariants.{Refused as ByMachine}
 use Rattle.floor_room.specs.Ledger.{Ledger, closed, refusal}
 use Rattle.floor_hub.specs.declared.refusal.HubRefusal.{HubRefusal}
 use Rattle.floor_hub.specs.declared.refusal.HubRefusal.TheVariants.{NoConference, NoConnection, Used, ByRoom}
@@ -101,14 +101,16 @@ abbrev pub messages_next : Option Arrival → List (List ℕ)
 messages_next None = []
 messages_next (Some a) = option_map_or (λ m. m ∷ []) (unserved a) []
 
+abbrev pub take_message : Part → ℕ → Arrival → List ℕ → Option RoomRefusal → Offered
+take_message p n a m None = record {
+  part = Some (with_arrival (with_events p (Message n m ∷ [])) n record { bytes = a.bytes; served = a.served + 1; live = a.live });
+  answer = Served;
+}
+take_message p n a m (Some r) = refuses (Some p) (ByRoom r)
+
 abbrev pub serve_message : Part → ℕ → Arrival → Option (List ℕ) → Offered
 serve_message p n a None = record { part = Some p; answer = Nothing }
-serve_message p n a (Some m) =
-    if is_full p then refuses (Some p) (ByRoom JournalFull)
-    else record {
-      part = Some (with_arrival (with_events p (Message n m ∷ [])) n record { bytes = a.bytes; served = a.served + 1; live = a.live });
-      answer = Served;
-    }
+serve_message p n a (Some m) = take_message p n a m (refused p (Message n m))
 
 abbrev pub serve : Part → ℕ → Option Arrival → Offered
 serve p n None = refuses (Some p) NoConnection

@@ -1,4 +1,6 @@
 -- The steps of the proofs. Nobody has to believe them: no public clause rests on them.
 pub mod Slots
+pub mod Lending
+pub mod Found
 pub mod Serving
 pub mod Running

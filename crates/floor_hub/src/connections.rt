@@ -1,18 +1,14 @@
 //! The live connections by their numbers: each stands in a slot, which is used again when it has
 //! left.
 
-ghost use Rattle.std.specs.Prelude.{is_some, ◌≢◌, ◌≡◌, ◌++◌, ℕ, List, Ok, Err, nat_eq, None, Some, MatchResult, OnErr, OnOk, option_copied};
-ghost use Rattle.indexmap.specs.IndexMap.{Updates as Changes, get as found};
-ghost use Rattle.slab.specs.Slab.{Updates, get};
-ghost use Rattle.floor_room.specs.Room.{Room as Kept};
+ghost use Rattle.std.specs.Prelude.{◌≡◌, ℕ, Some, None, OnErr, OnOk, option_copied};
+ghost use Rattle.std.specs.Borrow.{sem};
+ghost use Rattle.std.specs.Option.{option_copied_mut};
 ghost use Rattle.floor_hub.specs.Connections.{Puts, SameConnections, connection_at};
-ghost use Rattle.floor_hub.specs.steps.Serving.{ServedIn};
+ghost use Rattle.floor_hub.specs.steps.Lending.{LendsConnection};
+ghost use Rattle.floor_hub.specs.steps.Slots.{with_connection};
 
 use crate::connection::{ConnNo, Connection};
-use crate::refusal::HubRefusal;
-use crate::rooms::serve_room;
-use crate::step::Served;
-use floor_room::Room;
 use indexmap::IndexMap;
 use slab::Slab;
 use std::alloc::{AllocError, Global};
@@ -57,6 +53,17 @@ impl Connections {
         }
     }
 
+    /// The connection with this number, to be changed. Takes no memory.
+    pub(crate) fn get_mut(&mut self, number: ConnNo) -> Option<&mut Connection>
+        ensures* lends { sem 𝓛 (LendsConnection self.entry number result) }
+        ensures found { option_copied_mut result ≡ connection_at self.old number }
+        ensures puts { (x y : Connection) → connection_at self.old number ≡ Some x
+            → Puts self.old (with_connection self.old number y) number (Some y) }
+    {
+        let key = *self.keys.get(&number)?;
+        self.slots.get_mut(key)
+    }
+
     /// Puts a connection under a number. After an error nothing has changed.
     pub(crate) fn insert(
         &mut self,
@@ -88,92 +95,5 @@ impl Connections {
             Some(key) => self.slots.try_remove(key),
             None => None,
         }
-    }
-
-    /// Adds bytes to what a connection holds. After an error nothing has changed.
-    pub(crate) fn push(&mut self, number: ConnNo, bytes: &[u8]) -> Result<(), HubRefusal>
-        ensures absent { connection_at self.old number ≡ None
-            → result ≡ Err HubRefusal.NoConnection }
-        ensures there { (x : Connection) → connection_at self.old number ≡ Some x
-            → MatchResult result
-            (λ _. Puts self.old self.new number
-            (Some record { conference = x.conference; n = x.n; held = x.held ++ bytes.now }))
-            (λ r. r ≡ HubRefusal.Memory) }
-        ensures left { OnErr result (SameConnections self.old self.new) }
-    {
-        match self.keys.get(&number) {
-            Some(key) => push_slot(&mut self.slots, *key, bytes),
-            None => Err(HubRefusal::NoConnection),
-        }
-    }
-
-    /// Serves the next message of a connection in the room of its conference.
-    pub(crate) fn serve(
-        &mut self,
-        rooms: &mut IndexMap<u32, Room>,
-        number: ConnNo,
-    ) -> Result<Served, HubRefusal>
-        ensures absent { connection_at self.old number ≡ None
-            → (result ≡ Err HubRefusal.NoConnection)
-            × ((other : ℕ) → found nat_eq rooms.new other ≡ found nat_eq rooms.old other)
-            × SameConnections self.old self.new }
-        ensures there { (x : Connection) → connection_at self.old number ≡ Some x
-            → (r : Kept) → found nat_eq rooms.old x.conference ≡ Some r
-            → (new : Kept) × (rest : List ℕ)
-            × Changes nat_eq rooms.old rooms.new x.conference (Some new)
-            × Puts self.old self.new number
-            (Some record { conference = x.conference; n = x.n; held = rest })
-            × ServedIn r new x.n x.held rest result }
-    {
-        match self.keys.get(&number) {
-            Some(key) => serve_slot(&mut self.slots, *key, rooms),
-            None => Err(HubRefusal::NoConnection),
-        }
-    }
-}
-
-/// Adds bytes to what the connection in a slot holds.
-fn push_slot(slots: &mut Slab<Connection>, key: usize, bytes: &[u8]) -> Result<(), HubRefusal>
-    ensures absent { get slots.old key ≡ None → result ≡ Err HubRefusal.NoConnection }
-    ensures there { (x : Connection) → get slots.old key ≡ Some x
-        → MatchResult result
-        (λ _. Updates slots.old slots.new key
-        (Some record { conference = x.conference; n = x.n; held = x.held ++ bytes.now }))
-        (λ r. r ≡ HubRefusal.Memory) }
-    ensures left { OnErr result ((other : ℕ) → get slots.new other ≡ get slots.old other) }
-{
-    match slots.get_mut(key) {
-        Some(connection) => match connection.held.push(bytes) {
-            Ok(()) => Ok(()),
-            Err(_) => Err(HubRefusal::Memory),
-        },
-        None => Err(HubRefusal::NoConnection),
-    }
-}
-
-/// Serves the next message of the connection in a slot.
-fn serve_slot(
-    slots: &mut Slab<Connection>,
-    key: usize,
-    rooms: &mut IndexMap<u32, Room>,
-) -> Result<Served, HubRefusal>
-    ensures filled { is_some (get slots.new key) ≡ is_some (get slots.old key) }
-    ensures others { (other : ℕ) → other ≢ key → get slots.new other ≡ get slots.old other }
-    ensures there { (x : Connection) → get slots.old key ≡ Some x
-        → (r : Kept) → found nat_eq rooms.old x.conference ≡ Some r
-        → (new : Kept) × (rest : List ℕ)
-        × Changes nat_eq rooms.old rooms.new x.conference (Some new)
-        × Updates slots.old slots.new key
-        (Some record { conference = x.conference; n = x.n; held = rest })
-        × ServedIn r new x.n x.held rest result }
-{
-    match slots.get_mut(key) {
-        Some(connection) => serve_room(
-            rooms,
-            connection.conference,
-            connection.n,
-            &mut connection.held,
-        ),
-        None => Err(HubRefusal::NoConnection),
     }
 }

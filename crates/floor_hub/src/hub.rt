@@ -1,35 +1,29 @@
 //! All conferences at once: their rooms and their connections.
 
-ghost use Rattle.std.specs.Prelude.{false, [], ◌≡◌, ◌+◌, ℕ, Ok, Err, nat_eq, length, IfErr, IfSome, IsErr, MatchResult, Option, Result, OnErr, OnOk, None, Some};
-ghost use Rattle.indexmap.specs.IndexMap.{Updates, get};
-ghost use Rattle.floor_machine.specs.declared.event.Event.TheVariants.{Join};
-ghost use Rattle.floor_machine.specs.Parcel.{Parcel};
-ghost use Rattle.floor_room.specs.Calls.{Applied};
-ghost use Rattle.floor_room.specs.Status.{IsStatus};
-ghost use Rattle.floor_room.specs.Taking.{Gave};
-ghost use Rattle.floor_room.specs.declared.outbox.NoMember.{NoMember};
-ghost use Rattle.floor_room.specs.declared.refusal.RoomRefusal.{RoomRefusal};
-ghost use Rattle.floor_room.specs.Ledger.{conference_of};
+ghost use Rattle.std.specs.Prelude.{◌≡◌, ◌++◌, ℕ, Err, nat_eq, IfErr, IfSome, MatchResult, None, OnErr, OnOk, Some};
+ghost use Rattle.indexmap.specs.IndexMap.{get};
 ghost use Rattle.floor_room.specs.Room.{IsRoom, Room as Kept};
+ghost use Rattle.floor_room.specs.Status.{IsStatus};
+ghost use Rattle.floor_hub.specs.Calls.{Fails, FailsGone, FailsSame, Turns, answer_of};
 ghost use Rattle.floor_hub.specs.Connections.{Puts, SameConnections, connection_at};
 ghost use Rattle.floor_hub.specs.Hub.{room_at};
 ghost use Rattle.floor_hub.specs.Left.{LeftAt, LeftLeaving, LeftServing};
 ghost use Rattle.floor_hub.specs.Rooms.{OneRoom, Opens, RoomOf, SameHub, TakenOf, admin_event, attach_event, by_broken, leave_event, refusal_in, serve_event};
-ghost use Rattle.floor_hub.specs.steps.Running.{QueuedIn};
 ghost use Rattle.floor_hub.specs.StandsFor.{StandsFor};
-ghost use Rattle.floor_hub.specs.Calls.{Fails, FailsGone, FailsSame, Turns, answer_of};
-ghost use Rattle.floor_hub.specs.steps.Serving.{AttachFailsIn, LeaveFailsIn, LeavesIn};
 ghost use Rattle.floor_hub.specs.World.{World, nothing};
-ghost use Rattle.floor_hub.specs.declared.step.Step.TheVariants.{Admin, Attach, Leave, Open, Piece, Serve};
 ghost use Rattle.floor_hub.specs.declared.step.Answer.TheVariants.{Attached, Done};
+ghost use Rattle.floor_hub.specs.declared.step.Step.TheVariants.{Admin, Attach, Leave, Open, Piece, Serve};
+ghost use Rattle.floor_hub.specs.steps.Found.{AtConnection, AtRoom};
+ghost use Rattle.floor_hub.specs.steps.Running.{QueuedIn};
+ghost use Rattle.floor_hub.specs.steps.Serving.{AttachIn, LeaveOf, ServeOf, TakeOf};
 
 use crate::connection::{ConnNo, Connection, Place};
 use crate::connections::Connections;
 use crate::gathering::queued_to;
 use crate::refusal::HubRefusal;
-use crate::rooms::{admin_at, break_at, join_at, leave_room, open_at};
+use crate::rooms::{admin_at, break_at, join_at, leave_room, open_at, serve_room, take_room};
 use crate::step::Served;
-use floor_room::{Act, Config, NoMember, Parcel, Refusal, Room, RoomRefusal, Status};
+use floor_room::{Act, Config, Parcel, Refusal, Room, RoomRefusal, Status};
 use floor_wire::{Framer, Octets};
 use indexmap::IndexMap;
 use std::alloc::{AllocError, Global};
@@ -139,7 +133,7 @@ impl Hub {
         ensures rooms { (c : ℕ) → room_at self.new c ≡ room_at self.old c }
         ensures left { OnErr result (SameHub self.old self.new) }
     {
-        self.connections.push(number, bytes)
+        push_at(&mut self.connections, number, bytes)
     }
 
     /// Serves the next message of a connection, if one is whole. Refused by `NoConnection`, then by
@@ -154,7 +148,7 @@ impl Hub {
         ensures left { IfErr result (LeftServing number
             (connection_at self.old.connections number) self.old self.new) }
     {
-        self.connections.serve(&mut self.rooms, number)
+        serve_at(&mut self.rooms, &mut self.connections, number)
     }
 
     /// Ends a connection, and tells its conference. Refused by `NoConnection` alone: where the room
@@ -263,23 +257,9 @@ fn attach_at(
     conference: u32,
     user: u16,
 ) -> Result<(), HubRefusal>
-    ensures absent { get nat_eq rooms.old conference ≡ None
-        → (result ≡ Err HubRefusal.NoConference)
-        × ((other : ℕ) → get nat_eq rooms.new other ≡ get nat_eq rooms.old other) }
+    ensures room { AtRoom (AttachIn conference user number connections.old connections.new)
+        (get nat_eq rooms.old) (get nat_eq rooms.new) conference result }
     ensures left { OnErr result (SameConnections connections.old connections.new) }
-    ensures rooms { (room : Kept) → get nat_eq rooms.old conference ≡ Some room
-        → (new : Kept) × (get nat_eq rooms.new conference ≡ Some new)
-        × ((d : ℕ) → nat_eq conference d ≡ false
-        → get nat_eq rooms.new d ≡ get nat_eq rooms.old d)
-        × OnOk result (Applied room new (Join user)
-        × Puts connections.old connections.new number (Some record {
-          conference = conference;
-          n = length (conference_of room.ledger).members + 1;
-          held = [];
-        })
-        × (length (conference_of room.ledger).members + 1 ≡ length new.outboxes))
-        × IfErr result (λ r. (why : RoomRefusal) × (r ≡ HubRefusal.ByRoom why)
-        × AttachFailsIn room new user why) }
 {
     match join_at(rooms, conference, user) {
         Err(refusal) => Err(refusal),
@@ -300,30 +280,52 @@ fn attach_at(
     }
 }
 
+/// Adds bytes to what a connection holds.
+fn push_at(connections: &mut Connections, number: ConnNo, bytes: &[u8]) -> Result<(), HubRefusal>
+    ensures absent { connection_at connections.old number ≡ None
+        → result ≡ Err HubRefusal.NoConnection }
+    ensures there { (x : Connection) → connection_at connections.old number ≡ Some x
+        → MatchResult result
+        (λ _. Puts connections.old connections.new number
+        (Some record { conference = x.conference; n = x.n; held = x.held ++ bytes.now }))
+        (λ r. r ≡ HubRefusal.Memory) }
+    ensures left { OnErr result (SameConnections connections.old connections.new) }
+{
+    match connections.get_mut(number) {
+        Some(connection) => match connection.held.push(bytes) {
+            Ok(()) => Ok(()),
+            Err(_) => Err(HubRefusal::Memory),
+        },
+        None => Err(HubRefusal::NoConnection),
+    }
+}
+
+/// Serves the next message of a connection in its room.
+fn serve_at(
+    rooms: &mut IndexMap<u32, Room>,
+    connections: &mut Connections,
+    number: ConnNo,
+) -> Result<Served, HubRefusal>
+    ensures connection { AtConnection ServeOf (get nat_eq rooms.old) (get nat_eq rooms.new)
+        connections.old connections.new number result }
+{
+    match connections.get_mut(number) {
+        Some(connection) => serve_room(rooms, connection),
+        None => Err(HubRefusal::NoConnection),
+    }
+}
+
 /// Takes the first parcel that waits for a connection.
 fn take_at(
     rooms: &mut IndexMap<u32, Room>,
     connections: &Connections,
     number: ConnNo,
 ) -> Result<Option<Parcel>, HubRefusal>
-    ensures absent { connection_at connections.now number ≡ None
-        → (result ≡ Err HubRefusal.NoConnection)
-        × ((other : ℕ) → get nat_eq rooms.new other ≡ get nat_eq rooms.old other) }
-    ensures there { (x : Connection) → connection_at connections.now number ≡ Some x
-        → (r : Kept) → get nat_eq rooms.old x.conference ≡ Some r
-        → (new : Kept) × (given : Result (Option Parcel) NoMember)
-        × Updates nat_eq rooms.old rooms.new x.conference (Some new)
-        × Gave r new x.n given
-        × MatchResult given (λ p. result ≡ Ok p) (λ _. IsErr result) }
+    ensures connection { AtConnection TakeOf (get nat_eq rooms.old) (get nat_eq rooms.new)
+        connections.now connections.now number result }
 {
     match connections.get(number) {
-        Some(connection) => match rooms.get_mut(&connection.conference) {
-            Some(room) => match room.take(connection.n) {
-                Ok(parcel) => Ok(parcel),
-                Err(_) => Err(HubRefusal::NoConnection),
-            },
-            None => Err(HubRefusal::NoConnection),
-        },
+        Some(connection) => take_room(rooms, connection),
         None => Err(HubRefusal::NoConnection),
     }
 }
@@ -334,23 +336,11 @@ fn leave_at(
     connections: &mut Connections,
     number: ConnNo,
 ) -> Result<(), HubRefusal>
-    ensures absent { connection_at connections.old number ≡ None
-        → (result ≡ Err HubRefusal.NoConnection)
-        × ((other : ℕ) → get nat_eq rooms.new other ≡ get nat_eq rooms.old other)
-        × SameConnections connections.old connections.new }
-    ensures gone { (x : Connection) → connection_at connections.old number ≡ Some x
-        → Puts connections.old connections.new number None }
-    ensures there { (x : Connection) → connection_at connections.old number ≡ Some x
-        → (r : Kept) → get nat_eq rooms.old x.conference ≡ Some r
-        → (new : Kept) × (get nat_eq rooms.new x.conference ≡ Some new)
-        × ((d : ℕ) → nat_eq x.conference d ≡ false
-        → get nat_eq rooms.new d ≡ get nat_eq rooms.old d)
-        × OnOk result (LeavesIn r new x.n)
-        × IfErr result (λ y. (why : RoomRefusal) × (y ≡ HubRefusal.ByRoom why)
-        × LeaveFailsIn r new x.n why) }
+    ensures connection { AtConnection LeaveOf (get nat_eq rooms.old) (get nat_eq rooms.new)
+        connections.old connections.new number result }
 {
     match connections.remove(number) {
-        Some(connection) => leave_room(rooms, connection.conference, connection.n),
+        Some(connection) => leave_room(rooms, &connection),
         None => Err(HubRefusal::NoConnection),
     }
 }

@@ -20,7 +20,7 @@ pub enum HubRefusal {
 }
 
 impl HubRefusal {
-    ghost use Rattle.floor_hub.specs.Names.{name_of};
+    ghost use Rattle.floor_hub.specs.Names.{is_memory, name_of};
 
     /// The name of the variant, or of the room's refusal that it wraps. Takes no memory.
     pub fn name(&self) -> &'static str
@@ -32,6 +32,18 @@ impl HubRefusal {
             HubRefusal::NoConnection => "NoConnection",
             HubRefusal::Memory => "Memory",
             HubRefusal::ByRoom(refusal) => refusal.name(),
+        }
+    }
+
+    /// Whether it is want of memory, in a room, which is broken off then, or outside, where nothing
+    /// has changed. Takes no memory.
+    pub fn is_memory(&self) -> bool
+        ensures value { result ≡ is_memory self.now }
+    {
+        match self {
+            HubRefusal::Memory => true,
+            HubRefusal::ByRoom(refusal) => refusal.is_memory(),
+            _ => false,
         }
     }
 }

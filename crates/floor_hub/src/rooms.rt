@@ -1,18 +1,20 @@
 //! The rooms of all conferences: each call is for one of them, and leaves the others.
 
-ghost use Rattle.std.specs.Prelude.{false, true, ◌≡◌, ◌≢◌, ◌⊎◌, ◌+◌, ◌≤◌, ℕ, Ok, Err, nat_eq, length, IfErr, IfOk, IfSome, MatchResult, OnErr, OnOk, None, Some};
+ghost use Rattle.std.specs.Prelude.{false, ◌≡◌, ◌≢◌, ◌⊎◌, ◌≤◌, ℕ, Ok, Err, nat_eq, IfErr, IfSome, IsErr, MatchResult, OnErr, OnOk, None, Option, Result, Some};
 ghost use Rattle.indexmap.specs.IndexMap.{Updates, get};
-ghost use Rattle.floor_machine.specs.declared.event.Event.TheVariants.{Join};
 ghost use Rattle.floor_machine.specs.Machine.{event_of_act};
-ghost use Rattle.floor_room.specs.Calls.{Applied, Left};
-ghost use Rattle.floor_room.specs.Ledger.{IsRefusedBy, conference_of, refusal};
+ghost use Rattle.floor_machine.specs.Parcel.{Parcel as Waiting};
 ghost use Rattle.floor_room.specs.Room.{Room as Kept, broken_room, new_room};
+ghost use Rattle.floor_room.specs.Taking.{Gave};
+ghost use Rattle.floor_room.specs.declared.outbox.NoMember.{NoMember};
 ghost use Rattle.floor_room.specs.declared.refusal.RoomRefusal.{RoomRefusal};
-ghost use Rattle.floor_hub.specs.steps.Serving.{LeaveFailsIn, IsServable, LeavesIn, ServedIn};
+ghost use Rattle.floor_hub.specs.steps.Found.{AtRoom};
+ghost use Rattle.floor_hub.specs.steps.Serving.{EventIn, IsServable, JoinIn, LeaveFailsIn, LeavesIn, ServedIn};
 
+use crate::connection::Connection;
 use crate::refusal::HubRefusal;
 use crate::step::Served;
-use floor_room::{Act, Config, Refusal, Room, RoomRefusal};
+use floor_room::{Act, Config, Parcel, Refusal, Room, RoomRefusal};
 use floor_wire::Framer;
 use indexmap::IndexMap;
 use std::alloc::Global;
@@ -53,15 +55,8 @@ pub(crate) fn admin_at(
     conference: u32,
     act: Act,
 ) -> Result<(), HubRefusal>
-    ensures absent { get nat_eq rooms.old conference ≡ None
-        → (result ≡ Err HubRefusal.NoConference)
-        × ((other : ℕ) → get nat_eq rooms.new other ≡ get nat_eq rooms.old other) }
-    ensures rooms { (room : Kept) → get nat_eq rooms.old conference ≡ Some room
-        → (new : Kept) × Updates nat_eq rooms.old rooms.new conference (Some new)
-        × OnOk result (Applied room new (event_of_act act))
-        × IfErr result (λ r. (why : RoomRefusal) × (r ≡ HubRefusal.ByRoom why)
-        × IsRefusedBy {T = Unit {0}} (refusal room.ledger (event_of_act act)) (Err why)
-        × Left room new (event_of_act act) why) }
+    ensures room { AtRoom (EventIn (event_of_act act))
+        (get nat_eq rooms.old) (get nat_eq rooms.new) conference result }
 {
     match rooms.get_mut(&conference) {
         Some(room) => match room.admin(act) {
@@ -78,16 +73,8 @@ pub(crate) fn join_at(
     conference: u32,
     user: u16,
 ) -> Result<u32, HubRefusal>
-    ensures absent { get nat_eq rooms.old conference ≡ None
-        → (result ≡ Err HubRefusal.NoConference)
-        × ((other : ℕ) → get nat_eq rooms.new other ≡ get nat_eq rooms.old other) }
-    ensures rooms { (room : Kept) → get nat_eq rooms.old conference ≡ Some room
-        → (new : Kept) × Updates nat_eq rooms.old rooms.new conference (Some new)
-        × IfOk result (λ n. (n ≡ length (conference_of room.ledger).members + 1)
-        × Applied room new (Join user) × (n ≡ length new.outboxes))
-        × IfErr result (λ r. (why : RoomRefusal) × (r ≡ HubRefusal.ByRoom why)
-        × IsRefusedBy {T = Unit {0}} (refusal room.ledger (Join user)) (Err why)
-        × Left room new (Join user) why) }
+    ensures room { AtRoom (JoinIn user)
+        (get nat_eq rooms.old) (get nat_eq rooms.new) conference result }
 {
     match rooms.get_mut(&conference) {
         Some(room) => match room.join(user) {
@@ -154,40 +141,57 @@ fn leave_in(room: &mut Room, n: u32) -> Result<(), HubRefusal>
     }
 }
 
-/// Tells the room of a conference that n has left.
+/// Tells its room that a connection has left.
 pub(crate) fn leave_room(
     rooms: &mut IndexMap<u32, Room>,
-    conference: u32,
-    n: u32,
+    connection: &Connection,
 ) -> Result<(), HubRefusal>
-    ensures rooms { (room : Kept) → get nat_eq rooms.old conference ≡ Some room
-        → (new : Kept) × (get nat_eq rooms.new conference ≡ Some new)
-        × ((d : ℕ) → nat_eq conference d ≡ false
-        → get nat_eq rooms.new d ≡ get nat_eq rooms.old d)
-        × OnOk result (LeavesIn room new n)
+    ensures room { (room : Kept) → get nat_eq rooms.old connection.now.conference ≡ Some room
+        → (new : Kept) × Updates nat_eq rooms.old rooms.new connection.now.conference (Some new)
+        × OnOk result (LeavesIn room new connection.now.n)
         × IfErr result (λ r. (why : RoomRefusal) × (r ≡ HubRefusal.ByRoom why)
-        × LeaveFailsIn room new n why) }
+        × LeaveFailsIn room new connection.now.n why) }
 {
-    match rooms.get_mut(&conference) {
-        Some(room) => leave_in(room, n),
+    match rooms.get_mut(&connection.conference) {
+        Some(room) => leave_in(room, connection.n),
         None => Ok(()),
     }
 }
 
-/// Serves the next message of a connection in the room of its conference.
+/// Serves the next message of a connection in its room.
 pub(crate) fn serve_room(
     rooms: &mut IndexMap<u32, Room>,
-    conference: u32,
-    n: u32,
-    held: &mut Framer,
+    connection: &mut Connection,
 ) -> Result<Served, HubRefusal>
-    ensures rooms { (room : Kept) → get nat_eq rooms.old conference ≡ Some room
-        → (new : Kept) × Updates nat_eq rooms.old rooms.new conference (Some new)
-        × ServedIn room new n held.old held.new result }
+    ensures room { (room : Kept) → get nat_eq rooms.old connection.old.conference ≡ Some room
+        → (new : Kept) × Updates nat_eq rooms.old rooms.new connection.old.conference (Some new)
+        × ServedIn room new connection.old.n connection.old.held connection.new.held result }
+    ensures place { (connection.new.conference ≡ connection.old.conference)
+        × (connection.new.n ≡ connection.old.n) }
 {
-    match rooms.get_mut(&conference) {
-        Some(room) => serve_in(room, n, held),
+    match rooms.get_mut(&connection.conference) {
+        Some(room) => serve_in(room, connection.n, &mut connection.held),
         None => Ok(Served::Nothing),
+    }
+}
+
+/// Takes the first parcel that waits for a connection in its room.
+pub(crate) fn take_room(
+    rooms: &mut IndexMap<u32, Room>,
+    connection: &Connection,
+) -> Result<Option<Parcel>, HubRefusal>
+    ensures room { (room : Kept) → get nat_eq rooms.old connection.now.conference ≡ Some room
+        → (new : Kept) × (given : Result (Option Waiting) NoMember)
+        × Updates nat_eq rooms.old rooms.new connection.now.conference (Some new)
+        × Gave room new connection.now.n given
+        × MatchResult given (λ p. result ≡ Ok p) (λ _. IsErr result) }
+{
+    match rooms.get_mut(&connection.conference) {
+        Some(room) => match room.take(connection.n) {
+            Ok(parcel) => Ok(parcel),
+            Err(_) => Err(HubRefusal::NoConnection),
+        },
+        None => Err(HubRefusal::NoConnection),
     }
 }
 

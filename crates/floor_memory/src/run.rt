@@ -2,7 +2,7 @@
 
 use crate::meeting::{CONFIGURATION, LONG, Meeting, SHORT};
 use floor_config::read_configs;
-use floor_hub::{Hub, HubRefusal, Refusal, RoomRefusal};
+use floor_hub::Hub;
 use floor_words::read_u32;
 use std::alloc::{AllocError, AllocFailed, Global};
 use std::io;
@@ -100,20 +100,12 @@ fn go_well<W: Write>(
     }
     match meeting.play(alloc, hub, turn / LONG_LINES) {
         Ok(()) => print_waiting(alloc, hub, meeting, output),
-        Err(refusal) if is_memory(refusal) => Err(Ended),
+        Err(refusal) if refusal.is_memory() => Err(Ended),
         Err(refusal) => {
             writeln!(output, "{} refused {}", meeting.conference, refusal.name())?;
             Ok(())
         }
     }
-}
-
-/// Whether memory was refused.
-fn is_memory(refusal: HubRefusal) -> bool {
-    matches!(
-        refusal,
-        HubRefusal::Memory | HubRefusal::ByRoom(RoomRefusal::Refused(Refusal::Memory))
-    )
 }
 
 /// Opens the conferences, at whose meetings nobody is yet.

@@ -3,7 +3,7 @@
 use crate::attached::Attached;
 use crate::line::Command;
 use crate::running::{RunFault, TURNS};
-use floor_hub::{Act, Config, Hub, HubRefusal, Parcel, Refusal, RoomRefusal, Served};
+use floor_hub::{Act, Config, Hub, HubRefusal, Parcel, Served};
 use std::alloc::{AllocError, Global};
 use std::io::Write;
 
@@ -38,7 +38,7 @@ impl Conferences {
         match self.carry_out(command, output)? {
             Ok(()) => {}
             Err(refusal) => {
-                if is_memory(refusal) {
+                if refusal.is_memory() {
                     return Err(RunFault::Memory);
                 }
                 writeln!(output, "refused {}", refusal.name())?;
@@ -143,14 +143,6 @@ impl Conferences {
         }
         Ok(())
     }
-}
-
-/// Whether memory was refused.
-fn is_memory(refusal: HubRefusal) -> bool {
-    matches!(
-        refusal,
-        HubRefusal::Memory | HubRefusal::ByRoom(RoomRefusal::Refused(Refusal::Memory))
-    )
 }
 
 /// Takes and prints the parcels that wait for a connection.

@@ -1,12 +1,18 @@
 -- What a call has done to one room, by which it does what it has to the worlds.
-use Rattle.std.specs.Prelude.{◌≡◌, ◌≢◌, ◌⊎◌, ℕ, List, [], ◌∷◌, ◌++◌, true, Option, Some, None, is_some, Err, Result, IfOk, IfErr}
+use Rattle.std.specs.Prelude.{◌≡◌, ◌≢◌, ◌⊎◌, ℕ, ◌+◌, List, [], ◌∷◌, ◌++◌, length, true, Option, Some, None, is_some, Ok, Err, Result, IfOk, OnOk, IfErr, IsErr, MatchResult}
 use Rattle.floor_wire.specs.Message.{messages}
+use Rattle.floor_machine.specs.Parcel.{Parcel}
+use Rattle.floor_machine.specs.declared.event.Event.{Event}
 use Rattle.floor_machine.specs.declared.event.Event.TheVariants.{Join, Message, Leave as Leaves}
 use Rattle.floor_room.specs.declared.refusal.RoomRefusal.{RoomRefusal}
 use Rattle.floor_room.specs.Room.{Room, broken_room}
-use Rattle.floor_room.specs.Ledger.{IsRefusedBy, closed, refusal}
+use Rattle.floor_room.specs.Ledger.{IsRefusedBy, closed, conference_of, refusal}
+use Rattle.floor_room.specs.Taking.{Gave}
+use Rattle.floor_room.specs.declared.outbox.NoMember.{NoMember}
 use Rattle.floor_room.specs.Calls.{Applied, Left}
+use Rattle.floor_hub.specs.declared.connection.Connection.{Connection}
 use Rattle.floor_hub.specs.declared.step.Served.{Served}
+use Rattle.floor_hub.specs.Connections.{Connections, Puts}
 use Rattle.floor_machine.specs.declared.machine.Refusal.TheVariants.{Memory}
 use Rattle.floor_room.specs.declared.refusal.RoomRefusal.TheVariants.{JournalFull, Refused as ByMachine}
 use Rattle.floor_hub.specs.declared.refusal.HubRefusal.{HubRefusal}
@@ -51,3 +57,38 @@ abbrev pub AttachFailsIn : Room → Room → ℕ → RoomRefusal → Type 0
 AttachFailsIn old new user why =
     (IsRefusedBy {T = Unit {0}} (refusal old.ledger (Join user)) (Err why) × Left old new (Join user) why)
     ⊎ ((why ≡ ByMachine Memory) × ((mid : Room) × Applied old mid (Join user) × (new ≡ broken_room mid)))
+
+-- a room was asked to take this event
+abbrev pub EventIn : Event → Room → Room → Result (Unit {0}) HubRefusal → Type 0
+EventIn e old new result =
+    OnOk result (Applied old new e)
+    × IfErr result (λ x. (why : RoomRefusal) × (x ≡ ByRoom why) × IsRefusedBy {T = Unit {0}} (refusal old.ledger e) (Err why) × Left old new e why)
+
+-- it was asked to take a user, whose number was given
+abbrev pub JoinIn : ℕ → Room → Room → Result ℕ HubRefusal → Type 0
+JoinIn user old new result =
+    IfOk result (λ n. (n ≡ length (conference_of old.ledger).members + 1) × Applied old new (Join user) × (n ≡ length new.outboxes))
+    × IfErr result (λ x. (why : RoomRefusal) × (x ≡ ByRoom why) × IsRefusedBy {T = Unit {0}} (refusal old.ledger (Join user)) (Err why) × Left old new (Join user) why)
+
+-- a connection of a user was attached to this conference under this number
+abbrev pub AttachIn : ℕ → ℕ → ℕ → Connections → Connections → Room → Room → Result (Unit {0}) HubRefusal → Type 0
+AttachIn c user number old_connections new_connections old new result =
+    OnOk result (Applied old new (Join user)
+    × Puts old_connections new_connections number (Some record { conference = c; n = length (conference_of old.ledger).members + 1; held = [] })
+    × (length (conference_of old.ledger).members + 1 ≡ length new.outboxes))
+    × IfErr result (λ x. (why : RoomRefusal) × (x ≡ ByRoom why) × AttachFailsIn old new user why)
+
+-- a connection was served
+abbrev pub ServeOf : Connection → Option Connection → Room → Room → Result Served HubRefusal → Type 0
+ServeOf x y old new result =
+    (rest : List ℕ) × (y ≡ Some record { conference = x.conference; n = x.n; held = rest }) × ServedIn old new x.n x.held rest result
+
+-- it has left
+abbrev pub LeaveOf : Connection → Option Connection → Room → Room → Result (Unit {0}) HubRefusal → Type 0
+LeaveOf x y old new result =
+    (y ≡ None) × OnOk result (LeavesIn old new x.n) × IfErr result (λ r. (why : RoomRefusal) × (r ≡ ByRoom why) × LeaveFailsIn old new x.n why)
+
+-- the first parcel that waits for it was taken
+abbrev pub TakeOf : Connection → Option Connection → Room → Room → Result (Option Parcel) HubRefusal → Type 0
+TakeOf x y old new result =
+    (y ≡ Some x) × ((given : Result (Option Parcel) NoMember) × Gave old new x.n given × MatchResult given (λ p. result ≡ Ok p) (λ _. IsErr result))

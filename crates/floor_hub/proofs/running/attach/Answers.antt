@@ -1,4 +1,8 @@
-use Rattle.std.proofs.Common.{List, Some, None, Ok, refl, subst, sym}
+use Rattle.std.proofs.Common.{List, Some, None, Ok, subst, sym}
+use Rattle.std.proofs.lemmas.Option.{none-some}
+use Rattle.floor_machine.specs.declared.machine.Refusal.TheVariants.{Memory}
+use Rattle.floor_room.specs.declared.refusal.RoomRefusal.TheVariants.{Refused as ByMachine}
+use Rattle.floor_hub.specs.declared.refusal.HubRefusal.TheVariants.{ByRoom}
 use Rattle.floor_hub.specs.declared.connection.Place.{Place}
 use Rattle.floor_hub.specs.declared.step.Answer.TheVariants.{Attached}
 use Rattle.floor_hub.specs.declared.step.Step.TheVariants.{Attach}
@@ -13,7 +17,7 @@ returns-in-Ok-push c =
     subst (λ (ps : List Place). Goes c.args.hub.now c.attach.new.self c.args.places.now.items ps (Attach c.args.conference c.args.user) (Ok (Attached c.in-Ok.number)))
     (sym c.in-Ok-push.ensures.items)
     (attached c.args.hub.now c.attach.new.self c.args.conference c.args.user c.in-Ok.number c.in-Some.place c.args.places.now.items x.0 c.in-Ok.ensures.next
-    (whole_one by_broken None _ c.args.conference c.args.hub.now c.attach.new.self c.in-Ok.ensures.room refl) x.1 x.2 x.3)
+    (whole_one by_broken None _ c.args.conference c.args.hub.now c.attach.new.self c.in-Ok.ensures.room (λ w. none-some (ByRoom (ByMachine Memory)) w)) x.1 x.2 x.3)
 
 pub returns-in-Err : goal.returns-in-Err
 returns-in-Err c =

@@ -39,13 +39,13 @@ turns c w st =
     let g = good (old c) w st in
     ended (new c) w w (Admin c.args.conference c.args.act) Want (λ v. Done) tt g g c.admin_at.result
     (acted (room_at (old c)) (room_at (new c)) (connection_at c.self.inside.connections) c.self.inside.arrivals w c.args.conference c.args.act st.stands
-    c.admin_at.result (room_at (old c) c.args.conference) refl c.admin_at.ensures.absent
-    (λ r is. let t = c.admin_at.ensures.rooms r is in (t.0, t.1.1, t.1.2, t.2, t.3)))
+    c.admin_at.result (room_at (old c) c.args.conference) refl c.admin_at.ensures.room.absent
+    (λ r is. let t = c.admin_at.ensures.room.there r is in (t.0, t.1, t.2, t.3.0, t.3.1)))
 
 room : (c : goal.After-admin_at) → OneRoom by_broken (refusal_in c.admin_at.result) (admin_event c.args.act) c.args.conference (old c) (new c)
 room c =
-    event-room c.args.conference (event_of_act c.args.act) (old c) (new c) c.admin_at.result (room_at (old c) c.args.conference) refl c.admin_at.ensures.absent
-    (λ r is. let t = c.admin_at.ensures.rooms r is in (t.0, t.1.1, t.1.2, t.2, t.3))
+    event-room c.args.conference (event_of_act c.args.act) (old c) (new c) c.admin_at.result (room_at (old c) c.args.conference) refl c.admin_at.ensures.room.absent
+    (λ r is. let t = c.admin_at.ensures.room.there r is in (t.0, t.1, t.2, t.3.0, t.3.1))
 
 pub invariant_of-self : goal.invariant_of-self
 invariant_of-self c =
@@ -75,5 +75,5 @@ same c (Err x) = λ k. refl
 pub returns-clause-left : goal.returns-clause-left
 returns-clause-left c =
     subst (λ h. IfErr c.admin_at.result (LeftAt (admin_event c.args.act) c.args.conference h (new c))) c.self.view_is
-    (left-at (admin_event c.args.act) (event_of_act c.args.act) c.args.conference (old c) (new c) (λ r. refl) refl c.admin_at.result (room_at (old c) c.args.conference) refl c.admin_at.ensures.absent
-    (λ r is. let t = c.admin_at.ensures.rooms r is in (t.0, t.1.1, t.1.2, fails c r t.0 c.admin_at.result t.3)) (same c c.admin_at.result))
+    (left-at (admin_event c.args.act) (event_of_act c.args.act) c.args.conference (old c) (new c) (λ r. refl) refl c.admin_at.result (room_at (old c) c.args.conference) refl c.admin_at.ensures.room.absent
+    (λ r is. let t = c.admin_at.ensures.room.there r is in (t.0, t.1, t.2, fails c r t.0 c.admin_at.result t.3.1)) (same c c.admin_at.result))

@@ -43,27 +43,27 @@ turns_ok c w st =
     let g = good (old_ok c) w st in
     ended {T = Unit {0}} (new_ok c) w w (Attach c.args.conference c.args.user) Want (λ v. Attached (c.self.inside.arrivals + 1)) tt g g (Ok tt)
     (attach_result (room_at (old_ok c)) (room_at (new_ok c)) (connection_at c.self.inside.connections) (connection_at c.attach_at-joined.new.connections) c.self.inside.arrivals w
-    c.args.conference c.args.user st.stands st.kept (Ok tt) (room_at (old_ok c) c.args.conference) refl c.in-Ok.ensures.absent c.in-Ok.ensures.left
-    (λ r is. let t = c.in-Ok.ensures.rooms r is in (t.0, t.1, t.2, (t.3.0, (t.3.1.here, t.3.1.others)), tt)))
+    c.args.conference c.args.user st.stands st.kept (Ok tt) (room_at (old_ok c) c.args.conference) refl c.in-Ok.ensures.room.absent c.in-Ok.ensures.left
+    (λ r is. let t = c.in-Ok.ensures.room.there r is in (t.0, t.1, t.2, (t.3.0.0, (t.3.0.1.here, t.3.0.1.others)), tt)))
 
 room_ok : (c : goal.After-self-1) → OneRoom by_broken None (attach_event c.args.user) c.args.conference (old_ok c) (new_ok c)
 room_ok c =
-    attach-room c.args.conference c.args.user (old_ok c) (new_ok c) (Ok tt) (room_at (old_ok c) c.args.conference) refl c.in-Ok.ensures.absent
-    (λ r is. let t = c.in-Ok.ensures.rooms r is in (t.0, t.1, t.2, t.3.0, tt))
+    attach-room c.args.conference c.args.user (old_ok c) (new_ok c) (Ok tt) (room_at (old_ok c) c.args.conference) refl c.in-Ok.ensures.room.absent
+    (λ r is. let t = c.in-Ok.ensures.room.there r is in (t.0, t.1, t.2, t.3.0.0, tt))
 
 ok_err : ◌≡◌ {A = Result (Unit {0}) HubRefusal} (Ok tt) (Err NoConference) → ⊥
 ok_err e = cc
 
 -- who has joined has an outbox, the last of its room
 has_outboxes : (c : goal.After-self-1) (y : Option Room) → room_at (old_ok c) c.args.conference ≡ y → HaveOutboxes (new_ok c)
-has_outboxes c None is = absurd (ok_err (c.in-Ok.ensures.absent is).0)
+has_outboxes c None is = absurd (ok_err (c.in-Ok.ensures.room.absent is).0)
 has_outboxes c (Some r) is =
-    let t = c.in-Ok.ensures.rooms r is in
+    let t = c.in-Ok.ensures.room.there r is in
     let n : ℕ = length (conference_of r.ledger).members + 1 in
     let first : 1 ≤ n = omega arith in
-    let last : n ≤ length t.0.outboxes = omega (arith, t.3.2) in
+    let last : n ≤ length t.0.outboxes = omega (arith, t.3.0.2) in
     has-joined (old_ok c) (new_ok c) (c.self.inside.arrivals + 1) (record { conference = c.args.conference; n = n; held = [] })
-    (grows-one by_broken None (attach_event c.args.user) c.args.conference (old_ok c) (new_ok c) (room_ok c)) t.3.1 (subst (λ (z : Option Room). HasOutbox z n) (sym t.1) (first, last)) c.self.invariant.2
+    (grows-one by_broken None (attach_event c.args.user) c.args.conference (old_ok c) (new_ok c) (room_ok c)) t.3.0.1 (subst (λ (z : Option Room). HasOutbox z n) (sym t.1) (first, last)) c.self.invariant.2
 
 pub invariant_of-self : goal.invariant_of-self
 invariant_of-self c =
@@ -89,13 +89,13 @@ turns_err c w st =
     let g = good (old_err c) w st in
     ended {T = Unit {0}} (new_err c) w w (Attach c.args.conference c.args.user) Want (λ v. Attached (c.self.inside.arrivals + 1)) tt g g (Err c.in-Err.refusal)
     (attach_result (room_at (old_err c)) (room_at (new_err c)) (connection_at c.self.inside.connections) (connection_at c.attach_at-joined.new.connections) c.self.inside.arrivals w
-    c.args.conference c.args.user st.stands st.kept (Err c.in-Err.refusal) (room_at (old_err c) c.args.conference) refl c.in-Err.ensures.absent c.in-Err.ensures.left
-    c.in-Err.ensures.rooms)
+    c.args.conference c.args.user st.stands st.kept (Err c.in-Err.refusal) (room_at (old_err c) c.args.conference) refl c.in-Err.ensures.room.absent c.in-Err.ensures.left
+    (λ r is. let t = c.in-Err.ensures.room.there r is in (t.0, t.1, t.2, t.3.0, t.3.1)))
 
 room_err : (c : goal.In-Err) → OneRoom by_broken (Some c.in-Err.refusal) (attach_event c.args.user) c.args.conference (old_err c) (new_err c)
 room_err c =
-    attach-room c.args.conference c.args.user (old_err c) (new_err c) (Err c.in-Err.refusal) (room_at (old_err c) c.args.conference) refl c.in-Err.ensures.absent
-    c.in-Err.ensures.rooms
+    attach-room c.args.conference c.args.user (old_err c) (new_err c) (Err c.in-Err.refusal) (room_at (old_err c) c.args.conference) refl c.in-Err.ensures.room.absent
+    (λ r is. let t = c.in-Err.ensures.room.there r is in (t.0, t.1, t.2, t.3.0, t.3.1))
 
 pub invariant_of-self-in-Err : goal.invariant_of-self-in-Err
 invariant_of-self-in-Err c =
@@ -114,5 +114,5 @@ returns-in-Err-clause-room c =
 pub returns-in-Err-clause-left : goal.returns-in-Err-clause-left
 returns-in-Err-clause-left c =
     subst (λ h. LeftAt (attach_event c.args.user) c.args.conference h (new_err c) c.in-Err.refusal) c.self.view_is
-    (left-attach c.args.user c.args.conference (old_err c) (new_err c) c.in-Err.refusal refl (room_at (old_err c) c.args.conference) refl c.in-Err.ensures.absent
-    (λ r is. let t = c.in-Err.ensures.rooms r is in (t.0, t.1, t.2, t.4)) c.in-Err.ensures.left)
+    (left-attach c.args.user c.args.conference (old_err c) (new_err c) c.in-Err.refusal refl (room_at (old_err c) c.args.conference) refl c.in-Err.ensures.room.absent
+    (λ r is. let t = c.in-Err.ensures.room.there r is in (t.0, t.1, t.2, t.3.1)) c.in-Err.ensures.left)

@@ -1,15 +1,19 @@
 use Rattle.floor_hub.proofs.Departing.{leave_result}
 use Rattle.floor_hub.proofs.Left.{left-leave}
 use Rattle.floor_hub.proofs.RoomSteps.{leave-room}
-use Rattle.std.proofs.Common.{◌≡◌, refl, sym, subst}
-use Rattle.std.specs.Prelude.{IfErr, MatchResult, Option}
+use Rattle.std.proofs.Common.{◌≡◌, ℕ, false, Some, None, refl, sym, subst}
+use Rattle.std.specs.Prelude.{IfErr, MatchResult, OnOk, nat_eq}
 use Rattle.floor_machine.specs.declared.machine.Refusal.TheVariants.{Memory}
+use Rattle.floor_room.specs.declared.refusal.RoomRefusal.{RoomRefusal}
 use Rattle.floor_room.specs.declared.refusal.RoomRefusal.TheVariants.{Refused as ByMachine}
+use Rattle.floor_room.specs.Room.{Room}
 use Rattle.floor_hub.specs.declared.refusal.HubRefusal.{HubRefusal}
 use Rattle.floor_hub.specs.declared.refusal.HubRefusal.TheVariants.{ByRoom}
 use Rattle.floor_hub.specs.declared.step.Step.TheVariants.{Leave}
 use Rattle.floor_hub.specs.declared.step.Answer.TheVariants.{Done}
-use Rattle.floor_hub.specs.Connections.{connection_at}
+use Rattle.floor_hub.specs.Connections.{Puts, connection_at}
+use Rattle.floor_hub.specs.declared.connection.Connection.{Connection}
+use Rattle.floor_hub.specs.steps.Serving.{LeaveFailsIn, LeavesIn}
 use Rattle.floor_hub.specs.Hub.{Hub, room_at}
 use Rattle.floor_hub.specs.Left.{LeftLeaving}
 use Rattle.floor_hub.specs.Rooms.{RoomOf, leave_event, refusal_in}
@@ -17,7 +21,7 @@ use Rattle.floor_hub.specs.StandsFor.{StandsFor}
 use Rattle.floor_hub.specs.Calls.{FailsGone, Turns}
 use Rattle.floor_hub.specs.World.{World, turn}
 use Rattle.floor_hub.proofs.Closing.{ended, good, good_next, stood}
-use Rattle.floor_hub.proofs.Outboxes.{grows-of, keeps-outboxes, were-of}
+use Rattle.floor_hub.proofs.Outboxes.{grows-of, keeps-outboxes, outbox-room, were-of}
 use Rattle.floor_hub.proofs.hub.Hub.leave.Goals as goal
 
 abbrev old : goal.After-leave_at → Hub
@@ -29,39 +33,48 @@ new c = record { rooms = c.leave_at.new.rooms.entries; connections = c.leave_at.
 abbrev Want : HubRefusal → Type 0
 Want r = r ≡ ByRoom (ByMachine Memory)
 
+-- its connection is gone, since each live one has a room
+gone : (c : goal.After-leave_at) (x : Connection) → connection_at (old c).connections c.args.number ≡ Some x → Puts (old c).connections (new c).connections c.args.number None
+gone c x is =
+    let r = outbox-room (room_at (old c) x.conference) x.n (c.self.invariant.2 c.args.number x is) in
+    let t = c.leave_at.ensures.connection.there x is r.0 r.1 in
+    subst (Puts (old c).connections (new c).connections c.args.number) t.5.0 t.4
+
+there : (c : goal.After-leave_at) (x : Connection) → connection_at (old c).connections c.args.number ≡ Some x → (r : Room) → room_at (old c) x.conference ≡ Some r →
+    (s : Room) × (room_at (new c) x.conference ≡ Some s) × ((d : ℕ) → nat_eq x.conference d ≡ false → room_at (new c) d ≡ room_at (old c) d)
+    × OnOk c.leave_at.result (LeavesIn r s x.n) × IfErr c.leave_at.result (λ y. (why : RoomRefusal) × (y ≡ ByRoom why) × LeaveFailsIn r s x.n why)
+there c x is r room = let t = c.leave_at.ensures.connection.there x is r room in (t.0, t.2, t.3, t.5.1, t.5.2)
+
 turns : (c : goal.After-leave_at) (w : World) → StandsFor (old c) w → MatchResult c.leave_at.result (λ v. Turns (new c) w (Leave c.args.number) (Done)) (λ r. FailsGone (new c) w (Leave c.args.number) r)
 turns c w st =
     let g = good (old c) w st in
     ended (new c) w (turn w (Leave c.args.number)).world (Leave c.args.number) Want (λ v. Done) tt g (good_next w (Leave c.args.number) tt g) c.leave_at.result
     (leave_result (room_at (old c)) (room_at (new c)) (connection_at c.self.inside.connections) (connection_at c.leave_at.new.connections) c.self.inside.arrivals w c.args.number st.stands st.kept
-    c.leave_at.result (connection_at c.self.inside.connections c.args.number) refl c.leave_at.ensures.absent
-    (λ x is. let t = c.leave_at.ensures.gone x is in (t.here, t.others)) c.leave_at.ensures.there)
+    c.leave_at.result (connection_at c.self.inside.connections c.args.number) refl c.leave_at.ensures.connection.absent
+    (λ x is. let t = gone c x is in (t.here, t.others)) (there c))
 
-abbrev none : Option HubRefusal
-none = Rattle.std.proofs.Common.None
-
-room : (c : goal.After-leave_at) → RoomOf none (refusal_in c.leave_at.result) leave_event (connection_at (old c).connections c.args.number) (old c) (new c)
+room : (c : goal.After-leave_at) → RoomOf None (refusal_in c.leave_at.result) leave_event (connection_at (old c).connections c.args.number) (old c) (new c)
 room c =
-    leave-room c.args.number (old c) (new c) c.self.invariant.0 c.self.invariant.1 c.leave_at.result (connection_at c.self.inside.connections c.args.number) refl c.leave_at.ensures.absent refl
-    c.leave_at.ensures.there
+    leave-room c.args.number (old c) (new c) c.self.invariant.0 c.self.invariant.1 c.leave_at.result (connection_at c.self.inside.connections c.args.number) refl c.leave_at.ensures.connection.absent refl
+    (there c)
 
 pub invariant_of-self : goal.invariant_of-self
 invariant_of-self c =
     let w = c.self.invariant.0 in
     stood (new c) w (turn w (Leave c.args.number)).world (Leave c.args.number) Want (λ v. Done) c.leave_at.result (turns c w c.self.invariant.1)
-    (keeps-outboxes (old c) (new c) (grows-of none (refusal_in c.leave_at.result) leave_event (connection_at (old c).connections c.args.number) (old c) (new c) (room c))
-    (were-of (old c).connections (new c).connections c.args.number (connection_at (old c).connections c.args.number) refl (λ none. (c.leave_at.ensures.absent none).2)
-    (λ x there. (Rattle.std.proofs.Common.None, tt, c.leave_at.ensures.gone x there)))
+    (keeps-outboxes (old c) (new c) (grows-of None (refusal_in c.leave_at.result) leave_event (connection_at (old c).connections c.args.number) (old c) (new c) (room c))
+    (were-of (old c).connections (new c).connections c.args.number (connection_at (old c).connections c.args.number) refl (λ absent. (c.leave_at.ensures.connection.absent absent).2)
+    (λ x there. (None, tt, gone c x there)))
     c.self.invariant.2)
 
 pub returns-clause-next : goal.returns-clause-next
 returns-clause-next c = λ w st. turns c w (subst (λ h. StandsFor h w) (sym c.self.view_is) st)
 
 pub returns-clause-room : goal.returns-clause-room
-returns-clause-room c = subst (λ h. RoomOf none (refusal_in c.leave_at.result) leave_event (connection_at h.connections c.args.number) h (new c)) c.self.view_is (room c)
+returns-clause-room c = subst (λ h. RoomOf None (refusal_in c.leave_at.result) leave_event (connection_at h.connections c.args.number) h (new c)) c.self.view_is (room c)
 
 pub returns-clause-left : goal.returns-clause-left
 returns-clause-left c =
     subst (λ h. IfErr c.leave_at.result (LeftLeaving c.args.number (connection_at h.connections c.args.number) h (new c))) c.self.view_is
-    (left-leave c.args.number (old c) (new c) refl c.self.invariant.0 c.self.invariant.1 c.leave_at.result (connection_at c.self.inside.connections c.args.number) refl c.leave_at.ensures.absent
-    c.leave_at.ensures.gone (λ x is r room. let t = c.leave_at.ensures.there x is r room in (t.0, t.1, t.2, t.4)))
+    (left-leave c.args.number (old c) (new c) refl c.self.invariant.0 c.self.invariant.1 c.leave_at.result (connection_at c.self.inside.connections c.args.number) refl c.leave_at.ensures.connection.absent
+    (gone c) (λ x is r room. let t = there c x is r room in (t.0, t.1, t.2, t.4)))

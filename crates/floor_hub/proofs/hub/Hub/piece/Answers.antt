@@ -14,31 +14,31 @@ use Rattle.floor_hub.proofs.Closing.{ended, good, stood}
 use Rattle.floor_hub.proofs.Outboxes.{WasThere, grows-same, keeps-outboxes, were-of, were-same}
 use Rattle.floor_hub.proofs.hub.Hub.piece.Goals as goal
 
-abbrev old : goal.After-push → Hub
+abbrev old : goal.After-push_at → Hub
 old c = record { rooms = c.self.inside.rooms.entries; connections = c.self.inside.connections; arrivals = c.self.inside.arrivals }
 
-abbrev new : goal.After-push → Hub
-new c = record { rooms = c.self.inside.rooms.entries; connections = c.push.new.self; arrivals = c.self.inside.arrivals }
+abbrev new : goal.After-push_at → Hub
+new c = record { rooms = c.self.inside.rooms.entries; connections = c.push_at.new.connections; arrivals = c.self.inside.arrivals }
 
 abbrev Want : HubRefusal → Type 0
 Want r = r ≡ NoMemory
 
-turns : (c : goal.After-push) (w : World) → StandsFor (old c) w → MatchResult c.push.result (λ v. Turns (new c) w (Piece c.args.number c.args.bytes.now) (Done)) (λ r. FailsSame (new c) w (Piece c.args.number c.args.bytes.now) r)
+turns : (c : goal.After-push_at) (w : World) → StandsFor (old c) w → MatchResult c.push_at.result (λ v. Turns (new c) w (Piece c.args.number c.args.bytes.now) (Done)) (λ r. FailsSame (new c) w (Piece c.args.number c.args.bytes.now) r)
 turns c w st =
     let g = good (old c) w st in
-    ended (new c) w w (Piece c.args.number c.args.bytes.now) Want (λ v. Done) tt g g c.push.result
-    (piece_result (room_at (old c)) c.self.inside.connections c.push.new.self c.self.inside.arrivals w c.args.number c.args.bytes.now c.push.result
-    (connection_at c.self.inside.connections c.args.number) refl st.stands c.push.ensures.absent c.push.ensures.there c.push.ensures.left)
+    ended (new c) w w (Piece c.args.number c.args.bytes.now) Want (λ v. Done) tt g g c.push_at.result
+    (piece_result (room_at (old c)) c.self.inside.connections c.push_at.new.connections c.self.inside.arrivals w c.args.number c.args.bytes.now c.push_at.result
+    (connection_at c.self.inside.connections c.args.number) refl st.stands c.push_at.ensures.absent c.push_at.ensures.there c.push_at.ensures.left)
 
-were : (c : goal.After-push) (res : Result (Unit {0}) HubRefusal) → c.push.result ≡ res → (k : ℕ) → WasThere (connection_at (old c).connections k) (connection_at (new c).connections k)
-were c (Err r) is = were-same (old c).connections (new c).connections (subst (λ (z : Result (Unit {0}) HubRefusal). OnErr z (SameConnections (old c).connections (new c).connections)) is c.push.ensures.left)
+were : (c : goal.After-push_at) (res : Result (Unit {0}) HubRefusal) → c.push_at.result ≡ res → (k : ℕ) → WasThere (connection_at (old c).connections k) (connection_at (new c).connections k)
+were c (Err r) is = were-same (old c).connections (new c).connections (subst (λ (z : Result (Unit {0}) HubRefusal). OnErr z (SameConnections (old c).connections (new c).connections)) is c.push_at.ensures.left)
 were c (Ok v) is = were-of (old c).connections (new c).connections c.args.number (connection_at (old c).connections c.args.number) refl
-    (λ none. absurd (ok_err v (sym is ∙ c.push.ensures.absent none)))
+    (λ none. absurd (ok_err v (sym is ∙ c.push_at.ensures.absent none)))
     (λ x there. (
       Some (record { conference = x.conference; n = x.n; held = x.held ++ c.args.bytes.now }),
       (refl, refl),
       subst (λ (z : Result (Unit {0}) HubRefusal). MatchResult z (λ _. Puts (old c).connections (new c).connections c.args.number (Some (record { conference = x.conference; n = x.n; held = x.held ++ c.args.bytes.now }))) (λ r. r ≡ NoMemory)) is
-          (c.push.ensures.there x there),
+          (c.push_at.ensures.there x there),
     ))
   where
     ok_err : (v : Unit {0}) → ◌≡◌ {A = Result (Unit {0}) HubRefusal} (Ok v) (Err NoConnection) → ⊥
@@ -47,8 +47,8 @@ were c (Ok v) is = were-of (old c).connections (new c).connections c.args.number
 pub invariant_of-self : goal.invariant_of-self
 invariant_of-self c =
     let w = c.self.invariant.0 in
-    stood (new c) w w (Piece c.args.number c.args.bytes.now) Want (λ v. Done) c.push.result (turns c w c.self.invariant.1)
-    (keeps-outboxes (old c) (new c) (λ d. grows-same (room_at (old c) d) (room_at (new c) d) refl) (were c c.push.result refl) c.self.invariant.2)
+    stood (new c) w w (Piece c.args.number c.args.bytes.now) Want (λ v. Done) c.push_at.result (turns c w c.self.invariant.1)
+    (keeps-outboxes (old c) (new c) (λ d. grows-same (room_at (old c) d) (room_at (new c) d) refl) (were c c.push_at.result refl) c.self.invariant.2)
 
 pub returns-clause-next : goal.returns-clause-next
 returns-clause-next c = λ w st. turns c w (subst (λ h. StandsFor h w) (sym c.self.view_is) st)

@@ -1,14 +1,15 @@
 use Rattle.floor_hub.proofs.Attending.{serve_result}
 use Rattle.floor_hub.proofs.Left.{left-serve}
 use Rattle.floor_hub.proofs.RoomSteps.{serve-room}
-use Rattle.std.proofs.Common.{◌≡◌, ◌⊎◌, Some, refl, sym, subst}
-use Rattle.std.specs.Prelude.{IfErr, MatchResult}
+use Rattle.std.proofs.Common.{◌≡◌, ◌⊎◌, ℕ, List, Some, refl, sym, ◌∙◌, subst}
+use Rattle.std.specs.Prelude.{IfErr, MatchResult, Option}
 use Rattle.floor_machine.specs.declared.machine.Refusal.TheVariants.{Memory, Broken}
 use Rattle.floor_room.specs.declared.refusal.RoomRefusal.TheVariants.{Refused as ByMachine}
+use Rattle.floor_hub.specs.declared.connection.Connection.{Connection}
 use Rattle.floor_hub.specs.declared.refusal.HubRefusal.{HubRefusal}
 use Rattle.floor_hub.specs.declared.refusal.HubRefusal.TheVariants.{ByRoom}
 use Rattle.floor_hub.specs.declared.step.Step.TheVariants.{Serve}
-use Rattle.floor_hub.specs.Connections.{connection_at}
+use Rattle.floor_hub.specs.Connections.{Puts, connection_at}
 use Rattle.floor_hub.specs.Hub.{Hub, room_at}
 use Rattle.floor_hub.specs.Left.{LeftServing}
 use Rattle.floor_hub.specs.Rooms.{RoomOf, by_broken, refusal_in, serve_event}
@@ -19,48 +20,54 @@ use Rattle.floor_hub.proofs.Closing.{ended, good, stood}
 use Rattle.floor_hub.proofs.Outboxes.{grows-of, keeps-outboxes, outbox-room, were-of}
 use Rattle.floor_hub.proofs.hub.Hub.serve.Goals as goal
 
-abbrev old : goal.After-serve → Hub
+abbrev old : goal.After-serve_at → Hub
 old c = record { rooms = c.self.inside.rooms.entries; connections = c.self.inside.connections; arrivals = c.self.inside.arrivals }
 
-abbrev new : goal.After-serve → Hub
-new c = record { rooms = c.serve.new.rooms.entries; connections = c.serve.new.self; arrivals = c.self.inside.arrivals }
+abbrev new : goal.After-serve_at → Hub
+new c = record { rooms = c.serve_at.new.rooms.entries; connections = c.serve_at.new.connections; arrivals = c.self.inside.arrivals }
 
 abbrev Want : HubRefusal → Type 0
 Want r = (r ≡ ByRoom (ByMachine Memory)) ⊎ (r ≡ ByRoom (ByMachine Broken))
 
-turns : (c : goal.After-serve) (w : World) → StandsFor (old c) w → MatchResult c.serve.result (λ v. Turns (new c) w (Serve c.args.number) (answer_of v)) (λ r. Fails (new c) w (Serve c.args.number) r)
+-- what stands under the number afterwards
+served : (c : goal.After-serve_at) (x : Connection) (y : Option Connection) (rest : List ℕ) → Puts (old c).connections (new c).connections c.args.number y →
+    y ≡ Some (record { conference = x.conference; n = x.n; held = rest }) →
+    Puts (old c).connections (new c).connections c.args.number (Some (record { conference = x.conference; n = x.n; held = rest }))
+served c x y rest puts is = subst (Puts (old c).connections (new c).connections c.args.number) is puts
+
+turns : (c : goal.After-serve_at) (w : World) → StandsFor (old c) w → MatchResult c.serve_at.result (λ v. Turns (new c) w (Serve c.args.number) (answer_of v)) (λ r. Fails (new c) w (Serve c.args.number) r)
 turns c w st =
     let g = good (old c) w st in
-    ended (new c) w w (Serve c.args.number) Want (λ v. answer_of v) tt g g c.serve.result
-    (serve_result (room_at (old c)) (room_at (new c)) (connection_at c.self.inside.connections) (connection_at c.serve.new.self) c.self.inside.arrivals w c.args.number st.stands st.kept
-    c.serve.result (connection_at c.self.inside.connections c.args.number) refl c.serve.ensures.absent
-    (λ x is r room. let t = c.serve.ensures.there x is r room in (t.0, t.1, t.2.1, t.2.2, t.3.here, t.3.others, t.4)))
+    ended (new c) w w (Serve c.args.number) Want (λ v. answer_of v) tt g g c.serve_at.result
+    (serve_result (room_at (old c)) (room_at (new c)) (connection_at c.self.inside.connections) (connection_at c.serve_at.new.connections) c.self.inside.arrivals w c.args.number st.stands st.kept
+    c.serve_at.result (connection_at c.self.inside.connections c.args.number) refl c.serve_at.ensures.connection.absent
+    (λ x is r room. let t = c.serve_at.ensures.connection.there x is r room in (t.0, t.5.0, t.2, t.3, t.4.here ∙ t.5.1, t.4.others, t.5.2)))
 
-room : (c : goal.After-serve) → RoomOf by_broken (refusal_in c.serve.result) serve_event (connection_at (old c).connections c.args.number) (old c) (new c)
+room : (c : goal.After-serve_at) → RoomOf by_broken (refusal_in c.serve_at.result) serve_event (connection_at (old c).connections c.args.number) (old c) (new c)
 room c =
-    serve-room c.args.number (old c) (new c) c.self.invariant.0 c.self.invariant.1 c.serve.result (connection_at c.self.inside.connections c.args.number) refl c.serve.ensures.absent refl
-    (λ x is r room. let t = c.serve.ensures.there x is r room in (t.0, t.1, t.2.1, t.2.2, t.4))
+    serve-room c.args.number (old c) (new c) c.self.invariant.0 c.self.invariant.1 c.serve_at.result (connection_at c.self.inside.connections c.args.number) refl c.serve_at.ensures.connection.absent refl
+    (λ x is r room. let t = c.serve_at.ensures.connection.there x is r room in (t.0, t.5.0, t.2, t.3, t.5.2))
 
 pub invariant_of-self : goal.invariant_of-self
 invariant_of-self c =
     let w = c.self.invariant.0 in
-    stood (new c) w w (Serve c.args.number) Want (λ v. answer_of v) c.serve.result (turns c w c.self.invariant.1)
-    (keeps-outboxes (old c) (new c) (grows-of by_broken (refusal_in c.serve.result) serve_event (connection_at (old c).connections c.args.number) (old c) (new c) (room c))
-    (were-of (old c).connections (new c).connections c.args.number (connection_at (old c).connections c.args.number) refl (λ none. (c.serve.ensures.absent none).2)
+    stood (new c) w w (Serve c.args.number) Want (λ v. answer_of v) c.serve_at.result (turns c w c.self.invariant.1)
+    (keeps-outboxes (old c) (new c) (grows-of by_broken (refusal_in c.serve_at.result) serve_event (connection_at (old c).connections c.args.number) (old c) (new c) (room c))
+    (were-of (old c).connections (new c).connections c.args.number (connection_at (old c).connections c.args.number) refl (λ none. (c.serve_at.ensures.connection.absent none).2)
     (λ x there.
     let r = outbox-room (room_at (old c) x.conference) x.n (c.self.invariant.2 c.args.number x there) in
-    let t = c.serve.ensures.there x there r.0 r.1 in
-    (Some (record { conference = x.conference; n = x.n; held = t.1 }), (refl, refl), t.3)))
+    let t = c.serve_at.ensures.connection.there x there r.0 r.1 in
+    (Some (record { conference = x.conference; n = x.n; held = t.5.0 }), (refl, refl), served c x t.1 t.5.0 t.4 t.5.1)))
     c.self.invariant.2)
 
 pub returns-clause-next : goal.returns-clause-next
 returns-clause-next c = λ w st. turns c w (subst (λ h. StandsFor h w) (sym c.self.view_is) st)
 
 pub returns-clause-room : goal.returns-clause-room
-returns-clause-room c = subst (λ h. RoomOf by_broken (refusal_in c.serve.result) serve_event (connection_at h.connections c.args.number) h (new c)) c.self.view_is (room c)
+returns-clause-room c = subst (λ h. RoomOf by_broken (refusal_in c.serve_at.result) serve_event (connection_at h.connections c.args.number) h (new c)) c.self.view_is (room c)
 
 pub returns-clause-left : goal.returns-clause-left
 returns-clause-left c =
-    subst (λ h. IfErr c.serve.result (LeftServing c.args.number (connection_at h.connections c.args.number) h (new c))) c.self.view_is
-    (left-serve c.args.number (old c) (new c) refl c.self.invariant.0 c.self.invariant.1 c.serve.result (connection_at c.self.inside.connections c.args.number) refl c.serve.ensures.absent
-    (λ x is r room. let t = c.serve.ensures.there x is r room in (t.0, t.1, t.2.1, t.2.2, t.3, t.4)))
+    subst (λ h. IfErr c.serve_at.result (LeftServing c.args.number (connection_at h.connections c.args.number) h (new c))) c.self.view_is
+    (left-serve c.args.number (old c) (new c) refl c.self.invariant.0 c.self.invariant.1 c.serve_at.result (connection_at c.self.inside.connections c.args.number) refl c.serve_at.ensures.connection.absent
+    (λ x is r room. let t = c.serve_at.ensures.connection.there x is r room in (t.0, t.5.0, t.2, t.3, served c x t.1 t.5.0 t.4 t.5.1, t.5.2)))

@@ -23,24 +23,24 @@ new c = record { rooms = c.take_at.new.rooms.entries; connections = c.self.insid
 still : (c : goal.After-take_at) (w : World) → StandsFor (old c) w → StandsFor (new c) w
 still c w st = stands_good (new c) w (good (old c) w st)
     (take_stands (room_at (old c)) (room_at (new c)) (connection_at c.self.inside.connections) c.self.inside.arrivals w c.args.number st.stands
-    (connection_at c.self.inside.connections c.args.number) refl (λ e. (c.take_at.ensures.absent e).1)
-    (λ x is r room. let t = c.take_at.ensures.there x is r room in (t.0, t.2.1, t.2.2, t.3.same)))
+    (connection_at c.self.inside.connections c.args.number) refl (λ e. (c.take_at.ensures.connection.absent e).1)
+    (λ x is r room. let t = c.take_at.ensures.connection.there x is r room in (t.0, t.2, t.3, t.5.1.1.same)))
 
 taken : (c : goal.After-take_at) (y : Option Connection) → connection_at (old c).connections c.args.number ≡ y → TakenOf y c.take_at.result (old c) (new c)
-taken c None is = let a = c.take_at.ensures.absent is in (a.0, record { rooms = a.1; connections = λ k. refl; arrivals = refl })
+taken c None is = let a = c.take_at.ensures.connection.absent is in (a.0, record { rooms = a.1; connections = a.2; arrivals = refl })
 taken c (Some x) is =
     let r = outbox-room (room_at (old c) x.conference) x.n (c.self.invariant.2 c.args.number x is) in
-    let t = c.take_at.ensures.there x is r.0 r.1 in
-    let g = given-ok r.0 t.0 x.n t.1 r.2 r.3 t.3 in (
+    let t = c.take_at.ensures.connection.there x is r.0 r.1 in
+    let g = given-ok r.0 t.0 x.n t.5.1.0 r.2 r.3 t.5.1.1 in (
       g.0,
-      subst (λ (z : Result (Option Parcel) NoMember). MatchResult z (λ p. c.take_at.result ≡ Ok p) (λ _. IsErr c.take_at.result)) g.1 t.4,
+      subst (λ (z : Result (Option Parcel) NoMember). MatchResult z (λ p. c.take_at.result ≡ Ok p) (λ _. IsErr c.take_at.result)) g.1 t.5.1.2,
       record {
         before = r.0;
         after = t.0;
         was = r.1;
-        now = t.2.1;
-        gave = subst (Gave r.0 t.0 x.n) g.1 t.3;
-        others = t.2.2;
+        now = t.2;
+        gave = subst (Gave r.0 t.0 x.n) g.1 t.5.1.1;
+        others = t.3;
         connections = λ k. refl;
         arrivals = refl;
       },
