@@ -1,4 +1,5 @@
-//! One conference with its journal, and the sender of each member that ever joined.
+//! One conference with its journal, and a place for each member that ever joined, with its sender
+//! until it has left.
 
 ghost use Rattle.std.specs.Prelude.{◌≡◌, ◌↔◌, IsTrue, ◌+◌, ◌-◌, ◌++◌, ◌⊎◌, [], true, None, IfErr, IfOk, IsSomeAnd, OnOk, OnErr, Err, length, slice_set, false};
 ghost use Rattle.floor_machine.specs.declared.event.Event.TheVariants.{Join, Message, Leave};
@@ -23,7 +24,8 @@ use std::alloc::{AllocError, Global};
 use std::marker::Model;
 use std::sync::Wait;
 
-/// One conference with its journal, and the sender of each member that ever joined.
+/// One conference with its journal, and a place for each member that ever joined, with its sender
+/// until it has left.
 ///
 /// Changes: `join`, `submit` and `leave` of a member, `admin` of the administrator, and `reclaim` or
 /// `release` of what is left of a member.

@@ -1,7 +1,7 @@
 //! The threads of the server: conferences behind locks, desks at which members are served, and the
 //! loops of a connection.
 //!
-//! A [`Booth`] is a conference with its journal and a sender for each member that ever joined.
+//! A [`Booth`] is a conference with its journal and the senders of its members.
 //! Threads share it behind a lock of its own, by a [`Desk`]; a [`Registry`] has the booths of all
 //! conferences. One lock hold is one event. [`read_loop`] submits the messages of a stream, and
 //! [`write_loop`] writes the parcels of a member; [`finish`] compares what every [`Seat`] recorded
