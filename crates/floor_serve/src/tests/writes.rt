@@ -1,6 +1,6 @@
 //! Writes that fail, and parcels that are too long to be gathered.
 
-ghost use Rattle.std.specs.Prelude.{None};
+ghost use Rattle.std.specs.Prelude.{◌≡◌, None, false};
 
 use super::{HELLO, HELLO_ACK, frame, joined, opened, submits};
 use crate::*;

@@ -161,7 +161,7 @@ fn let_end(loads: &[Arc<Load, Global>]) {
 }
 
 /// How many answers these clients have heard.
-fn heard(loads: &[Arc<Load, Global>]) -> u32 {
+fn all_heard(loads: &[Arc<Load, Global>]) -> u32 {
     let mut heard = 0u32;
     for load in loads {
         heard = heard.saturating_add(load.heard.load(Ordering::SeqCst));
@@ -201,15 +201,17 @@ fn stop_under_load(rt: HostRuntime) -> Result<(), Fail> {
         clients.push(thread::spawn(&rt, move || go_on(stream, &theirs))?)?;
         loads.push(load)?;
     }
+    let lasting = loads.get(..2).ok_or("clients of conference 1")?;
+    let closing = loads.get(2..).ok_or("clients of conference 2")?;
     assert!(rt; hear_on(&rt, &loads));
-    let_end(&loads[2..]);
+    let_end(closing);
     assert_eq!(rt; ask(&rt, &server, "close 2")?.as_str(), "ok closed 2");
     for _ in 0..2 {
         let client = clients.pop().ok_or("a client of conference 2")?;
         assert!(rt; client.join(&rt));
     }
     for (asked, wanted) in MEANWHILE {
-        assert!(rt; hear_on(&rt, &loads[..2]), "{asked}");
+        assert!(rt; hear_on(&rt, lasting), "{asked}");
         let answer = ask(&rt, &server, asked)?;
         assert!(rt; answer.as_str().starts_with(wanted), "{asked}");
     }
@@ -225,7 +227,7 @@ fn stop_under_load(rt: HostRuntime) -> Result<(), Fail> {
     // Four joins, two leaves of conference 1 and a Close each of 2 and 3 are no messages. What was
     // under way at the end may be taken and not heard.
     let messages = read_u32(events).ok_or("no number")?.saturating_sub(8);
-    let heard = heard(&loads);
+    let heard = all_heard(&loads);
     assert!(rt; heard <= messages && messages <= heard.saturating_add(4 * UNDER_WAY));
     assert_eq!(rt; server.end(&rt), 0);
     fs::remove_file(&rt, "load.toml")?;
