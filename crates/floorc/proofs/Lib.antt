@@ -2,3 +2,4 @@ pub mod Commands
 pub mod Growing
 pub mod Receiving
 pub mod Steps
+pub mod Obeying

@@ -43,9 +43,8 @@ parted xs ys old middle new first more e f =
     ∙ ap (λ (l : List ℕ). l ++ new) (sym (flat_map-append taken_by xs ys))
 
 -- no step
-pub unmoved : (a : State) → Conversed a a
+pub unmoved : (a : State) → Conversed [] a a
 unmoved a = record {
-  steps = [];
   follow = (refl, refl);
   sent = Appends-nil a.sent;
   printed = Appends-nil a.printed;
@@ -55,26 +54,29 @@ unmoved a = record {
 }
 
 -- more steps
-pub onward : (a b c : State) → Conversed a b → Conversed b c → Conversed a c
-onward a b c p q = record {
-  steps = p.steps ++ q.steps;
-  follow = follows-append a.client a.awaited p.steps b.client b.awaited q.steps c.client c.awaited p.follow q.follow;
-  sent = grown sent_by p.steps q.steps a.sent b.sent c.sent p.sent q.sent;
-  printed = grown printed_by p.steps q.steps a.printed b.printed c.printed p.printed q.printed;
+pub onward : (xs ys : List Step) (a b c : State) → Conversed xs a b → Conversed ys b c → Conversed (xs ++ ys) a c
+onward xs ys a b c p q = record {
+  follow = follows-append a.client a.awaited xs b.client b.awaited ys c.client c.awaited p.follow q.follow;
+  sent = grown sent_by xs ys a.sent b.sent c.sent p.sent q.sent;
+  printed = grown printed_by xs ys a.printed b.printed c.printed p.printed q.printed;
   received = p.received ++ q.received;
   given = Consumes-trans a.remaining b.remaining c.remaining p.received q.received p.given q.given;
-  parts = parted p.steps q.steps a.held b.held c.held p.received q.received p.parts q.parts;
+  parts = parted xs ys a.held b.held c.held p.received q.received p.parts q.parts;
 }
 
 -- steps, and then a step that was begun at most
-pub onward-left : (a b c : State) → Conversed a b → Left b c → Left a c
-onward-left a b c p l = record { middle = l.middle; whole = onward a b l.middle p l.whole; broke = l.broke }
+pub onward-left : (xs ys : List Step) (a b c : State) → Conversed xs a b → Left ys b c → Left (xs ++ ys) a c
+onward-left xs ys a b c p l = record { middle = l.middle; whole = onward xs ys a b l.middle p l.whole; broke = l.broke }
 
-pub left-at : (a b c : State) → Conversed a b → Broke b c → Left a c
-left-at a b c p broke = record { middle = b; whole = p; broke = broke }
+-- whole steps, and then a step that was begun at most and nothing whole
+pub onward-broke : (xs : List Step) (a b c : State) → Conversed xs a b → Left [] b c → Left xs a c
+onward-broke xs a b c p l = subst (λ (s : List Step). Left s a c) (append-nil xs) (onward-left xs [] a b c p l)
 
-pub broke-left : (a c : State) → Broke a c → Left a c
-broke-left a c broke = left-at a a c (unmoved a) broke
+pub left-at : (xs : List Step) (a b c : State) → Conversed xs a b → Broke b c → Left xs a c
+left-at xs a b c p broke = record { middle = b; whole = p; broke = broke }
+
+pub broke-left : (a c : State) → Broke a c → Left [] a c
+broke-left a c broke = left-at [] a a c (unmoved a) broke
 
 -- nothing was written of these bytes
 pub nothing-began : (a b : Option (List ℕ)) (bytes : List ℕ) → Keeps a b → Began a b bytes
@@ -87,12 +89,11 @@ began-all a b bytes all e began = let P : List ℕ → Type 0 = λ l. Began a b 
 -- a message was heard, and its line printed
 pub heard-one : (old new : Client) (before : Option ℕ) (what : Heard) (message : List ℕ) (sent sent' printed printed' remaining remaining' : Option (List ℕ)) (held held' : List ℕ)
     → Hears old (tell message) what new → Appends printed printed' (line_of (rendered what)) → Received remaining remaining' sent sent' held message held'
-    → Conversed (state old before sent printed remaining held) (state new (awaited_after before (ended_by what)) sent' printed' remaining' held')
+    → Conversed (heard message what ∷ []) (state old before sent printed remaining held) (state new (awaited_after before (ended_by what)) sent' printed' remaining' held')
 heard-one old new before what message sent sent' printed printed' remaining remaining' held held' hears grew came =
     let step : Step = heard message what in
     let P : List ℕ → Type 0 = λ l. Appends printed printed' l in
     record {
-      steps = step ∷ [];
       follow = (new, awaited_after before (ended_by what), (hears, refl), (refl, refl));
       sent = Appends-kept sent sent sent' [] (Appends-nil sent) came.kept;
       printed = subst P (sym (append-nil (line_of (rendered what)))) grew;
@@ -136,13 +137,12 @@ received-alone old new before sent sent' printed printed' remaining remaining' h
 
 -- a message was sent whole
 pub asked-one : (ask : Ask) (number : ℕ) (old new : Client) (remaining remaining' sent sent' printed : Option (List ℕ)) (held : List ℕ)
-    → Sent ask number old new remaining remaining' sent sent'
-    → Conversed (state old None sent printed remaining held) (state new (Some number) sent' printed remaining' held)
+    → (was : Sent ask number old new remaining remaining' sent sent')
+    → Conversed (asked ask was.message ∷ []) (state old None sent printed remaining held) (state new (Some number) sent' printed remaining' held)
 asked-one ask number old new remaining remaining' sent sent' printed held was =
     let step : Step = asked ask was.message in
     let P : List ℕ → Type 0 = λ l. Appends sent sent' l in
     record {
-      steps = step ∷ [];
       follow = (new, Some number, (refl, was.asks, ap (λ (n : ℕ). Some n) was.number_is), (refl, refl));
       sent = subst P (sym (append-nil was.message)) was.grew;
       printed = Appends-nil printed;
@@ -154,7 +154,7 @@ asked-one ask number old new remaining remaining' sent sent' printed held was =
 -- a message was sent in part, or nothing was asked
 pub unsent : (ask : Ask) (old new : Client) (remaining remaining' sent sent' printed : Option (List ℕ)) (held : List ℕ)
     → Unsent ask old new remaining remaining' sent sent'
-    → (awaited : Option ℕ) × (left : List ℕ) × Left (state old None sent printed remaining held) (state new awaited sent' printed remaining' left)
+    → (awaited : Option ℕ) × (left : List ℕ) × Left [] (state old None sent printed remaining held) (state new awaited sent' printed remaining' left)
 unsent ask old new remaining remaining' sent sent' printed held (in_part message asks began kept) =
     let step : Step = asked ask message in
     let number : Option ℕ = Some ((header_of message).transaction) in (
@@ -178,11 +178,10 @@ unsent ask old new remaining remaining' sent sent' printed held (unasked same si
 -- a line was refused, and that printed whole or in part
 pub refused-one : (client : Client) (sent printed printed' remaining : Option (List ℕ)) (held text : List ℕ)
     → text ≡ printed_by refused → Appends printed printed' text
-    → Conversed (state client None sent printed remaining held) (state client None sent printed' remaining held)
+    → Conversed (refused ∷ []) (state client None sent printed remaining held) (state client None sent printed' remaining held)
 refused-one client sent printed printed' remaining held text e grew =
     let P : List ℕ → Type 0 = λ l. Appends printed printed' l in
     record {
-      steps = refused ∷ [];
       follow = (client, None, (refl, refl, refl), (refl, refl));
       sent = Appends-nil sent;
       printed = subst P (e ∙ sym (append-nil (printed_by refused))) grew;
@@ -193,7 +192,7 @@ refused-one client sent printed printed' remaining held text e grew =
 
 pub refused-in_part : (client : Client) (sent printed printed' remaining : Option (List ℕ)) (held text : List ℕ)
     → text ≡ printed_by refused → Began printed printed' text
-    → (awaited : Option ℕ) × (left : List ℕ) × Left (state client None sent printed remaining held) (state client awaited sent printed' remaining left)
+    → (awaited : Option ℕ) × (left : List ℕ) × Left [] (state client None sent printed remaining held) (state client awaited sent printed' remaining left)
 refused-in_part client sent printed printed' remaining held text e began = (
   None,
   held,
@@ -212,24 +211,24 @@ refused-in_part client sent printed printed' remaining held text e began = (
 
 -- nothing was begun
 pub left-here : (client : Client) (awaited : Option ℕ) (sent printed remaining : Option (List ℕ)) (held : List ℕ)
-    → (after : Option ℕ) × (left : List ℕ) × Left (state client awaited sent printed remaining held) (state client after sent printed remaining left)
+    → (after : Option ℕ) × (left : List ℕ) × Left [] (state client awaited sent printed remaining held) (state client after sent printed remaining left)
 left-here client awaited sent printed remaining held =
     (awaited, held, broke-left _ _ (received-alone client client awaited sent sent printed printed remaining remaining held held refl (Keeps-refl printed) (received-kept remaining remaining sent sent held (Keeps-refl remaining) (Keeps-refl sent))))
 
 -- whole steps, and nothing was begun behind them
-pub stopped : (a : State) (client : Client) (awaited : Option ℕ) (sent printed remaining : Option (List ℕ)) (held : List ℕ)
-    → Conversed a (state client awaited sent printed remaining held)
-    → (after : Option ℕ) × (left : List ℕ) × Left a (state client after sent printed remaining left)
-stopped a client awaited sent printed remaining held whole =
+pub stopped : (xs : List Step) (a : State) (client : Client) (awaited : Option ℕ) (sent printed remaining : Option (List ℕ)) (held : List ℕ)
+    → Conversed xs a (state client awaited sent printed remaining held)
+    → (after : Option ℕ) × (left : List ℕ) × Left xs a (state client after sent printed remaining left)
+stopped xs a client awaited sent printed remaining held whole =
     let here = left-here client awaited sent printed remaining held in
-    (here.0, here.1, onward-left a (state client awaited sent printed remaining held) _ whole here.2)
+    (here.0, here.1, onward-broke xs a (state client awaited sent printed remaining held) _ whole here.2)
 
 -- what is awaited, told otherwise
-pub then-awaiting : (a : State) (client : Client) (awaited after : Option ℕ) (sent printed remaining : Option (List ℕ)) (held : List ℕ)
-    → Conversed a (state client awaited sent printed remaining held) → awaited ≡ after
-    → Conversed a (state client after sent printed remaining held)
-then-awaiting a client awaited after sent printed remaining held whole e =
-    let P : Option ℕ → Type 0 = λ w. Conversed a (state client w sent printed remaining held) in subst P e whole
+pub then-awaiting : (xs : List Step) (a : State) (client : Client) (awaited after : Option ℕ) (sent printed remaining : Option (List ℕ)) (held : List ℕ)
+    → Conversed xs a (state client awaited sent printed remaining held) → awaited ≡ after
+    → Conversed xs a (state client after sent printed remaining held)
+then-awaiting xs a client awaited after sent printed remaining held whole e =
+    let P : Option ℕ → Type 0 = λ w. Conversed xs a (state client w sent printed remaining held) in subst P e whole
 
 -- what follows of a fact of a result
 pub ok_as : {T E : Type 0} (r : Result T E) (P Q : Type 0) → OnOk r P → (P → Q) → OnOk r Q

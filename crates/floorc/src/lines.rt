@@ -1,5 +1,9 @@
 //! The lines of an input that comes in pieces.
 
+ghost use Rattle.std.specs.Prelude.{[], ◌∷◌, ℕ, List, None, Option, IfOk, MatchOption, OnErr};
+ghost use Rattle.std.specs.String.{string_bytes};
+ghost use Rattle.floorc.specs.Input.{Gives, IsOver};
+
 use floor_words::cut_line;
 use std::alloc::{AllocError, Global};
 use std::io::Read;
@@ -7,57 +11,43 @@ use std::io::Read;
 /// How often a loop over an input or a stream turns at most.
 pub const MAX_TURNS: u32 = 100_000_000;
 
-/// The bytes of an input that no line was cut off yet.
+/// What a session takes its lines from.
+pub trait Input {
+    /// The lines that it will give, where they are known.
+    ghost lines: { Self → Option (List (List ℕ)) };
+
+    /// The next line, without its line feed; `None` behind the last. After an error no line was
+    /// taken.
+    fn next(&mut self) -> Result<Option<String>, AllocError>
+        ensures given { IfOk result (λ line. MatchOption line
+            (Gives (lines self.old) (lines self.new) [])
+            (λ text. Gives (lines self.old) (lines self.new) (string_bytes text ∷ []))) }
+        ensures end { IfOk result (λ line. MatchOption line (IsOver (lines self.new))
+            (λ _. Unit {0})) }
+        ensures left { OnErr result (Gives (lines self.old) (lines self.new) []) };
+}
+
+/// The lines of a reader, and its bytes that no line was cut off yet. Of its lines nothing is known.
 ///
 /// A read that fails counts as the end of the input, and so do bytes that are no UTF-8.
 #[derive(Drop)]
-pub struct Lines {
+pub struct Lines<R> {
     alloc: Global,
+    reader: R,
     held: Vec<u8>,
     /// Whether nothing more is read.
     is_ended: bool,
 }
 
-impl Lines {
-    /// No line. Takes no memory.
-    pub fn new(alloc: Global) -> Lines {
+impl<R> Lines<R> {
+    /// The lines of a reader. Takes no memory.
+    pub fn new(alloc: Global, reader: R) -> Lines<R> {
         Lines {
             alloc,
+            reader,
             held: Vec::new(alloc),
             is_ended: false,
         }
-    }
-
-    /// The next line, without its line feed and a carriage return before that; `None` at the end of
-    /// the input. The last line may lack its line feed.
-    pub fn next<R: Read>(&mut self, input: &mut R) -> Result<Option<String>, AllocError> {
-        let mut searched = 0;
-        for _ in 0..MAX_TURNS {
-            match line_end(&self.held, searched) {
-                Some(end) => return self.take(end),
-                None => {}
-            }
-            if self.is_ended {
-                let end = self.held.len();
-                return self.take(end);
-            }
-            searched = self.held.len();
-            self.read_from(input)?;
-        }
-        self.is_ended = true;
-        self.held.clear();
-        Ok(None)
-    }
-
-    /// Reads once. A read that fails or gives nothing ends the input.
-    fn read_from<R: Read>(&mut self, input: &mut R) -> Result<(), AllocError> {
-        let mut chunk = [0u8; 4096];
-        match input.read(&mut chunk) {
-            Ok(0) => self.is_ended = true,
-            Ok(count) => self.held.extend_from_slice(&chunk[..count])?,
-            Err(_) => self.is_ended = true,
-        }
-        Ok(())
     }
 
     /// Takes the line off that ends here, or ends the input where it is no text.
@@ -74,6 +64,44 @@ impl Lines {
                 Ok(None)
             }
         }
+    }
+}
+
+impl<R: Read> Lines<R> {
+    /// Reads once. A read that fails or gives nothing ends the input.
+    fn read(&mut self) -> Result<(), AllocError> {
+        let mut chunk = [0u8; 4096];
+        match self.reader.read(&mut chunk) {
+            Ok(0) => self.is_ended = true,
+            Ok(count) => self.held.extend_from_slice(&chunk[..count])?,
+            Err(_) => self.is_ended = true,
+        }
+        Ok(())
+    }
+}
+
+impl<R: Read> Input for Lines<R> {
+    ghost lines = { λ _. None };
+
+    /// The next line, without a carriage return before its line feed. The last line may lack its
+    /// line feed.
+    fn next(&mut self) -> Result<Option<String>, AllocError> {
+        let mut searched = 0;
+        for _ in 0..MAX_TURNS {
+            match line_end(&self.held, searched) {
+                Some(end) => return self.take(end),
+                None => {}
+            }
+            if self.is_ended {
+                let end = self.held.len();
+                return self.take(end);
+            }
+            searched = self.held.len();
+            self.read()?;
+        }
+        self.is_ended = true;
+        self.held.clear();
+        Ok(None)
     }
 }
 

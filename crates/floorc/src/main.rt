@@ -7,6 +7,7 @@
 
 mod arguments;
 mod command;
+mod fault;
 mod lines;
 mod messages;
 mod run;

@@ -3,8 +3,8 @@
 ghost use Rattle.std.specs.Prelude.{◌≡◌, ℕ, List, [], IfOk, OnErr, OnOk};
 ghost use Rattle.floorc.specs.Session.{Received};
 
+use crate::fault::SessionFault;
 use crate::lines::MAX_TURNS;
-use crate::session::SessionFault;
 use crate::stream::Stream;
 use floor_wire::{Frame, Framer};
 

@@ -1,7 +1,12 @@
 //! A run of the program: its words, a connection, a session.
 
+ghost use Rattle.std.specs.Prelude.{◌≡◌};
+ghost use Rattle.floorc.specs.Names.{status_of};
+
 use crate::arguments::{ArgumentFault, parse_arguments};
-use crate::session::{SessionFault, session};
+use crate::fault::{RunFault, SessionFault};
+use crate::lines::Lines;
+use crate::session::session;
 use crate::stream::Socket;
 use crate::writing::write_whole;
 use clap::error::ErrorKind;
@@ -10,18 +15,6 @@ use std::alloc::Global;
 use std::convert::AsStr;
 use std::io::{Read, Write};
 use std::net::{Net, TcpStream};
-use thiserror::Error;
-
-/// Why a run ends early, as it is printed.
-#[derive(Clone, Copy, Debug, PartialEq, Eq, Error)]
-enum RunFault {
-    /// A word is no number that fits.
-    #[error("BadNumber")]
-    BadNumber,
-    /// The session ended early.
-    #[error("{0}")]
-    Session(SessionFault),
-}
 
 /// Connects as the words say, and serves the lines of the input until they end. Gives the exit
 /// status: 0; 1 for a fault of the session, whose name is printed to `errors`; 2 where the words
@@ -34,22 +27,35 @@ pub fn run<N: Net, S: AsStr, R: Read, W: Write, E: Write>(
     output: &mut W,
     errors: &mut E,
 ) -> u8 {
+    match serve(rt, alloc, words, input, output, errors) {
+        Ok(()) => 0,
+        Err(fault) => tell(errors, fault),
+    }
+}
+
+/// Does what the words say.
+fn serve<N: Net, S: AsStr, R: Read, W: Write, E: Write>(
+    rt: &N,
+    alloc: Global,
+    words: &[S],
+    input: &mut R,
+    output: &mut W,
+    errors: &mut E,
+) -> Result<(), RunFault> {
     let arguments = match parse_arguments(alloc, words) {
         Ok(arguments) => arguments,
-        Err(ArgumentFault::BadNumber) => return fail(errors, RunFault::BadNumber, 2),
+        Err(ArgumentFault::BadNumber) => return Err(RunFault::BadNumber),
         Err(ArgumentFault::Words(error)) => return explain(alloc, &error, output, errors),
     };
-    let mut client = Client::new(alloc, arguments.conference, arguments.user);
-    let outcome = match TcpStream::connect(rt, arguments.address) {
-        Ok(stream) => {
-            let mut stream = Socket::new(stream);
-            session(alloc, &mut client, input, output, &mut stream)
-        }
-        Err(_) => Err(SessionFault::Socket),
+    let Ok(stream) = TcpStream::connect(rt, arguments.address) else {
+        return Err(RunFault::Session(SessionFault::Socket));
     };
-    match outcome {
-        Ok(()) => 0,
-        Err(fault) => fail(errors, RunFault::Session(fault), 1),
+    let mut client = Client::new(alloc, arguments.conference, arguments.user);
+    let mut lines = Lines::new(alloc, input);
+    let mut stream = Socket::new(stream);
+    match session(alloc, &mut client, &mut lines, output, &mut stream) {
+        Ok(()) => Ok(()),
+        Err(fault) => Err(RunFault::Session(fault)),
     }
 }
 
@@ -59,25 +65,33 @@ fn explain<W: Write, E: Write>(
     error: &clap::Error,
     output: &mut W,
     errors: &mut E,
-) -> u8 {
+) -> Result<(), RunFault> {
     if error.kind() == ErrorKind::OutOfMemory {
-        return fail(errors, RunFault::Session(SessionFault::Memory), 1);
+        return Err(RunFault::Session(SessionFault::Memory));
     }
     let Ok(text) = format!(in alloc; "{error}") else {
-        return fail(errors, RunFault::Session(SessionFault::Memory), 1);
+        return Err(RunFault::Session(SessionFault::Memory));
     };
     if error.use_stderr() {
         let _ = write_whole(errors, text.as_bytes());
-        return 2;
+        return Err(RunFault::Refused);
     }
     match write_whole(output, text.as_bytes()) {
-        Ok(()) => 0,
-        Err(_) => fail(errors, RunFault::Session(SessionFault::CannotWrite), 1),
+        Ok(()) => Ok(()),
+        Err(_) => Err(RunFault::Session(SessionFault::CannotWrite)),
     }
 }
 
-/// Prints the fault, and gives the status. Takes no memory, so that want of memory has its name.
-fn fail<E: Write>(errors: &mut E, fault: RunFault, status: u8) -> u8 {
-    let _outcome = writeln!(errors, "floorc: {fault}");
-    status
+/// Prints the fault's name, where it has one, and gives its status. Takes no memory, so that want of
+/// memory has its name.
+fn tell<E: Write>(errors: &mut E, fault: RunFault) -> u8
+    ensures status { result ≡ status_of fault }
+{
+    match fault.name() {
+        None => {}
+        Some(name) => {
+            let _written = writeln!(errors, "floorc: {name}");
+        }
+    }
+    fault.status()
 }

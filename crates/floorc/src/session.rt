@@ -1,104 +1,66 @@
 //! A session of a client: command lines in, messages out, and a line for each message heard.
 
-ghost use Rattle.std.specs.Prelude.{◌≡◌, ℕ, [], List, Option, None, Some, IfOk, OnErr, OnOk, if◌then◌else◌};
+ghost use Rattle.std.specs.Prelude.{◌≡◌, ◌↔◌, ℕ, ◌<◌, false, true, [], ◌∷◌, List, Ok, Err, Option, None, Some, IfOk, IsTrue, MatchResult, OnErr, OnOk, if◌then◌else◌};
 ghost use Rattle.std.specs.Io.KnownBytes.{Appends};
 ghost use Rattle.floor_client.specs.Rendered.{rendered};
+ghost use Rattle.floor_client.specs.declared.heard.Heard.{Heard as Meant};
 ghost use Rattle.floor_message.specs.Fits.{AskFits};
 ghost use Rattle.floorc.specs.Commands.{CommandFits};
-ghost use Rattle.floorc.specs.Session.{Conversed, Left, Sent, Unsent, awaited_after, ended_by, line_of, state};
+ghost use Rattle.floorc.specs.Session.{AreHeard, Begins, Conversed, IsAsked, IsBeingAsked, Left, Obeys, Sent, Served, Step, Stopped, Unsent, awaited_after, ended_by, heard, line_of, printed_by, refused, state};
 ghost use Rattle.floorc.specs.Written.{Began};
+ghost use Rattle.floorc.specs.declared.command.LineFault.TheVariants.{BadLine};
 
 use crate::command::{Command, LineFault, parse_line};
-use crate::lines::{Lines, MAX_TURNS};
+use crate::fault::SessionFault;
+use crate::lines::{Input, MAX_TURNS};
 use crate::messages::next_message;
 use crate::stream::Stream;
 use crate::writing::write_whole;
-use floor_client::{Ask, AskRefusal, Client, Heard, render};
+use floor_client::{Ask, Client, Heard, render};
 use floor_wire::Framer;
-use std::alloc::{AllocError, AllocFailed, Global};
-use std::io::{Read, Write};
-use thiserror::Error;
+use std::alloc::Global;
+use std::io::Write;
 
-/// Why a session ends early.
-#[derive(Clone, Copy, Debug, PartialEq, Eq, Error)]
-pub enum SessionFault {
-    /// The stream failed, or ended while a message was awaited.
-    #[error("Socket")]
-    Socket,
-    /// All transactions are open.
-    #[error("NoTransaction")]
-    NoTransaction,
-    /// A line couldn't be written.
-    #[error("CannotWrite")]
-    CannotWrite,
-    /// Memory was refused.
-    #[error("Memory")]
-    Memory,
-}
-
-impl From<AllocError> for SessionFault {
-    fn from(_e: AllocError) -> SessionFault {
-        SessionFault::Memory
-    }
-}
-
-impl<T: Drop> From<AllocFailed<T>> for SessionFault {
-    fn from(_e: AllocFailed<T>) -> SessionFault {
-        SessionFault::Memory
-    }
-}
-
-impl From<AskRefusal> for SessionFault {
-    fn from(refusal: AskRefusal) -> SessionFault {
-        match refusal {
-            AskRefusal::NoTransaction => SessionFault::NoTransaction,
-            AskRefusal::Memory => SessionFault::Memory,
-        }
-    }
-}
-
-/// Sends what the lines ask over the stream, and prints a line for each message that is heard until
-/// the response comes, each as soon as it is known. Ends at `quit` or at the end of the lines.
-pub fn session<R: Read, W: Write, S: Stream>(
+/// Does what the lines ask, one after another: sends their messages over the stream, and prints a
+/// line for each message that is heard until the response comes, each as soon as it is known. Ends
+/// at `quit` or at the end of the lines.
+pub fn session<L: Input, W: Write, S: Stream>(
     alloc: Global,
     client: &mut Client,
-    lines: &mut R,
+    lines: &mut L,
     output: &mut W,
     stream: &mut S,
 ) -> Result<(), SessionFault>
-    ensures took { OnOk result ((held : List ℕ) × Conversed
+    ensures took { OnOk result ((held : List ℕ) × Served (L.lines lines.old) (L.lines lines.new)
         (state client.old None (S.contents stream.old)
         (W.contents output.old) (S.remaining stream.old) [])
         (state client.new None (S.contents stream.new)
         (W.contents output.new) (S.remaining stream.new) held)) }
-    ensures left { OnErr result ((awaited : Option ℕ) × (held : List ℕ) × Left
+    ensures left { OnErr result ((awaited : Option ℕ) × (held : List ℕ)
+        × Stopped (L.lines lines.old) (L.lines lines.new)
         (state client.old None (S.contents stream.old)
         (W.contents output.old) (S.remaining stream.old) [])
         (state client.new awaited (S.contents stream.new)
         (W.contents output.new) (S.remaining stream.new) held)) }
 {
-    let mut held = Lines::new(alloc);
     let mut framer = Framer::new(alloc);
-    for _ in 0..MAX_TURNS {
-        let line = match held.next(lines) {
+    for turn in 0..MAX_TURNS {
+        let line = match lines.next() {
             Ok(Some(line)) => line,
             Ok(None) => return Ok(()),
             Err(_) => return Err(SessionFault::Memory),
         };
         let parsed = parse_line(alloc, line.as_str());
-        let is_last = matches!(parsed, Ok(Command::Quit));
         match obey(alloc, client, &mut framer, parsed, output, stream) {
-            Ok(()) => {}
+            Ok(false) => {}
+            Ok(true) => return Ok(()),
             Err(fault) => return Err(fault),
-        }
-        if is_last {
-            return Ok(());
         }
     }
     Ok(())
 }
 
-/// Does what a line asks for.
+/// Does what a line asks for, and tells whether the session ends with it.
 fn obey<W: Write, S: Stream>(
     alloc: Global,
     client: &mut Client,
@@ -106,25 +68,51 @@ fn obey<W: Write, S: Stream>(
     parsed: Result<Command, LineFault>,
     output: &mut W,
     stream: &mut S,
-) -> Result<(), SessionFault>
+) -> Result<bool, SessionFault>
     requires fits { IfOk parsed CommandFits }
-    ensures took { OnOk result (Conversed
+    ensures took { IfOk result (λ is_last. (steps : List Step) × Obeys parsed steps is_last
+        × Conversed steps
         (state client.old None (S.contents stream.old)
         (W.contents output.old) (S.remaining stream.old) framer.old)
         (state client.new None (S.contents stream.new)
         (W.contents output.new) (S.remaining stream.new) framer.new)) }
-    ensures left { OnErr result ((awaited : Option ℕ) × (held : List ℕ) × Left
+    ensures left { OnErr result ((awaited : Option ℕ) × (held : List ℕ) × (steps : List Step)
+        × Begins parsed steps × Left steps
         (state client.old None (S.contents stream.old)
         (W.contents output.old) (S.remaining stream.old) framer.old)
         (state client.new awaited (S.contents stream.new)
         (W.contents output.new) (S.remaining stream.new) held)) }
 {
     match parsed {
-        Ok(Command::Send(ask)) => converse(alloc, client, framer, ask, output, stream),
-        Ok(Command::Listen(count)) => listen(alloc, client, framer, count, output, stream),
-        Ok(Command::Quit) => Ok(()),
-        Err(LineFault::BadLine) => print_line(alloc, output, "error BadLine"),
-        Err(LineFault::Memory) => Err(SessionFault::Memory),
+        Ok(Command::Send(ask)) => { goes_on(converse(alloc, client, framer, ask, output, stream)) }
+        Ok(Command::Listen(count)) => {
+            goes_on(listen(alloc, client, framer, count, output, stream))
+        }
+        Ok(Command::Quit) => Ok(true),
+        Err(fault) => goes_on(refuse(alloc, output, fault)),
+    }
+}
+
+/// Prints that a line is bad.
+fn refuse<W: Write>(alloc: Global, output: &mut W, fault: LineFault) -> Result<(), SessionFault>
+    ensures took { OnOk result ((fault ≡ BadLine)
+        × Appends (W.contents output.old) (W.contents output.new) (printed_by refused)) }
+    ensures left { OnErr result (Began (W.contents output.old) (W.contents output.new)
+        (printed_by refused)) }
+{
+    match fault {
+        LineFault::BadLine => print_line(alloc, output, "error BadLine"),
+        LineFault::Memory => Err(SessionFault::Memory),
+    }
+}
+
+/// A line that doesn't end the session.
+fn goes_on(outcome: Result<(), SessionFault>) -> Result<bool, SessionFault>
+    ensures { MatchResult outcome (λ _. result ≡ Ok false) (λ fault. result ≡ Err fault) }
+{
+    match outcome {
+        Ok(()) => Ok(false),
+        Err(fault) => Err(fault),
     }
 }
 
@@ -138,12 +126,13 @@ fn converse<W: Write, S: Stream>(
     stream: &mut S,
 ) -> Result<(), SessionFault>
     requires fits { AskFits ask }
-    ensures took { OnOk result (Conversed
+    ensures took { OnOk result ((steps : List Step) × IsAsked ask steps × Conversed steps
         (state client.old None (S.contents stream.old)
         (W.contents output.old) (S.remaining stream.old) framer.old)
         (state client.new None (S.contents stream.new)
         (W.contents output.new) (S.remaining stream.new) framer.new)) }
-    ensures left { OnErr result ((awaited : Option ℕ) × (held : List ℕ) × Left
+    ensures left { OnErr result ((awaited : Option ℕ) × (held : List ℕ) × (steps : List Step)
+        × IsBeingAsked ask steps × Left steps
         (state client.old None (S.contents stream.old)
         (W.contents output.old) (S.remaining stream.old) framer.old)
         (state client.new awaited (S.contents stream.new)
@@ -168,7 +157,9 @@ fn converse<W: Write, S: Stream>(
 
 /// Whether the transaction that ended is the one of this number.
 fn is_same(ended: Option<u16>, number: u16) -> bool
-    ensures { awaited_after (Some number) ended ≡ (if result then None else Some number) }
+    ensures same { IsTrue result ↔ (ended ≡ Some number) }
+    ensures awaited { awaited_after (Some number) ended
+        ≡ (if result then None else Some number) }
 {
     match ended {
         Some(ended) => ended == number,
@@ -205,18 +196,19 @@ fn listen<W: Write, S: Stream>(
     output: &mut W,
     stream: &mut S,
 ) -> Result<(), SessionFault>
-    ensures took { OnOk result (Conversed
+    ensures took { OnOk result ((steps : List Step) × AreHeard count steps × Conversed steps
         (state client.old None (S.contents stream.old)
         (W.contents output.old) (S.remaining stream.old) framer.old)
         (state client.new None (S.contents stream.new)
         (W.contents output.new) (S.remaining stream.new) framer.new)) }
-    ensures left { OnErr result ((awaited : Option ℕ) × (held : List ℕ) × Left
+    ensures left { OnErr result ((awaited : Option ℕ) × (held : List ℕ) × (steps : List Step)
+        × ((heard : ℕ) × (heard < count) × AreHeard heard steps) × Left steps
         (state client.old None (S.contents stream.old)
         (W.contents output.old) (S.remaining stream.old) framer.old)
         (state client.new awaited (S.contents stream.new)
         (W.contents output.new) (S.remaining stream.new) held)) }
 {
-    for _ in 0..count {
+    for turn in 0..count {
         match hear(alloc, client, framer, output, stream) {
             Ok(_) => {}
             Err(fault) => return Err(fault),
@@ -233,13 +225,14 @@ fn hear<W: Write, S: Stream>(
     output: &mut W,
     stream: &mut S,
 ) -> Result<Option<u16>, SessionFault>
-    ensures took { IfOk result (λ ended. (before : Option ℕ) → Conversed
+    ensures took { IfOk result (λ ended. (message : List ℕ) × (what : Meant)
+        × (ended ≡ ended_by what) × ((before : Option ℕ) → Conversed (heard message what ∷ [])
         (state client.old before (S.contents stream.old)
         (W.contents output.old) (S.remaining stream.old) framer.old)
-        (state client.new (awaited_after before ended) (S.contents stream.new)
-        (W.contents output.new) (S.remaining stream.new) framer.new)) }
+        (state client.new (awaited_after before (ended_by what)) (S.contents stream.new)
+        (W.contents output.new) (S.remaining stream.new) framer.new))) }
     ensures left { OnErr result
-        ((before : Option ℕ) → (awaited : Option ℕ) × (held : List ℕ) × Left
+        ((before : Option ℕ) → (awaited : Option ℕ) × (held : List ℕ) × Left []
         (state client.old before (S.contents stream.old)
         (W.contents output.old) (S.remaining stream.old) framer.old)
         (state client.new awaited (S.contents stream.new)

@@ -1,7 +1,9 @@
 //! Streams and outputs that end or fail at each byte.
 
 use super::peer::{HELLO_ACK, Peer, bytes};
-use crate::session::{SessionFault, session};
+use crate::fault::SessionFault;
+use crate::lines::Lines;
+use crate::session::session;
 use floor_client::Client;
 use std::test::Fail;
 
@@ -19,7 +21,7 @@ fn a_stream_that_ends_or_fails_within_a_response_is_a_fault(rt: HostRuntime) -> 
             let mut peer = Peer::new(alloc, &answers[..cut], 7);
             peer.fails = fails;
             let mut output: Vec<u8> = Vec::new(alloc);
-            let mut lines = LINES;
+            let mut lines = Lines::new(alloc, LINES);
             let mut client = Client::new(alloc, 1, 10);
             let ended = session(alloc, &mut client, &mut lines, &mut output, &mut peer);
             assert_eq!(rt; ended, Err(SessionFault::Socket), "cut at {cut}");
@@ -50,7 +52,7 @@ fn a_stream_that_takes_no_more_is_a_fault(rt: HostRuntime) -> Result<(), Fail> {
             peer.fails = fails;
             peer.room = room;
             let mut output: Vec<u8> = Vec::new(alloc);
-            let mut lines = LINES;
+            let mut lines = Lines::new(alloc, LINES);
             let mut client = Client::new(alloc, 1, 10);
             let ended = session(alloc, &mut client, &mut lines, &mut output, &mut peer);
             assert_eq!(rt; ended, Err(SessionFault::Socket), "room for {room}");
@@ -71,7 +73,7 @@ fn an_output_that_takes_no_more_is_a_fault(rt: HostRuntime) -> Result<(), Fail> 
             let mut output = Peer::new(alloc, &[], 3);
             output.fails = fails;
             output.room = room;
-            let mut lines = LINES;
+            let mut lines = Lines::new(alloc, LINES);
             let mut client = Client::new(alloc, 1, 10);
             let ended = session(alloc, &mut client, &mut lines, &mut output, &mut peer);
             assert_eq!(rt; ended, Err(SessionFault::CannotWrite), "room for {room}");

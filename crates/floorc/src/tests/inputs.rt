@@ -1,7 +1,7 @@
 //! Inputs that come in pieces, end, fail, or are no text.
 
 use super::peer::Peer;
-use crate::lines::Lines;
+use crate::lines::{Input, Lines};
 use std::alloc::Global;
 use std::test::Fail;
 
@@ -9,10 +9,10 @@ use std::test::Fail;
 fn shown(alloc: Global, bytes: &[u8], piece: usize, fails: bool) -> Result<String, Fail> {
     let mut input = Peer::new(alloc, bytes, piece);
     input.fails = fails;
-    let mut lines = Lines::new(alloc);
+    let mut lines = Lines::new(alloc, &mut input);
     let mut shown = String::new(alloc);
     for _ in 0..100 {
-        let Some(line) = lines.next(&mut input)? else {
+        let Some(line) = lines.next()? else {
             break;
         };
         shown.push('|')?;

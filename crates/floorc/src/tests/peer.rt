@@ -1,9 +1,13 @@
-//! A server over memory, writers that have no more room, and bytes from hexadecimal.
+//! A server over memory, writers that have no more room, a text as an input, and bytes from
+//! hexadecimal.
 
-ghost use Rattle.std.specs.Prelude.{None};
+ghost use Rattle.std.specs.Prelude.{None, Some};
+ghost use Rattle.std.specs.Str.Lines.{lines};
 
+use crate::lines::Input;
 use crate::stream::Stream;
 use crate::writing::write_whole;
+use floor_words::cut_line;
 use std::alloc::{AllocError, Global};
 use std::io;
 use std::io::{Read, Write};
@@ -123,5 +127,25 @@ impl<R: Read, W: Write> Stream for Halves<R, W> {
 
     fn send(&mut self, bytes: &[u8]) -> io::Result<()> {
         write_whole(&mut self.writer, bytes)
+    }
+}
+
+/// The lines of a text, which are known.
+#[derive(Drop)]
+pub struct Text<'a> {
+    pub alloc: Global,
+    pub rest: &'a str,
+}
+
+impl Input for Text<'_> {
+    ghost lines = { λ t. Some (lines t.rest.now) };
+
+    fn next(&mut self) -> Result<Option<String>, AllocError> {
+        let Some(cut) = cut_line(self.rest) else {
+            return Ok(None);
+        };
+        let line = String::from_str(self.alloc, cut.line)?;
+        self.rest = cut.rest;
+        Ok(Some(line))
     }
 }

@@ -1,9 +1,11 @@
-use Rattle.std.proofs.Common.{None, Some}
-use Rattle.floorc.specs.Session.{Conversed, state}
+use Rattle.std.proofs.Common.{◌≡◌, ℕ, List, ◌∷◌, None, Some}
+use Rattle.floor_wire.specs.Header.{header_of}
+use Rattle.floorc.specs.Session.{AreUnanswered, Conversed, Step, asked, state}
 use Rattle.floorc.proofs.session.converse.Given as goal
 
--- what was done so far are whole steps, and the response is awaited
+-- the message was sent, and its response is awaited
 abbrev pub invariant-loop : goal.invariant-loop
-invariant-loop g l = Conversed
+invariant-loop g l = (message : List ℕ) × (hears : List Step) × (l.number ≡ (header_of message).transaction) × AreUnanswered ((header_of message).transaction) hears
+    × Conversed (asked l.fn.ask message ∷ hears)
     (state l.fn.client None (g.S.Stream.contents l.fn.stream) (g.W.Write.contents l.fn.output) (g.S.Stream.remaining l.fn.stream) l.fn.framer)
     (state l.client (Some l.number) (g.S.Stream.contents l.stream) (g.W.Write.contents l.output) (g.S.Stream.remaining l.stream) l.framer)

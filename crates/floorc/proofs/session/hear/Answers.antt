@@ -1,6 +1,5 @@
-use Rattle.std.proofs.Common.{ℕ, Option, refl, subst, sym}
+use Rattle.std.proofs.Common.{ℕ, [], Option, refl}
 use Rattle.std.proofs.KnownBytes.{Keeps-refl}
-use Rattle.floorc.specs.Session.{Conversed, awaited_after, state}
 use Rattle.floorc.proofs.Receiving.{received-untaken}
 use Rattle.floorc.proofs.Steps.{broke-left, heard-in_part, heard-one, received-alone}
 use Rattle.floorc.proofs.session.hear.Goals as goal
@@ -18,6 +17,10 @@ returns-in-Err-print_heard-clause-left g c = λ before.
     (_, _, broke-left _ _ (heard-in_part c.args.client.now c.heard.new.self before c.in-Ok-heard.heard c.in-Ok.frame _ _ _ _ _ _ _ _ c.in-Ok-heard.ensures.took c.in-Err-print_heard.ensures.left c.in-Ok.ensures.took))
 
 pub returns-clause-took : goal.returns-clause-took
-returns-clause-took g c = λ before.
-    let P : Option ℕ → Type 0 = λ ended. Conversed (state c.args.client.now before (g.S.Stream.contents c.args.stream.now) (g.W.Write.contents c.args.output.now) (g.S.Stream.remaining c.args.stream.now) c.args.framer.now) (state c.heard.new.self (awaited_after before ended) (g.S.Stream.contents c.next_message.new.stream) (g.W.Write.contents c.print_heard.new.output) (g.S.Stream.remaining c.next_message.new.stream) c.next_message.new.framer) in
-    subst P (sym c.ended_by.ensures) (heard-one c.args.client.now c.heard.new.self before c.in-Ok-heard.heard c.in-Ok.frame _ _ _ _ _ _ _ _ c.in-Ok-heard.ensures.took c.in-Ok-print_heard.ensures.took c.in-Ok.ensures.took)
+returns-clause-took g c = (
+  c.in-Ok.frame,
+  c.in-Ok-heard.heard,
+  c.ended_by.ensures,
+  λ before.
+      heard-one c.args.client.now c.heard.new.self before c.in-Ok-heard.heard c.in-Ok.frame _ _ _ _ _ _ _ _ c.in-Ok-heard.ensures.took c.in-Ok-print_heard.ensures.took c.in-Ok.ensures.took,
+)

@@ -1,9 +1,10 @@
 use Rattle.std.proofs.Common.{[], None}
-use Rattle.floorc.specs.Session.{Conversed, state}
+use Rattle.floorc.specs.Session.{state}
+use Rattle.floorc.proofs.Obeying.{SoFar}
 use Rattle.floorc.proofs.session.session.Given as goal
 
--- what was done so far are whole steps
-abbrev pub invariant-loop : goal.invariant-loop
-invariant-loop g l = Conversed
+-- so many lines were obeyed
+abbrev pub invariant-loop-turn : goal.invariant-loop-turn
+invariant-loop-turn g l = SoFar l.turn (g.L.Input.lines l.initial.lines) (g.L.Input.lines l.lines)
     (state l.initial.client None (g.S.Stream.contents l.initial.stream) (g.W.Write.contents l.initial.output) (g.S.Stream.remaining l.initial.stream) [])
     (state l.client None (g.S.Stream.contents l.stream) (g.W.Write.contents l.output) (g.S.Stream.remaining l.stream) l.framer)
