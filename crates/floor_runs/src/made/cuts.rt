@@ -23,6 +23,7 @@ const RELEASE: [&str; LEN] = [
 ];
 
 /// A message, as what stands before a place in it, and the rest.
+#[derive(Drop)]
 struct Cut {
     front: String,
     rest: String,
