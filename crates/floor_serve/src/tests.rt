@@ -16,9 +16,16 @@ mod many;
 mod registries;
 mod threads;
 mod writers;
+mod writes;
 
 /// A Hello of user 10 in conference 1, transaction 1.
 const HELLO: [u8; 12] = [0x20, 0x0b, 0, 0, 0, 0, 0, 1, 0, 1, 0, 10];
+
+/// The answer to it.
+const HELLO_ACK: [u8; 48] = [
+    0x20, 0x0c, 0, 9, 0, 0, 0, 1, 0, 1, 0, 10, 0x16, 0x0f, 1, 2, 3, 4, 5, 6, 7, 8, 9, 10, 11, 12,
+    13, 0, 0x14, 0x14, 2, 4, 6, 8, 10, 12, 14, 16, 18, 20, 22, 24, 26, 28, 30, 32, 34, 36,
+];
 
 /// A message of this many bytes, of which the first twelve are its header.
 fn frame(alloc: Global, bytes: &[u8]) -> Result<Frame, Fail> {

@@ -1,16 +1,10 @@
 //! A member of a booth that leaves, and what is left in its outbox.
 
-use super::{HELLO, frame};
+use super::{HELLO, HELLO_ACK, frame};
 use crate::*;
 use std::alloc::Global;
 use std::sync::Wait;
 use std::test::*;
-
-/// The answer to a Hello.
-const HELLO_ACK: [u8; 48] = [
-    0x20, 0x0c, 0, 9, 0, 0, 0, 1, 0, 1, 0, 10, 0x16, 0x0f, 1, 2, 3, 4, 5, 6, 7, 8, 9, 10, 11, 12,
-    13, 0, 0x14, 0x14, 2, 4, 6, 8, 10, 12, 14, 16, 18, 20, 22, 24, 26, 28, 30, 32, 34, 36,
-];
 
 /// The outbox of a user that joined, said Hello and left.
 #[tactic(auto, using(crate::proofs::Leaving::gone_took))]

@@ -1,18 +1,51 @@
-//! Streams that are cut, reads and writes that fail.
+//! Streams that are cut, and reads that fail.
 
 ghost use Rattle.std.specs.Prelude.{None};
 
-use super::{HELLO, answer_of, frame, joined, opened, submits};
+use super::{HELLO, answer_of, frame, joined, opened};
 use crate::*;
 use std::alloc::Global;
 use std::sync::Wait;
 use std::test::*;
 
-/// Gives a Hello, so many bytes a read, and then fails.
+/// How many bytes a Hello has, and how many each of the streams.
+const HELLO_LEN: usize = 12;
+
+const STREAM_LEN: usize = 28;
+
+/// A user and its stream, a Hello and a message: user 10 asks for floor 1, user 11 asks for it too,
+/// user 10 gives it back.
+const STREAMS: [(u16, [u8; STREAM_LEN]); 3] = [
+    (
+        10,
+        [
+            0x20, 11, 0, 0, 0, 0, 0, 1, 0, 1, 0, 10, 0x20, 1, 0, 1, 0, 0, 0, 1, 0, 2, 0, 10, 4, 4,
+            0, 1,
+        ],
+    ),
+    (
+        11,
+        [
+            0x20, 11, 0, 0, 0, 0, 0, 1, 0, 1, 0, 11, 0x20, 1, 0, 1, 0, 0, 0, 1, 0, 1, 0, 11, 4, 4,
+            0, 1,
+        ],
+    ),
+    (
+        10,
+        [
+            0x20, 11, 0, 0, 0, 0, 0, 1, 0, 1, 0, 10, 0x20, 2, 0, 1, 0, 0, 0, 1, 0, 3, 0, 10, 6, 4,
+            0, 1,
+        ],
+    ),
+];
+
+/// Gives the first bytes of a stream, one a read, and fails behind so many reads.
 #[derive(Drop)]
 struct Failing {
+    stream: [u8; STREAM_LEN],
+    len: usize,
     at: usize,
-    step: usize,
+    reads: u64,
     failed: bool,
 }
 
@@ -22,12 +55,13 @@ impl Source for Failing {
     ghost marked = { λ s. s.failed };
 
     fn read(&mut self, buffer: &mut [u8]) -> Option<usize> {
-        let rest = HELLO.get(self.at..).unwrap_or(&[]);
-        let count = self.step;
-        if count == 0 || count > rest.len() || count > buffer.len() {
+        if self.reads == 0 {
             self.failed = true;
             return None;
         }
+        self.reads -= 1;
+        let rest = self.stream.get(self.at..self.len).unwrap_or(&[]);
+        let count = rest.len().min(1).min(buffer.len());
         buffer[..count].copy_from_slice(&rest[..count]);
         self.at = self.at.saturating_add(count);
         Some(count)
@@ -38,66 +72,91 @@ impl Source for Failing {
     }
 }
 
-/// Takes so many bytes, a part of them a write, and then fails.
-#[derive(Drop)]
-struct Narrow {
-    room: usize,
-    step: usize,
-    failed: bool,
-}
-
-impl Sink for Narrow {
-    ghost contents = { λ _. None };
-
-    ghost marked = { λ s. s.failed };
-
-    fn write(&mut self, bytes: &[u8]) -> Option<usize> {
-        let count = if self.step < bytes.len() {
-            self.step
-        } else {
-            bytes.len()
-        };
-        if count > self.room || (count == 0 && !bytes.is_empty()) {
-            self.failed = true;
-            return None;
-        }
-        self.room = self.room.saturating_sub(count);
-        Some(count)
-    }
-
-    fn failed(&self) -> bool {
-        self.failed
-    }
-}
-
-/// How reading a Hello ends that comes so many bytes a read, and how many messages are recorded.
+/// How the reading of so many bytes of a stream ends in at most so many reads, of a source that
+/// fails behind so many; how many messages are recorded; how many events the conference has.
 fn read_by<R: Wait>(
     rt: &R,
     alloc: Global,
     limit: u64,
-    step: usize,
-) -> Result<(Result<ReadEnd, ReadFault>, usize), Fail> {
+    stream: (u16, [u8; STREAM_LEN]),
+    len: usize,
+    reads: u64,
+) -> Result<(Result<ReadEnd, ReadFault>, usize, u32), Fail> {
+    let (user, stream) = stream;
     let (_registry, desk) = opened(rt, alloc)?;
-    let (mut seat, _taker) = joined(rt, &desk, 10)?;
+    let (mut seat, _taker) = joined(rt, &desk, user)?;
     let mut source = Failing {
+        stream,
+        len,
         at: 0,
-        step,
+        reads,
         failed: false,
     };
     let end = read_turns(limit, rt, &mut source, &desk, &mut seat, &FreePass);
-    Ok((end, seat.sent().len()))
+    Ok((end, seat.sent().len(), desk.status(rt).events))
+}
+
+/// How a stream ends behind so many bytes; how many messages are whole then; how many events there
+/// are with its user's joining.
+fn ended_behind(count: usize) -> (ReadEnd, usize, u32) {
+    match count {
+        0 => (ReadEnd::Closed, 0, 1),
+        HELLO_LEN => (ReadEnd::Closed, 1, 2),
+        STREAM_LEN => (ReadEnd::Closed, 2, 3),
+        _ if count < HELLO_LEN => (ReadEnd::Cut(count), 0, 1),
+        _ => (ReadEnd::Cut(count.saturating_sub(HELLO_LEN)), 1, 2),
+    }
 }
 
 #[test]
-fn reading_ends_at_a_failed_read_or_at_the_limit(rt: HostRuntime) -> Result<(), Fail> {
-    let alloc = rt.alloc();
-    assert_eq!(rt;
-        read_by(&rt, alloc, MAX_TURNS, 12)?,
-        (Err(ReadFault::Read), 1)
-    );
-    assert_eq!(rt; read_by(&rt, alloc, 11, 1)?, (Err(ReadFault::TurnLimit), 0));
-    assert_eq!(rt; read_by(&rt, alloc, 12, 1)?, (Err(ReadFault::TurnLimit), 1));
-    assert_eq!(rt; read_by(&rt, alloc, 13, 1)?, (Err(ReadFault::Read), 1));
+fn a_stream_is_cut_at_each_byte(rt: HostRuntime) -> Result<(), Fail> {
+    for stream in STREAMS {
+        for len in 0..=STREAM_LEN {
+            let (end, messages, events) = ended_behind(len);
+            assert_eq!(rt;
+                read_by(&rt, rt.alloc(), MAX_TURNS, stream, len, MAX_TURNS)?,
+                (Ok(end), messages, events),
+                "user {} behind {len} bytes",
+                stream.0
+            );
+        }
+    }
+    Ok(())
+}
+
+#[test]
+fn reading_fails_at_each_read_and_keeps_what_was_taken(rt: HostRuntime) -> Result<(), Fail> {
+    for stream in STREAMS {
+        for reads in 0..=STREAM_LEN {
+            let (_, messages, events) = ended_behind(reads);
+            assert_eq!(rt;
+                read_by(&rt, rt.alloc(), MAX_TURNS, stream, STREAM_LEN, reads as u64)?,
+                (Err(ReadFault::Read), messages, events),
+                "user {} behind {reads} reads",
+                stream.0
+            );
+        }
+    }
+    Ok(())
+}
+
+#[test]
+fn reading_ends_at_the_limit(rt: HostRuntime) -> Result<(), Fail> {
+    for limit in 0..=STREAM_LEN {
+        let (_, messages, events) = ended_behind(limit);
+        assert_eq!(rt;
+            read_by(
+                &rt,
+                rt.alloc(),
+                limit as u64,
+                STREAMS[0],
+                STREAM_LEN,
+                MAX_TURNS
+            )?,
+            (Err(ReadFault::TurnLimit), messages, events),
+            "at most {limit} reads"
+        );
+    }
     Ok(())
 }
 
@@ -114,43 +173,5 @@ fn a_message_that_a_closed_conference_refuses_is_not_recorded(rt: HostRuntime) -
         Some(Err(RoomRefusal::Refused(Refusal::Ended)))
     );
     assert_eq!(rt; seat.sent().len(), 0);
-    Ok(())
-}
-
-/// What writing the answer to a Hello gives over a sink of this room, so many bytes a write.
-fn write_by<R: Wait>(
-    rt: &R,
-    alloc: Global,
-    room: usize,
-    step: usize,
-) -> Result<Result<Written, WriteFault>, Fail> {
-    let (_registry, desk) = opened(rt, alloc)?;
-    let (mut seat, mut taker) = joined(rt, &desk, 10)?;
-    if !submits(rt, &desk, &mut seat, frame(alloc, &HELLO)?) {
-        return Err(Fail::from("the message is refused"));
-    }
-    let Ok(()) = desk.admin(rt, Act::Close) else {
-        return Err(Fail::from("the conference doesn't close"));
-    };
-    let mut sink = Narrow {
-        room,
-        step,
-        failed: false,
-    };
-    Ok(write_loop(rt, alloc, &mut sink, &mut taker))
-}
-
-#[test]
-fn writing_counts_what_the_sink_took(rt: HostRuntime) -> Result<(), Fail> {
-    let alloc = rt.alloc();
-    assert_eq!(rt; write_by(&rt, alloc, 5, 5)?, Err(WriteFault { bytes: 5 }));
-    assert_eq!(rt; write_by(&rt, alloc, 5, 1)?, Err(WriteFault { bytes: 5 }));
-    assert_eq!(rt;
-        write_by(&rt, alloc, 48, 1)?,
-        Ok(Written {
-            parcels: 1,
-            bytes: 48
-        })
-    );
     Ok(())
 }

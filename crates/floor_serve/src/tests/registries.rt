@@ -1,6 +1,6 @@
 //! Two registries with the same conferences, and the seats of one given to the other.
 
-use super::{HELLO, frame, joined, opens, place_of};
+use super::{HELLO, frame, joined, opened, opens, place_of};
 use crate::*;
 use std::alloc::Global;
 use std::sync::Wait;
@@ -87,5 +87,31 @@ fn two_registries(rt: HostRuntime) -> Result<(), Fail> {
         events: 4,
     };
     assert_eq!(rt; finish(&rt, &a.registry, &a.seats[..1]), Ok(alone));
+    Ok(())
+}
+
+#[test]
+fn a_seat_of_no_conference_of_the_table_fits_nothing(rt: HostRuntime) -> Result<(), Fail> {
+    let alloc = rt.alloc();
+    let (registry, desk) = opened(&rt, alloc)?;
+    let (fits, _taker) = joined(&rt, &desk, 10)?;
+    let other = opens(&rt, alloc, &Registry::new(alloc), 2)?;
+    let (stray, _other_taker) = joined(&rt, &other, 10)?;
+    let seats = [fits, stray];
+    let alone = Report {
+        seats: 1,
+        events: 1,
+    };
+    assert_eq!(rt; finish(&rt, &registry, &seats[..1]), Ok(alone));
+    let mismatch = FinishFault::Mismatch {
+        conference: 2,
+        n: 1,
+    };
+    assert_eq!(rt; finish(&rt, &registry, &seats), Err(mismatch));
+    let first = FinishFault::Mismatch {
+        conference: 1,
+        n: 1,
+    };
+    assert_eq!(rt; Table::new(alloc).finish(&rt, &seats), Err(first));
     Ok(())
 }
