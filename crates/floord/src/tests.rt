@@ -1,7 +1,10 @@
 //! Runs over real sockets: a client is a socket, the administrator's lines come through one too.
 
 mod clients;
+mod connections;
 mod console;
+mod endings;
+mod ports;
 mod replayed;
 mod sockets;
 mod words;
