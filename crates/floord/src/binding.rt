@@ -1,28 +1,15 @@
 //! What a port is bound to: one user of one conference.
 
+ghost use Rattle.std.specs.Prelude.{◌≡◌, is_some};
+
 use crate::connections::Connections;
-use crate::places::Places;
 use crate::socket::Socket;
+use floor_listen::{Begun, Gone, Unserved};
 use floor_serve::{Desk, Gate, Registry, Seat};
-use std::alloc::{AllocError, Global};
-use std::sync::atomic::{AtomicBool, AtomicUsize, Ordering};
+use std::alloc::Global;
+use std::sync::atomic::{AtomicBool, Ordering};
 use std::sync::{Arc, Wait};
 use std::thread::Parker;
-
-/// Why a connection isn't served.
-#[derive(Clone, Copy, Debug, PartialEq, Eq)]
-pub enum Unserved {
-    /// Its conference has as many connections as it may have.
-    Full,
-    /// Memory was refused, or a thread can't be made.
-    Memory,
-}
-
-impl From<AllocError> for Unserved {
-    fn from(_e: AllocError) -> Unserved {
-        Unserved::Memory
-    }
-}
 
 /// What all ports of a server share.
 #[derive(Drop)]
@@ -32,38 +19,33 @@ pub struct Shared<G> {
     pub gate: G,
 }
 
-/// The user of a conference that a port leads to, and how many of its connections run. The port's
-/// thread, the threads of its connections and whoever closes it share it.
+/// The user of a conference that a port leads to. The port's thread, the threads of its connections
+/// and whoever closes it share it.
 #[derive(Drop)]
 pub struct Binding<G> {
     shared: Arc<Shared<G>, Global>,
-    places: Arc<Places, Global>,
     conference: u32,
     user: u16,
     port: u16,
     is_ending: AtomicBool,
-    running: AtomicUsize,
-    none_runs: Parker,
+    one_ended: Parker,
 }
 
 impl<G> Binding<G> {
     /// A binding to which nobody has connected.
     pub fn new(
         shared: Arc<Shared<G>, Global>,
-        places: Arc<Places, Global>,
         conference: u32,
         user: u16,
         port: u16,
     ) -> Binding<G> {
         Binding {
             shared,
-            places,
             conference,
             user,
             port,
             is_ending: AtomicBool::new(false),
-            running: AtomicUsize::new(0),
-            none_runs: Parker::new(),
+            one_ended: Parker::new(),
         }
     }
 
@@ -97,33 +79,23 @@ impl<G> Binding<G> {
         self.is_ending.load(Ordering::SeqCst)
     }
 
-    /// Takes up a connection, with a place in its conference and room for its seat, and gives its
-    /// key.
-    pub fn begin<R: Wait>(&self, rt: &R, socket: Socket) -> Result<usize, Unserved> {
-        if !self.places.take() {
-            return Err(Unserved::Full);
-        }
-        match self.shared.connections.begin(rt, self.port, socket) {
-            Ok(key) => {
-                self.running.fetch_add(1, Ordering::SeqCst);
-                Ok(key)
-            }
-            Err(_) => {
-                self.places.give_back();
-                Err(Unserved::Memory)
-            }
-        }
+    /// Takes up a connection, with a place in its conference and room for its seat.
+    pub fn begin<R: Wait>(&self, rt: &R, socket: Socket) -> Result<Begun, Unserved> {
+        self.shared
+            .connections
+            .begin(rt, self.conference, self.port, socket)
     }
 
-    /// Takes it that a connection has ended: closes its socket, and keeps its seat. It is the last
-    /// that a connection's thread does.
-    pub fn end<R: Wait>(&self, rt: &R, key: usize, seat: Option<Seat>) {
-        self.shared.connections.release(rt, key);
-        self.shared.connections.end(rt, key, seat);
-        self.places.give_back();
-        if self.running.fetch_sub(1, Ordering::SeqCst) == 1 {
-            self.none_runs.unpark();
-        }
+    /// Closes the socket of a connection that is gone, and then ends it, with the seat of one that
+    /// had joined. It is the last that a connection's thread does.
+    pub fn end<R: Wait>(&self, rt: &R, gone: Gone, seat: Option<Seat>)
+        requires { is_some seat ≡ gone.has_joined }
+    {
+        let (released, socket) = self.shared.connections.release(rt, gone);
+        // Without the lock.
+        drop(socket);
+        self.shared.connections.end(rt, released, seat);
+        self.one_ended.unpark();
     }
 
     /// Shuts down the socket of each of its connections, so that their threads end.
@@ -134,10 +106,10 @@ impl<G> Binding<G> {
     /// Waits until none of its connections runs.
     pub fn wait<R: Wait>(&self, rt: &R) {
         for _ in rt.forever() {
-            if self.running.load(Ordering::SeqCst) == 0 {
+            if self.shared.connections.is_idle(rt, self.port) {
                 return;
             }
-            self.none_runs.park(rt);
+            self.one_ended.park(rt);
         }
     }
 }

@@ -1,54 +1,63 @@
-//! The connections of all ports: those that run, and the seat of each that ever joined.
+//! The connections of all ports, behind the lock that their threads share. What becomes of them is
+//! floor_listen's; here are the locks alone.
 
-ghost use Rattle.std.specs.Prelude.{◌≡◌, ◌+◌, ◌∷◌, ◌++◌, [], ◌≤◌, IfOk, OnOk, OnErr};
-ghost use Rattle.std.specs.Vec.{vec_len, vec_capacity};
-ghost use Rattle.slab.specs.Slab.{slab_len};
+ghost use Rattle.std.specs.Prelude.{◌≡◌, is_some};
 
 use crate::socket::Socket;
+use floor_listen::{Begun, Gone, Released, Unserved};
 use floor_serve::{FinishFault, Registry, Report, Seat, finish};
-use slab::Slab;
-use std::alloc::{AllocError, Global};
+use std::alloc::Global;
 use std::sync::{Mutex, Wait};
 
 /// The connections of all ports, which their threads share.
 #[derive(Drop)]
 pub struct Connections {
-    table: Mutex<Table>,
+    table: Mutex<floor_listen::Connections<Socket, Seat>>,
 }
 
 impl Connections {
     /// No connection yet. Takes no memory.
     pub fn new(alloc: Global) -> Connections {
         Connections {
-            table: Mutex::new(Table {
-                running: Slab::new(alloc),
-                seats: Vec::new(alloc),
-            }),
+            table: Mutex::new(floor_listen::Connections::new(alloc)),
         }
     }
 
-    /// Takes up a connection to the port, with room for its seat, and gives its key.
-    pub fn begin<R: Wait>(&self, rt: &R, port: u16, socket: Socket) -> Result<usize, AllocError> {
-        self.table.lock(rt).begin(Running {
-            port,
-            socket: Some(socket),
-        })
+    /// Takes up a connection to a port of a conference.
+    pub fn begin<R: Wait>(
+        &self,
+        rt: &R,
+        conference: u32,
+        port: u16,
+        socket: Socket,
+    ) -> Result<Begun, Unserved> {
+        self.table.lock(rt).begin(conference, port, socket)
     }
 
-    /// Gives a connection's socket up.
-    pub fn release<R: Wait>(&self, rt: &R, key: usize) {
-        // The socket is closed after the lock is given back.
-        let _socket = self.table.lock(rt).release(key);
+    /// Gives a connection's socket up, and hands it out.
+    pub fn release<R: Wait>(&self, rt: &R, gone: Gone) -> (Released, Option<Socket>)
+        ensures { result.0.has_joined ≡ gone.has_joined }
+    {
+        self.table.lock(rt).release(gone)
     }
 
-    /// Takes it that a connection has ended, and keeps its seat.
-    pub fn end<R: Wait>(&self, rt: &R, key: usize, seat: Option<Seat>) {
-        self.table.lock(rt).end(key, seat);
+    /// Ends a connection, and keeps the seat of one that had joined.
+    pub fn end<R: Wait>(&self, rt: &R, released: Released, seat: Option<Seat>)
+        requires { is_some seat ≡ released.has_joined }
+    {
+        self.table.lock(rt).end(released, seat);
     }
 
     /// Shuts down the socket of each connection to the port, so that its threads end.
     pub fn shut_down<R: Wait>(&self, rt: &R, port: u16) {
-        self.table.lock(rt).shut_down(port);
+        self.table
+            .lock(rt)
+            .each_socket(port, |socket: &Socket| socket.shut_down());
+    }
+
+    /// Whether none of the connections to the port runs.
+    pub fn is_idle<R: Wait>(&self, rt: &R, port: u16) -> bool {
+        self.table.lock(rt).is_idle(port)
     }
 
     /// Compares the seats of all connections that ever were with the journals of all conferences.
@@ -57,68 +66,7 @@ impl Connections {
         let mut table = self.table.lock(rt);
         // They stand in the order in which the connections ended; in this one they are compared in
         // one walk.
-        table
-            .seats
-            .sort_unstable_by_key(|seat| (seat.conference(), seat.n()));
-        finish(rt, registry, table.seats.as_slice())
-    }
-}
-
-/// A connection that runs.
-#[derive(Drop)]
-struct Running {
-    port: u16,
-    /// `None` once it is given up.
-    socket: Option<Socket>,
-}
-
-/// The connections that run, and the seats of those that ran, with room for all that run.
-#[derive(Drop)]
-struct Table {
-    running: Slab<Running>,
-    seats: Vec<Seat>,
-    ghost room: { vec_len seats + slab_len running ≤ vec_capacity seats },
-}
-
-impl Table {
-    /// Takes up a connection, with room for its seat, and gives its key.
-    fn begin(&mut self, connection: Running) -> Result<usize, AllocError>
-        ensures runs { OnOk result (slab_len self.new.running ≡ slab_len self.old.running + 1) }
-        ensures left { OnErr result (slab_len self.new.running ≡ slab_len self.old.running) }
-        ensures kept { self.new.seats.items ≡ self.old.seats.items }
-    {
-        let wanted = self.running.len().checked_add(1).ok_or(AllocError)?;
-        self.seats.reserve(wanted)?;
-        match self.running.insert(connection) {
-            Ok(key) => Ok(key),
-            Err(_) => Err(AllocError),
-        }
-    }
-
-    /// Takes a connection's socket out.
-    fn release(&mut self, key: usize) -> Option<Socket>
-        ensures kept { self.new.seats.items ≡ self.old.seats.items }
-    {
-        match self.running.get_mut(key) {
-            Some(connection) => connection.socket.take(),
-            None => None,
-        }
-    }
-
-    /// Takes a connection out, and keeps its seat.
-    fn end(&mut self, key: usize, seat: Option<Seat>) {
-        match (self.running.try_remove(key), seat) {
-            (Some(_), Some(seat)) => self.seats.push_reserved(seat),
-            _ => {}
-        }
-    }
-
-    fn shut_down(&self, port: u16) {
-        for (_, connection) in self.running.iter() {
-            match &connection.socket {
-                Some(socket) if connection.port == port => socket.shut_down(),
-                _ => {}
-            }
-        }
+        table.sort_seats(|seat| (seat.conference(), seat.n()));
+        finish(rt, registry, table.seats())
     }
 }

@@ -10,7 +10,6 @@ mod connection;
 mod connections;
 mod fault;
 mod lines;
-mod places;
 mod port;
 mod run;
 mod server;

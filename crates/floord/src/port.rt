@@ -3,6 +3,7 @@
 use crate::binding::Binding;
 use crate::connection;
 use floor_console::BoardRefusal;
+use floor_listen::{Accepting, after_accept};
 use floor_serve::Gate;
 use std::alloc::Global;
 use std::io::ErrorKind;
@@ -12,9 +13,6 @@ use std::sync::{Arc, Wait};
 use std::thread::{JoinHandle, Threads};
 use std::time::{Clock, Duration};
 use std::{io, thread};
-
-/// How long a port waits where an accept failed, as it does without a descriptor left.
-const ACCEPT_AGAIN_MILLIS: u64 = 10;
 
 /// A listening port. To close it, call `stop_listening`, then `shut_down`, then `wait`.
 #[derive(Drop)]
@@ -118,16 +116,16 @@ where
     G: Gate + Send + Sync + Drop + 'static,
     R: Clock + Threads + Wait + Copy + Drop + Send + 'static,
 {
-    for stream in listener.incoming() {
-        if binding.is_ending() {
-            return;
-        }
-        match stream {
-            Ok(stream) => {
+    for accepted in listener.incoming() {
+        match after_accept(binding.is_ending(), accepted) {
+            Accepting::End => return,
+            Accepting::Start(stream) => {
                 // Where it can't be served its socket is closed.
                 let _outcome = connection::start(rt, alloc, binding, stream);
             }
-            Err(_) => thread::sleep(&rt, Duration::from_millis(ACCEPT_AGAIN_MILLIS)),
+            Accepting::Again(milliseconds) => {
+                thread::sleep(&rt, Duration::from_millis(milliseconds));
+            }
         }
     }
 }

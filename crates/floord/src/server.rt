@@ -2,7 +2,6 @@
 
 use crate::binding::{Binding, Shared};
 use crate::connections::Connections;
-use crate::places::Places;
 use crate::port::Port;
 use floor_config::{Config, ConfigFault, read_configs};
 use floor_console::{Board, BoardRefusal, Command, StopRefusal, Stopped, Text, parse_line};
@@ -117,12 +116,9 @@ where
     /// Listens on the ports of a configuration's users, and then opens its conference. Whoever
     /// connects before that is shut down.
     fn listen_and_open(&mut self, config: Config) -> Result<(), BoardRefusal> {
-        let Ok(places) = Arc::new(self.alloc, Places::new()) else {
-            return Err(BoardRefusal::Memory);
-        };
         for user in config.users() {
             match user.port {
-                Some(port) => self.listen(&places, config.conference(), user.id, port)?,
+                Some(port) => self.listen(config.conference(), user.id, port)?,
                 None => {}
             }
         }
@@ -134,16 +130,9 @@ where
     }
 
     /// Listens on a user's port.
-    fn listen(
-        &mut self,
-        places: &Arc<Places, Global>,
-        conference: u32,
-        user: u16,
-        port: u16,
-    ) -> Result<(), BoardRefusal> {
+    fn listen(&mut self, conference: u32, user: u16, port: u16) -> Result<(), BoardRefusal> {
         let shared = Arc::try_clone(&self.shared)?;
-        let places = Arc::try_clone(places)?;
-        let binding = Binding::new(shared, places, conference, user, port);
+        let binding = Binding::new(shared, conference, user, port);
         // Room first, so that a port that listens is kept.
         self.ports.reserve(1)?;
         let opened = Port::open(self.rt, self.alloc, binding, port)?;

@@ -6,6 +6,7 @@ use std::io;
 use std::io::{ErrorKind, Read, Write};
 use std::net::{Shutdown, TcpStream};
 use std::sync::Arc;
+use std::sync::atomic::{AtomicBool, Ordering};
 use std::time::Duration;
 
 /// How long a write waits at most for a peer that takes nothing, until it looks whether the outbox
@@ -15,7 +16,13 @@ const WRITE_SECONDS: u64 = 30;
 /// The socket of a connection, as its threads share it.
 #[derive(Drop)]
 pub struct Socket {
-    stream: Arc<TcpStream, Global>,
+    shared: Arc<Shared, Global>,
+}
+
+#[derive(Drop)]
+struct Shared {
+    stream: TcpStream,
+    lacks_thread: AtomicBool,
 }
 
 impl Socket {
@@ -24,28 +31,42 @@ impl Socket {
         // Without it a small answer waits for the next.
         let _outcome = stream.set_nodelay(true);
         let _outcome = stream.set_write_timeout(Some(Duration::from_secs(WRITE_SECONDS)));
+        let shared = Shared {
+            stream,
+            lacks_thread: AtomicBool::new(false),
+        };
         Ok(Socket {
-            stream: Arc::new(alloc, stream)?,
+            shared: Arc::new(alloc, shared)?,
         })
     }
 
     /// Another handle of the same socket.
     pub fn share(&self) -> Result<Socket, AllocError> {
         Ok(Socket {
-            stream: Arc::try_clone(&self.stream)?,
+            shared: Arc::try_clone(&self.shared)?,
         })
+    }
+
+    /// Takes down that no thread can be had for the connection.
+    pub fn set_lacks_thread(&self) {
+        self.shared.lacks_thread.store(true, Ordering::SeqCst);
+    }
+
+    /// Whether a thread could be had for the connection.
+    pub fn has_thread(&self) -> bool {
+        !self.shared.lacks_thread.load(Ordering::SeqCst)
     }
 
     /// Ends its reading and its writing, also where another thread waits for one of them.
     pub fn shut_down(&self) {
         // It may be shut down already.
-        let _outcome = self.stream.shutdown(Shutdown::Both);
+        let _outcome = self.shared.stream.shutdown(Shutdown::Both);
     }
 }
 
 impl Read for Socket {
     fn read(&mut self, buf: &mut [u8]) -> io::Result<usize> {
-        let mut stream = &*self.stream;
+        let mut stream = &self.shared.stream;
         stream.read(buf)
     }
 }
@@ -60,7 +81,7 @@ pub struct Outgoing {
 
 impl Write for Outgoing {
     fn write(&mut self, buf: &[u8]) -> io::Result<usize> {
-        let mut stream = &*self.socket.stream;
+        let mut stream = &self.socket.shared.stream;
         for _ in 0..u64::MAX {
             match stream.write(buf) {
                 Err(error) if is_timeout(&error) && !self.mark.is_set() => {}

@@ -1,8 +1,11 @@
 //! Runs over real sockets: a client is a socket, the administrator's lines come through one too.
 
 mod clients;
+mod connections;
 mod console;
+mod endings;
 mod load;
+mod ports;
 mod replayed;
 mod sockets;
 mod words;
