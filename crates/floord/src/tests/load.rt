@@ -34,8 +34,8 @@ const SUPPORTED: [u8; 36] = [
 #[derive(Drop)]
 struct Load {
     conference: u8,
-    /// Which of the clients it is, from 0.
-    client: u32,
+    /// The first of its Transaction IDs.
+    first: u16,
     heard: AtomicU32,
     /// Whether its conference closes, or the server stops.
     may_end: AtomicBool,
@@ -43,10 +43,10 @@ struct Load {
 
 impl Load {
     /// A client that has sent nothing.
-    fn new(conference: u8, client: u32) -> Load {
+    fn new(conference: u8, first: u16) -> Load {
         Load {
             conference,
-            client,
+            first,
             heard: AtomicU32::new(0),
             may_end: AtomicBool::new(false),
         }
@@ -55,9 +55,8 @@ impl Load {
     /// The header of a message of user 10, of this primitive, with a payload of so many words and
     /// the transaction of the client's message with this number.
     fn header(&self, primitive: u8, words: u8, number: u32) -> [u8; 12] {
-        let first = self.client.wrapping_mul(TRANSACTIONS).wrapping_add(1);
-        let transaction = first.wrapping_add(number % TRANSACTIONS) as u16;
-        let [high, low] = transaction.to_be_bytes();
+        let place = u16::try_from(number % TRANSACTIONS).unwrap_or(0);
+        let [high, low] = self.first.wrapping_add(place).to_be_bytes();
         [
             0x20,
             primitive,
@@ -193,8 +192,8 @@ fn stop_under_load(rt: HostRuntime) -> Result<(), Fail> {
     assert_eq!(rt; line(&rt, &server)?.as_str(), "ready");
     let mut loads = Vec::new(alloc);
     let mut clients = Vec::new(alloc);
-    for (conference, client) in [(1, 0), (1, 1), (2, 2), (2, 3)] {
-        let load = Arc::new(alloc, Load::new(conference, client))?;
+    for (conference, first) in [(1, 1), (1, 16_001), (2, 32_001), (2, 48_001)] {
+        let load = Arc::new(alloc, Load::new(conference, first))?;
         let port = if conference == 1 { ports[0] } else { ports[1] };
         let stream = begin(&rt, port, &load)?;
         let theirs = Arc::try_clone(&load)?;
