@@ -1,5 +1,5 @@
 //! Cases that are made by code, and what no case says: readers and writers that fail, interleavings,
-//! and refusals of the hub that no line meets.
+//! refusals of the hub that no line meets, and how its conferences stand.
 
 mod conferences;
 mod cuts;
@@ -8,6 +8,7 @@ mod interleavings;
 mod limits;
 mod long_messages;
 mod refusals;
+mod statuses;
 
 use crate::fault::Fault;
 use std::alloc::Global;
@@ -21,7 +22,8 @@ pub fn run_made<W: Write>(alloc: Global, output: &mut W) -> Result<(), Fault> {
     print_count(output, "interleavings", interleavings::run(alloc)?)?;
     print_count(output, "limits", limits::run(alloc)?)?;
     print_count(output, "long_messages", long_messages::run(alloc)?)?;
-    print_count(output, "refusals", refusals::run(alloc)?)
+    print_count(output, "refusals", refusals::run(alloc)?)?;
+    print_count(output, "statuses", statuses::run(alloc)?)
 }
 
 fn print_count<W: Write>(output: &mut W, kind: &str, count: usize) -> Result<(), Fault> {

@@ -2,6 +2,7 @@
 
 mod clients;
 mod console;
+mod load;
 mod replayed;
 mod sockets;
 mod words;
