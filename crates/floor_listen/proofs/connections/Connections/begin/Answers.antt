@@ -1,4 +1,4 @@
-use Rattle.std.proofs.Common.{◌≡◌, ◌∙◌, ◌<◌, ◌≤◌, ap, arith, refl}
+use Rattle.std.proofs.Common.{◌≡◌, ◌∙◌, ◌<◌, ap, arith, refl}
 use Rattle.floor_listen.specs.Connections.{taken}
 use Rattle.floor_listen.specs.declared.connections.TheConstants.{MAX_CONNECTIONS}
 use Rattle.floor_listen.proofs.Places.{added, same_running}

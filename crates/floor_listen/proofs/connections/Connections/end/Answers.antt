@@ -1,4 +1,4 @@
-use Rattle.std.proofs.Common.{◌≡◌, ◌<◌, ◌≤◌, List, length, arith, subst}
+use Rattle.std.proofs.Common.{◌<◌, List, length, arith, subst}
 use Rattle.floor_listen.proofs.Places.{removed}
 use Rattle.floor_listen.specs.declared.connections.Running.{Running}
 use Rattle.floor_listen.proofs.connections.Connections.end.Goals as goal
