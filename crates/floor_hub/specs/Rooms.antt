@@ -2,7 +2,7 @@
 use Rattle.std.specs.Prelude.{◌≡◌, ◌≢◌, ◌↔◌, ◌⊎◌, ℕ, List, [], ◌∷◌, ◌++◌, nat_eq, if◌then◌else◌, true, false, Option, Some, None, is_some, map, take, Result, Ok, Err}
 use Rattle.floor_config.specs.Configuration.{Configuration}
 use Rattle.floor_wire.specs.Message.{messages}
-use Rattle.floor_machine.specs.declared.event.Act.{Act}
+use Rattle.floor_machine.specs.declared.act.Act.{Act}
 use Rattle.floor_machine.specs.declared.event.Event.{Event}
 use Rattle.floor_machine.specs.declared.event.Event.TheVariants.{Join, Message, Leave}
 use Rattle.floor_machine.specs.Machine.{event_of_act}
