@@ -1,30 +1,21 @@
-//! Runs that go on where memory is refused to a part of them, and print what the other part is sent,
-//! which has to be the same each time.
+//! Three conferences of one hub hold meetings, a line of each in turn: prints what the connections
+//! of conferences 1 and 3 are sent. Memory may be refused to conference 2, which goes on as it can,
+//! and changes nothing of what is printed.
 //!
-//! - `meetings`: three conferences of one hub, a line of each in turn. Conference 2 may be refused.
-//! - `threads`: a conference whose members' threads share it, beside another. Conference 1 may be
-//!   refused.
-//! - `client`: what a client asks and hears. Each call that is refused is made once more.
-//!
-//! Standard input is a number and the names of runs: so many allocations are made ahead of each. So
-//! one build under `rt try --fail-alloc N`, which refuses the Nth allocation, has each of them refused
-//! in turn where it is run with 0, 1, 2 and so on. Standard error tells what is refused. Status 1
-//! where what has to go well, or what is printed, is refused memory.
+//! Standard input is a number: so many allocations are made ahead of the meetings. So one build
+//! under `rt try --fail-alloc N`, which refuses the Nth allocation, has each of them refused in turn
+//! where it is run with 0, 1, 2 and so on. Standard error tells what conference 2 is refused.
+//! Status 1 where conference 1 or 3, or what is printed, is refused memory.
 #![tactic(auto)]
 
-mod asking;
-mod ended;
 mod meeting;
-mod meetings;
 mod run;
-mod threads;
 
 use run::run;
 use std::process::ExitCode;
 
 fn main(rt: HostRuntime) -> ExitCode {
     match run(
-        &rt,
         rt.alloc(),
         &mut rt.stdin(),
         &mut rt.stdout(),
