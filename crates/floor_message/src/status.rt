@@ -9,7 +9,8 @@
 //!   +-- said no -----> Denied <----+         taken away --> Revoked
 //! ```
 //!
-//! A floor request begins Accepted where none of its floors has a chair. The last four end it.
+//! A floor request begins Accepted where none of its floors has a chair. Cancelled, Denied, Released and
+//! Revoked end it. A beneficiary that leaves gives its floor requests back.
 
 ghost use Rattle.std.specs.Prelude.{◌≡◌};
 ghost use Rattle.floor_message.specs.Status.{status_number};

@@ -83,7 +83,7 @@ impl Framer {
         Ok(Some(Frame::new(bytes)))
     }
 
-    /// How many bytes are held.
+    /// How many bytes are held, those of whole messages among them.
     pub fn rest_len(&self) -> usize
         ensures { result ≡ length self.now }
     {
