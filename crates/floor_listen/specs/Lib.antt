@@ -1,2 +1,3 @@
 pub mod Connections
 pub mod Accepting
+pub mod Ports

@@ -7,8 +7,10 @@
 
 mod accepting;
 mod connections;
+mod ports;
 
 pub use accepting::{ACCEPT_AGAIN_MILLIS, Accepting, after_accept};
 pub use connections::{
     Begun, Connections, Gone, MAX_CONNECTIONS, Member, Open, Released, Running, Unserved,
 };
+pub use ports::{Chosen, Listening, Ports, listening_address};
