@@ -1,2 +1,3 @@
+pub mod GivenBack
 pub mod Places
 pub mod Sockets

@@ -1,2 +1,5 @@
 pub mod Connections
 pub mod Accepting
+pub mod Console
+pub mod Ending
+pub mod Ports

@@ -7,8 +7,14 @@
 
 mod accepting;
 mod connections;
+mod console;
+mod ending;
+mod ports;
 
 pub use accepting::{ACCEPT_AGAIN_MILLIS, Accepting, after_accept};
 pub use connections::{
     Begun, Connections, Gone, MAX_CONNECTIONS, Member, Open, Released, Running, Unserved,
 };
+pub use console::{Next, after_read};
+pub use ending::{Ending, ServerFault, after_help, ended};
+pub use ports::{Chosen, Listening, Ports, listening_address};

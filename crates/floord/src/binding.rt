@@ -49,11 +49,6 @@ impl<G> Binding<G> {
         }
     }
 
-    /// The conference that the port leads to.
-    pub fn conference(&self) -> u32 {
-        self.conference
-    }
-
     /// Who connects to the port.
     pub fn user(&self) -> u16 {
         self.user

@@ -18,6 +18,7 @@ mod socket;
 mod tests;
 mod words;
 
+use floor_listen::{Ending, ServerFault};
 use std::io::ErrorKind;
 use std::process::ExitCode;
 
@@ -26,12 +27,15 @@ fn main(rt: HostRuntime) -> ExitCode {
     let words: Vec<String> = match std::env::args(&rt) {
         Ok(arguments) => match arguments.collect(alloc) {
             Ok(words) => words,
-            Err(_) => return refuse(&rt, "floord: Memory", 1),
+            Err(_) => return end(&rt, Ending::Fault(ServerFault::Memory)),
         },
         Err(error) if error.kind() == ErrorKind::OutOfMemory => {
-            return refuse(&rt, "floord: Memory", 1);
+            return end(&rt, Ending::Fault(ServerFault::Memory));
         }
-        Err(_) => return refuse(&rt, "error: a word is not UTF-8", 2),
+        Err(_) => {
+            let _outcome = rt.eprintln("error: a word is not UTF-8");
+            return end(&rt, Ending::Refused);
+        }
     };
     ExitCode::from(run::run(
         rt,
@@ -43,8 +47,7 @@ fn main(rt: HostRuntime) -> ExitCode {
     ))
 }
 
-/// Prints why nothing is run, and gives the status.
-fn refuse(rt: &impl Eprint, text: &str, status: u8) -> ExitCode {
-    let _outcome = rt.eprintln(text);
-    ExitCode::from(status)
+/// Ends before anything is run.
+fn end(rt: &HostRuntime, ending: Ending) -> ExitCode {
+    ExitCode::from(run::tell(&mut rt.stderr(), ending))
 }

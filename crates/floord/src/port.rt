@@ -3,7 +3,7 @@
 use crate::binding::Binding;
 use crate::connection;
 use floor_console::BoardRefusal;
-use floor_listen::{Accepting, after_accept};
+use floor_listen::{Accepting, after_accept, listening_address};
 use floor_serve::Gate;
 use std::alloc::Global;
 use std::io::ErrorKind;
@@ -14,14 +14,13 @@ use std::thread::{JoinHandle, Threads};
 use std::time::{Clock, Duration};
 use std::{io, thread};
 
-/// A listening port. To close it, call `stop_listening`, then `shut_down`, then `wait`.
+/// A listening port. `close` ends it; `end` ahead of that has its connections end meanwhile.
 #[derive(Drop)]
 pub struct Port<G> {
     binding: Arc<Binding<G>, Global>,
     /// A second handle of the listener: to shut it down ends the accept.
-    end: TcpStream,
-    /// `None` once it doesn't listen any more.
-    acceptor: Option<JoinHandle<()>>,
+    listener: TcpStream,
+    acceptor: JoinHandle<()>,
 }
 
 impl<G> Port<G> {
@@ -47,52 +46,50 @@ impl<G> Port<G> {
             return Err(BoardRefusal::Memory);
         };
         let theirs = Arc::try_clone(&binding)?;
-        let (listener, end) = listen(rt, alloc, number)?;
+        let (listener, second) = listen(rt, number)?;
         match thread::spawn(&rt, move || accept_all(rt, alloc, &theirs, &listener)) {
             Ok(acceptor) => Ok(Port {
                 binding,
-                end,
-                acceptor: Some(acceptor),
+                listener: second,
+                acceptor,
             }),
             Err(_) => Err(BoardRefusal::CannotListen),
         }
     }
 
-    /// The conference that it leads to.
-    pub fn conference(&self) -> u32 {
-        self.binding.conference()
-    }
-
-    /// Ends the listening. The port can be used again then.
-    pub fn stop_listening<R: Threads>(&mut self, rt: &R) {
+    /// Ends the listening, and shuts down the socket of each connection that has begun.
+    pub fn end<R: Wait>(&self, rt: &R) {
         self.binding.set_ending();
-        let _outcome = self.end.shutdown(Shutdown::Both);
-        match self.acceptor.take() {
-            Some(acceptor) => acceptor.join(rt),
-            None => {}
-        }
-    }
-
-    /// Shuts each socket of the port down.
-    pub fn shut_down<R: Wait>(&self, rt: &R) {
+        // It may be shut down already.
+        let _outcome = self.listener.shutdown(Shutdown::Both);
         self.binding.shut_down(rt);
     }
 
-    /// Waits for all threads of its connections.
-    pub fn wait<R: Wait>(&self, rt: &R) {
-        self.binding.wait(rt);
+    /// Closes it: it isn't listened on any more, so that it can be used again, and none of its
+    /// connections runs.
+    pub fn close<R: Threads + Wait>(self, rt: &R)
+    where
+        G: Drop,
+    {
+        self.end(rt);
+        let Port {
+            binding,
+            listener: _,
+            acceptor,
+        } = self;
+        acceptor.join(rt);
+        // Also what the acceptor still began.
+        binding.shut_down(rt);
+        binding.wait(rt);
     }
 }
 
-/// Listens on the port of 127.0.0.1, and gives the listener with a second handle of it.
-fn listen<R>(rt: R, alloc: Global, number: u16) -> Result<(TcpListener, TcpStream), BoardRefusal>
+/// Listens on the port, and gives the listener with a second handle of it.
+fn listen<R>(rt: R, number: u16) -> Result<(TcpListener, TcpStream), BoardRefusal>
 where
     R: Net<Listener = TcpListener, Stream = TcpStream> + Drop,
 {
-    let Ok(address) = format!(in alloc; "127.0.0.1:{number}") else {
-        return Err(BoardRefusal::Memory);
-    };
-    let listener = match TcpListener::bind(&rt, address.as_str()) {
+    let listener = match TcpListener::bind(&rt, listening_address(number)) {
         Ok(listener) => listener,
         Err(error) => return Err(refusal_of(&error)),
     };

@@ -1,10 +1,14 @@
 //! A run of the server over its words, a reader and two writers.
 
-use crate::fault::ServerFault;
+ghost use Rattle.std.specs.Prelude.{◌≡◌};
+ghost use Rattle.floor_listen.specs.Ending.{status_of};
+
+use crate::fault::{fault_of_opening, fault_of_stop};
 use crate::lines::{answer_lines, print};
 use crate::server::Server;
 use crate::words::{WordsFault, configuration_path};
 use floor_console::Board;
+use floor_listen::{Ending, ServerFault, after_help, ended};
 use floor_serve::{FreePass, Gate};
 use std::alloc::Global;
 use std::io::{Read, Write};
@@ -14,8 +18,8 @@ use std::sync::Wait;
 use std::thread::Threads;
 use std::time::Clock;
 
-/// Serves the configuration that the words name until `input` says `stop` or ends, and gives the
-/// exit status: 0; 1 for a fault, whose name is printed to `errors`; 2 where the words are refused.
+/// Serves the configuration that the words name until `input` says `stop` or ends, prints the name
+/// of a fault to `errors`, and gives the exit status.
 pub fn run<
     R: Net<Listener = TcpListener, Stream = TcpStream>
         + Files
@@ -62,24 +66,16 @@ pub fn run_with<
 where
     G: Gate + Send + Sync + Drop + 'static,
 {
-    let path = match configuration_path(alloc, words) {
-        Ok(path) => path,
-        Err(WordsFault::Help(text)) => {
-            return match print(output, text.as_str()) {
-                Ok(()) => 0,
-                Err(fault) => told(errors, fault),
-            };
-        }
+    let ending = match configuration_path(alloc, words) {
+        Ok(path) => serve(rt, alloc, path.as_str(), input, output, gate),
+        Err(WordsFault::Help(text)) => after_help(print(output, text.as_str())),
         Err(WordsFault::Refused(text)) => {
             let _outcome = print(errors, text.as_str());
-            return 2;
+            Ending::Refused
         }
-        Err(WordsFault::Memory) => return told(errors, ServerFault::Memory),
+        Err(WordsFault::Memory) => Ending::Fault(ServerFault::Memory),
     };
-    match serve(rt, alloc, path.as_str(), input, output, gate) {
-        Ok(()) => 0,
-        Err(fault) => told(errors, fault),
-    }
+    tell(errors, ending)
 }
 
 fn serve<
@@ -96,27 +92,24 @@ fn serve<
         + 'static,
     I: Read,
     O: Write,
->(
-    rt: R,
-    alloc: Global,
-    path: &str,
-    input: &mut I,
-    output: &mut O,
-    gate: G,
-) -> Result<(), ServerFault>
+>(rt: R, alloc: Global, path: &str, input: &mut I, output: &mut O, gate: G) -> Ending
 where
     G: Gate + Send + Sync + Drop + 'static,
 {
-    let mut server = Server::new(rt, alloc, gate)?;
-    let outcome = converse(alloc, &mut server, path, input, output);
+    let Ok(mut server) = Server::new(rt, alloc, gate) else {
+        return Ending::Fault(ServerFault::Memory);
+    };
+    let served = converse(rt, alloc, &mut server, path, input, output);
     // Whatever went wrong, no thread is left behind.
-    let stopped = match server.outcome() {
-        Some(stopped) => stopped,
+    let outcome = match server.outcome() {
+        Some(outcome) => outcome,
         None => server.stop(),
     };
-    outcome?;
-    stopped?;
-    Ok(())
+    let stopped = match outcome {
+        Ok(_) => Ok(()),
+        Err(refusal) => Err(fault_of_stop(refusal)),
+    };
+    ended(served, stopped)
 }
 
 fn converse<
@@ -134,6 +127,7 @@ fn converse<
     I: Read,
     O: Write,
 >(
+    rt: R,
     alloc: Global,
     server: &mut Server<G, R>,
     path: &str,
@@ -143,13 +137,24 @@ fn converse<
 where
     G: Gate + Send + Sync + Drop + 'static,
 {
-    server.open_file(path)?;
+    match server.open_file(path) {
+        Ok(_) => {}
+        Err(refusal) => return Err(fault_of_opening(refusal)),
+    }
     print(output, "ready\n")?;
-    answer_lines(alloc, server, input, output)
+    answer_lines(rt, alloc, server, input, output)
 }
 
-/// Prints a fault, and gives the exit status for it.
-fn told<E: Write>(errors: &mut E, fault: ServerFault) -> u8 {
-    let _outcome = writeln!(errors, "floord: {fault}");
-    1
+/// Prints the name of a fault, where one ends the program, and gives the exit status. Takes no
+/// memory, so that want of memory has its name.
+pub fn tell<E: Write>(errors: &mut E, ending: Ending) -> u8
+    ensures status { result ≡ status_of ending }
+{
+    match ending.name() {
+        None => {}
+        Some(name) => {
+            let _written = writeln!(errors, "floord: {name}");
+        }
+    }
+    ending.status()
 }

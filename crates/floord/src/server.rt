@@ -5,6 +5,7 @@ use crate::connections::Connections;
 use crate::port::Port;
 use floor_config::{Config, ConfigFault, read_configs};
 use floor_console::{Board, BoardRefusal, Command, StopRefusal, Stopped, Text, parse_line};
+use floor_listen::{Chosen, Ports};
 use floor_room::Status;
 use floor_serve::{Act, Desk, DeskRefusal, FinishFault, Gate, OpenRefusal, Registry, Report};
 use std::alloc::{AllocError, Global};
@@ -22,7 +23,7 @@ pub struct Server<G, R> {
     rt: R,
     alloc: Global,
     shared: Arc<Shared<G>, Global>,
-    ports: Vec<Port<G>>,
+    ports: Ports<Port<G>>,
     /// What came of an `open` line that the board has yet to answer.
     opening: Option<Result<usize, BoardRefusal>>,
     outcome: Option<Result<Stopped, StopRefusal>>,
@@ -53,7 +54,7 @@ where
             rt,
             alloc,
             shared: Arc::new(alloc, shared)?,
-            ports: Vec::new(alloc),
+            ports: Ports::new(alloc),
             opening: None,
             outcome: None,
         })
@@ -107,7 +108,7 @@ where
             Ok(()) => Ok(()),
             Err(refusal) => {
                 // What it had of ports is given back.
-                self.close_ports(conference);
+                self.close_ports(Chosen::Of(conference));
                 Err(refusal)
             }
         }
@@ -134,9 +135,9 @@ where
         let shared = Arc::try_clone(&self.shared)?;
         let binding = Binding::new(shared, conference, user, port);
         // Room first, so that a port that listens is kept.
-        self.ports.reserve(1)?;
+        self.ports.reserve()?;
         let opened = Port::open(self.rt, self.alloc, binding, port)?;
-        self.ports.push_reserved(opened);
+        self.ports.add(conference, opened);
         Ok(())
     }
 }
@@ -147,21 +148,10 @@ impl<G: Drop, R: Threads + Wait + Drop> Server<G, R> {
         self.outcome
     }
 
-    /// Closes the ports that lead to a conference.
-    fn close_ports(&mut self, conference: u32) {
-        let mut place = 0usize;
-        for _ in 0..self.ports.len() {
-            if place < self.ports.len() {
-                if self.ports[place].conference() == conference {
-                    let mut port = self.ports.swap_remove(place);
-                    port.stop_listening(&self.rt);
-                    port.shut_down(&self.rt);
-                    port.wait(&self.rt);
-                } else {
-                    place += 1;
-                }
-            }
-        }
+    /// Closes the chosen ports.
+    fn close_ports(&mut self, chosen: Chosen) {
+        let rt = &self.rt;
+        self.ports.give_back(chosen, |port: Port<G>| port.close(rt));
     }
 
     /// The desk of a conference that was opened.
@@ -204,7 +194,7 @@ impl<G: Drop, R: Threads + Wait + Drop> Board for Server<G, R> {
 
     fn close(&mut self, conference: u32) -> Result<(), BoardRefusal> {
         self.act(conference, Act::Close)?;
-        self.close_ports(conference);
+        self.close_ports(Chosen::Of(conference));
         Ok(())
     }
 
@@ -222,15 +212,10 @@ impl<G: Drop, R: Threads + Wait + Drop> Board for Server<G, R> {
     }
 
     fn stop(&mut self) -> Result<Stopped, StopRefusal> {
-        for port in self.ports.iter_mut() {
-            port.stop_listening(&self.rt);
-        }
-        for port in self.ports.as_slice() {
-            port.shut_down(&self.rt);
-        }
-        for port in self.ports.as_slice() {
-            port.wait(&self.rt);
-        }
+        let rt = &self.rt;
+        // All of them first, so that the connections of all ports end beside each other.
+        self.ports.each(|port: &Port<G>| port.end(rt));
+        self.close_ports(Chosen::All);
         let outcome = match self
             .shared
             .connections

@@ -1,8 +1,9 @@
 //! How many lines are answered, and what ends the server.
 
-use super::clients::{Server, ask, free_port, line, prepare, run_to_end};
+use super::clients::{Server, ask, free_port, line, prepare, run_to_end, write_file};
+use crate::run::run;
 use floor_serve::FreePass;
-use std::net::Shutdown;
+use std::net::{Shutdown, TcpListener};
 use std::test::Fail;
 use std::{fs, thread};
 
@@ -26,5 +27,42 @@ fn lines_are_answered_until_the_input_ends(rt: HostRuntime) -> Result<(), Fail> 
     assert_eq!(rt; line(&rt, &server)?.as_str(), "ok stopped seats 0 events 0");
     assert_eq!(rt; server.end(&rt), 0);
     fs::remove_file(&rt, "endings.toml")?;
+    Ok(())
+}
+
+#[test]
+fn each_end_has_its_status_and_its_last_line(rt: HostRuntime) -> Result<(), Fail> {
+    let alloc = rt.alloc();
+    let taken = TcpListener::bind(&rt, "127.0.0.1:0")?;
+    write_file(&rt, "ends_taken.toml", &[(1, taken.local_addr()?.port())])?;
+    write_file(&rt, "ends_free.toml", &[(1, free_port(&rt)?)])?;
+    fs::write(&rt, "ends_bad.toml", "[[conference]]\n")?;
+    fs::write(&rt, "ends_text.toml", "[[conference\n")?;
+    for (word, status, errors) in [
+        ("--help", 0, ""),
+        ("ends_free.toml", 0, ""),
+        ("ends_taken.toml", 1, "floord: CannotListen\n"),
+        ("ends_bad.toml", 1, "floord: MissingKey\n"),
+        ("ends_text.toml", 1, "floord: Syntax\n"),
+    ] {
+        let words = vec![in alloc;
+            String::from_str(alloc, "floord")?,
+            String::from_str(alloc, word)?,
+        ]?;
+        let mut output = Vec::new(alloc);
+        let mut told = Vec::new(alloc);
+        let mut input: &[u8] = b"";
+        let found = run(rt, alloc, &words, &mut input, &mut output, &mut told);
+        assert_eq!(rt; found, status, "{word}");
+        assert_eq!(rt; told.as_slice(), errors.as_bytes(), "{word}");
+    }
+    for path in [
+        "ends_taken.toml",
+        "ends_free.toml",
+        "ends_bad.toml",
+        "ends_text.toml",
+    ] {
+        fs::remove_file(&rt, path)?;
+    }
     Ok(())
 }

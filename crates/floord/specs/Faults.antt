@@ -1,0 +1,22 @@
+-- The faults that end the server.
+use Rattle.floor_console.specs.declared.board.BoardRefusal.{BoardRefusal}
+use Rattle.floor_console.specs.declared.board.BoardRefusal.TheVariants as board
+use Rattle.floor_console.specs.declared.board.StopRefusal.{StopRefusal}
+use Rattle.floor_console.specs.declared.board.StopRefusal.TheVariants as stop
+use Rattle.floor_listen.specs.declared.ending.ServerFault.{ServerFault}
+use Rattle.floor_listen.specs.declared.ending.ServerFault.TheVariants.{CannotRead, ByConfiguration, CannotListen, Broken, Mismatch, Memory}
+
+-- the fault of a server whose first conferences can't be opened; the numbers of a configuration differ, so none is in use but by want of memory
+abbrev pub fault_of_opening : BoardRefusal → ServerFault
+fault_of_opening board.NoConference = Memory
+fault_of_opening (board.ByRoom refusal) = Broken
+fault_of_opening board.CannotRead = CannotRead
+fault_of_opening (board.ByConfiguration fault) = ByConfiguration fault
+fault_of_opening board.CannotListen = CannotListen
+fault_of_opening board.Used = Memory
+fault_of_opening board.Memory = Memory
+
+-- the fault of a server whose stop finds something wrong
+abbrev pub fault_of_stop : StopRefusal → ServerFault
+fault_of_stop (stop.Broken conference) = Broken
+fault_of_stop (stop.Mismatch conference n) = Mismatch
