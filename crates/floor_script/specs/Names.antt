@@ -2,8 +2,8 @@
 use Rattle.std.specs.Prelude.{ℕ, Option, Some, None, List, codes}
 use Rattle.floor_script.specs.declared.line.LineFault.{LineFault}
 use Rattle.floor_script.specs.declared.line.LineFault.TheVariants as line
-use Rattle.floor_script.specs.declared.running.RunFault.{RunFault}
-use Rattle.floor_script.specs.declared.running.RunFault.TheVariants as run
+use Rattle.floor_script.specs.declared.fault.RunFault.{RunFault}
+use Rattle.floor_script.specs.declared.fault.RunFault.TheVariants as run
 
 -- the name of a line's fault
 abbrev pub name_of_line_fault : LineFault → List ℕ

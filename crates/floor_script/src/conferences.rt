@@ -1,8 +1,9 @@
 //! The conferences of a script, and what its lines are answered.
 
 use crate::attached::Attached;
+use crate::fault::RunFault;
 use crate::line::Command;
-use crate::running::{RunFault, TURNS};
+use crate::script::MAX_TURNS;
 use floor_hub::{Act, Config, Hub, HubRefusal, Parcel, Served};
 use std::alloc::{AllocError, Global};
 use std::io::Write;
@@ -117,7 +118,7 @@ impl Conferences {
 
     fn send(&mut self, connection: u64, bytes: &[u8]) -> Result<(), HubRefusal> {
         self.hub.piece(connection, bytes)?;
-        for _ in 0..TURNS {
+        for _ in 0..MAX_TURNS {
             match self.hub.serve(connection)? {
                 Served::Message => {}
                 Served::Nothing => break,
@@ -152,7 +153,7 @@ fn print_parcels<W: Write>(
     connection: u64,
     output: &mut W,
 ) -> Result<(), RunFault> {
-    for _ in 0..TURNS {
+    for _ in 0..MAX_TURNS {
         match hub.take(connection) {
             Ok(Some(parcel)) => print_parcel(alloc, connection, &parcel, output)?,
             Ok(None) | Err(_) => break,

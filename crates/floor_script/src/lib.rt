@@ -7,9 +7,11 @@
 
 mod attached;
 mod conferences;
+mod fault;
 mod line;
 mod running;
 mod script;
 
+pub use fault::RunFault;
 pub use line::{Command, LineFault, parse_line};
-pub use running::{RunFault, run, run_script};
+pub use running::{run, run_script};

@@ -1,75 +1,12 @@
 //! A run of a script over a reader and a writer.
 
 use crate::conferences::Conferences;
+use crate::fault::RunFault;
 use crate::line::{LineFault, parse_line};
-use crate::script::{Line, Script};
+use crate::script::{Line, MAX_TURNS, Script};
 use floor_config::{Config, ConfigFault, read_configs};
-use std::alloc::{AllocError, AllocFailed, Global};
-use std::io;
+use std::alloc::Global;
 use std::io::{BufWriter, Read, Write};
-
-/// How often a loop over the input turns at most.
-pub const TURNS: u32 = 100_000_000;
-
-/// Why a run ends early.
-#[derive(Clone, Copy, Debug, PartialEq, Eq)]
-pub enum RunFault {
-    /// A read failed, or the input isn't UTF-8 or has too many lines.
-    CannotRead,
-    /// A write failed.
-    CannotWrite,
-    /// Memory ran out.
-    Memory,
-    /// The configuration or a line was refused, and its fault is printed.
-    Refused,
-}
-
-impl RunFault {
-    ghost use Rattle.std.specs.Prelude.{◌≡◌};
-    ghost use Rattle.std.specs.Option.{option_map};
-    ghost use Rattle.floor_script.specs.Names.{name_of_run_fault, status_of};
-
-    /// The name that standard error tells, where the output doesn't tell the fault. Takes no memory.
-    pub fn name(&self) -> Option<&'static str>
-        ensures value { option_map (λ name. name.now) result ≡ name_of_run_fault self.now }
-    {
-        match self {
-            RunFault::CannotRead => Some("CannotRead"),
-            RunFault::CannotWrite => Some("CannotWrite"),
-            RunFault::Memory => Some("Memory"),
-            RunFault::Refused => None,
-        }
-    }
-
-    /// The exit status: 2 where the configuration or a line was refused, else 1.
-    pub fn status(&self) -> u8
-        ensures value { result ≡ status_of self.now }
-    {
-        match self {
-            RunFault::CannotRead | RunFault::CannotWrite | RunFault::Memory => 1,
-            RunFault::Refused => 2,
-        }
-    }
-}
-
-/// Whatever the standard library fails by here is a write.
-impl From<io::Error> for RunFault {
-    fn from(_e: io::Error) -> RunFault {
-        RunFault::CannotWrite
-    }
-}
-
-impl From<AllocError> for RunFault {
-    fn from(_e: AllocError) -> RunFault {
-        RunFault::Memory
-    }
-}
-
-impl<T: Drop> From<AllocFailed<T>> for RunFault {
-    fn from(_e: AllocFailed<T>) -> RunFault {
-        RunFault::Memory
-    }
-}
 
 /// Runs the script of `input`, prints its answers to `output`, and gives the exit status: 0; 1 for
 /// a read or write fault or where memory ran out; 2 for a refused configuration or a bad line.
@@ -103,7 +40,7 @@ pub fn run_script<R: Read, W: Write + Drop>(
 fn read_all<R: Read>(alloc: Global, input: &mut R) -> Result<Vec<u8>, RunFault> {
     let mut bytes = Vec::new(alloc);
     let mut chunk = [0u8; 4096];
-    for _ in 0..TURNS {
+    for _ in 0..MAX_TURNS {
         let Ok(count) = input.read(&mut chunk) else {
             return Err(RunFault::CannotRead);
         };
@@ -127,7 +64,7 @@ fn run_text<W: Write>(alloc: Global, text: &str, output: &mut W) -> Result<(), R
         }
     }
     let mut lines = script.lines;
-    for _ in 0..TURNS {
+    for _ in 0..MAX_TURNS {
         let Some(line) = lines.cut() else {
             return Ok(());
         };

@@ -1,7 +1,9 @@
 //! A text as a configuration and the lines of a script.
 
-use crate::running::TURNS;
 use floor_words::cut_line;
+
+/// How often a loop over the input turns at most.
+pub const MAX_TURNS: u32 = 100_000_000;
 
 /// The line that divides a configuration from a script.
 const DIVIDER: &str = "---";
@@ -53,7 +55,7 @@ impl<'a> Script<'a> {
     /// The script of a text. The first line that is the divider ends the configuration.
     pub fn of_text(text: &'a str) -> Script<'a> {
         let mut lines = Lines::of_text(text);
-        for _ in 0..TURNS {
+        for _ in 0..MAX_TURNS {
             let left = lines.rest.len();
             match lines.cut() {
                 None => break,
