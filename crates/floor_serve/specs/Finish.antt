@@ -5,7 +5,7 @@ use Rattle.floor_serve.specs.Fits.{messages_of}
 use Rattle.floor_serve.specs.Seat.{Seat}
 use Rattle.floor_serve.specs.Table.{is_opened}
 use Rattle.floor_serve.specs.declared.fault.FinishFault.{FinishFault}
-use Rattle.floor_serve.specs.declared.finishing.Report.{Report}
+use Rattle.floor_serve.specs.declared.end.finish.Report.{Report}
 
 -- a conference as it stood in one hold of its lock
 pub record Looked : Type 0 where

@@ -1,7 +1,7 @@
 //! One conference with its journal, and a place for each member that ever joined, with its sender
 //! until it has left.
 
-ghost use Rattle.std.specs.Prelude.{◌≡◌, ◌↔◌, IsTrue, ◌+◌, ◌-◌, ◌++◌, ◌⊎◌, [], true, None, IfErr, IfOk, IsSomeAnd, OnOk, OnErr, Err, length, slice_set, false};
+ghost use Rattle.std.specs.Prelude.{◌≡◌, ◌+◌, ◌-◌, ◌++◌, ◌⊎◌, [], true, None, IfErr, IfOk, IsSomeAnd, OnOk, OnErr, Err, length, slice_set, false};
 ghost use Rattle.floor_machine.specs.declared.event.Event.TheVariants.{Join, Message, Leave};
 ghost use Rattle.floor_machine.specs.Machine.{event_of_act};
 ghost use Rattle.floor_room.specs.declared.refusal.RoomRefusal.TheVariants.{Refused};
@@ -10,12 +10,10 @@ ghost use Rattle.floor_room.specs.Ledger.{Added, IsRefusedBy, Unadded, broken_of
 ghost use Rattle.floor_room.specs.Room.{joined, parcels_to};
 ghost use Rattle.floor_room.specs.Status.{IsStatus};
 ghost use Rattle.floor_serve.specs.Booth.{Applied, IsBooth, IsGone, Left, LeftJoin, new_booth, off, opened};
-ghost use Rattle.floor_serve.specs.Fits.{messages_of};
 ghost use Rattle.floor_serve.specs.steps.Last.{last_message};
 ghost use Rattle.floor_serve.specs.Senders.{IsInPart, IsPut, fed, sender_of, without};
 
-use crate::fitting::fits;
-use crate::seat::{Seat, Sent};
+use crate::seat::Sent;
 use crate::senders::{close, close_all, deliver};
 use crate::wakers::Wakers;
 use floor_outbox::{Outbox, Parcel, Sender, Taker, pair, rejoin};
@@ -101,13 +99,6 @@ impl Booth {
             Phase::Running => false,
             Phase::Ended | Phase::Broken => true,
         }
-    }
-
-    /// Whether what the seat recorded is all that the journal has of its member.
-    pub fn fits(&self, seat: &Seat) -> bool
-        ensures { IsTrue result ↔ (seat.now.sent ≡ messages_of self.now.ledger.journal seat.now.n) }
-    {
-        fits(self.journal(), seat.n(), seat.sent())
     }
 
     /// How many members ever joined. Takes no memory.

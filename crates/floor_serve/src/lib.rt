@@ -9,14 +9,11 @@
 #![tactic(auto)]
 
 mod booth;
-mod counting;
 mod desk;
+mod end;
 mod fault;
-mod finishing;
-mod fitting;
 mod gate;
 mod marked;
-mod ordering;
 mod reading;
 mod registry;
 mod seat;
@@ -27,8 +24,8 @@ mod writing;
 
 pub use booth::Booth;
 pub use desk::Desk;
+pub use end::finish::{Report, finish};
 pub use fault::{DeskRefusal, FinishFault, OpenRefusal, ReadFault, WriteFault};
-pub use finishing::{Report, finish};
 pub use floor_outbox::{ClosedMark, Outbox, Parcel, Sender, Taker};
 pub use floor_room::{Act, Config, Event, Frame, Phase, Place, Refusal, RoomRefusal, Status};
 pub use floor_wire::Octets;
