@@ -7,8 +7,8 @@ use Rattle.std.proofs.lemmas.Bool.{eqb-true, eqb-false, ne_eqb}
 use Rattle.std.proofs.lemmas.Map.{update_here, update_apart}
 use Rattle.floor_machine.specs.declared.act.Act.{Act}
 use Rattle.floor_machine.specs.declared.event.Event.{Event}
-use Rattle.floor_machine.specs.declared.event.Event.TheVariants.{Join, Message, Leave, Revoke, Close}
-use Rattle.floor_machine.specs.declared.machine.Refusal.TheVariants.{Broken, Ended, NoMember, NoUser, Full, NoRequest, Memory}
+use Rattle.floor_machine.specs.declared.event.Event.TheVariants.{Join, Message, Took, Leave, Revoke, Close}
+use Rattle.floor_machine.specs.declared.machine.Refusal.TheVariants.{Broken, Ended, NoMember, NoUser, Full, NoRequest, Cut, BadCount, Memory}
 use Rattle.floor_machine.specs.Machine.{event_of_act}
 use Rattle.floor_room.specs.declared.refusal.RoomRefusal.{RoomRefusal}
 use Rattle.floor_room.specs.declared.refusal.RoomRefusal.TheVariants.{JournalFull, Refused as ByMachine}
@@ -38,6 +38,7 @@ messages-quiet : (n : ℕ) (es : List Event) (e : Event) → IsQuiet e → messa
 messages-quiet n [] e q = q n
 messages-quiet n (Join user ∷ es) e q = messages-quiet n es e q
 messages-quiet n (Message m bytes ∷ es) e q = ap (λ (ms : List (List ℕ)). if m == n then bytes ∷ ms else ms) (messages-quiet n es e q)
+messages-quiet n (Took m k ∷ es) e q = messages-quiet n es e q
 messages-quiet n (Leave m ∷ es) e q = messages-quiet n es e q
 messages-quiet n (Revoke request ∷ es) e q = messages-quiet n es e q
 messages-quiet n (Close ∷ es) e q = messages-quiet n es e q
@@ -141,22 +142,24 @@ module _ (rooms now : ℕ → Option Room) (xs : ℕ → Option Connection) (k :
             (came-quiet r new e quiet sound journal x a (subst (λ (y : Option Room). CameTo y x a) is h));
       }) st
 
-module _ (rooms now : ℕ → Option Room) (xs : ℕ → Option Connection) (k : ℕ) (w : World) (c : ℕ) (act : Act) (st : Stands rooms xs k w) where
+-- what a conference offers that is asked to add an event
+abbrev pub offered : Event → Option Part → world.Offered
+offered e None = world.refuses None NoConference
+offered e (Some p) = world.add_event p e (refused p e)
+
+module _ (rooms now : ℕ → Option Room) (xs : ℕ → Option Connection) (k : ℕ) (w : World) (c : ℕ) (e : Event) (quiet : IsQuiet e) (st : Stands rooms xs k w) where
   -- the turn with this offer
   abbrev TurnIs : world.Offered → Answer → Type 0
   TurnIs o a = Stands now xs k (put w c o).world × ((put w c o).answer ≡ a)
 
   abbrev pub Acted : Answer → Type 0
-  Acted a = Stands now xs k (turn w (Admin c act)).world × ((turn w (Admin c act)).answer ≡ a)
+  Acted a = TurnIs (offered e (w.parts c)) a
 
   abbrev pub ActFails : HubRefusal → Type 0
   ActFails r = (((r ≡ ByRoom (ByMachine Memory)) ⊎ (r ≡ ByRoom (ByMachine Broken))) × Stands now xs k w) ⊎ Acted (Refused r)
 
-  abbrev e : Event
-  e = event_of_act act
-
   pub act_absent : rooms c ≡ None → ((d : ℕ) → now d ≡ rooms d) → Acted (Refused NoConference)
-  act_absent is same = subst (λ (z : Option Part). TurnIs (offer z (Admin c act)) (Refused NoConference)) (sym gone) (stands_refused rooms now xs k w c e (quiet-act act) st same None gone, refl)
+  act_absent is same = subst (λ (z : Option Part). TurnIs (offered e z) (Refused NoConference)) (sym gone) (stands_refused rooms now xs k w c e quiet st same None gone, refl)
     where
       by : (z : Option Part) → RoomStands None z → z ≡ None
       by None h = refl
@@ -166,13 +169,13 @@ module _ (rooms now : ℕ → Option Room) (xs : ℕ → Option Connection) (k :
       gone = by (w.parts c) (subst (λ (x : Option Room). RoomStands x (w.parts c)) is (st.of_rooms c))
 
   act_taken : (r new : Room) (z : Option Part) → w.parts c ≡ z → rooms c ≡ Some r → ((d : ℕ) → d ≢ c → now d ≡ rooms d) → now c ≡ Some new → Applied r new e → RoomStands (Some r) z →
-      TurnIs (offer z (Admin c act)) Done
+      TurnIs (offered e z) Done
   act_taken r new None was is others here t h = absurd h
   act_taken r new (Some p) was is others here t h =
       let sound : r.ledger.is_broken ≡ false = sound-by r e None r.ledger.is_broken refl t.allowed (λ x. cc) in
       let open_too : refused p e ≡ None = sym (refusal-part r p e sound h.0 (h.1 sound)) ∙ t.allowed in
-      subst (λ (x : Option RoomRefusal). TurnIs (world.admin p e x) Done) (sym open_too)
-      (stands_taken rooms now xs k w c e (quiet-act act) st r new p is was others here sound (ap (λ (x : Room). x.ledger.config) t.next) (ap (λ (x : Room). x.ledger.journal) t.next), refl)
+      subst (λ (x : Option RoomRefusal). TurnIs (world.add_event p e x) Done) (sym open_too)
+      (stands_taken rooms now xs k w c e quiet st r new p is was others here sound (ap (λ (x : Room). x.ledger.config) t.next) (ap (λ (x : Room). x.ledger.journal) t.next), refl)
 
   pub act_done : (r new : Room) → rooms c ≡ Some r → ((d : ℕ) → d ≢ c → now d ≡ rooms d) → now c ≡ Some new → Applied r new e → Acted Done
   act_done r new is others here t =
@@ -184,12 +187,12 @@ module _ (rooms now : ℕ → Option Room) (xs : ℕ → Option Connection) (k :
   same_all r new is others here same d false h = others d (eqb-false d c h)
 
   act_refused_part : (r : Room) (why : RoomRefusal) (z : Option Part) → w.parts c ≡ z → ((d : ℕ) → now d ≡ rooms d) → r.ledger.is_broken ≡ false → refusal r.ledger e ≡ Some why → RoomStands (Some r) z →
-      TurnIs (offer z (Admin c act)) (Refused (ByRoom why))
+      TurnIs (offered e z) (Refused (ByRoom why))
   act_refused_part r why None was same sound is h = absurd h
   act_refused_part r why (Some p) was same sound is h =
       let closed_too : refused p e ≡ Some why = sym (refusal-part r p e sound h.0 (h.1 sound)) ∙ is in
-      subst (λ (x : Option RoomRefusal). TurnIs (world.admin p e x) (Refused (ByRoom why))) (sym closed_too)
-      (stands_refused rooms now xs k w c e (quiet-act act) st same (Some p) was, refl)
+      subst (λ (x : Option RoomRefusal). TurnIs (world.add_event p e x) (Refused (ByRoom why))) (sym closed_too)
+      (stands_refused rooms now xs k w c e quiet st same (Some p) was, refl)
 
   -- the room has refused it, and is as it was
   act_refused : (r new : Room) (why : RoomRefusal) → rooms c ≡ Some r → ((d : ℕ) → d ≢ c → now d ≡ rooms d) → now c ≡ Some new → IsRefusedBy {T = Unit {0}} (refusal r.ledger e) (Err why) →
@@ -205,13 +208,13 @@ module _ (rooms now : ℕ → Option Room) (xs : ℕ → Option Connection) (k :
 
   stays : (r new : Room) → rooms c ≡ Some r → ((d : ℕ) → d ≢ c → now d ≡ rooms d) → now c ≡ Some new → new ≡ r → Stands now xs k w
   stays r new is others here same =
-      unchanged rooms now xs k w c e (quiet-act act) st (λ d. same_all r new is others here same d (d == c) refl) w.parts (λ d. refl)
+      unchanged rooms now xs k w c e quiet st (λ d. same_all r new is others here same d (d == c) refl) w.parts (λ d. refl)
 
   broken_off : (r new : Room) → rooms c ≡ Some r → ((d : ℕ) → d ≢ c → now d ≡ rooms d) → now c ≡ Some new → (new ≡ broken_room r) ⊎ Began r new e → Stands now xs k w
   broken_off r new is others here (inl same) =
-      stands_broken rooms now xs k w c e (quiet-act act) st r new is others here (ap (λ (x : Room). x.ledger.is_broken) same) (ap (λ (x : Room). x.ledger.config) same)
+      stands_broken rooms now xs k w c e quiet st r new is others here (ap (λ (x : Room). x.ledger.is_broken) same) (ap (λ (x : Room). x.ledger.config) same)
   broken_off r new is others here (inr began) =
-      stands_broken rooms now xs k w c e (quiet-act act) st r new is others here (ap (λ (x : Room). x.ledger.is_broken) began.next) (ap (λ (x : Room). x.ledger.config) began.next)
+      stands_broken rooms now xs k w c e quiet st r new is others here (ap (λ (x : Room). x.ledger.is_broken) began.next) (ap (λ (x : Room). x.ledger.config) began.next)
 
   pub act_failed : (r new : Room) (why : RoomRefusal) → rooms c ≡ Some r → ((d : ℕ) → d ≢ c → now d ≡ rooms d) → now c ≡ Some new → IsRefusedBy {T = Unit {0}} (refusal r.ledger e) (Err why) →
       Left r new e why → ActFails (ByRoom why)
@@ -222,6 +225,8 @@ module _ (rooms now : ℕ → Option Room) (xs : ℕ → Option Connection) (k :
   act_failed r new (ByMachine NoUser) is others here by left = act_refused r new (ByMachine NoUser) is others here by (λ x. cc) (λ x. cc) left
   act_failed r new (ByMachine Full) is others here by left = act_refused r new (ByMachine Full) is others here by (λ x. cc) (λ x. cc) left
   act_failed r new (ByMachine NoRequest) is others here by left = act_refused r new (ByMachine NoRequest) is others here by (λ x. cc) (λ x. cc) left
+  act_failed r new (ByMachine Cut) is others here by left = act_refused r new (ByMachine Cut) is others here by (λ x. cc) (λ x. cc) left
+  act_failed r new (ByMachine BadCount) is others here by left = act_refused r new (ByMachine BadCount) is others here by (λ x. cc) (λ x. cc) left
   act_failed r new (ByMachine Memory) is others here by left = inl (inl refl, broken_off r new is others here left)
 
   -- what a refused act has left of a room
@@ -243,3 +248,17 @@ module _ (rooms now : ℕ → Option Room) (xs : ℕ → Option Connection) (k :
   acted res (Some r) is absent there =
       let t = there r is in
       acted_at res r t.0 is (λ d ne. t.2 d (ne_eqb c d (λ x. ne (sym x)))) t.1 t.3 t.4
+
+-- what an act in the room is in the world
+pub admin_acted : (rooms now : ℕ → Option Room) (xs : ℕ → Option Connection) (k : ℕ) (w : World) (c : ℕ) (act : Act) (st : Stands rooms xs k w) (res : Result (Unit {0}) HubRefusal) →
+    MatchResult res (λ _. Acted rooms now xs k w c (event_of_act act) (quiet-act act) st Done) (ActFails rooms now xs k w c (event_of_act act) (quiet-act act) st) →
+    MatchResult res (λ _. Stands now xs k (turn w (Admin c act)).world × ((turn w (Admin c act)).answer ≡ Done))
+    (λ r. (((r ≡ ByRoom (ByMachine Memory)) ⊎ (r ≡ ByRoom (ByMachine Broken))) × Stands now xs k w) ⊎ (Stands now xs k (turn w (Admin c act)).world × ((turn w (Admin c act)).answer ≡ Refused r)))
+admin_acted rooms now xs k w c act st res h =
+    subst (λ (o : world.Offered). MatchResult res (λ _. Stands now xs k (put w c o).world × ((put w c o).answer ≡ Done))
+    (λ r. (((r ≡ ByRoom (ByMachine Memory)) ⊎ (r ≡ ByRoom (ByMachine Broken))) × Stands now xs k w) ⊎ (Stands now xs k (put w c o).world × ((put w c o).answer ≡ Refused r))))
+    (same (w.parts c)) h
+  where
+    same : (z : Option Part) → offered (event_of_act act) z ≡ offer z (Admin c act)
+    same None = refl
+    same (Some p) = refl

@@ -5,14 +5,14 @@ use Rattle.std.specs.Option.{option_map_or}
 use Rattle.std.proofs.lemmas.Bool.{eqb-true, eqb-false}
 use Rattle.std.proofs.lemmas.Map.{update_here, update_apart}
 use Rattle.floor_machine.specs.declared.event.Event.{Event}
-use Rattle.floor_machine.specs.declared.event.Event.TheVariants.{Join, Message}
+use Rattle.floor_machine.specs.declared.event.Event.TheVariants.{Join, Message, Took as Takes}
 use Rattle.std.proofs.lemmas.Option.{slice_get-get_or, slice_get_past}
 use Rattle.std.proofs.Math.Seq.{get_or-append_seam}
 use Rattle.std.proofs.Math.ListN.{get_or-append}
 use Rattle.floor_room.specs.declared.refusal.RoomRefusal.{RoomRefusal}
 use Rattle.floor_hub.specs.declared.refusal.HubRefusal.TheVariants.{NoConnection}
 use Rattle.floor_hub.specs.declared.step.Step.{Step}
-use Rattle.floor_hub.specs.declared.step.Step.TheVariants.{Open, Attach, Piece, Serve, Leave, Admin}
+use Rattle.floor_hub.specs.declared.step.Step.TheVariants.{Open, Attach, Piece, Serve, Took, Leave, Admin}
 use Rattle.floor_hub.specs.declared.step.Answer.{Answer}
 use Rattle.floor_hub.specs.declared.step.Answer.TheVariants.{Done, Attached, Nothing, Served, Refused}
 use Rattle.floor_hub.specs.World as world
@@ -66,23 +66,29 @@ leave_counts : (p : Part) (n : ℕ) (a : Option Arrival) → CountsOffer (length
 leave_counts p n None = refl
 leave_counts p n (Some a) = set_counts p.arrivals n _
 
-admin_counts : (p : Part) (e : Event) (r : Option RoomRefusal) → CountsOffer (length p.arrivals) (world.admin p e r)
-admin_counts p e None = refl
-admin_counts p e (Some r) = refl
+added_counts : (p : Part) (e : Event) (r : Option RoomRefusal) → CountsOffer (length p.arrivals) (world.add_event p e r)
+added_counts p e None = refl
+added_counts p e (Some r) = refl
+
+took_counts : (p : Part) (n k : ℕ) (a : Option Arrival) → CountsOffer (length p.arrivals) (world.took p n k a)
+took_counts p n k None = refl
+took_counts p n k (Some a) = added_counts p (Takes n k) (world.refused p (Takes n k))
 
 pub offer_counts : (part : Option Part) (s : Step) → CountsOffer (arrivals_in part) (offer part s)
 offer_counts None (Open config) = refl
 offer_counts None (Attach c user) = refl
 offer_counts None (Piece n bytes) = refl
 offer_counts None (Serve n) = refl
+offer_counts None (Took n k) = refl
 offer_counts None (Leave n) = refl
 offer_counts None (Admin c act) = refl
 offer_counts (Some p) (Open config) = refl
 offer_counts (Some p) (Attach c user) = attach_counts p user (world.refused p (Join user))
 offer_counts (Some p) (Piece n bytes) = piece_counts p n bytes (world.if_live (world.arrival p n))
 offer_counts (Some p) (Serve n) = any_serve_counts p n (world.if_live (world.arrival p n))
+offer_counts (Some p) (Took n k) = took_counts p n k (world.if_live (world.arrival p n))
 offer_counts (Some p) (Leave n) = leave_counts p n (world.if_live (world.arrival p n))
-offer_counts (Some p) (Admin c act) = admin_counts p (event_of_act act) (world.refused p (event_of_act act))
+offer_counts (Some p) (Admin c act) = added_counts p (event_of_act act) (world.refused p (event_of_act act))
 
 -- the places of a conference that is alone
 abbrev pub solo : ℕ → ℕ → List Place
@@ -152,6 +158,7 @@ IsFor c (Open config) = config.conference ≡ c
 IsFor c (Attach d user) = d ≡ c
 IsFor c (Piece n bytes) = Unit {0}
 IsFor c (Serve n) = Unit {0}
+IsFor c (Took n k) = Unit {0}
 IsFor c (Leave n) = Unit {0}
 IsFor c (Admin d act) = d ≡ c
 
@@ -167,6 +174,10 @@ serve_aims : (p : Option Place) → IsAim (aim Serve p)
 serve_aims None = tt
 serve_aims (Some p) = tt
 
+took_aims : (k : ℕ) (p : Option Place) → IsAim (aim (λ n. Took n k) p)
+took_aims k None = tt
+took_aims k (Some p) = tt
+
 leave_aims : (p : Option Place) → IsAim (aim Leave p)
 leave_aims None = tt
 leave_aims (Some p) = tt
@@ -176,6 +187,7 @@ aims w (Open config) = refl
 aims w (Attach d user) = refl
 aims w (Piece n bytes) = piece_aims bytes (place w.places n)
 aims w (Serve n) = serve_aims (place w.places n)
+aims w (Took n k) = took_aims k (place w.places n)
 aims w (Leave n) = leave_aims (place w.places n)
 aims w (Admin d act) = refl
 
@@ -228,6 +240,12 @@ serve_alone c part n p (inl e) = inl (ap (aim Serve) e)
 serve_alone c None n p (inr h) = inr (ap (aim Serve) h.0, refl)
 serve_alone c (Some part) n p (inr h) = inr (ap (aim Serve) h.0, ap (λ a. world.serve part n (world.if_live a)) (h.1 part refl))
 
+took_alone : (c : ℕ) (part : Option Part) (n k : ℕ) (p : Option Place) → IsKnown c (arrivals_in part) n p
+    → IsAimedAlone c part (Took n k) (aim (λ m. Took m k) p)
+took_alone c part n k p (inl e) = inl (ap (aim (λ m. Took m k)) e)
+took_alone c None n k p (inr h) = inr (ap (aim (λ m. Took m k)) h.0, refl)
+took_alone c (Some part) n k p (inr h) = inr (ap (aim (λ m. Took m k)) h.0, ap (λ a. world.took part n k (world.if_live a)) (h.1 part refl))
+
 leave_alone : (c : ℕ) (part : Option Part) (n : ℕ) (p : Option Place) → IsKnown c (arrivals_in part) n p
     → IsAimedAlone c part (Leave n) (aim Leave p)
 leave_alone c part n p (inl e) = inl (ap (aim Leave) e)
@@ -239,6 +257,7 @@ aimed_alone c part v (Open config) e h = inl (ap (λ d. Some record { conference
 aimed_alone c part v (Attach d user) e h = inl (ap (λ x. Some record { conference = x; step = Attach d user }) h)
 aimed_alone c part v (Piece n bytes) e h = rw e (piece_alone c part n bytes (place (solo c (arrivals_in part)) n) (known c (arrivals_in part) n))
 aimed_alone c part v (Serve n) e h = rw e (serve_alone c part n (place (solo c (arrivals_in part)) n) (known c (arrivals_in part) n))
+aimed_alone c part v (Took n k) e h = rw e (took_alone c part n k (place (solo c (arrivals_in part)) n) (known c (arrivals_in part) n))
 aimed_alone c part v (Leave n) e h = rw e (leave_alone c part n (place (solo c (arrivals_in part)) n) (known c (arrivals_in part) n))
 aimed_alone c part v (Admin d act) e h = inl (ap (λ x. Some record { conference = x; step = Admin d act }) h)
 

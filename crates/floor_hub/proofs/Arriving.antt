@@ -8,8 +8,8 @@ use Rattle.std.proofs.lemmas.Bool.Decides.{nat_tests}
 use Rattle.std.proofs.lemmas.Option.{none-some}
 use Rattle.std.proofs.lemmas.Map.{update_here, update_apart}
 use Rattle.floor_machine.specs.declared.event.Event.{Event}
-use Rattle.floor_machine.specs.declared.event.Event.TheVariants.{Join, Message, Leave as Leaves, Revoke, Close}
-use Rattle.floor_machine.specs.declared.machine.Refusal.TheVariants.{Broken, Ended, NoMember, NoUser, Full, NoRequest, Memory}
+use Rattle.floor_machine.specs.declared.event.Event.TheVariants.{Join, Message, Took as Takes, Leave as Leaves, Revoke, Close}
+use Rattle.floor_machine.specs.declared.machine.Refusal.TheVariants.{Broken, Ended, NoMember, NoUser, Full, NoRequest, Cut, BadCount, Memory}
 use Rattle.floor_machine.specs.declared.member.Member.{Member}
 use Rattle.floor_machine.specs.Conference.{Conference, member_with, opening}
 use Rattle.floor_machine.specs.Journal.{IsLawfulFrom, after, after_from}
@@ -70,6 +70,7 @@ messages_before s (Message m bytes ∷ es) n h l few = by (m == n) refl (message
     by : (b : Bool) → (m == n) ≡ b → messages_of n es ≡ [] → (if b then bytes ∷ messages_of n es else messages_of n es) ≡ []
     by true e rest = absurd (true_false (sym l.0.1 ∙ ap (λ (i : ℕ). is_some (member_with s.members i)) (eqb-true m n e) ∙ none))
     by false e rest = rest
+messages_before s (Takes m k ∷ es) n h l few = messages_before (next s (Takes m k)) es n (numbered-next s (Takes m k) h) l.1 few
 messages_before s (Leaves m ∷ es) n h l few = messages_before (next s (Leaves m)) es n (numbered-next s (Leaves m) h) l.1 few
 messages_before s (Revoke request ∷ es) n h l few = messages_before (next s (Revoke request)) es n (numbered-next s (Revoke request) h) l.1 few
 messages_before s (Close ∷ es) n h l few = messages_before (next s Close) es n (numbered-next s Close h) l.1 few
@@ -301,6 +302,8 @@ module _ (rooms now : ℕ → Option Room) (xs now_xs : ℕ → Option Connectio
   is_memory (ByMachine NoUser) = inr (λ e. cc)
   is_memory (ByMachine Full) = inr (λ e. cc)
   is_memory (ByMachine NoRequest) = inr (λ e. cc)
+  is_memory (ByMachine Cut) = inr (λ e. cc)
+  is_memory (ByMachine BadCount) = inr (λ e. cc)
   is_memory (ByMachine Memory) = inl refl
 
   left_same : (r new : Room) (e : Event) (why : RoomRefusal) → why ≢ ByMachine Memory → Left r new e why → new ≡ r
@@ -311,6 +314,8 @@ module _ (rooms now : ℕ → Option Room) (xs now_xs : ℕ → Option Connectio
   left_same r new e (ByMachine NoUser) ne h = h
   left_same r new e (ByMachine Full) ne h = h
   left_same r new e (ByMachine NoRequest) ne h = h
+  left_same r new e (ByMachine Cut) ne h = h
+  left_same r new e (ByMachine BadCount) ne h = h
   left_same r new e (ByMachine Memory) ne h = absurd (ne refl)
 
   by_room : (why why2 : RoomRefusal) → why ≡ why2 → ByRoom why ≡ ByRoom why2

@@ -10,10 +10,11 @@ use Rattle.floor_config.specs.Configuration.{Configuration}
 use Rattle.floor_wire.specs.Message.{messages}
 use Rattle.floor_machine.specs.declared.event.Event.{Event}
 use Rattle.floor_machine.specs.declared.event.Event.TheVariants.{Message}
-use Rattle.floor_machine.specs.declared.machine.Refusal.TheVariants.{Broken, Ended, NoMember, Memory}
-use Rattle.floor_machine.specs.Conference.{Conference, is_live, opening}
+use Rattle.floor_machine.specs.declared.machine.Refusal.{Refusal}
+use Rattle.floor_machine.specs.declared.machine.Refusal.TheVariants.{Broken, Cut, Ended, NoMember, Memory}
+use Rattle.floor_machine.specs.Conference.{Conference, is_cut, is_live, opening}
 use Rattle.floor_machine.specs.Journal.{IsLawfulFrom, after}
-use Rattle.floor_machine.specs.Machine.{event_refusal, member_refusal, whole}
+use Rattle.floor_machine.specs.Machine.{event_refusal, leave_refusal, member_refusal, message_refusal, whole}
 use Rattle.floor_room.specs.declared.refusal.RoomRefusal.{RoomRefusal}
 use Rattle.floor_room.specs.declared.refusal.RoomRefusal.TheVariants.{JournalFull, Refused as ByMachine}
 use Rattle.floor_room.specs.Ledger.{conference_of}
@@ -66,21 +67,40 @@ closed_part r p sound config journal =
 servable : (r : Room) → IsServable (closed r.ledger) → (r.ledger.is_broken ≡ false) × ((conference_of r.ledger).is_open ≡ true)
 servable r h = by r.ledger.is_broken (conference_of r.ledger).is_open h
   where
-    by : (a b : Bool) → IsServable (cond a (Some (ByMachine Broken)) (cond (not b) (Some (ByMachine Ended)) (cond (nat_le 1000000 (length r.ledger.journal)) (Some JournalFull) None))) → (a ≡ false) × (b ≡ true)
+    by : (a b : Bool) → IsServable (cond a (Some (ByMachine Broken)) (cond (not b) (Some (ByMachine Ended)) (cond (nat_le 2000000 (length r.ledger.journal)) (Some JournalFull) None))) → (a ≡ false) × (b ≡ true)
     by true b h = absurd h
     by false false h = absurd h
     by false true h = (refl, refl)
 
--- a live member's message or leave is refused for want of memory alone
-pub no_refusal : (r : Room) (n : ℕ) → closed r.ledger ≡ None → is_live (conference_of r.ledger) n ≡ true → first_of (closed r.ledger) (option_map ByMachine (member_refusal (whole (conference_of r.ledger)) n)) ≡ None
-no_refusal r n none live =
-    ap (λ (x : Option RoomRefusal). first_of x (option_map ByMachine (member_refusal (whole (conference_of r.ledger)) n))) none
+-- a live member's own refusal is the further one, if there is one
+pub live_refusal : (r : Room) (n : ℕ) (further : Option Refusal) → closed r.ledger ≡ None → is_live (conference_of r.ledger) n ≡ true →
+    first_of (closed r.ledger) (option_map ByMachine (member_refusal (whole (conference_of r.ledger)) n further)) ≡ option_map ByMachine further
+live_refusal r n further none live =
+    ap (λ (x : Option RoomRefusal). first_of x (option_map ByMachine (member_refusal (whole (conference_of r.ledger)) n further))) none
     ∙ by (conference_of r.ledger).is_open (is_live (conference_of r.ledger) n) (adding.opened r.ledger (sym none)).open_now live
   where
-    by : (b d : Bool) → b ≡ true → d ≡ true → option_map ByMachine (cond (not b) (Some Ended) (cond (not d) (Some NoMember) None)) ≡ None
+    by : (b d : Bool) → b ≡ true → d ≡ true → option_map ByMachine (cond (not b) (Some Ended) (cond (not d) (Some NoMember) further)) ≡ option_map ByMachine further
     by true true e f = refl
     by false d e f = absurd (true_false (sym e))
     by true false e f = absurd (true_false (sym f))
+
+-- a live member's leave is refused for want of memory alone
+pub no_refusal : (r : Room) (n : ℕ) → closed r.ledger ≡ None → is_live (conference_of r.ledger) n ≡ true → first_of (closed r.ledger) (option_map ByMachine (leave_refusal (whole (conference_of r.ledger)) n)) ≡ None
+no_refusal r n none live = live_refusal r n None none live
+
+-- so is its message, where it isn't cut
+pub no_message_refusal : (r : Room) (n : ℕ) → closed r.ledger ≡ None → is_live (conference_of r.ledger) n ≡ true → is_cut (conference_of r.ledger) n ≡ false →
+    first_of (closed r.ledger) (option_map ByMachine (message_refusal (whole (conference_of r.ledger)) n)) ≡ None
+no_message_refusal r n none live uncut =
+    live_refusal r n (cond (is_cut (conference_of r.ledger) n) (Some Cut) None) none live
+    ∙ ap (λ (b : Bool). option_map ByMachine (cond b (Some Cut) None)) uncut
+
+-- and where it is, by that
+pub cut_refusal : (r : Room) (n : ℕ) → closed r.ledger ≡ None → is_live (conference_of r.ledger) n ≡ true → is_cut (conference_of r.ledger) n ≡ true →
+    first_of (closed r.ledger) (option_map ByMachine (message_refusal (whole (conference_of r.ledger)) n)) ≡ Some (ByMachine Cut)
+cut_refusal r n none live cut =
+    live_refusal r n (cond (is_cut (conference_of r.ledger) n) (Some Cut) None) none live
+    ∙ ap (λ (b : Bool). option_map ByMachine (cond b (Some Cut) None)) cut
 
 pub by_memory : (x : Option RoomRefusal) (why : RoomRefusal) → x ≡ None → IsRefusedBy {T = Unit {0}} x (Err why) → why ≡ ByMachine Memory
 by_memory None why e h = h
@@ -104,6 +124,11 @@ came_apart r new e y a sound journal none h = λ b.
       bytes = (h sound).bytes ∙ ap (λ (ms : List (List ℕ)). concat ms ++ y.held) (sym same);
       served = (h sound).served ∙ ap (λ (ms : List (List ℕ)). length ms) (sym same);
     }
+
+-- some messages have a first one
+some_first : (ms : List (List ℕ)) → ms ≢ [] → (m : List ℕ) × (first ms ≡ Some m)
+some_first [] ne = absurd (ne refl)
+some_first (m ∷ ms) ne = (m, refl)
 
 not_mine : (m n : ℕ) (frame : List ℕ) → n ≢ m → messages_of n (Message m frame ∷ []) ≡ []
 not_mine m n frame ne = ap (λ (b : Bool). if b then frame ∷ [] else []) (ne_eqb m n (λ x. ne (sym x)))
@@ -188,7 +213,7 @@ module _ (rooms now : ℕ → Option Room) (xs now_xs : ℕ → Option Connectio
   serves_message : (rest frame : List ℕ) → now_xs number ≡ Some (record { conference = x.conference; n = x.n; held = rest }) →
       messages x.held ≡ frame ∷ messages rest → x.held ≡ frame ++ rest → Applied h.r new (Message x.n frame) → Turned HasServed
   serves_message rest frame mine_now next_one cut t =
-      let none : closed h.r.ledger ≡ None = first_none (closed h.r.ledger) (option_map ByMachine (member_refusal (whole (conference_of h.r.ledger)) x.n)) t.allowed in
+      let none : closed h.r.ledger ≡ None = first_none (closed h.r.ledger) (option_map ByMachine (message_refusal (whole (conference_of h.r.ledger)) x.n)) t.allowed in
       let room = adding.opened h.r.ledger (sym none) in
       let sound : h.r.ledger.is_broken ≡ false = room.unbroken in
       let events : h.r.ledger.journal ≡ part.events = h.stands.1 sound in
@@ -246,16 +271,12 @@ module _ (rooms now : ℕ → Option Room) (xs now_xs : ℕ → Option Connectio
   -- the room is closed, and all is as it was
   serve_closed : (rest : List ℕ) (why : RoomRefusal) → xs number ≡ Some x → now_xs number ≡ Some (record { conference = x.conference; n = x.n; held = rest }) →
       closed h.r.ledger ≡ Some why → (why ≡ JournalFull → messages x.held ≢ []) → new ≡ h.r → rest ≡ x.held → ServeFails (ByRoom why)
-  serve_closed rest why mine_was mine_now is ready same held = by h.r.ledger.is_broken (conference_of h.r.ledger).is_open (nat_le 1000000 (length h.r.ledger.journal)) refl refl refl is
+  serve_closed rest why mine_was mine_now is ready same held = by h.r.ledger.is_broken (conference_of h.r.ledger).is_open (nat_le 2000000 (length h.r.ledger.journal)) refl refl refl is
     where
       back : Stands now now_xs k (record { parts = update nat_eq w.parts c (Some part); places = w.places })
       back = stands_same rest mine_was mine_now same held (update nat_eq w.parts c (Some part)) (λ d. put_back w c (Some part) h.was d (d == c) refl)
 
-      held_one : (ms : List (List ℕ)) → ms ≢ [] → (m : List ℕ) × (first ms ≡ Some m)
-      held_one [] ne = absurd (ne refl)
-      held_one (m ∷ ms) ne = (m, refl)
-
-      by : (b o f : Bool) → h.r.ledger.is_broken ≡ b → (conference_of h.r.ledger).is_open ≡ o → nat_le 1000000 (length h.r.ledger.journal) ≡ f →
+      by : (b o f : Bool) → h.r.ledger.is_broken ≡ b → (conference_of h.r.ledger).is_open ≡ o → nat_le 2000000 (length h.r.ledger.journal) ≡ f →
           cond b (Some (ByMachine Broken)) (cond (not o) (Some (ByMachine Ended)) (cond f (Some JournalFull) None)) ≡ Some why → ServeFails (ByRoom why)
       by true o f eb eo ef e = inl (inr (ap (λ (y : RoomRefusal). ByRoom y) (some_is (ByMachine Broken) why e)), stands_same rest mine_was mine_now same held w.parts (λ d. refl))
       by false false f eb eo ef e =
@@ -264,7 +285,7 @@ module _ (rooms now : ℕ → Option Room) (xs now_xs : ℕ → Option Connectio
           (ap (λ (b : Bool). if not b then world.refuses (Some part) (ByRoom (ByMachine Ended)) else world.serve_message part n h.a (unserved h.a)) ended)
           (back, ap (λ (y : RoomRefusal). Refused (ByRoom y)) (sym (some_is (ByMachine Ended) why e))))
       by false true true eb eo ef e =
-          let one = held_one (messages x.held) (ready (some_is JournalFull why e)) in
+          let one = some_first (messages x.held) (ready (some_is JournalFull why e)) in
           let refuses : world.refused part (Message n one.0) ≡ Some why =
           ap (λ (y : Option RoomRefusal). first_of y (option_map ByMachine (event_refusal (whole (state_of part)) (Message n one.0))))
           (sym (closed_part h.r part eb h.stands.0 (h.stands.1 eb)) ∙ is) in
@@ -285,10 +306,20 @@ module _ (rooms now : ℕ → Option Room) (xs now_xs : ℕ → Option Connectio
       ServeFailsIn h.r new x.n x.held rest why → ServeFails (ByRoom why)
   serve_failed rest why mine_was mine_now (inl f) = serve_closed rest why mine_was mine_now f.0 f.1 f.2 f.3
   serve_failed rest why mine_was mine_now (inr (inl f)) =
+      let room = adding.opened h.r.ledger (sym f.1) in
+      let one = some_first (messages x.held) f.3 in
+      let refuses : world.refused part (Message n one.0) ≡ Some why =
+      ap (λ (i : ℕ). world.refused part (Message i one.0)) (sym h.n)
+      ∙ sym (refusal-part h.r part (Message x.n one.0) room.unbroken h.stands.0 (h.stands.1 room.unbroken))
+      ∙ cut_refusal h.r x.n f.1 (member_live f.1) f.2 ∙ ap (λ (y : RoomRefusal). Some y) (sym f.0) in
+      inr (turned (world.refuses (Some part) (ByRoom why)) (Refused (ByRoom why))
+      (serve_open (open_part room.unbroken room.open_now) (Some one.0) (next_held room.unbroken ∙ one.1) ∙ ap (world.take_message part n h.a one.0) refuses)
+      (stands_same rest mine_was mine_now f.4 f.5 (update nat_eq w.parts c (Some part)) (λ d. put_back w c (Some part) h.was d (d == c) refl), refl))
+  serve_failed rest why mine_was mine_now (inr (inr (inl f))) =
       inl (inl (ap (λ (y : RoomRefusal). ByRoom y) f.0), stands_broken rest mine_now (ap (λ (y : Room). y.ledger.is_broken) f.2) (ap (λ (y : Room). y.ledger.config) f.2))
-  serve_failed rest why mine_was mine_now (inr (inr f)) =
-      let memory : why ≡ ByMachine Memory = by_memory (refusal h.r.ledger (Message x.n f.0)) why (no_refusal h.r x.n f.1 (member_live f.1)) f.2 in
-      let broken = left_broken h.r new (Message x.n f.0) why memory f.3 in
+  serve_failed rest why mine_was mine_now (inr (inr (inr f))) =
+      let memory : why ≡ ByMachine Memory = by_memory (refusal h.r.ledger (Message x.n f.0)) why (no_message_refusal h.r x.n f.1 (member_live f.1) f.2) f.3 in
+      let broken = left_broken h.r new (Message x.n f.0) why memory f.4 in
       inl (inl (ap (λ (y : RoomRefusal). ByRoom y) memory), stands_broken rest mine_now broken.0 broken.1)
 
   serve_done : (rest : List ℕ) (found : Served) → xs number ≡ Some x → now_xs number ≡ Some (record { conference = x.conference; n = x.n; held = rest }) →

@@ -7,7 +7,7 @@ use Rattle.std.proofs.lemmas.Option.{none-some}
 use Rattle.floor_machine.specs.declared.event.Event.{Event}
 use Rattle.floor_machine.specs.declared.event.Event.TheVariants.{Leave as Leaves}
 use Rattle.floor_machine.specs.declared.machine.Refusal.TheVariants.{Memory}
-use Rattle.floor_machine.specs.Machine.{member_refusal, whole}
+use Rattle.floor_machine.specs.Machine.{leave_refusal, whole}
 use Rattle.floor_room.specs.declared.refusal.RoomRefusal.{RoomRefusal}
 use Rattle.floor_room.specs.declared.refusal.RoomRefusal.TheVariants.{Refused as ByMachine}
 use Rattle.floor_room.specs.Ledger.{conference_of}
@@ -92,7 +92,7 @@ module _ (rooms now : ℕ → Option Room) (xs now_xs : ℕ → Option Connectio
       ∙ ap (λ (es : List Event). part.events ++ es) (sym (left_when (closed h.r.ledger) (sym same) ∙ some_left (closed h.r.ledger) f.0)))
       (λ y a came. subst (λ (r : Room). CameTo (Some r) y a) (sym f.1) came)
   done (inr t) =
-      let none : closed h.r.ledger ≡ None = first_none (closed h.r.ledger) (option_map ByMachine (member_refusal (whole (conference_of h.r.ledger)) x.n)) t.allowed in
+      let none : closed h.r.ledger ≡ None = first_none (closed h.r.ledger) (option_map ByMachine (leave_refusal (whole (conference_of h.r.ledger)) x.n)) t.allowed in
       let sound : h.r.ledger.is_broken ≡ false = (adding.opened h.r.ledger (sym none)).unbroken in
       let same : closed h.r.ledger ≡ closed (ledger_of part) = closed_part h.r part sound h.stands.0 (h.stands.1 sound) in
       let journal : new.ledger.journal ≡ h.r.ledger.journal ++ Leaves x.n ∷ [] = ap (λ (y : Room). y.ledger.journal) t.next in

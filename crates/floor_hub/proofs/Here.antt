@@ -5,7 +5,7 @@ use Rattle.std.specs.List.{concat}
 use Rattle.std.specs.Map.{update}
 use Rattle.std.proofs.lemmas.Option.{none-some}
 use Rattle.floor_machine.specs.declared.event.Event.{Event}
-use Rattle.floor_machine.specs.declared.event.Event.TheVariants.{Join, Message, Leave as Leaves, Revoke, Close}
+use Rattle.floor_machine.specs.declared.event.Event.TheVariants.{Join, Message, Took as Takes, Leave as Leaves, Revoke, Close}
 use Rattle.floor_room.specs.Room.{Room}
 use Rattle.floor_hub.specs.declared.refusal.HubRefusal.TheVariants.{NoConnection}
 use Rattle.floor_hub.specs.declared.connection.Connection.{Connection}
@@ -111,6 +111,7 @@ messages-append n (Message m bytes ∷ es) fs = by (m == n) (messages-append n e
         (if b then bytes ∷ messages_of n (es ++ fs) else messages_of n (es ++ fs)) ≡ (if b then bytes ∷ messages_of n es else messages_of n es) ++ messages_of n fs
     by true h = ap (λ (x : List (List ℕ)). bytes ∷ x) h
     by false h = h
+messages-append n (Takes m k ∷ es) fs = messages-append n es fs
 messages-append n (Leaves m ∷ es) fs = messages-append n es fs
 messages-append n (Revoke request ∷ es) fs = messages-append n es fs
 messages-append n (Close ∷ es) fs = messages-append n es fs

@@ -5,11 +5,11 @@ use Rattle.std.specs.Map.{update}
 use Rattle.std.proofs.lemmas.Bool.{eqb-true, eqb-false}
 use Rattle.std.proofs.lemmas.Map.{update_here, update_apart}
 use Rattle.floor_machine.specs.declared.event.Event.{Event}
-use Rattle.floor_machine.specs.declared.event.Event.TheVariants.{Join, Message}
+use Rattle.floor_machine.specs.declared.event.Event.TheVariants.{Join, Message, Took as Takes}
 use Rattle.floor_machine.specs.Machine.{event_of_act}
 use Rattle.floor_room.specs.declared.refusal.RoomRefusal.{RoomRefusal}
 use Rattle.floor_hub.specs.declared.step.Step.{Step}
-use Rattle.floor_hub.specs.declared.step.Step.TheVariants.{Open, Attach, Piece, Serve, Leave, Admin}
+use Rattle.floor_hub.specs.declared.step.Step.TheVariants.{Open, Attach, Piece, Serve, Took, Leave, Admin}
 use Rattle.floor_hub.specs.declared.step.Answer.{Answer}
 use Rattle.floor_hub.specs.declared.step.Answer.TheVariants.{Done, Attached, Nothing, Served, Refused}
 use Rattle.floor_hub.specs.World as world
@@ -48,23 +48,29 @@ leave_stays : (p : Part) (n : ℕ) (a : Option Arrival) → Stays (Some p) (worl
 leave_stays p n None h = refl
 leave_stays p n (Some a) h = absurd h
 
-admin_stays : (p : Part) (e : Event) (r : Option RoomRefusal) → Stays (Some p) (world.admin p e r)
-admin_stays p e None h = absurd h
-admin_stays p e (Some r) h = refl
+added_stays : (p : Part) (e : Event) (r : Option RoomRefusal) → Stays (Some p) (world.add_event p e r)
+added_stays p e None h = absurd h
+added_stays p e (Some r) h = refl
+
+took_stays : (p : Part) (n k : ℕ) (a : Option Arrival) → Stays (Some p) (world.took p n k a)
+took_stays p n k None h = refl
+took_stays p n k (Some a) h = added_stays p (Takes n k) (world.refused p (Takes n k)) h
 
 offer_stays : (z : Option Part) (s : Step) → Stays z (offer z s)
 offer_stays None (Open config) h = absurd h
 offer_stays None (Attach c user) h = refl
 offer_stays None (Piece n bytes) h = refl
 offer_stays None (Serve n) h = refl
+offer_stays None (Took n k) h = refl
 offer_stays None (Leave n) h = refl
 offer_stays None (Admin c act) h = refl
 offer_stays (Some p) (Open config) h = refl
 offer_stays (Some p) (Attach c user) h = attach_stays p user (world.refused p (Join user)) h
 offer_stays (Some p) (Piece n bytes) h = piece_stays p n bytes (world.if_live (world.arrival p n)) h
 offer_stays (Some p) (Serve n) h = any_serve_stays p n (world.if_live (world.arrival p n)) h
+offer_stays (Some p) (Took n k) h = took_stays p n k (world.if_live (world.arrival p n)) h
 offer_stays (Some p) (Leave n) h = leave_stays p n (world.if_live (world.arrival p n)) h
-offer_stays (Some p) (Admin c act) h = admin_stays p (event_of_act act) (world.refused p (event_of_act act)) h
+offer_stays (Some p) (Admin c act) h = added_stays p (event_of_act act) (world.refused p (event_of_act act)) h
 
 idle_within : (ps : List Place) (answer : Answer) → IsIdle (numbered ps answer) → IsIdle answer
 idle_within ps (Attached n) h = h

@@ -14,7 +14,7 @@ use Rattle.floor_wire.specs.Message.{IsMessage, messages}
 use Rattle.floor_wire.proofs.Messages.{messages_are_messages}
 use Rattle.floor_machine.specs.declared.act.Act.{Act}
 use Rattle.floor_machine.specs.declared.event.Event.{Event}
-use Rattle.floor_machine.specs.declared.event.Event.TheVariants.{Join, Message, Leave as Leaves, Revoke, Close}
+use Rattle.floor_machine.specs.declared.event.Event.TheVariants.{Join, Message, Took as Takes, Leave as Leaves, Revoke, Close}
 use Rattle.floor_machine.specs.declared.machine.Refusal.{Refusal}
 use Rattle.floor_machine.specs.declared.machine.Refusal.TheVariants.{Ended}
 use Rattle.floor_machine.specs.Conference.{Conference, is_live, opening}
@@ -33,7 +33,7 @@ use Rattle.floor_room.specs.Ledger.{closed, first_of}
 use Rattle.floor_room.proofs.Ledgers as adding
 use Rattle.floor_hub.specs.declared.refusal.HubRefusal.{HubRefusal}
 use Rattle.floor_hub.specs.declared.step.Step.{Step}
-use Rattle.floor_hub.specs.declared.step.Step.TheVariants.{Open, Attach, Piece, Serve, Leave, Admin}
+use Rattle.floor_hub.specs.declared.step.Step.TheVariants.{Open, Attach, Piece, Serve, Took, Leave, Admin}
 use Rattle.floor_hub.specs.declared.step.Answer.{Answer}
 use Rattle.floor_hub.specs.declared.step.Answer.TheVariants.{Done, Attached, Nothing, Served, Refused}
 use Rattle.floor_hub.specs.World as world
@@ -47,6 +47,7 @@ use Rattle.floor_hub.proofs.Arrivals.{arrival_set, arrival_set_other, live_there
 lawful_open : (s : Conference) (e : Event) → IsLawful s e → s.is_open ≡ true
 lawful_open s (Join user) h = h.0
 lawful_open s (Message n bytes) h = h.0
+lawful_open s (Takes n k) h = h.0
 lawful_open s (Leaves n) h = h.0
 lawful_open s (Revoke request) h = h.0
 lawful_open s Close h = h
@@ -54,6 +55,7 @@ lawful_open s Close h = h
 joins_one : (e : Event) → joins (e ∷ []) ≡ joins_by e
 joins_one (Join user) = refl
 joins_one (Message n bytes) = refl
+joins_one (Takes n k) = refl
 joins_one (Leaves n) = refl
 joins_one (Revoke request) = refl
 joins_one Close = refl
@@ -90,7 +92,7 @@ live_more p e n k open_now (inl h) = live-next (state_of p) e n h.3 (k.live n h.
 live_more p e n k open_now (inr h) = h
 
 -- one more event
-pub kept_event : (p : Part) (e : Event) (now : List Arrival) → IsKeptPart p → IsLawful (state_of p) e → length p.events < 1000000 →
+pub kept_event : (p : Part) (e : Event) (now : List Arrival) → IsKeptPart p → IsLawful (state_of p) e → length p.events < 2000000 →
     length now ≡ length p.arrivals + joins_by e → IsLiveFrom p e now → IsKeptPart (record { config = p.config; events = p.events ++ e ∷ []; arrivals = now })
 kept_event p e now k lawful few count from = record {
   journal = record {
@@ -105,7 +107,7 @@ kept_event p e now k lawful few count from = record {
 }
 
 -- an event that isn't refused is lawful, and there is room for it
-pub allowed : (p : Part) (e : Event) → IsWhole e → refused p e ≡ None → IsLawful (state_of p) e × (length p.events < 1000000)
+pub allowed : (p : Part) (e : Event) → IsWhole e → refused p e ≡ None → IsLawful (state_of p) e × (length p.events < 2000000)
 allowed p e framed h =
     let both : (closed (ledger_of p) ≡ None) × (event_refusal (whole (state_of p)) e ≡ None) = by (closed (ledger_of p)) (event_refusal (whole (state_of p)) e) h in
     ((taken_is_lawful (state_of p) e framed).0 both.1, (adding.opened (ledger_of p) (sym both.0)).few)
@@ -210,7 +212,7 @@ module _ (p : Part) (n : ℕ) (k : IsKeptPart p) where
   message_kept a m (Some r) e open_now there live next_one = k
   message_kept a m None e open_now there live next_one =
       let c : Arrival = record { bytes = a.bytes; served = a.served + 1; live = a.live } in
-      let lawful : IsLawful (state_of p) (Message n m) = (open_now, k.live n a open_now there live, next_is_message a m next_one) in
+      let lawful : IsLawful (state_of p) (Message n m) = (allowed p (Message n m) (next_is_message a m next_one) e).0 in
       kept_event p (Message n m) (with_arrival p n c).arrivals k lawful (adding.allowed-open (ledger_of p) (Message n m) e).few (set_count p n c ∙ omega arith)
       (λ i b h alive. by a b i c there live alive (set_from p n i a b c there h))
     where
@@ -280,25 +282,32 @@ module _ (p : Part) (n : ℕ) (k : IsKeptPart p) where
   leave_kept None is = k
   leave_kept (Some a) is = let there = live_there (arrival p n) a is in leave_by a (closed (ledger_of p)) refl there.0 there.1
 
-admin_kept : (p : Part) (act : Act) (r : Option RoomRefusal) → refused p (event_of_act act) ≡ r → IsKeptPart p → KeptIn (world.admin p (event_of_act act) r).part
-admin_kept p act (Some r) is k = k
-admin_kept p act None is k =
-    let ok = allowed p (event_of_act act) (whole_act act) is in
-    kept_event p (event_of_act act) p.arrivals k ok.0 ok.1 (omega (arith, joins_act act)) (λ n b h live. inl (b, h, live, stays_act act n))
+-- an event that is added as it is, by which nobody joins or leaves
+added_kept : (p : Part) (e : Event) → IsWhole e → ((n : ℕ) → StaysIn n e) → joins_by e ≡ 0 → (r : Option RoomRefusal) → refused p e ≡ r → IsKeptPart p → KeptIn (world.add_event p e r).part
+added_kept p e framed stays none (Some r) is k = k
+added_kept p e framed stays none None is k =
+    let ok = allowed p e framed is in
+    kept_event p e p.arrivals k ok.0 ok.1 (omega (arith, none)) (λ n b h live. inl (b, h, live, stays n))
+
+took_kept : (p : Part) (n many : ℕ) → IsKeptPart p → (a : Option Arrival) → KeptIn (world.took p n many a).part
+took_kept p n many k None = k
+took_kept p n many k (Some a) = added_kept p (Takes n many) tt (λ i. tt) refl (refused p (Takes n many)) refl k
 
 pub offer_kept : (z : Option Part) (s : Step) → KeptIn z → KeptIn (offer z s).part
 offer_kept None (Open config) k = opened_kept config
 offer_kept None (Attach c user) k = tt
 offer_kept None (Piece n bytes) k = tt
 offer_kept None (Serve n) k = tt
+offer_kept None (Took n many) k = tt
 offer_kept None (Leave n) k = tt
 offer_kept None (Admin c act) k = tt
 offer_kept (Some p) (Open config) k = k
 offer_kept (Some p) (Attach c user) k = attach_kept p user (refused p (Join user)) refl k
 offer_kept (Some p) (Piece n bytes) k = piece_kept p n bytes (world.if_live (arrival p n)) refl k
 offer_kept (Some p) (Serve n) k = any_serve_kept p n k (world.if_live (arrival p n)) refl
+offer_kept (Some p) (Took n many) k = took_kept p n many k (world.if_live (arrival p n))
 offer_kept (Some p) (Leave n) k = leave_kept p n k (world.if_live (arrival p n)) refl
-offer_kept (Some p) (Admin c act) k = admin_kept p act (refused p (event_of_act act)) refl k
+offer_kept (Some p) (Admin c act) k = added_kept p (event_of_act act) (whole_act act) (stays_act act) (joins_act act) (refused p (event_of_act act)) refl k
 
 numbers_append : (c : ℕ) (ps qs : List Place) → numbers_of c (ps ++ qs) ≡ numbers_of c ps ++ numbers_of c qs
 numbers_append c [] qs = refl

@@ -4,12 +4,13 @@ use Rattle.std.specs.Prelude.{Option, nat_eq, nat_le, not, Result, Ok, Err, IfEr
 use Rattle.std.proofs.lemmas.Bool.{eqb-true, ne_eqb}
 use Rattle.std.proofs.lemmas.Option.{none-some}
 use Rattle.floor_machine.specs.declared.event.Event.{Event}
-use Rattle.floor_machine.specs.declared.event.Event.TheVariants.{Join, Message, Leave}
-use Rattle.floor_machine.specs.declared.machine.Refusal.TheVariants.{Broken, Ended, NoMember, NoUser, Full, NoRequest, Memory}
+use Rattle.floor_machine.specs.declared.event.Event.TheVariants.{Join, Message, Took, Leave}
+use Rattle.floor_machine.specs.declared.machine.Refusal.TheVariants.{Broken, Ended, NoMember, NoUser, Full, NoRequest, Cut, BadCount, Memory}
 use Rattle.floor_machine.specs.Journal.{parcels_of}
 use Rattle.floor_room.specs.declared.refusal.RoomRefusal.{RoomRefusal}
 use Rattle.floor_room.specs.declared.refusal.RoomRefusal.TheVariants.{JournalFull, Refused as ByMachine}
 use Rattle.floor_room.specs.Calls.{Left}
+use Rattle.floor_machine.specs.Conference.{is_cut, is_live}
 use Rattle.floor_room.specs.Ledger.{IsRefusedBy, closed, conference_of, refusal}
 use Rattle.floor_room.specs.Room.{Room, broken_room}
 use Rattle.floor_hub.specs.declared.connection.Connection.{Connection}
@@ -18,12 +19,12 @@ use Rattle.floor_hub.specs.declared.refusal.HubRefusal.TheVariants.{NoConference
 use Rattle.floor_hub.specs.declared.step.Served.{Served}
 use Rattle.floor_hub.specs.Connections.{Puts, SameConnections, connection_at}
 use Rattle.floor_hub.specs.Hub.{Hub, room_at}
-use Rattle.floor_hub.specs.Left.{BreaksOff, IsBrokenOff, LeftAt, LeftLeaving, LeftServing}
-use Rattle.floor_hub.specs.Rooms.{SameHub, attach_event, leave_event, serve_event}
+use Rattle.floor_hub.specs.Left.{BreaksOff, IsBrokenOff, LeftAt, LeftLeaving, LeftServing, LeftTaking}
+use Rattle.floor_hub.specs.Rooms.{SameHub, attach_event, leave_event, serve_event, took_event}
 use Rattle.floor_hub.specs.StandsFor.{StandsFor}
 use Rattle.floor_hub.specs.World.{World}
 use Rattle.floor_hub.specs.steps.Serving.{AttachFailsIn, LeaveFailsIn, ServeFailsIn, ServedIn}
-use Rattle.floor_hub.proofs.Attending.{by_memory, member_live, no_refusal}
+use Rattle.floor_hub.proofs.Attending.{by_memory, member_live, no_message_refusal, no_refusal}
 use Rattle.floor_hub.proofs.Here.{here}
 use Rattle.floor_hub.proofs.RoomSteps.{leaves-open, serves-first}
 
@@ -75,6 +76,8 @@ module _ (c : ℕ) (old new : Hub) (r s : Room) (was : room_at old c ≡ Some r)
   left-room own e (ByMachine NoUser) is left same = unchanged left same
   left-room own e (ByMachine Full) is left same = unchanged left same
   left-room own e (ByMachine NoRequest) is left same = unchanged left same
+  left-room own e (ByMachine Cut) is left same = unchanged left same
+  left-room own e (ByMachine BadCount) is left same = unchanged left same
   left-room own e (ByMachine Memory) is left same = (breaks own (broken-off (own r) r s e is left), same)
 
 module _ (own : Room → List Event) (e : Event) (c : ℕ) (old new : Hub) (is : (r : Room) → own r ≡ e ∷ []) (arrivals : new.arrivals ≡ old.arrivals) where
@@ -118,16 +121,16 @@ module _ (number : ℕ) (old new : Hub) (arrivals : new.arrivals ≡ old.arrival
   -- the connection's member is live where the room takes events
   live : (x : Connection) (is : xs number ≡ Some x) (r s : Room) → rooms x.conference ≡ Some r → now x.conference ≡ Some s →
       ((d : ℕ) → nat_eq x.conference d ≡ false → now d ≡ rooms d) → ((k : ℕ) → nat_eq number k ≡ false → now_xs k ≡ xs k) →
-      (e : Event) → refusal r.ledger e ≡ refusal r.ledger (Leave x.n) → (why : RoomRefusal) → closed r.ledger ≡ None →
+      (e : Event) → ((q : Room) → closed q.ledger ≡ None → is_live (conference_of q.ledger) x.n ≡ true → q ≡ r → refusal q.ledger e ≡ None) → (why : RoomRefusal) → closed r.ledger ≡ None →
       IsRefusedBy {T = Unit {0}} (refusal r.ledger e) (Err why) → why ≡ ByMachine Memory
-  live x is r s was is_now other_rooms others e alike why none refused =
+  live x is r s was is_now other_rooms others e free why none refused =
       let h = here rooms xs old.arrivals w number x st.stands is in
       let same : h.r ≡ r = some_is h.r r (sym h.room ∙ ap rooms (sym h.conference) ∙ was) in
       let open_now : closed h.r.ledger ≡ None = ap (λ (y : Room). closed y.ledger) same ∙ none in
       let alive = member_live rooms now xs now_xs old.arrivals w number st.stands st.kept x h s (ap now (sym h.conference) ∙ is_now)
       (λ d ne. other_rooms d (ne_eqb x.conference d (λ e. ne (sym e ∙ h.conference)))) (λ k ne. others k (ne_eqb number k (λ e. ne (sym e)))) open_now in
       by_memory (refusal r.ledger e) why
-      (alike ∙ ap (λ (y : Room). refusal y.ledger (Leave x.n)) (sym same) ∙ no_refusal h.r x.n open_now alive) refused
+      (ap (λ (y : Room). refusal y.ledger e) (sym same) ∙ free h.r open_now alive same) refused
 
   -- the connection holds what it held
   still : (x : Connection) (rest : List ℕ) → xs number ≡ Some x → Puts old.connections new.connections number (Some (record { conference = x.conference; n = x.n; held = rest })) → rest ≡ x.held →
@@ -152,18 +155,22 @@ module _ (number : ℕ) (old new : Hub) (arrivals : new.arrivals ≡ old.arrival
       ((d : ℕ) → nat_eq x.conference d ≡ false → now d ≡ rooms d) → Puts old.connections new.connections number (Some (record { conference = x.conference; n = x.n; held = rest })) →
       ServeFailsIn r s x.n x.held rest why → LeftServing number (Some x) old new (ByRoom why)
   serve-fails x is r s rest why was is_now others puts (inl f) =
-      left-closed x r.ledger.is_broken (conference_of r.ledger).is_open (nat_le 1000000 (length r.ledger.journal)) why f.0
+      left-closed x r.ledger.is_broken (conference_of r.ledger).is_open (nat_le 2000000 (length r.ledger.journal)) why f.0
       (unchanged x.conference old new r s was is_now others arrivals f.2 (still x rest is puts f.3))
   serve-fails x is r s rest why was is_now others puts (inr (inl f)) =
       subst (λ (y : RoomRefusal). LeftServing number (Some x) old new (ByRoom y)) (sym f.0)
+      (unchanged x.conference old new r s was is_now others arrivals f.4 (still x rest is puts f.5))
+  serve-fails x is r s rest why was is_now others puts (inr (inr (inl f))) =
+      subst (λ (y : RoomRefusal). LeftServing number (Some x) old new (ByRoom y)) (sym f.0)
       (inl (breaks x.conference old new r s was is_now others arrivals (λ r. []) (inl f.2), still x rest is puts f.3))
-  serve-fails x is r s rest why was is_now others puts (inr (inr f)) =
-      let memory : why ≡ ByMachine Memory = live x is r s was is_now others puts.others (Message x.n f.0) refl why f.1 f.2 in
+  serve-fails x is r s rest why was is_now others puts (inr (inr (inr f))) =
+      let memory : why ≡ ByMachine Memory = live x is r s was is_now others puts.others (Message x.n f.0)
+      (λ q none alive same. no_message_refusal q x.n none alive (ap (λ (y : Room). is_cut (conference_of y.ledger) x.n) same ∙ f.2)) why f.1 f.3 in
       subst (λ (y : RoomRefusal). LeftServing number (Some x) old new (ByRoom y)) (sym memory)
       (inr (
         breaks x.conference old new r s was is_now others arrivals (serve_event x)
-            (broken-off (serve_event x r) r s (Message x.n f.0) (serves-first x r f.0 rest f.4) (subst (Left r s (Message x.n f.0)) memory f.3)),
-        record { frame = f.0; rest = rest; first = f.4; held = f.5; next = puts },
+            (broken-off (serve_event x r) r s (Message x.n f.0) (serves-first x r f.0 rest f.5) (subst (Left r s (Message x.n f.0)) memory f.4)),
+        record { frame = f.0; rest = rest; first = f.5; held = f.6; next = puts },
       ))
 
   pub left-serve : (res : Result Served HubRefusal) (y : Option Connection) → xs number ≡ y →
@@ -199,9 +206,23 @@ module _ (number : ℕ) (old new : Hub) (arrivals : new.arrivals ≡ old.arrival
       let t = there x is h.r was in
       let f = t.3.2 in
       let gone = went x is in
-      let memory : t.3.0 ≡ ByMachine Memory = live x is h.r t.0 was t.1 t.2 gone.others (Leave x.n) refl t.3.0 f.opened f.refused in
+      let memory : t.3.0 ≡ ByMachine Memory = live x is h.r t.0 was t.1 t.2 gone.others (Leave x.n) (λ q none alive same. no_refusal q x.n none alive) t.3.0 f.opened f.refused in
       subst (LeftLeaving number (Some x) old new) (sym (t.3.1 ∙ ap (λ (y : RoomRefusal). ByRoom y) memory)) (
         breaks x.conference old new h.r t.0 was t.1 t.2 arrivals (leave_event x)
             (broken-off (leave_event x h.r) h.r t.0 (Leave x.n) (leaves-open x h.r f.opened) (subst (Left h.r t.0 (Leave x.n)) memory f.after)),
         gone,
       )
+
+-- an acknowledgement
+pub left-took : (number k : ℕ) (old new : Hub) → new.arrivals ≡ old.arrivals → (res : Result (Unit {0}) HubRefusal) (y : Option Connection) → connection_at old.connections number ≡ y →
+    (connection_at old.connections number ≡ None → (res ≡ Err NoConnection) × ((d : ℕ) → room_at new d ≡ room_at old d)) →
+    ((x : Connection) → connection_at old.connections number ≡ Some x → (r : Room) × (s : Room) × (room_at old x.conference ≡ Some r) × (room_at new x.conference ≡ Some s)
+    × ((d : ℕ) → nat_eq x.conference d ≡ false → room_at new d ≡ room_at old d) × IfErr res (λ z. (why : RoomRefusal) × (z ≡ ByRoom why) × Left r s (Took x.n k) why)) →
+    SameConnections old.connections new.connections → IfErr res (LeftTaking k y old new)
+left-took number k old new arrivals (Ok v) y is absent there same = tt
+left-took number k old new arrivals (Err z) None is absent there same =
+    let a = absent is in
+    subst (LeftTaking k None old new) (sym (err_is z NoConnection a.0)) (record { rooms = a.1; connections = same; arrivals = arrivals })
+left-took number k old new arrivals (Err z) (Some x) is absent there same =
+    let t = there x is in
+    subst (LeftTaking k (Some x) old new) (sym t.5.1) (left-room x.conference old new t.0 t.1 t.2 t.3 t.4 arrivals (took_event k x) (Took x.n k) t.5.0 refl t.5.2 same)

@@ -18,6 +18,7 @@ pub mod FullJournal
 pub mod Here
 pub mod Attending
 pub mod Departing
+pub mod Acknowledging
 pub mod Arriving
 pub mod Given
 pub mod Closing

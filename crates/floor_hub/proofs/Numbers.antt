@@ -8,7 +8,7 @@ use Rattle.std.proofs.lemmas.List.Sums.{count_by-le-length}
 use Rattle.std.proofs.lemmas.Map.{update_here, update_apart}
 use Rattle.std.proofs.lemmas.Option.{none-some}
 use Rattle.floor_hub.specs.declared.step.Step.{Step}
-use Rattle.floor_hub.specs.declared.step.Step.TheVariants.{Open, Attach, Piece, Serve, Leave, Admin}
+use Rattle.floor_hub.specs.declared.step.Step.TheVariants.{Open, Attach, Piece, Serve, Took, Leave, Admin}
 use Rattle.floor_hub.specs.World.{Aim, Part, Place, World, aim, aimed, offer, place, turn_at}
 use Rattle.floor_hub.specs.Kept.{IsNumbered, KeptIn, arrivals_in, first_numbers, is_join, numbers_of}
 use Rattle.floor_hub.specs.Laws.{ArrivalsFit, OpensNumbered, StepNumbers}
@@ -47,7 +47,7 @@ below_more n (q ∷ qs) = by (nat_lt q.conference n) refl (below_more n qs)
     by false e h = rw (e, least q.conference n e) (one (q.conference == n) h)
 
 -- so there are at most so many for each
-below_few : (n : ℕ) (ps : List Place) → ((c : ℕ) → length (numbers_of c ps) ≤ 1000000) → below n ps ≤ n * 1000000
+below_few : (n : ℕ) (ps : List Place) → ((c : ℕ) → length (numbers_of c ps) ≤ 2000000) → below n ps ≤ n * 2000000
 below_few zero ps few = omega (arith, below_zero ps)
 below_few (suc n) ps few = omega (arith, below_few n ps few, below_more n ps, few n)
 
@@ -75,7 +75,7 @@ length_first : (k : ℕ) → length (first_numbers k) ≡ k
 length_first zero = refl
 length_first (suc k) = omega (arith, length_first k, length-append (first_numbers k) (suc k ∷ []))
 
-few_arrivals : (z : Option Part) → KeptIn z → arrivals_in z ≤ 1000000
+few_arrivals : (z : Option Part) → KeptIn z → arrivals_in z ≤ 2000000
 few_arrivals None k = omega arith
 few_arrivals (Some p) k = omega (arith, k.joins, count_by-le-length is_join p.events, k.journal.count)
 
@@ -98,6 +98,7 @@ opens c None (Open config) p own bears h e = subst (λ (i : ℕ). i ≤ 42949672
 opens c None (Attach d user) p own bears h e = absurd (none-some p e)
 opens c None (Piece n bytes) p own bears h e = absurd (none-some p e)
 opens c None (Serve n) p own bears h e = absurd (none-some p e)
+opens c None (Took n k) p own bears h e = absurd (none-some p e)
 opens c None (Leave n) p own bears h e = absurd (none-some p e)
 opens c None (Admin d act) p own bears h e = absurd (none-some p e)
 
@@ -116,6 +117,11 @@ bears w (Piece number bytes) h = by (place w.places number)
 bears w (Serve number) h = by (place w.places number)
   where
     by : (p : Option Place) → Bears (aim Serve p)
+    by None = tt
+    by (Some p) = tt
+bears w (Took number k) h = by (place w.places number)
+  where
+    by : (p : Option Place) → Bears (aim (λ n. Took n k) p)
     by None = tt
     by (Some p) = tt
 bears w (Leave number) h = by (place w.places number)

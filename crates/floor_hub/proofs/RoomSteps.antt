@@ -3,12 +3,12 @@ use Rattle.std.proofs.Common.{◌≡◌, ◌≢◌, inl, inr, ℕ, ◌+◌, Bool
 use Rattle.std.specs.Prelude.{Option, ◌↔◌, count_by, if◌then◌else◌, is_some, nat_eq, nat_le, not, Result, Ok, Err, IfErr, OnOk}
 use Rattle.std.proofs.lemmas.Option.{none-some}
 use Rattle.floor_machine.specs.declared.event.Event.{Event}
-use Rattle.floor_machine.specs.declared.event.Event.TheVariants.{Join, Message, Leave, Revoke, Close}
-use Rattle.floor_machine.specs.declared.machine.Refusal.TheVariants.{Broken, Ended, NoMember, NoUser, Full, NoRequest, Memory}
+use Rattle.floor_machine.specs.declared.event.Event.TheVariants.{Join, Message, Took, Leave, Revoke, Close}
+use Rattle.floor_machine.specs.declared.machine.Refusal.TheVariants.{Broken, Ended, NoMember, NoUser, Full, NoRequest, Cut, BadCount, Memory}
 use Rattle.floor_machine.specs.Parcel.{Parcel}
 use Rattle.floor_machine.specs.declared.machine.Refusal.{Refusal}
-use Rattle.floor_machine.specs.Conference.{Conference, is_live}
-use Rattle.floor_machine.specs.Machine.{event_refusal, whole}
+use Rattle.floor_machine.specs.Conference.{Conference, is_cut, is_live}
+use Rattle.floor_machine.specs.Machine.{event_refusal, is_backlog, whole}
 use Rattle.std.specs.Option.{option_map}
 use Rattle.floor_config.specs.Lookup.{is_user}
 use Rattle.floor_wire.specs.Message.{messages}
@@ -28,9 +28,9 @@ use Rattle.floor_hub.specs.Connections.{SameConnections, connection_at}
 use Rattle.floor_hub.specs.Hub.{Hub, room_at}
 use Rattle.floor_hub.specs.World.{World}
 use Rattle.floor_hub.specs.StandsFor.{StandsFor}
-use Rattle.floor_hub.specs.Rooms.{AddsOwn, OneRoom, QueuesMore, RoomAfter, RoomAfterIn, RoomOf, attach_event, by_broken, by_memory, leave_event, refusal_in, serve_event}
+use Rattle.floor_hub.specs.Rooms.{AddsOwn, OneRoom, QueuesMore, RoomAfter, RoomAfterIn, RoomOf, attach_event, by_broken, by_memory, leave_event, refusal_in, serve_event, took_event}
 use Rattle.floor_hub.proofs.Here.{here}
-use Rattle.floor_hub.specs.steps.Serving.{AttachFailsIn, LeaveFailsIn, IsServable, LeavesIn, ServeFailsIn, ServedIn, ServesIn}
+use Rattle.floor_hub.specs.steps.Serving.{AttachFailsIn, EventIn, LeaveFailsIn, IsServable, LeavesIn, ServeFailsIn, ServedIn, ServesIn}
 
 true_false : true ≡ false → ⊥
 true_false e = cc
@@ -43,6 +43,7 @@ queues-same (o ∷ os) = (refl, ([], sym (append-nil o.held)), queues-same os)
 queues-new : (put : List Parcel) (n : ℕ) (e : Event) → QueuesMore [] (delivered put n (joined e))
 queues-new put n (Join user) = (refl, tt)
 queues-new put n (Message m bytes) = tt
+queues-new put n (Took m k) = tt
 queues-new put n (Leave m) = tt
 queues-new put n (Revoke request) = tt
 queues-new put n Close = tt
@@ -123,6 +124,13 @@ member_not false b e = cc
 member_not true false e = cc
 member_not true true e = cc
 
+further_not : (further : Refusal) → (further ≡ Broken → ⊥) → (a b d : Bool) →
+    ◌≡◌ {A = Option Refusal} (cond (not a) (Some Ended) (cond (not b) (Some NoMember) (cond d (Some further) None))) (Some Broken) → ⊥
+further_not further other false b d e = cc
+further_not further other true false d e = cc
+further_not further other true true true e = let same : further ≡ Broken = cc in other same
+further_not further other true true false e = cc
+
 request_not : (a b : Bool) → ◌≡◌ {A = Option Refusal} (cond (not a) (Some Ended) (cond (not b) (Some NoRequest) None)) (Some Broken) → ⊥
 request_not false b e = cc
 request_not true false e = cc
@@ -134,7 +142,8 @@ close_not true e = cc
 
 event_not : (s : Conference) (e : Event) → event_refusal (whole s) e ≡ Some Broken → ⊥
 event_not s (Join user) h = join_not s.is_open (is_user s.config user) (nat_le 64 (count_by (λ m. m.is_live) s.members)) h
-event_not s (Message n bytes) h = member_not s.is_open (is_live s n) h
+event_not s (Message n bytes) h = further_not Cut (λ e. cc) s.is_open (is_live s n) (is_cut s n) h
+event_not s (Took n k) h = further_not BadCount (λ e. cc) s.is_open (is_live s n) (not (is_backlog s n k)) h
 event_not s (Leave n) h = member_not s.is_open (is_live s n) h
 event_not s (Revoke request) h = request_not s.is_open _ h
 event_not s Close h = close_not s.is_open h
@@ -143,7 +152,7 @@ event_not s Close h = close_not s.is_open h
 told-broken : (l : Ledger) (e : Event) (b : Bool) → l.is_broken ≡ b → IsRefusedBy {T = Unit {0}} (refusal l e) (Err (ByMachine Broken)) → b ≡ true
 told-broken l e true is h = refl
 told-broken l e false is h =
-    absurd (by (conference_of l).is_open (nat_le 1000000 (length l.journal)) (event_refusal (whole (conference_of l)) e) (event_not (conference_of l) e)
+    absurd (by (conference_of l).is_open (nat_le 2000000 (length l.journal)) (event_refusal (whole (conference_of l)) e) (event_not (conference_of l) e)
     (subst (λ (b : Bool). IsRefusedBy {T = Unit {0}} (refusal (record { config = l.config; journal = l.journal; is_broken = b }) e) (Err (ByMachine Broken))) is h))
   where
     by : (o f : Bool) (x : Option Refusal) → (x ≡ Some Broken → ⊥) →
@@ -183,6 +192,8 @@ room-left own r s e (ByMachine NoMember) is by left = left-same own r s e (ByMac
 room-left own r s e (ByMachine NoUser) is by left = left-same own r s e (ByMachine NoUser) (λ w. cc) refl by left
 room-left own r s e (ByMachine Full) is by left = left-same own r s e (ByMachine Full) (λ w. cc) refl by left
 room-left own r s e (ByMachine NoRequest) is by left = left-same own r s e (ByMachine NoRequest) (λ w. cc) refl by left
+room-left own r s e (ByMachine Cut) is by left = left-same own r s e (ByMachine Cut) (λ w. cc) refl by left
+room-left own r s e (ByMachine BadCount) is by left = left-same own r s e (ByMachine BadCount) (λ w. cc) refl by left
 room-left own r s e (ByMachine Memory) is by (inl off) = room-off by_broken own r s (sound-before r e r.ledger.is_broken refl by) off
 room-left own r s e (ByMachine Memory) is by (inr began) =
     room-event by_broken by_memory own r s e began.put true (sound-before r e r.ledger.is_broken refl by) (λ t. refl, λ w. refl) memory_broken
@@ -214,7 +225,7 @@ some_is y z e = cc
 
 -- a closed room that was left as it was
 closed-same : (own : List Event) (r s : Room) (why : RoomRefusal) → closed r.ledger ≡ Some why → s ≡ r → RoomAfter by_broken (Some (ByRoom why)) own r s
-closed-same own r s why is same = by r.ledger.is_broken (conference_of r.ledger).is_open (nat_le 1000000 (length r.ledger.journal)) refl is
+closed-same own r s why is same = by r.ledger.is_broken (conference_of r.ledger).is_open (nat_le 2000000 (length r.ledger.journal)) refl is
   where
     so : (x : RoomRefusal) → x ≡ why → RoomAfter by_broken (Some (ByRoom x)) own r s → RoomAfter by_broken (Some (ByRoom why)) own r s
     so x e a = subst (λ (y : RoomRefusal). RoomAfter by_broken (Some (ByRoom y)) own r s) e a
@@ -234,7 +245,7 @@ closed-same own r s why is same = by r.ledger.is_broken (conference_of r.ledger)
 servable : (r : Room) → IsServable (closed r.ledger) → r.ledger.is_broken ≡ false
 servable r h = by r.ledger.is_broken (conference_of r.ledger).is_open h
   where
-    by : (a b : Bool) → IsServable (cond a (Some (ByMachine Broken)) (cond (not b) (Some (ByMachine Ended)) (cond (nat_le 1000000 (length r.ledger.journal)) (Some JournalFull) None))) → a ≡ false
+    by : (a b : Bool) → IsServable (cond a (Some (ByMachine Broken)) (cond (not b) (Some (ByMachine Ended)) (cond (nat_le 2000000 (length r.ledger.journal)) (Some JournalFull) None))) → a ≡ false
     by true b h = absurd h
     by false b h = refl
 
@@ -255,14 +266,24 @@ room-serves r s x rest Served.Message f = room-took by_broken (serve_event x r) 
 room-serve-fails : (r s : Room) (x : Connection) (rest : List ℕ) (why : RoomRefusal) → ServeFailsIn r s x.n x.held rest why → RoomAfter by_broken (Some (ByRoom why)) (serve_event x r) r s
 room-serve-fails r s x rest why (inl f) = closed-same (serve_event x r) r s why f.0 f.2
 room-serve-fails r s x rest why (inr (inl f)) =
+    subst (λ (y : RoomRefusal). RoomAfter by_broken (Some (ByRoom y)) (serve_event x r) r s) (sym f.0)
+    (room-same by_broken (Some (ByRoom (ByMachine Cut))) (serve_event x r) r s (λ w. cc) (λ b. absurd (true_false (sym b ∙ (opened r.ledger (sym f.1)).unbroken))) (λ t. absurd (cc)) refl f.4)
+room-serve-fails r s x rest why (inr (inr (inl f))) =
     subst (λ (y : RoomRefusal). RoomAfter by_broken (Some (ByRoom y)) (serve_event x r) r s) (sym f.0) (room-off by_broken (serve_event x r) r s (opened r.ledger (sym f.1)).unbroken f.2)
-room-serve-fails r s x rest why (inr (inr f)) = room-left (serve_event x r) r s (Message x.n f.0) why (serves-first x r f.0 rest f.4) f.2 f.3
+room-serve-fails r s x rest why (inr (inr (inr f))) = room-left (serve_event x r) r s (Message x.n f.0) why (serves-first x r f.0 rest f.5) f.3 f.4
 
 pub room-served : (r s : Room) (x : Connection) (rest : List ℕ) (res : Result Served HubRefusal) → ServedIn r s x.n x.held rest res →
     RoomAfter by_broken (refusal_in res) (serve_event x r) r s
 room-served r s x rest (Ok found) f = room-serves r s x rest found f.served
 room-served r s x rest (Err y) f =
     subst (λ (z : HubRefusal). RoomAfter by_broken (Some z) (serve_event x r) r s) (sym f.failed.1) (room-serve-fails r s x rest f.failed.0 f.failed.2)
+
+-- so many of the parcels to a connection were acknowledged
+pub room-taken : (r s : Room) (x : Connection) (k : ℕ) (res : Result (Unit {0}) HubRefusal) → EventIn (Took x.n k) r s res → RoomAfter by_broken (refusal_in res) (took_event k x r) r s
+room-taken r s x k (Ok v) f = room-took by_broken (took_event k x r) r s (Took x.n k) refl f.0
+room-taken r s x k (Err y) f =
+    subst (λ (z : HubRefusal). RoomAfter by_broken (Some z) (took_event k x r) r s) (sym f.1.1)
+    (room-left (took_event k x r) r s (Took x.n k) f.1.0 refl f.1.2 f.1.3)
 
 -- the event of leaving, where the room takes events and where it takes none
 pub leaves-open : (x : Connection) (r : Room) → closed r.ledger ≡ None → leave_event x r ≡ Leave x.n ∷ []
@@ -359,6 +380,20 @@ module _ (number : ℕ) (old new : Hub) (w : World) (st : StandsFor old w) where
       let r = room_there old w st number x is in
       let t = there x is r.0 r.1 in
       one-at by_broken (refusal_in res) (serve_event x) x.conference old new r.0 t.0 r.1 t.2 t.3 (room-served r.0 t.0 x t.1 res t.4)
+
+  pub took-room : (k : ℕ) (res : Result (Unit {0}) HubRefusal) (y : Option Connection) → connection_at old.connections number ≡ y →
+      (connection_at old.connections number ≡ None → (res ≡ Err NoConnection) × ((d : ℕ) → room_at new d ≡ room_at old d) × SameConnections old.connections new.connections) →
+      new.arrivals ≡ old.arrivals →
+      ((x : Connection) → connection_at old.connections number ≡ Some x → (r : Room) → room_at old x.conference ≡ Some r → (s : Room) × (room_at new x.conference ≡ Some s)
+      × ((d : ℕ) → nat_eq x.conference d ≡ false → room_at new d ≡ room_at old d) × EventIn (Took x.n k) r s res) →
+      RoomOf by_broken (refusal_in res) (took_event k) y old new
+  took-room k res None is absent arrivals there =
+      let a = absent is in
+      subst (λ (z : Result (Unit {0}) HubRefusal). RoomOf by_broken (refusal_in z) (took_event k) None old new) (sym a.0) (record { rooms = a.1; connections = a.2; arrivals = arrivals }, (λ w. cc), (λ w. cc))
+  took-room k res (Some x) is absent arrivals there =
+      let r = room_there old w st number x is in
+      let t = there x is r.0 r.1 in
+      one-at by_broken (refusal_in res) (took_event k x) x.conference old new r.0 t.0 r.1 t.1 t.2 (room-taken r.0 t.0 x k res t.3)
 
   leave-at : (res : Result (Unit {0}) HubRefusal) (r s : Room) (x : Connection) → OnOk res (LeavesIn r s x.n) →
       IfErr res (λ y. (why : RoomRefusal) × (y ≡ ByRoom why) × LeaveFailsIn r s x.n why) → RoomAfter None (refusal_in res) (leave_event x r) r s

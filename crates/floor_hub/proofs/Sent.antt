@@ -7,7 +7,7 @@ use Rattle.std.proofs.lemmas.Option.{none-some}
 use Rattle.std.proofs.lemmas.Bool.{eqb-true, eq-eqb}
 use Rattle.floor_config.specs.Configuration.{Configuration}
 use Rattle.floor_machine.specs.declared.event.Event.{Event}
-use Rattle.floor_machine.specs.declared.event.Event.TheVariants.{Join, Message, Leave as Leaves}
+use Rattle.floor_machine.specs.declared.event.Event.TheVariants.{Join, Message, Took as Takes, Leave as Leaves}
 use Rattle.floor_machine.specs.declared.machine.Refusal.TheVariants.{Ended}
 use Rattle.floor_room.specs.declared.refusal.RoomRefusal.TheVariants.{JournalFull, Refused as ByMachine}
 use Rattle.floor_room.specs.declared.refusal.RoomRefusal.{RoomRefusal}
@@ -21,7 +21,7 @@ use Rattle.floor_machine.specs.Journal.{after_from, told_from, parcels, Q}
 use Rattle.floor_machine.specs.Next.{next, told}
 use Rattle.floor_hub.specs.declared.refusal.HubRefusal.TheVariants.{ByRoom}
 use Rattle.floor_hub.specs.declared.step.Step.{Step}
-use Rattle.floor_hub.specs.declared.step.Step.TheVariants.{Open, Attach, Piece, Serve, Leave, Admin}
+use Rattle.floor_hub.specs.declared.step.Step.TheVariants.{Open, Attach, Piece, Serve, Took, Leave, Admin}
 use Rattle.floor_hub.specs.declared.step.Answer.{Answer}
 use Rattle.floor_hub.specs.declared.step.Answer.TheVariants.{Done, Attached, Nothing, Served, Refused}
 use Rattle.floor_hub.specs.World as world
@@ -105,7 +105,15 @@ leave_adds : (p : Part) (n : ℕ) (a : Option Arrival) → Adds p (Leave n) (wor
 leave_adds p n None = stays p (Leave n) (Refused NoConnection) refl
 leave_adds p n (Some a) = record { part = _; is = refl; config = refl; events = ap (λ (es : List Event). p.events ++ es) (left_is p n) }
 
-admin_adds : (p : Part) (c : ℕ) (act : _) (r : Option RoomRefusal) → Adds p (Admin c act) (world.admin p (event_of_act act) r)
+took_adds : (p : Part) (n k : ℕ) (a : Option Arrival) → Adds p (Took n k) (world.took p n k a)
+took_adds p n k None = stays p (Took n k) (Refused NoConnection) refl
+took_adds p n k (Some a) = by (world.refused p (Takes n k))
+  where
+    by : (r : Option RoomRefusal) → Adds p (Took n k) (world.add_event p (Takes n k) r)
+    by None = record { part = _; is = refl; config = refl; events = refl }
+    by (Some r) = stays p (Took n k) (Refused (ByRoom r)) refl
+
+admin_adds : (p : Part) (c : ℕ) (act : _) (r : Option RoomRefusal) → Adds p (Admin c act) (world.add_event p (event_of_act act) r)
 admin_adds p c act None = record { part = _; is = refl; config = refl; events = refl }
 admin_adds p c act (Some r) = stays p (Admin c act) (Refused (ByRoom r)) refl
 
@@ -114,6 +122,7 @@ offer_adds p (Open config) = stays p (Open config) (Refused _) refl
 offer_adds p (Attach c user) = attach_adds p c user (world.refused p (Join user))
 offer_adds p (Piece n bytes) = piece_adds p n bytes (world.if_live (world.arrival p n))
 offer_adds p (Serve n) = any_serve_adds p n (world.if_live (world.arrival p n)) refl
+offer_adds p (Took n k) = took_adds p n k (world.if_live (world.arrival p n))
 offer_adds p (Leave n) = leave_adds p n (world.if_live (world.arrival p n))
 offer_adds p (Admin c act) = admin_adds p c act (world.refused p (event_of_act act))
 
@@ -122,6 +131,7 @@ attached_adds p (Open config) k n = refl
 attached_adds p (Attach c user) k n = refl
 attached_adds p (Piece m bytes) k n = refl
 attached_adds p (Serve m) k n = refl
+attached_adds p (Took m j) k n = refl
 attached_adds p (Leave m) k n = refl
 attached_adds p (Admin c act) k n = refl
 
@@ -144,6 +154,7 @@ offer_grew None (Open config) ps = (refl, refl)
 offer_grew None (Attach c user) ps = refl
 offer_grew None (Piece m bytes) ps = refl
 offer_grew None (Serve m) ps = refl
+offer_grew None (Took m k) ps = refl
 offer_grew None (Leave m) ps = refl
 offer_grew None (Admin c act) ps = refl
 offer_grew (Some p) s ps =

@@ -13,7 +13,7 @@ use Rattle.floor_wire.specs.Message.{IsMessage, messages}
 use Rattle.floor_wire.proofs.Messages.{messages-concat}
 use Rattle.floor_machine.specs.declared.act.Act.{Act}
 use Rattle.floor_machine.specs.declared.event.Event.{Event}
-use Rattle.floor_machine.specs.declared.event.Event.TheVariants.{Join, Message, Leave as Leaves, Revoke, Close}
+use Rattle.floor_machine.specs.declared.event.Event.TheVariants.{Join, Message, Took as Takes, Leave as Leaves, Revoke, Close}
 use Rattle.floor_machine.specs.declared.machine.Refusal.TheVariants.{Ended}
 use Rattle.floor_machine.specs.declared.member.Member.{Member}
 use Rattle.floor_machine.specs.Conference.{Conference, is_live, member_with}
@@ -24,13 +24,13 @@ use Rattle.floor_machine.specs.Machine.{event_of_act, event_refusal, whole}
 use Rattle.floor_machine.proofs.Lawful.{taken_is_lawful}
 use Rattle.floor_machine.specs.Membership.{joins}
 use Rattle.floor_machine.specs.Next.{next}
-use Rattle.floor_machine.proofs.Staying.{live-before}
+use Rattle.floor_machine.proofs.Staying.{live-before, live-counted}
 use Rattle.floor_room.specs.declared.refusal.RoomRefusal.{RoomRefusal}
 use Rattle.floor_room.specs.declared.refusal.RoomRefusal.TheVariants.{JournalFull, Refused as ByMachine}
 use Rattle.floor_room.specs.Ledger.{closed, first_of}
 use Rattle.floor_hub.specs.declared.refusal.HubRefusal.TheVariants.{ByRoom}
 use Rattle.floor_hub.specs.declared.step.Step.{Step}
-use Rattle.floor_hub.specs.declared.step.Step.TheVariants.{Open, Attach, Piece, Serve, Leave, Admin}
+use Rattle.floor_hub.specs.declared.step.Step.TheVariants.{Open, Attach, Piece, Serve, Took, Leave, Admin}
 use Rattle.floor_hub.specs.World as world
 use Rattle.floor_hub.specs.World.{World, Part, Arrival, Place, Aim, aim, aimed, arrival, if_live, is_full, joined, nothing, offer, opened, place, put, refused, ledger_of, state_of, turn, turn_at, unserved, with_arrival, with_events}
 use Rattle.floor_hub.specs.Kept.{IsKeptPart, KeptIn, arrivals_in}
@@ -42,20 +42,21 @@ use Rattle.floor_hub.proofs.Keeping.{IsSetFrom, kept_event, offer_kept, opened_k
 use Rattle.floor_hub.proofs.Sent.{left_is, run_append}
 
 -- an event that is lawful, and for which there is room, isn't refused
-unfull : (n : ℕ) → n < 1000000 → nat_le 1000000 n ≡ false
+unfull : (n : ℕ) → n < 2000000 → nat_le 2000000 n ≡ false
 unfull n h = grind (arith, nat_tests)
 
 opened_now : (s : Conference) (e : Event) → IsLawful s e → s.is_open ≡ true
 opened_now s (Join user) h = h.0
 opened_now s (Message n bytes) h = h.0
+opened_now s (Takes n k) h = h.0
 opened_now s (Leaves n) h = h.0
 opened_now s (Revoke request) h = h.0
 opened_now s Close h = h
 
-accepted : (p : Part) (e : Event) → IsWhole e → IsLawful (state_of p) e → length p.events < 1000000 → refused p e ≡ None
+accepted : (p : Part) (e : Event) → IsWhole e → IsLawful (state_of p) e → length p.events < 2000000 → refused p e ≡ None
 accepted p e framed lawful few =
     let taken : event_refusal (whole (state_of p)) e ≡ None = (taken_is_lawful (state_of p) e framed).1 lawful in
-    let free : closed (ledger_of p) ≡ None = by (state_of p).is_open (nat_le 1000000 (length p.events)) (opened_now (state_of p) e lawful) (unfull (length p.events) few) in
+    let free : closed (ledger_of p) ≡ None = by (state_of p).is_open (nat_le 2000000 (length p.events)) (opened_now (state_of p) e lawful) (unfull (length p.events) few) in
     ap (λ (x : Option RoomRefusal). first_of x (option_map ByMachine (event_refusal (whole (state_of p)) e))) free ∙ ap (option_map ByMachine) taken
   where
     by : (a b : Bool) → a ≡ true → b ≡ false → (if not a then Some (ByMachine Ended) else if b then Some JournalFull else None) ≡ None
@@ -122,12 +123,12 @@ was_live p e n none h = by (live-before (state_of p) e n h)
     by (inr x) = absurd (omega (arith, none, x.0))
 
 -- an act of the administrator
-goes_act : (c : ℕ) (v : World) (p : Part) (act : Act) → Follows c v p → IsLawful (state_of p) (event_of_act act) → length p.events < 1000000 →
+goes_act : (c : ℕ) (v : World) (p : Part) (act : Act) → Follows c v p → IsLawful (state_of p) (event_of_act act) → length p.events < 2000000 →
     Follows c (turn v (Admin c act)).world (with_events p (event_of_act act ∷ []))
 goes_act c v p act f lawful few =
     let e : Event = event_of_act act in
     let is : (offer (Some p) (Admin c act)).part ≡ Some (with_events p (event_of_act act ∷ [])) =
-    ap (λ (r : Option RoomRefusal). (world.admin p (event_of_act act) r).part) (accepted p (event_of_act act) (framed act) lawful few) in record {
+    ap (λ (r : Option RoomRefusal). (world.add_event p (event_of_act act) r).part) (accepted p (event_of_act act) (framed act) lawful few) in record {
       at = moved c v p (with_events p (event_of_act act ∷ [])) (Admin c act) f.at refl is;
       kept = kept_by p (with_events p (event_of_act act ∷ [])) (Admin c act) f.kept is;
       here = λ n h. f.here n (was_live p (event_of_act act) n (none act) (sym (ap (λ (s : Conference). is_live s n) (state_more p.config p.events (event_of_act act))) ∙ h));
@@ -141,6 +142,20 @@ goes_act c v p act f lawful few =
     none : (act : Act) → joins (event_of_act act) ≡ 0
     none (Act.Revoke request) = refl
     none Act.Close = refl
+
+-- some of the parcels to a live member are acknowledged
+goes_took : (c : ℕ) (v : World) (p : Part) (n k : ℕ) (a : Arrival) → Follows c v p → IsLawful (state_of p) (Takes n k) → length p.events < 2000000 →
+    arrival p n ≡ Some a → a.live ≡ true → Follows c (turn v (Took n k)).world (with_events p (Takes n k ∷ []))
+goes_took c v p n k a f lawful few there live =
+    let e : Event = Takes n k in
+    let is : (offer (Some p) (Took n k)).part ≡ Some (with_events p (Takes n k ∷ [])) =
+    ap (λ (x : Option Arrival). (world.took p n k x).part) (there_live (arrival p n) a there live)
+    ∙ ap (λ (r : Option RoomRefusal). (world.add_event p (Takes n k) r).part) (accepted p (Takes n k) tt lawful few) in record {
+      at = moved c v p (with_events p (Takes n k ∷ [])) (Took n k) f.at (ap (aim (λ i. Took i k)) (placed c v p n a f.at there)) is;
+      kept = kept_by p (with_events p (Takes n k ∷ [])) (Took n k) f.kept is;
+      here = λ i h. f.here i (was_live p (Takes n k) i refl (sym (ap (λ (s : Conference). is_live s i) (state_more p.config p.events (Takes n k))) ∙ h));
+      idle = f.idle;
+    }
 
 -- the arrivals of a list with one more
 get_more : (xs : List Arrival) (x : Arrival) (k : ℕ) (a : Arrival) → slice_get xs k ≡ Some a → slice_get (xs ++ x ∷ []) k ≡ Some a
@@ -167,7 +182,7 @@ new = record { bytes = []; served = 0; live = true }
 new_idle : AllServed new
 new_idle = record { ms = []; messages = All-nil IsMessage; bytes = refl; served = refl }
 
-goes_join : (c : ℕ) (v : World) (p : Part) (user : ℕ) → Follows c v p → IsLawful (state_of p) (Join user) → length p.events < 1000000 →
+goes_join : (c : ℕ) (v : World) (p : Part) (user : ℕ) → Follows c v p → IsLawful (state_of p) (Join user) → length p.events < 2000000 →
     Follows c (turn v (Attach c user)).world (joined p user)
 goes_join c v p user f lawful few =
     let is : (offer (Some p) (Attach c user)).part ≡ Some (joined p user) =
@@ -207,7 +222,7 @@ gone_from n (m ∷ ms) = by (m.n == n) refl (gone_from n ms)
 
 gone_next : (s : Conference) (n : ℕ) → is_live (next s (Leaves n)) n ≡ false
 unfolding settled change
-gone_next s n = gone_from n s.members
+gone_next s n = live-counted s (Leaves n) n ∙ gone_from n s.members
 
 -- the arrivals of a part are the same, whatever its events
 arrival_events : (p : Part) (es : List Event) (n : ℕ) → arrival (with_events p es) n ≡ arrival p n
@@ -220,7 +235,7 @@ dead a = record { bytes = a.bytes; served = a.served; live = false }
 abbrev gone : Part → ℕ → Arrival → List Event → Part
 gone p n a es = with_arrival (with_events p es) n (dead a)
 
-goes_leave : (c : ℕ) (v : World) (p : Part) (n : ℕ) (a : Arrival) → Follows c v p → IsLawful (state_of p) (Leaves n) → length p.events < 1000000 →
+goes_leave : (c : ℕ) (v : World) (p : Part) (n : ℕ) (a : Arrival) → Follows c v p → IsLawful (state_of p) (Leaves n) → length p.events < 2000000 →
     arrival p n ≡ Some a → a.live ≡ true → Follows c (turn v (Leave n)).world (gone p n a (Leaves n ∷ []))
 goes_leave c v p n a f lawful few there live =
     let left : world.left p n ≡ Leaves n ∷ [] = left_is p n ∙ leaves (state_of p).is_open (is_full p) lawful.0 (unfull (length p.events) few) in
@@ -273,7 +288,7 @@ next_unserved a m live idle framed =
     ∙ ap (slice_get ((idle.ms ++ m ∷ []) ++ messages [])) idle.served
     ∙ get_next idle.ms (messages []) m
 
-module _ (c : ℕ) (v : World) (p : Part) (n : ℕ) (m : List ℕ) (a : Arrival) (f : Follows c v p) (lawful : IsLawful (state_of p) (Message n m)) (few : length p.events < 1000000)
+module _ (c : ℕ) (v : World) (p : Part) (n : ℕ) (m : List ℕ) (a : Arrival) (f : Follows c v p) (lawful : IsLawful (state_of p) (Message n m)) (few : length p.events < 2000000)
     (there : arrival p n ≡ Some a) (live : a.live ≡ true) where
   -- the arrival when the message has come, and when it is served
   abbrev come : Arrival
@@ -301,8 +316,8 @@ module _ (c : ℕ) (v : World) (p : Part) (n : ℕ) (m : List ℕ) (a : Arrival)
   serve_is =
       ap (λ (x : Option Arrival). (world.serve first n x).part) (there_live (arrival first n) come come_there live)
       ∙ ap (λ (x : Bool). (if not x then world.refuses (Some first) (ByRoom (ByMachine Ended)) else world.serve_message first n come (unserved come)).part) lawful.0
-      ∙ ap (λ (x : Option (List ℕ)). (world.serve_message first n come x).part) (next_unserved a m a.live (f.idle n a there) lawful.2)
-      ∙ ap (λ (x : Option RoomRefusal). (world.take_message first n come m x).part) (accepted first (Message n m) lawful.2 lawful few)
+      ∙ ap (λ (x : Option (List ℕ)). (world.serve_message first n come x).part) (next_unserved a m a.live (f.idle n a there) lawful.3)
+      ∙ ap (λ (x : Option RoomRefusal). (world.take_message first n come m x).part) (accepted first (Message n m) lawful.3 lawful few)
 
   at_first : At c (turn v (Piece n m)).world first
   at_first = moved c v p first (Piece n m) f.at (ap (aim (λ i. Piece i m)) (placed c v p n a f.at there)) piece_is
@@ -325,7 +340,7 @@ module _ (c : ℕ) (v : World) (p : Part) (n : ℕ) (m : List ℕ) (a : Arrival)
       let was = f.idle n a there in
       record {
         ms = was.ms ++ m ∷ [];
-        messages = all_more was.ms m was.messages lawful.2;
+        messages = all_more was.ms m was.messages lawful.3;
         bytes = ap (λ (s : List ℕ). s ++ m) was.bytes ∙ concat_more was.ms m;
         served = omega (arith, was.served, length-append was.ms (m ∷ []));
       }
@@ -345,11 +360,14 @@ module _ (c : ℕ) (v : World) (p : Part) (n : ℕ) (m : List ℕ) (a : Arrival)
     idle = λ k b h. idle_at k b (k == n) refl h;
   }
 
-goes : (c : ℕ) (v : World) (p : Part) (e : Event) → Follows c v p → IsLawful (state_of p) e → length p.events < 1000000 → Goes c v p e
+goes : (c : ℕ) (v : World) (p : Part) (e : Event) → Follows c v p → IsLawful (state_of p) e → length p.events < 2000000 → Goes c v p e
 goes c v p (Join user) f lawful few = (joined p user, goes_join c v p user f lawful few, refl, refl)
 goes c v p (Message n m) f lawful few =
     let found = f.here n lawful.1 in
     (last c v p n m found.0 f lawful few found.1 found.2, goes_message c v p n m found.0 f lawful few found.1 found.2, refl, refl)
+goes c v p (Takes n k) f lawful few =
+    let found = f.here n lawful.1 in
+    (with_events p (Takes n k ∷ []), goes_took c v p n k found.0 f lawful few found.1 found.2, refl, refl)
 goes c v p (Leaves n) f lawful few =
     let found = f.here n lawful.1 in
     (gone p n found.0 (Leaves n ∷ []), goes_leave c v p n found.0 f lawful few found.1 found.2, refl, refl)
@@ -360,7 +378,7 @@ goes c v p Close f lawful few = (with_events p (Close ∷ []), goes_act c v p Ac
 abbrev Ends : ℕ → World → Part → List Event → Type 0
 Ends c v p es = (q : Part) × (v.parts c ≡ Some q) × (q.config ≡ p.config) × (q.events ≡ p.events ++ es)
 
-follow : (c : ℕ) (v : World) (p : Part) (es : List Event) → Follows c v p → IsLawfulFrom (state_of p) es → length p.events + length es ≤ 1000000 →
+follow : (c : ℕ) (v : World) (p : Part) (es : List Event) → Follows c v p → IsLawfulFrom (state_of p) es → length p.events + length es ≤ 2000000 →
     Ends c (run v (flat_map (steps_for c) es)) p es
 follow c v p [] f lawful few = (p, f.at.is, refl, sym (append-nil p.events))
 follow c v p (e ∷ es) f lawful few =

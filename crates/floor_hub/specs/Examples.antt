@@ -16,6 +16,7 @@ use Rattle.floor_machine.specs.Change.{change, shown, settled}
 use Rattle.floor_machine.specs.Outgoing.{outgoing_bytes}
 use Rattle.floor_machine.specs.Reply.{reply}
 use Rattle.floor_machine.specs.Told.{changed_requests, changed_floors, due}
+use Rattle.floor_machine.specs.Next.{next, told}
 use Rattle.floor_machine.specs.Journal.{parcels_of}
 use Rattle.floor_room.specs.declared.refusal.RoomRefusal.TheVariants.{Refused as ByMachine}
 use Rattle.floor_hub.specs.declared.refusal.HubRefusal.TheVariants.{Used, NoConference, NoConnection, ByRoom}
@@ -83,20 +84,20 @@ abbrev one_journal : List Event
 one_journal = Join 10 ∷ Join 11 ∷ Message 1 first_request ∷ Message 2 second_request ∷ Leaves 1 ∷ []
 
 pub one_events : events 1 one_conference ≡ one_journal
-unfolding ask spelled spelled_within outgoing_bytes info_of same_info refusal change shown settled reply changed_requests changed_floors due parcels_of messages messages_of_at_most
+unfolding ask spelled spelled_within outgoing_bytes info_of same_info refusal change shown settled reply changed_requests changed_floors due told next parcels_of messages messages_of_at_most
 one_events = refl
 
 pub two_events : events 1 two_conferences ≡ one_journal
-unfolding ask spelled spelled_within outgoing_bytes info_of same_info refusal change shown settled reply changed_requests changed_floors due parcels_of messages messages_of_at_most
+unfolding ask spelled spelled_within outgoing_bytes info_of same_info refusal change shown settled reply changed_requests changed_floors due told next parcels_of messages messages_of_at_most
 two_events = refl
 
 pub other_events : events 2 two_conferences ≡ Join 10 ∷ Message 1 other_request ∷ Close ∷ []
-unfolding ask spelled spelled_within outgoing_bytes info_of same_info refusal change shown settled reply changed_requests changed_floors due parcels_of messages messages_of_at_most
+unfolding ask spelled spelled_within outgoing_bytes info_of same_info refusal change shown settled reply changed_requests changed_floors due told next parcels_of messages messages_of_at_most
 other_events = refl
 
 pub two_answers : answers nothing two_conferences ≡
     Done ∷ Done ∷ Attached 1 ∷ Attached 2 ∷ Done ∷ Served ∷ Attached 3 ∷ Done ∷ Nothing ∷ Done ∷ Done ∷ Served ∷ Done ∷ Served ∷ Done ∷ []
-unfolding ask spelled spelled_within outgoing_bytes info_of same_info refusal change shown settled reply changed_requests changed_floors due parcels_of messages messages_of_at_most
+unfolding ask spelled spelled_within outgoing_bytes info_of same_info refusal change shown settled reply changed_requests changed_floors due told next parcels_of messages messages_of_at_most
 two_answers = refl
 
 -- conference 1 alone: its arrivals have the numbers 1 and 2
@@ -112,12 +113,12 @@ pub two_alone : alone 1 two_conferences ≡
     ∷ Serve 2
     ∷ Leave 1
     ∷ []
-unfolding ask spelled spelled_within outgoing_bytes info_of same_info refusal change shown settled reply changed_requests changed_floors due parcels_of messages messages_of_at_most
+unfolding ask spelled spelled_within outgoing_bytes info_of same_info refusal change shown settled reply changed_requests changed_floors due told next parcels_of messages messages_of_at_most
 two_alone = refl
 
 pub two_answers_to : answers_to 1 nothing two_conferences ≡
     Done ∷ Attached 1 ∷ Attached 2 ∷ Done ∷ Nothing ∷ Done ∷ Served ∷ Done ∷ Served ∷ Done ∷ []
-unfolding ask spelled spelled_within outgoing_bytes info_of same_info refusal change shown settled reply changed_requests changed_floors due parcels_of messages messages_of_at_most
+unfolding ask spelled spelled_within outgoing_bytes info_of same_info refusal change shown settled reply changed_requests changed_floors due told next parcels_of messages messages_of_at_most
 two_answers_to = refl
 
 -- the steps of its own of that journal
@@ -144,7 +145,7 @@ pub one_queues : queues one_conference ≡
     record { number = 1; conference = 1; n = 1; bytes = to_first }
     ∷ record { number = 2; conference = 1; n = 2; bytes = to_second }
     ∷ []
-unfolding ask spelled spelled_within outgoing_bytes info_of same_info refusal change shown settled reply changed_requests changed_floors due parcels_of messages messages_of_at_most
+unfolding ask spelled spelled_within outgoing_bytes info_of same_info refusal change shown settled reply changed_requests changed_floors due told next parcels_of messages messages_of_at_most
 one_queues = refl
 
 pub two_queues : queues two_conferences ≡
@@ -157,7 +158,7 @@ pub two_queues : queues two_conferences ≡
     ∷ record { number = 2; conference = 1; n = 1; bytes = to_first }
     ∷ record { number = 3; conference = 1; n = 2; bytes = to_second }
     ∷ []
-unfolding ask spelled spelled_within outgoing_bytes info_of same_info refusal change shown settled reply changed_requests changed_floors due parcels_of messages messages_of_at_most
+unfolding ask spelled spelled_within outgoing_bytes info_of same_info refusal change shown settled reply changed_requests changed_floors due told next parcels_of messages messages_of_at_most
 two_queues = refl
 
 -- a refusal of each kind, and steps after it that go on
@@ -217,12 +218,12 @@ pub refusals_answers : answers nothing refusals ≡
     ∷ Done
     ∷ Refused NoConnection
     ∷ []
-unfolding ask spelled spelled_within outgoing_bytes info_of same_info refusal change shown settled reply changed_requests changed_floors due parcels_of messages messages_of_at_most
+unfolding ask spelled spelled_within outgoing_bytes info_of same_info refusal change shown settled reply changed_requests changed_floors due told next parcels_of messages messages_of_at_most
 refusals_answers = refl
 
 -- a refused step adds no event, nor does a leave after the end
 pub refusals_events : events 1 refusals ≡ Join 10 ∷ Join 11 ∷ Leaves 2 ∷ Close ∷ []
-unfolding ask spelled spelled_within outgoing_bytes info_of same_info refusal change shown settled reply changed_requests changed_floors due parcels_of messages messages_of_at_most
+unfolding ask spelled spelled_within outgoing_bytes info_of same_info refusal change shown settled reply changed_requests changed_floors due told next parcels_of messages messages_of_at_most
 refusals_events = refl
 
 -- so many connections of user 10
@@ -238,5 +239,5 @@ pub full_answers : answers nothing (Open (demonstration 1) ∷ attaches 65 ++ Op
     ∷ Done
     ∷ Attached 65
     ∷ []
-unfolding ask spelled spelled_within outgoing_bytes info_of same_info refusal change shown settled reply changed_requests changed_floors due parcels_of messages messages_of_at_most
+unfolding ask spelled spelled_within outgoing_bytes info_of same_info refusal change shown settled reply changed_requests changed_floors due told next parcels_of messages messages_of_at_most
 full_answers = refl

@@ -3,12 +3,13 @@ use Rattle.std.specs.Prelude.{◌≡◌, ℕ, zero, suc, ◌≤◌, List, [], �
 use Rattle.floor_machine.specs.Conference.{is_live}
 use Rattle.floor_machine.specs.Journal.{IsJournal}
 use Rattle.floor_machine.specs.declared.event.Event.{Event}
-use Rattle.floor_machine.specs.declared.event.Event.TheVariants.{Join, Message, Leave, Revoke, Close}
+use Rattle.floor_machine.specs.declared.event.Event.TheVariants.{Join, Message, Took, Leave, Revoke, Close}
 use Rattle.floor_hub.specs.World.{World, Part, Place, Arrival, arrival, state_of}
 
 abbrev pub is_join : Event → Bool
 is_join (Join user) = true
 is_join (Message n bytes) = false
+is_join (Took n k) = false
 is_join (Leave n) = false
 is_join (Revoke request) = false
 is_join Close = false

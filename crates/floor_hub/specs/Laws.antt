@@ -4,7 +4,7 @@ use Rattle.floor_config.specs.Configuration.{Configuration}
 use Rattle.floor_machine.specs.declared.event.Event.{Event}
 use Rattle.floor_machine.specs.Journal.{IsJournal, Q}
 use Rattle.floor_hub.specs.declared.step.Step.{Step}
-use Rattle.floor_hub.specs.declared.step.Step.TheVariants.{Open, Attach, Piece, Serve, Leave, Admin}
+use Rattle.floor_hub.specs.declared.step.Step.TheVariants.{Open, Attach, Piece, Serve, Took, Leave, Admin}
 use Rattle.floor_hub.specs.declared.step.Answer.{Answer}
 use Rattle.floor_hub.specs.declared.step.Answer.TheVariants.{Done, Attached, Nothing, Served, Refused}
 use Rattle.floor_hub.specs.declared.transcript.Transcript.{Transcript}
@@ -86,6 +86,7 @@ OpensNumbered (Open config) = config.conference ≤ 4294967295
 OpensNumbered (Attach c user) = Unit {0}
 OpensNumbered (Piece number bytes) = Unit {0}
 OpensNumbered (Serve number) = Unit {0}
+OpensNumbered (Took number k) = Unit {0}
 OpensNumbered (Leave number) = Unit {0}
 OpensNumbered (Admin c act) = Unit {0}
 
@@ -93,9 +94,9 @@ OpensNumbered (Admin c act) = Unit {0}
 abbrev pub StepNumbers : Type 0
 StepNumbers = (w : World) (s : Step) → OpensNumbered s → IsNumbered w → IsNumbered (turn w s).world
 
--- a kept world of such conferences has at most 1,000,000 arrivals for each id, so that their numbers fit 64 bits
+-- a kept world of such conferences has at most 2,000,000 arrivals for each id, so that their numbers fit 64 bits
 abbrev pub ArrivalsFit : Type 0
-ArrivalsFit = (w : World) → IsKept w → IsNumbered w → length w.places ≤ 4294967296000000
+ArrivalsFit = (w : World) → IsKept w → IsNumbered w → length w.places ≤ 8589934592000000
 
 -- The headline. Where two interleavings give a conference one configuration and the same events, their runs have queued the same
 -- bytes to each of its connections, and these are what its floor machine alone calls for, whatever else went on.

@@ -11,7 +11,7 @@ use Rattle.floor_hub.specs.declared.refusal.HubRefusal.TheVariants.{ByRoom}
 use Rattle.floor_hub.specs.declared.connection.Connection.{Connection}
 use Rattle.floor_hub.specs.Connections.{Connections, Puts, SameConnections}
 use Rattle.floor_hub.specs.Hub.{Hub, room_at}
-use Rattle.floor_hub.specs.Rooms.{SameHub, leave_event, serve_event}
+use Rattle.floor_hub.specs.Rooms.{SameHub, leave_event, serve_event, took_event}
 
 -- the room is broken off as it was, or with the call's own event begun
 abbrev pub IsBrokenOff : List Event → Room → Room → Type 0
@@ -46,6 +46,11 @@ LeftServing number (Some x) old new (ByRoom (ByMachine Memory)) =
     (BreaksOff (λ r. []) x.conference old new × SameConnections old.connections new.connections)
     ⊎ (BreaksOff (serve_event x) x.conference old new × TakesOff number x old.connections new.connections)
 LeftServing number x old new refusal = SameHub old new
+
+-- what acknowledging has left that was refused so: after want of memory in the room that broken off, and the connections as they were; else all as it was
+abbrev pub LeftTaking : ℕ → Option Connection → Hub → Hub → HubRefusal → Type 0
+LeftTaking k (Some x) old new refusal = LeftAt (took_event k x) x.conference old new refusal
+LeftTaking k None old new refusal = SameHub old new
 
 -- what a leave has left that was refused so: after want of memory in the room that broken off, and the connection gone; else all as it was
 abbrev pub LeftLeaving : ℕ → Option Connection → Hub → Hub → HubRefusal → Type 0

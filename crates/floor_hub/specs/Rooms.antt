@@ -4,7 +4,7 @@ use Rattle.floor_config.specs.Configuration.{Configuration}
 use Rattle.floor_wire.specs.Message.{messages}
 use Rattle.floor_machine.specs.declared.act.Act.{Act}
 use Rattle.floor_machine.specs.declared.event.Event.{Event}
-use Rattle.floor_machine.specs.declared.event.Event.TheVariants.{Join, Message, Leave}
+use Rattle.floor_machine.specs.declared.event.Event.TheVariants.{Join, Message, Took, Leave}
 use Rattle.floor_machine.specs.Machine.{event_of_act}
 use Rattle.floor_machine.specs.Parcel.{Parcel}
 use Rattle.floor_machine.specs.declared.machine.Refusal.TheVariants.{Broken, Memory}
@@ -56,6 +56,10 @@ admin_event act r = event_of_act act ∷ []
 -- that of serving a connection: the first message that it holds, if it holds a whole one
 abbrev pub serve_event : Connection → Room → List Event
 serve_event x r = map (Message x.n) (take 1 (messages x.held))
+
+-- that of acknowledging what was told to a connection
+abbrev pub took_event : ℕ → Connection → Room → List Event
+took_event k x r = Took x.n k ∷ []
 
 -- that of leaving, unless the room takes no event
 abbrev pub leave_event : Connection → Room → List Event

@@ -6,12 +6,12 @@ use Rattle.floor_config.specs.Configuration.{Configuration}
 use Rattle.floor_machine.specs.Conference.{Conference}
 use Rattle.floor_machine.specs.declared.act.Act.{Act}
 use Rattle.floor_machine.specs.declared.event.Event.{Event}
-use Rattle.floor_machine.specs.declared.event.Event.TheVariants.{Join, Message, Leave as Leaves, Revoke, Close}
+use Rattle.floor_machine.specs.declared.event.Event.TheVariants.{Join, Message, Took as Takes, Leave as Leaves, Revoke, Close}
 use Rattle.floor_machine.specs.Journal.{Q, told_from}
 use Rattle.floor_machine.specs.Machine.{event_of_act}
 use Rattle.floor_machine.specs.Outgoing.{outgoing_bytes}
 use Rattle.floor_hub.specs.declared.step.Step.{Step}
-use Rattle.floor_hub.specs.declared.step.Step.TheVariants.{Open, Attach, Piece, Serve, Leave, Admin}
+use Rattle.floor_hub.specs.declared.step.Step.TheVariants.{Open, Attach, Piece, Serve, Took, Leave, Admin}
 use Rattle.floor_hub.specs.declared.step.Answer.{Answer}
 use Rattle.floor_hub.specs.declared.step.Answer.TheVariants.{Done, Attached, Nothing, Served, Refused}
 use Rattle.floor_hub.specs.declared.transcript.Queued.{Queued}
@@ -42,11 +42,12 @@ abbrev pub configuration : ℕ → List Step → Option Configuration
 configuration c steps = option_map (λ p. p.config) ((run nothing steps).parts c)
 
 -- the events that a step adds to a part, by its answer: an attach that succeeds its Join; a serve that finds a message that
--- message, the next unserved one of all bytes of its arrival; a leave its Leave, where the conference is open and its
+-- message, the next unserved one of all bytes of its arrival; a took that succeeds its Took; a leave its Leave, where the conference is open and its
 -- journal isn't full; an act that succeeds itself; and nothing else adds an event
 abbrev pub adds : Part → Step → Answer → List Event
 adds p (Attach c user) (Attached number) = Join user ∷ []
 adds p (Serve n) Served = map (Message n) (messages_next (arrival p n))
+adds p (Took n k) Done = Takes n k ∷ []
 adds p (Leave n) Done = if (state_of p).is_open && not (is_full p) then Leaves n ∷ [] else []
 adds p (Admin c act) Done = event_of_act act ∷ []
 adds p s answer = []
@@ -97,6 +98,7 @@ answers_to c w (s ∷ ss) = own_answer c (aimed w s) (turn w s) ++ answers_to c 
 abbrev pub steps_for : ℕ → Event → List Step
 steps_for c (Join user) = Attach c user ∷ []
 steps_for c (Message n bytes) = Piece n bytes ∷ Serve n ∷ []
+steps_for c (Takes n k) = Took n k ∷ []
 steps_for c (Leaves n) = Leave n ∷ []
 steps_for c (Revoke request) = Admin c (Act.Revoke request) ∷ []
 steps_for c Close = Admin c Act.Close ∷ []

@@ -6,7 +6,7 @@ use Rattle.floor_config.specs.Configuration.{Configuration}
 use Rattle.floor_wire.specs.Message.{messages}
 use Rattle.floor_machine.specs.Conference.{Conference}
 use Rattle.floor_machine.specs.declared.event.Event.{Event}
-use Rattle.floor_machine.specs.declared.event.Event.TheVariants.{Join, Message, Leave as Leaves, Revoke, Close}
+use Rattle.floor_machine.specs.declared.event.Event.TheVariants.{Join, Message, Took as Takes, Leave as Leaves, Revoke, Close}
 use Rattle.floor_machine.specs.declared.machine.Refusal.TheVariants.{Ended}
 use Rattle.floor_machine.specs.Journal.{MAX_EVENTS, after}
 use Rattle.floor_machine.specs.Machine.{event_of_act}
@@ -16,7 +16,7 @@ use Rattle.floor_room.specs.Ledger.{Ledger, closed, refusal}
 use Rattle.floor_hub.specs.declared.refusal.HubRefusal.{HubRefusal}
 use Rattle.floor_hub.specs.declared.refusal.HubRefusal.TheVariants.{NoConference, NoConnection, Used, ByRoom}
 use Rattle.floor_hub.specs.declared.step.Step.{Step}
-use Rattle.floor_hub.specs.declared.step.Step.TheVariants.{Open, Attach, Piece, Serve, Leave, Admin}
+use Rattle.floor_hub.specs.declared.step.Step.TheVariants.{Open, Attach, Piece, Serve, Took, Leave, Admin}
 use Rattle.floor_hub.specs.declared.step.Answer.{Answer}
 use Rattle.floor_hub.specs.declared.step.Answer.TheVariants.{Done, Attached, Nothing, Served, Refused}
 
@@ -39,7 +39,7 @@ state_of p = after p.config p.events
 abbrev pub ledger_of : Part → Ledger
 ledger_of p = record { config = p.config; journal = p.events; is_broken = false }
 
--- the part has had its 1,000,000 events
+-- the part has had its 2,000,000 events
 abbrev pub is_full : Part → Bool
 is_full p = nat_le MAX_EVENTS (length p.events)
 
@@ -116,6 +116,15 @@ abbrev pub serve : Part → ℕ → Option Arrival → Offered
 serve p n None = refuses (Some p) NoConnection
 serve p n (Some a) = if not (state_of p).is_open then refuses (Some p) (ByRoom (ByMachine Ended)) else serve_message p n a (unserved a)
 
+-- an event that is added as it is
+abbrev pub add_event : Part → Event → Option RoomRefusal → Offered
+add_event p e None = record { part = Some (with_events p (e ∷ [])); answer = Done }
+add_event p e (Some r) = refuses (Some p) (ByRoom r)
+
+abbrev pub took : Part → ℕ → ℕ → Option Arrival → Offered
+took p n k None = refuses (Some p) NoConnection
+took p n k (Some a) = add_event p (Takes n k) (refused p (Takes n k))
+
 abbrev pub left : Part → ℕ → List Event
 left p n = if is_some (closed (ledger_of p)) then [] else Leaves n ∷ []
 
@@ -124,24 +133,22 @@ leave p n None = refuses (Some p) NoConnection
 leave p n (Some a) =
     record { part = Some (with_arrival (with_events p (left p n)) n record { bytes = a.bytes; served = a.served; live = false }); answer = Done }
 
-abbrev pub admin : Part → Event → Option RoomRefusal → Offered
-admin p e None = record { part = Some (with_events p (e ∷ [])); answer = Done }
-admin p e (Some r) = refuses (Some p) (ByRoom r)
-
 -- one conference's part and a step that bears n in place of an arrival's number
 abbrev pub offer : Option Part → Step → Offered
 offer None (Open config) = record { part = Some (opened config); answer = Done }
 offer None (Attach c user) = refuses None NoConference
 offer None (Piece n bytes) = refuses None NoConnection
 offer None (Serve n) = refuses None NoConnection
+offer None (Took n k) = refuses None NoConnection
 offer None (Leave n) = refuses None NoConnection
 offer None (Admin c act) = refuses None NoConference
 offer (Some p) (Open config) = refuses (Some p) Used
 offer (Some p) (Attach c user) = attach p user (refused p (Join user))
 offer (Some p) (Piece n bytes) = piece p n bytes (if_live (arrival p n))
 offer (Some p) (Serve n) = serve p n (if_live (arrival p n))
+offer (Some p) (Took n k) = took p n k (if_live (arrival p n))
 offer (Some p) (Leave n) = leave p n (if_live (arrival p n))
-offer (Some p) (Admin c act) = admin p (event_of_act act) (refused p (event_of_act act))
+offer (Some p) (Admin c act) = add_event p (event_of_act act) (refused p (event_of_act act))
 
 -- whose an arrival is: its conference, and n within it
 pub record Place : Type 0 where
@@ -175,6 +182,7 @@ aimed w (Open config) = Some record { conference = config.conference; step = Ope
 aimed w (Attach c user) = Some record { conference = c; step = Attach c user }
 aimed w (Piece number bytes) = aim (λ n. Piece n bytes) (place w.places number)
 aimed w (Serve number) = aim Serve (place w.places number)
+aimed w (Took number k) = aim (λ n. Took n k) (place w.places number)
 aimed w (Leave number) = aim Leave (place w.places number)
 aimed w (Admin c act) = Some record { conference = c; step = Admin c act }
 
@@ -216,6 +224,7 @@ abbrev pub messages_of : ℕ → List Event → List (List ℕ)
 messages_of n [] = []
 messages_of n (Message m bytes ∷ es) = if m == n then bytes ∷ messages_of n es else messages_of n es
 messages_of n (Join user ∷ es) = messages_of n es
+messages_of n (Takes m k ∷ es) = messages_of n es
 messages_of n (Leaves m ∷ es) = messages_of n es
 messages_of n (Revoke request ∷ es) = messages_of n es
 messages_of n (Close ∷ es) = messages_of n es

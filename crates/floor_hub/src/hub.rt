@@ -7,21 +7,23 @@ ghost use Rattle.floor_room.specs.Status.{IsStatus};
 ghost use Rattle.floor_hub.specs.Calls.{Fails, FailsGone, FailsSame, Turns, answer_of};
 ghost use Rattle.floor_hub.specs.Connections.{Puts, SameConnections, connection_at};
 ghost use Rattle.floor_hub.specs.Hub.{room_at};
-ghost use Rattle.floor_hub.specs.Left.{LeftAt, LeftLeaving, LeftServing};
-ghost use Rattle.floor_hub.specs.Rooms.{OneRoom, Opens, RoomOf, SameHub, TakenOf, admin_event, attach_event, by_broken, leave_event, refusal_in, serve_event};
+ghost use Rattle.floor_hub.specs.Left.{LeftAt, LeftLeaving, LeftServing, LeftTaking};
+ghost use Rattle.floor_hub.specs.Rooms.{OneRoom, Opens, RoomOf, SameHub, TakenOf, admin_event, attach_event, by_broken, leave_event, refusal_in, serve_event, took_event};
 ghost use Rattle.floor_hub.specs.StandsFor.{StandsFor};
 ghost use Rattle.floor_hub.specs.World.{World, nothing};
 ghost use Rattle.floor_hub.specs.declared.step.Answer.TheVariants.{Attached, Done};
-ghost use Rattle.floor_hub.specs.declared.step.Step.TheVariants.{Admin, Attach, Leave, Open, Piece, Serve};
+ghost use Rattle.floor_hub.specs.declared.step.Step.TheVariants.{Admin, Attach, Leave, Open, Piece, Serve, Took};
 ghost use Rattle.floor_hub.specs.steps.Found.{AtConnection, AtRoom};
 ghost use Rattle.floor_hub.specs.steps.Running.{QueuedIn};
-ghost use Rattle.floor_hub.specs.steps.Serving.{AttachIn, LeaveOf, ServeOf, TakeOf};
+ghost use Rattle.floor_hub.specs.steps.Serving.{AttachIn, LeaveOf, ServeOf, TakeOf, TookOf};
 
 use crate::connection::{ConnNo, Connection, Place};
 use crate::connections::Connections;
 use crate::gathering::queued_to;
 use crate::refusal::HubRefusal;
-use crate::rooms::{admin_at, break_at, join_at, leave_room, open_at, serve_room, take_room};
+use crate::rooms::{
+    admin_at, break_at, join_at, leave_room, open_at, serve_room, take_room, took_room,
+};
 use crate::step::Served;
 use floor_room::{Act, Config, Parcel, Refusal, Room, RoomRefusal, Status};
 use floor_wire::{Framer, Octets};
@@ -33,11 +35,12 @@ use std::marker::Model;
 /// call does grows with the other conferences or connections.
 ///
 /// - Conferences: `open`, `admin`, `status`.
-/// - Connections: `attach`, then `piece` and `serve` as bytes come, `take` as they are sent, and
-///   `leave` at the end.
+/// - Connections: `attach`, then `piece` and `serve` as bytes come, `take` as they are sent, `took`
+///   once they were, and `leave` at the end. Whoever is more than 1,024 parcels behind is cut: it is
+///   told nothing more, and its messages are refused by `Cut`.
 ///
 /// A refused call changes nothing. Want of memory does so in `open` and `piece`, too; in `attach`,
-/// `serve`, `leave` and `admin` it breaks that one conference's room off, and no other.
+/// `serve`, `took`, `leave` and `admin` it breaks that one conference's room off, and no other.
 #[derive(Drop)]
 pub struct Hub {
     rooms: IndexMap<u32, Room>,
@@ -137,8 +140,8 @@ impl Hub {
     }
 
     /// Serves the next message of a connection, if one is whole. Refused by `NoConnection`, then by
-    /// `Broken` and `Ended`, and where a message is whole by `JournalFull`. After a `Memory` the
-    /// conference's room is broken off.
+    /// `Broken` and `Ended`, and where a message is whole by `JournalFull` and by `Cut`, and the message
+    /// stays with the connection. After a `Memory` the conference's room is broken off.
     pub fn serve(&mut self, number: ConnNo) -> Result<Served, HubRefusal>
         ensures next { (w : World) → StandsFor self.old w → MatchResult result
             (λ found. Turns self.new w (Serve number) (answer_of found))
@@ -149,6 +152,22 @@ impl Hub {
             (connection_at self.old.connections number) self.old self.new) }
     {
         serve_at(&mut self.rooms, &mut self.connections, number)
+    }
+
+    /// Takes it that so many of the parcels to a connection were taken and brought to their end, so
+    /// that it is so many less behind; nobody is told. Refused by `NoConnection`, then by `Broken`,
+    /// `Ended`, `JournalFull`, and by `BadCount` where that is none or more than was told to it and
+    /// not acknowledged. After a `Memory` the conference's room is broken off.
+    pub fn took(&mut self, number: ConnNo, k: u32) -> Result<(), HubRefusal>
+        ensures next { (w : World) → StandsFor self.old w → MatchResult result
+            (λ _. Turns self.new w (Took number k) Done)
+            (λ r. Fails self.new w (Took number k) r) }
+        ensures room { RoomOf by_broken (refusal_in result) (took_event k)
+            (connection_at self.old.connections number) self.old self.new }
+        ensures left { IfErr result (LeftTaking k
+            (connection_at self.old.connections number) self.old self.new) }
+    {
+        took_at(&mut self.rooms, &self.connections, number, k)
     }
 
     /// Ends a connection, and tells its conference. Refused by `NoConnection` alone: where the room
@@ -311,6 +330,22 @@ fn serve_at(
 {
     match connections.get_mut(number) {
         Some(connection) => serve_room(rooms, connection),
+        None => Err(HubRefusal::NoConnection),
+    }
+}
+
+/// Tells its room that so many of the parcels to a connection were brought to their end.
+fn took_at(
+    rooms: &mut IndexMap<u32, Room>,
+    connections: &Connections,
+    number: ConnNo,
+    k: u32,
+) -> Result<(), HubRefusal>
+    ensures connection { AtConnection (TookOf k) (get nat_eq rooms.old) (get nat_eq rooms.new)
+        connections.now connections.now number result }
+{
+    match connections.get(number) {
+        Some(connection) => took_room(rooms, connection, k),
         None => Err(HubRefusal::NoConnection),
     }
 }

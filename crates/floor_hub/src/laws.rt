@@ -43,7 +43,7 @@ pub fn two_worlds()
     ensures equal { TwoWorlds }
 {}
 
-/// Numbers of arrivals fit 64 bits: each conference has an id of 32 bits, and at most 1,000,000
+/// Numbers of arrivals fit 64 bits: each conference has an id of 32 bits, and at most 2,000,000
 /// events.
 pub fn arrivals_fit()
     ensures step { StepNumbers }

@@ -3,6 +3,7 @@
 ghost use Rattle.std.specs.Prelude.{false, ◌≡◌, ◌≢◌, ◌⊎◌, ◌≤◌, ℕ, Ok, Err, nat_eq, IfErr, IfSome, IsErr, MatchResult, OnErr, OnOk, None, Option, Result, Some};
 ghost use Rattle.indexmap.specs.IndexMap.{Updates, get};
 ghost use Rattle.floor_machine.specs.Machine.{event_of_act};
+ghost use Rattle.floor_machine.specs.declared.event.Event.TheVariants.{Took};
 ghost use Rattle.floor_machine.specs.Parcel.{Parcel as Waiting};
 ghost use Rattle.floor_room.specs.Room.{Room as Kept, broken_room, new_room};
 ghost use Rattle.floor_room.specs.Taking.{Gave};
@@ -113,6 +114,10 @@ fn serve_in(room: &mut Room, n: u32, held: &mut Framer) -> Result<Served, HubRef
         None => {}
         Some(why) => return Err(HubRefusal::ByRoom(why)),
     }
+    // Such a message stays with the connection, as after any refusal.
+    if room.is_cut(n) {
+        return Err(HubRefusal::ByRoom(RoomRefusal::Refused(Refusal::Cut)));
+    }
     match held.next() {
         Err(_) => {
             room.break_off();
@@ -172,6 +177,25 @@ pub(crate) fn serve_room(
     match rooms.get_mut(&connection.conference) {
         Some(room) => serve_in(room, connection.n, &mut connection.held),
         None => Ok(Served::Nothing),
+    }
+}
+
+/// Tells its room that so many of the parcels to a connection were brought to their end.
+pub(crate) fn took_room(
+    rooms: &mut IndexMap<u32, Room>,
+    connection: &Connection,
+    k: u32,
+) -> Result<(), HubRefusal>
+    ensures room { (room : Kept) → get nat_eq rooms.old connection.now.conference ≡ Some room
+        → (new : Kept) × Updates nat_eq rooms.old rooms.new connection.now.conference (Some new)
+        × EventIn (Took connection.now.n k) room new result }
+{
+    match rooms.get_mut(&connection.conference) {
+        Some(room) => match room.took(connection.n, k) {
+            Ok(()) => Ok(()),
+            Err(why) => Err(HubRefusal::ByRoom(why)),
+        },
+        None => Ok(()),
     }
 }
 

@@ -3,7 +3,7 @@
 ghost use Rattle.std.specs.Prelude.{◌≡◌, ℕ, List, IfOk, MatchResult};
 ghost use Rattle.floor_hub.specs.declared.connection.Place.{Place as Placed};
 ghost use Rattle.floor_hub.specs.declared.step.Answer.TheVariants.{Done, Refused};
-ghost use Rattle.floor_hub.specs.declared.step.Step.TheVariants.{Admin, Attach, Leave, Open, Piece, Serve};
+ghost use Rattle.floor_hub.specs.declared.step.Step.TheVariants.{Admin, Attach, Leave, Open, Piece, Serve, Took};
 ghost use Rattle.floor_hub.specs.Runs.{IsRunOf, queues_from};
 ghost use Rattle.floor_hub.specs.steps.Running.{Goes, IsRunning, IsRunOn};
 ghost use Rattle.floor_hub.specs.Calls.{answer_of};
@@ -84,6 +84,7 @@ fn step(
         Step::Attach { conference, user } => attach(hub, alloc, *conference, *user, places),
         Step::Piece { number, bytes } => piece(hub, *number, bytes.as_slice()),
         Step::Serve(number) => serve(hub, *number),
+        Step::Took { number, k } => took(hub, *number, *k),
         Step::Leave(number) => leave(hub, *number),
         Step::Admin { conference, act } => admin(hub, *conference, act.copy()),
     }
@@ -131,6 +132,12 @@ fn serve(hub: &mut Hub, number: ConnNo) -> Result<Answer, Memory>
     ensures { (places : List Placed) → Goes hub.old hub.new places places (Serve number) result }
 {
     served(hub.serve(number))
+}
+
+fn took(hub: &mut Hub, number: ConnNo, k: u32) -> Result<Answer, Memory>
+    ensures { (places : List Placed) → Goes hub.old hub.new places places (Took number k) result }
+{
+    done(hub.took(number, k))
 }
 
 fn leave(hub: &mut Hub, number: ConnNo) -> Result<Answer, Memory>

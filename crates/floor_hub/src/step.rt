@@ -25,6 +25,13 @@ pub enum Step {
     },
     /// The next message of an arrival is served.
     Serve(u64),
+    /// Some of the parcels to an arrival were brought to their end.
+    Took {
+        /// The arrival's number.
+        number: u64,
+        /// How many parcels.
+        k: u32,
+    },
     /// An arrival leaves.
     Leave(u64),
     /// The administrator of a conference acts.

@@ -21,14 +21,16 @@ use Rattle.floor_machine.specs.Checks.{refusal}
 use Rattle.floor_machine.specs.Journal.{parcel, told_from}
 use Rattle.floor_machine.specs.Outgoing.{Outgoing, notice, outgoing_bytes}
 use Rattle.floor_machine.specs.Parcel.{Parcel}
-use Rattle.floor_machine.specs.Reachable.{LeavesAlone, Sent, is_unaccepted}
+use Rattle.floor_machine.specs.Reachable.{LeavesAlone, Sent, but_for, is_unaccepted, uncounted}
 use Rattle.floor_machine.specs.Reply.{floor_status_tell, reply}
 use Rattle.floor_machine.specs.steps.Deciding.{accepted, changes_requests, decision_of, members_by, refused_by}
-use Rattle.floor_machine.specs.Told.{Changed, changed_floors, changed_requests, is_told, reply_to, due_to}
+use Rattle.floor_machine.specs.Told.{Changed, changed_floors, changed_requests, is_told, reply_to, due, due_to}
 use Rattle.floor_machine.proofs.Found.{and_left}
 use Rattle.floor_machine.proofs.Kept.{IsKept, event-kept, settled-message}
 use Rattle.floor_machine.proofs.Quiet.{floors-kept, requests-kept}
-use Rattle.floor_machine.proofs.Sent.{sent_is_told}
+use Rattle.floor_machine.proofs.Counted.{counted-quiet}
+use Rattle.floor_machine.proofs.Sent.{sent_is_told, told-nothing}
+use Rattle.floor_machine.specs.Next.{counted, next}
 use Rattle.floor_machine.proofs.Telling.{due-member}
 
 -- what isn't accepted changes no request and no member
@@ -74,6 +76,24 @@ due-other s n bytes m other requests floors =
     ∙ ap (λ (cs : List Changed). due_by s e m [] cs (changed_floors s e)) requests
     ∙ ap (due_by s e m [] []) floors
 
+-- counting changes nothing but how far the one member is behind that anything is due to
+uncounted-counted : (s : Conference) (e : Event) (n : ℕ) → ((i : ℕ) → i ≢ n → due s e i ≡ []) → (ms : List Member) → map (uncounted n) (map (counted s e) ms) ≡ map (uncounted n) ms
+uncounted-counted s e n silent [] = refl
+uncounted-counted s e n silent (m ∷ ms) =
+    ap (λ (x : Member). x ∷ map (uncounted n) (map (counted s e) ms)) (by (m.n == n) refl)
+    ∙ ap (λ (xs : List Member). uncounted n m ∷ xs) (uncounted-counted s e n silent ms)
+  where
+    apart : (a b : ℕ) → (a == b) ≡ false → a ≢ b
+    apart a b e = grind (arith, nat_tests)
+
+    by : (b : Bool) → (m.n == n) ≡ b → cond b (record (counted s e m) { backlog = 0; is_cut = false }) (counted s e m) ≡ cond b (record m { backlog = 0; is_cut = false }) m
+    by true is = refl
+    by false is = counted-quiet s e m (silent m.n (apart m.n n is))
+
+but-for-counted : (s : Conference) (e : Event) (n : ℕ) → ((i : ℕ) → i ≢ n → due s e i ≡ []) → but_for n (next s e) ≡ but_for n (settled s e)
+unfolding next
+but-for-counted s e n silent = ap (λ (ms : List Member). record (settled s e) { members = ms }) (uncounted-counted s e n silent (settled s e).members)
+
 pub leaves_alone : (s : Conference) (n : ℕ) (bytes : List ℕ) → settle s.config.floors s.ongoing ≡ s.ongoing → is_ascending s.ongoing ≡ true →
     is_unaccepted s (user_of s n) (ask bytes (binding s n)) ≡ true → LeavesAlone s n bytes
 leaves_alone s n bytes is_settled ascending refused_is =
@@ -81,10 +101,12 @@ leaves_alone s n bytes is_settled ascending refused_is =
     let j : Decision = decision_of s (user_of s n) (ask bytes (binding s n)) in
     let nothing : ChangesNothing s.members n j.change = unaccepted s n (user_of s n) (ask bytes (binding s n)) refused_is in
     let k : IsKept s (members_by s.members n j.change) (change s e) = event-kept s n bytes j refl nothing.requests in
+    let unmoved : settled s e ≡ s = sym (settled-message s n bytes j refl nothing.requests is_settled) ∙ ap (λ (ms : List Member). record s { members = ms }) nothing.members_kept in
+    let silent : (i : ℕ) → i ≢ n → due s e i ≡ [] = λ i other. due-member s e i refl
+    ∙ due-found s n bytes i (member_with (settled s e).members i) refl other (requests-kept s e k.entries is_settled ascending) (floors-kept s e k.entries is_settled) in
     record {
-      next = sym (settled-message s n bytes j refl nothing.requests is_settled) ∙ ap (λ (ms : List Member). record s { members = ms }) nothing.members_kept;
-      told = λ i other. due-member s e i refl
-          ∙ due-found s n bytes i (member_with (settled s e).members i) refl other (requests-kept s e k.entries is_settled ascending) (floors-kept s e k.entries is_settled);
+      next = but-for-counted s e n silent ∙ ap (but_for n) unmoved;
+      told = λ i other. told-nothing s e i (silent i other);
     }
   where
     apart : (n a i : ℕ) → a ≡ i → i ≢ n → (n == a) ≡ false

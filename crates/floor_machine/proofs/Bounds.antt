@@ -23,6 +23,8 @@ use Rattle.floor_machine.specs.Conference.{Conference, member_with}
 use Rattle.floor_machine.specs.Change.{change, settled, shown}
 use Rattle.floor_machine.specs.steps.Serving.{IsChanged, conference_of, ended_of, is_rising, numbers_in, with_requests}
 use Rattle.floor_machine.specs.Fitting.{ToldFits}
+use Rattle.floor_machine.specs.Next.{keeps_up, told}
+use Rattle.floor_message.specs.Fits.{TellFits}
 use Rattle.floor_machine.specs.steps.Fitting.{AreFloorsShown, AreMessagesShown, AreUpdatesShown, IsReplyShown, IsToldShown}
 use Rattle.floor_machine.specs.Outgoing.{Outgoing, notice}
 use Rattle.floor_machine.specs.Reply.{infos, floor_status_tell}
@@ -117,5 +119,10 @@ unfolding due
 close-shown s n = All-nil (λ message. IsShown message.tell)
 
 -- what shows no more than a conference has can be written
-pub shown-fits : (s : Conference) (e : Event) → WhatIsShownFits → IsToldShown s e → ToldFits s e
-shown-fits s e law shown n i d within = law _ (shown n i d within)
+pub shown_fits : (s : Conference) (e : Event) → WhatIsShownFits → IsToldShown s e → ToldFits s e
+unfolding told
+shown_fits s e law shown n = by (keeps_up s e n)
+  where
+    by : (b : Bool) → All (λ (message : Outgoing). TellFits message.tell) (cond b (due s e n) [])
+    by true = λ i d within. law _ (shown n i d within)
+    by false = All-nil (λ (message : Outgoing). TellFits message.tell)

@@ -3,7 +3,7 @@ use Rattle.std.proofs.Common.{◌≡◌, ℕ, Bool, true, false, cond, refl}
 use Rattle.std.specs.Prelude.{is_some}
 use Rattle.floor_message.specs.Ask.{Answer, asks, refused, unanswered, ask}
 use Rattle.floor_machine.specs.declared.event.Event.{Event}
-use Rattle.floor_machine.specs.declared.event.Event.TheVariants.{Join, Message, Leave, Revoke, Close}
+use Rattle.floor_machine.specs.declared.event.Event.TheVariants.{Join, Message, Took, Leave, Revoke, Close}
 use Rattle.floor_machine.specs.Conference.{Conference, binding, user_of}
 use Rattle.floor_machine.specs.Checks.{refusal}
 use Rattle.floor_machine.specs.Change.{asked_change, change, message_change, no_change}
@@ -21,6 +21,7 @@ pub config-change : (s : Conference) (e : Event) → (change s e).config ≡ s.c
 unfolding change
 config-change s (Join user) = refl
 config-change s (Message n bytes) = config-message s n (ask bytes (binding s n))
+config-change s (Took n k) = refl
 config-change s (Leave n) = refl
 config-change s (Revoke request) = refl
 config-change s Close = refl

@@ -36,7 +36,7 @@ use Rattle.floor_message.specs.declared.tell.Tell.TheVariants.{FloorRequestStatu
 use Rattle.floor_message.specs.declared.status.RequestStatus.{RequestStatus}
 use Rattle.floor_message.specs.Head.{response_head}
 use Rattle.floor_machine.specs.declared.event.Event.{Event}
-use Rattle.floor_machine.specs.declared.event.Event.TheVariants.{Join, Message, Leave, Revoke, Close}
+use Rattle.floor_machine.specs.declared.event.Event.TheVariants.{Join, Message, Took, Leave, Revoke, Close}
 use Rattle.floor_machine.specs.declared.decision.Decision.{Decision}
 use Rattle.floor_machine.specs.declared.member.Member.{Member}
 use Rattle.floor_machine.specs.Amount.{MessageIsShort}
@@ -51,7 +51,7 @@ use Rattle.floor_machine.specs.Told.{Changed, changed_floors, changed_of, change
 use Rattle.floor_machine.specs.Journal.{after_from, told_from, IsLawfulFrom}
 use Rattle.floor_machine.specs.steps.Deciding.{MayServe, accepted, decision_of, members_by, refused_by}
 use Rattle.floor_machine.specs.steps.Serving.{is_rising, numbers_in}
-use Rattle.floor_machine.specs.Next.{next, told}
+use Rattle.floor_machine.specs.Next.{keeps_up, next, told}
 use Rattle.floor_machine.proofs.Allowed.{may_serve, once_differ}
 use Rattle.floor_machine.proofs.AskedOnce.{asked_once}
 use Rattle.floor_machine.proofs.Changing.{numbers-added, numbers_in-decided, rising-next, rising-numbers}
@@ -126,6 +126,7 @@ few-change : (s : Conference) (e : Event) → WhatIsAskedFits → Keeps s → Ar
 unfolding change
 few-change s (Join user) law k = of_ongoing s _ k (numbers_in-entries s.ongoing)
 few-change s (Message n bytes) law k = few-message s n (ask bytes (binding s n)) (λ x is. law bytes (binding s n) x is) k
+few-change s (Took n j) law k = of_ongoing s _ k (numbers_in-entries s.ongoing)
 few-change s (Leave n) law k = of_ongoing s _ k (numbers_in-ends (ends_without (map (leaving n) s.members) (user_of s n)) s.ongoing)
 few-change s (Revoke request) law k = of_ongoing s _ k (numbers_in-ends (ends_at request dismissed) s.ongoing)
 few-change s Close law k = record { few = omega arith; rising = refl }
@@ -287,6 +288,7 @@ sum-few s (Join user) law k most = let e : Event = Join user in omega (arith, re
 sum-few s (Message n bytes) law k most =
     let tells : List Tell = reply_tells s (Message n bytes) (user_of s n) (ask bytes (binding s n)) in
     omega (arith, headed-length (response_head bytes) tells, sum-answered s n bytes (ask bytes (binding s n)) refl law k most)
+sum-few s (Took n j) law k most = let e : Event = Took n j in omega (arith, requests-few s e law k, floors-few s e, most)
 sum-few s (Leave n) law k most = let e : Event = Leave n in omega (arith, requests-few s e law k, floors-few s e, most)
 sum-few s (Revoke request) law k most = let e : Event = Revoke request in omega (arith, requests-few s e law k, floors-few s e, most)
 sum-few s Close law k most = omega (arith, requests-few s Close law k, floors-few s Close, most)
@@ -315,6 +317,7 @@ due-silent : (s : Conference) (e : Event) (n : ℕ) → is_telling e ≡ false �
 unfolding due
 due-silent s (Join user) n h = cc
 due-silent s (Message k bytes) n h = cc
+due-silent s (Took j k) n h = cc
 due-silent s (Leave k) n h = cc
 due-silent s (Revoke request) n h = cc
 due-silent s Close n h = refl
@@ -332,13 +335,26 @@ due-few s e n law k most = by (is_telling e) refl
         omega (arith, ap (λ (ms : List Outgoing). length ms) (due-member s e n (sym telling)), found (member_with (settled s e).members n))
     by false silent = omega (arith, ap (λ (ms : List Outgoing). length ms) (due-silent s e n (sym silent)))
 
+-- no more is told than is due
+told-le : (s : Conference) (e : Event) (n : ℕ) → length (told s e n) ≤ length (due s e n)
+unfolding told
+told-le s e n = by (keeps_up s e n)
+  where
+    by : (b : Bool) → length (cond b (due s e n) []) ≤ length (due s e n)
+    by true = omega arith
+    by false = omega arith
+
 -- what an event tells anyone
 pub told-few : (s : Conference) (e : Event) (n : ℕ) → WhatIsAskedFits → Keeps s → length s.config.floors ≤ 32 → length (told s e n) ≤ 289
-told-few s e n law k most = due-few s e n law k most
+told-few s e n law k most = omega (arith, told-le s e n, due-few s e n law k most)
+
+config-next : (s : Conference) (e : Event) → (next s e).config ≡ s.config
+unfolding next
+config-next s e = settled-config s e
 
 config-after : (s : Conference) (es : List Event) → (after_from s es).config ≡ s.config
 config-after s [] = refl
-config-after s (e ∷ es) = config-after (next s e) es ∙ settled-config s e
+config-after s (e ∷ es) = config-after (next s e) es ∙ config-next s e
 
 -- what a journal calls for
 pub called-few : (s : Conference) (es : List Event) (n : ℕ) → WhatIsAskedFits → SettlesOnce → IsLawfulFrom s es → Keeps s → length s.config.floors ≤ 32 →
@@ -350,7 +366,7 @@ called-few s (e ∷ es) n law settles lawful k most =
       arith,
       length-append (told s e n) (told_from (next s e) es n),
       told-few s e n law k most,
-      called-few (next s e) es n law settles lawful.1 (keeps-next s e law settles lawful.0 k) (subst P (sym (settled-config s e)) most),
+      called-few (next s e) es n law settles lawful.1 (keeps-next s e law settles lawful.0 k) (subst P (sym (config-next s e)) most),
     )
 
 -- what an event tells after a journal

@@ -21,7 +21,7 @@ use Rattle.floor_machine.specs.Conference.{Conference, binding, user_of, is_numb
 use Rattle.floor_machine.specs.Shown.{Entry, entry_of}
 use Rattle.floor_machine.specs.Change.{Change, change, settled, shown}
 use Rattle.floor_machine.specs.steps.Fitting.{AreFloorsShown, AreUpdatesShown, IsReplyShown, IsToldShown}
-use Rattle.floor_machine.specs.Journal.{parcels_of}
+use Rattle.floor_machine.specs.steps.Counting.{due_parcels}
 use Rattle.floor_machine.specs.Reply.{infos}
 use Rattle.floor_machine.specs.steps.Deciding.{IsDecided, change_by, changes_requests, members_by}
 use Rattle.floor_machine.specs.steps.Serving.{ended_of, is_rising, tells_by, numbers_in}
@@ -81,7 +81,7 @@ replied-message s n bytes j r is keeps is_settled ascending to head tells =
 pub parcels-message : (s : Conference) (n : ℕ) (bytes : List ℕ) (j : Decision) (r : Replied) → IsDecided s n bytes j → changes_requests j.change ≡ false →
     settle s.config.floors s.ongoing ≡ s.ongoing → is_ascending s.ongoing ≡ true → is_numbered_from 1 s.members ≡ true →
     ((k : ℕ) → answered_to (Some r) k ≡ reply_to s (Message n bytes) k) →
-    parcels_to_all s.config.conference (Some r) [] [] (settled s (Message n bytes)).members ≡ parcels_of s (Message n bytes)
+    parcels_to_all s.config.conference (Some r) [] [] (settled s (Message n bytes)).members ≡ due_parcels s (Message n bytes)
 parcels-message s n bytes j r is keeps is_settled ascending numbered replied =
     let e : Event = Message n bytes in
     let k : IsKept s (members_by s.members n j.change) (change s e) = event-kept s n bytes j is keeps in

@@ -1,22 +1,24 @@
 -- The events that are taken are the lawful ones.
-use Rattle.std.proofs.Common.{◌≡◌, ◌≢◌, ℕ, ◌<◌, Bool, true, false, cond, Some, None, refl, sym, ap, arith}
-use Rattle.std.specs.Prelude.{not, nat_le, count_by, is_some}
+use Rattle.std.proofs.Common.{◌≡◌, ◌≢◌, ℕ, ◌<◌, ◌≤◌, Bool, true, false, cond, Option, Some, None, refl, sym, ap, arith}
+use Rattle.std.specs.Prelude.{◌&&◌, not, nat_le, count_by, is_some, IsSome}
 use Rattle.std.proofs.lemmas.Bool.Decides.{nat_tests}
 use Rattle.floor_config.specs.Lookup.{is_user}
 use Rattle.floor_queue.specs.Queue.{request_at}
+use Rattle.floor_queue.specs.declared.request.Request.{Request}
+use Rattle.floor_machine.specs.steps.Deciding.{MayAct}
 use Rattle.floor_machine.specs.declared.act.Act.{Act}
 use Rattle.floor_machine.specs.declared.event.Event.{Event}
-use Rattle.floor_machine.specs.declared.event.Event.TheVariants.{Join, Message, Leave, Revoke, Close}
+use Rattle.floor_machine.specs.declared.event.Event.TheVariants.{Join, Message, Took, Leave, Revoke, Close}
 use Rattle.floor_machine.specs.declared.machine.Refusal.{Refusal}
-use Rattle.floor_machine.specs.declared.machine.Refusal.TheVariants.{Broken, Ended, NoMember, NoUser, Full, NoRequest, Memory}
-use Rattle.floor_machine.specs.Conference.{Conference, is_live}
+use Rattle.floor_machine.specs.declared.machine.Refusal.TheVariants.{Broken, Ended, NoMember, NoUser, Full, NoRequest, Cut, BadCount, Memory}
+use Rattle.floor_machine.specs.Conference.{Conference, backlog, is_cut, is_live}
 use Rattle.floor_machine.specs.Change.{IsLawful}
 use Rattle.floor_machine.specs.Laws.{IsWhole, TakenIsLawful}
-use Rattle.floor_machine.specs.Machine.{Machine, whole, act_refusal, event_of_act, event_refusal, member_refusal}
-use Rattle.floor_machine.proofs.Joining.{join_lawful, message_lawful}
+use Rattle.floor_machine.specs.Machine.{Machine, whole, act_refusal, event_of_act, event_refusal, is_backlog, leave_refusal}
+use Rattle.floor_machine.proofs.Joining.{join_lawful, message_lawful, took_lawful}
 
 -- where no refusal applies, the event is lawful
-pub leave_lawful : (m : Machine) (n : ℕ) → None ≡ member_refusal m n → IsLawful m.conference (Leave n)
+pub leave_lawful : (m : Machine) (n : ℕ) → None ≡ leave_refusal m n → IsLawful m.conference (Leave n)
 leave_lawful m n h = by m.is_broken m.conference.is_open (is_live m.conference n) h
   where
     by : (a b d : Bool) → None ≡ cond a (Some Broken) (cond (not b) (Some Ended) (cond (not d) (Some NoMember) None)) → (b ≡ true) × (d ≡ true)
@@ -40,10 +42,22 @@ act_lawful m Act.Close h = by m.is_broken m.conference.is_open h
     by false false h = cc
     by false true h = refl
 
+-- where no refusal applies, the act may be done
+pub may_act : (m : Machine) (act : Act) → None ≡ act_refusal m act → MayAct m.conference.ongoing act
+may_act m (Act.Revoke request) h = by m.is_broken m.conference.is_open (request_at m.conference.ongoing request) h
+  where
+    by : (a b : Bool) (o : Option Request) → None ≡ cond a (Some Broken) (cond (not b) (Some Ended) (cond (not (is_some o)) (Some NoRequest) None)) → IsSome o
+    by true b o h = cc
+    by false false o h = cc
+    by false true None h = cc
+    by false true (Some r) h = refl
+may_act m Act.Close h = tt
+
 -- an event that is taken is lawful
 lawful_of-taken : (s : Conference) (e : Event) → IsWhole e → event_refusal (whole s) e ≡ None → IsLawful s e
 lawful_of-taken s (Join user) framed h = join_lawful (whole s) user (sym h)
 lawful_of-taken s (Message n bytes) framed h = message_lawful (whole s) n bytes (sym h) framed
+lawful_of-taken s (Took n k) framed h = took_lawful (whole s) n k (sym h)
 lawful_of-taken s (Leave n) framed h = leave_lawful (whole s) n (sym h)
 lawful_of-taken s (Revoke request) framed h = act_lawful (whole s) (Act.Revoke request) (sym h)
 lawful_of-taken s Close framed h = act_lawful (whole s) Act.Close (sym h)
@@ -61,7 +75,17 @@ taken_of-lawful s (Join user) h =
   where
     by : (b d f : Bool) → b ≡ true → d ≡ true → f ≡ false → cond (not b) (Some Ended) (cond (not d) (Some NoUser) (cond f (Some Full) None)) ≡ None
     by b d f h k l = rw (h, k, l) refl
-taken_of-lawful s (Message n bytes) h = two_hold NoMember s.is_open (is_live s n) h.0 h.1
+taken_of-lawful s (Message n bytes) h = by s.is_open (is_live s n) (is_cut s n) h.0 h.1 h.2
+  where
+    by : (b d f : Bool) → b ≡ true → d ≡ true → f ≡ false → cond (not b) (Some Ended) (cond (not d) (Some NoMember) (cond f (Some Cut) None)) ≡ None
+    by b d f h k l = rw (h, k, l) refl
+taken_of-lawful s (Took n k) h = by s.is_open (is_live s n) (is_backlog s n k) h.0 h.1 (within k (backlog s n) h.2 h.3)
+  where
+    within : (a b : ℕ) → 1 ≤ a → a ≤ b → (nat_le 1 a && nat_le a b) ≡ true
+    within a b h l = grind (arith, nat_tests)
+
+    by : (b d f : Bool) → b ≡ true → d ≡ true → f ≡ true → cond (not b) (Some Ended) (cond (not d) (Some NoMember) (cond (not f) (Some BadCount) None)) ≡ None
+    by b d f h k l = rw (h, k, l) refl
 taken_of-lawful s (Leave n) h = two_hold NoMember s.is_open (is_live s n) h.0 h.1
 taken_of-lawful s (Revoke request) h = two_hold NoRequest s.is_open (is_some (request_at s.ongoing request)) h.0 h.1
 taken_of-lawful s Close h = by s.is_open h
@@ -77,10 +101,20 @@ never_third refusal false false d other h = cc
 never_third refusal false true false other h = let same : refusal ≡ Memory = cc in other same
 never_third refusal false true true other h = cc
 
+-- nor of four
+never_fourth : (third fourth : Refusal) (a b d f : Bool) → (third ≡ Memory → ⊥) → (fourth ≡ Memory → ⊥) →
+    Some Memory ≡ cond a (Some Broken) (cond (not b) (Some Ended) (cond (not d) (Some third) (cond f (Some fourth) None))) → ⊥
+never_fourth third fourth true b d f other last h = cc
+never_fourth third fourth false false d f other last h = cc
+never_fourth third fourth false true false f other last h = let same : third ≡ Memory = cc in other same
+never_fourth third fourth false true true true other last h = let same : fourth ≡ Memory = cc in last same
+never_fourth third fourth false true true false other last h = cc
+
 -- what no refusal stands against is lawful
 pub lawful_event : (m : Machine) (e : Event) → IsWhole e → None ≡ event_refusal m e → IsLawful m.conference e
 lawful_event m (Join user) framed h = join_lawful m user h
 lawful_event m (Message n bytes) framed h = message_lawful m n bytes h framed
+lawful_event m (Took n k) framed h = took_lawful m n k h
 lawful_event m (Leave n) framed h = leave_lawful m n h
 lawful_event m (Revoke request) framed h = act_lawful m (Act.Revoke request) h
 lawful_event m Close framed h = act_lawful m Act.Close h
@@ -88,6 +122,7 @@ lawful_event m Close framed h = act_lawful m Act.Close h
 broken_refuses : (m : Machine) (e : Event) → m.is_broken ≡ true → event_refusal m e ≡ Some Broken
 broken_refuses m (Join user) h = rw h refl
 broken_refuses m (Message n bytes) h = rw h refl
+broken_refuses m (Took n k) h = rw h refl
 broken_refuses m (Leave n) h = rw h refl
 broken_refuses m (Revoke request) h = rw h refl
 broken_refuses m Close h = rw h refl
@@ -114,7 +149,8 @@ never_memory m (Join user) h = by m.is_broken m.conference.is_open (is_user m.co
     by false true false f h = cc
     by false true true true h = cc
     by false true true false h = cc
-never_memory m (Message n bytes) h = never_third NoMember m.is_broken m.conference.is_open (is_live m.conference n) (λ e. cc) h
+never_memory m (Message n bytes) h = never_fourth NoMember Cut m.is_broken m.conference.is_open (is_live m.conference n) (is_cut m.conference n) (λ e. cc) (λ e. cc) h
+never_memory m (Took n k) h = never_fourth NoMember BadCount m.is_broken m.conference.is_open (is_live m.conference n) (not (is_backlog m.conference n k)) (λ e. cc) (λ e. cc) h
 never_memory m (Leave n) h = never_third NoMember m.is_broken m.conference.is_open (is_live m.conference n) (λ e. cc) h
 never_memory m (Revoke request) h = never_third NoRequest m.is_broken m.conference.is_open (is_some (request_at m.conference.ongoing request)) (λ e. cc) h
 never_memory m Close h = by m.is_broken m.conference.is_open h

@@ -26,6 +26,8 @@ pub mod Runs
 pub mod Bounds
 pub mod Staying
 pub mod Live
+pub mod Counting
+pub mod Counted
 pub mod Reachable
 pub mod Together
 pub mod Alone

@@ -1,5 +1,5 @@
 -- The members that are live, and where a member stands.
-use Rattle.std.proofs.Common.{◌≡◌, ℕ, ◌+◌, ◌<◌, ◌≤◌, Bool, true, false, cond, zero, suc, List, [], ◌∷◌, ◌++◌, length, get_or, set, map, Option, Some, None, refl, sym, ap, subst, ◌∙◌, arith}
+use Rattle.std.proofs.Common.{◌≡◌, ℕ, ◌+◌, ◌-◌, ◌<◌, ◌≤◌, Bool, true, false, cond, zero, suc, List, [], ◌∷◌, ◌++◌, length, get_or, set, map, Option, Some, None, refl, sym, ap, subst, ◌∙◌, arith}
 use Rattle.std.specs.Prelude.{◌==◌, ◌&&◌, ◌||◌, not, nat_le, filter, find, count_by, if◌then◌else◌}
 use Rattle.std.specs.List.{list_any, flat_map, position_or_len}
 use Rattle.std.specs.Option.{option_map_or}
@@ -8,10 +8,15 @@ use Rattle.std.proofs.lemmas.Bool.Decides.{nat_tests}
 use Rattle.std.proofs.lemmas.List.{length-map}
 use Rattle.std.proofs.lemmas.List.Sums.{length-filter}
 use Rattle.floor_machine.specs.declared.member.Member.{Member}
-use Rattle.floor_machine.specs.Conference.{is_numbered_from, member_with}
+use Rattle.floor_machine.specs.Conference.{is_numbered_from, live_numbers, member_with}
 use Rattle.floor_machine.specs.Change.{leaving, watching}
-use Rattle.floor_machine.specs.steps.Live.{live_numbers}
 use Rattle.floor_machine.proofs.Found.{and_left, and_right, same_number}
+
+-- members that keep their numbers stay numbered
+pub numbered-map : (f : Member → Member) → ((m : Member) → (f m).n ≡ m.n) → (k : ℕ) (ms : List Member) → is_numbered_from k ms ≡ true → is_numbered_from k (map f ms) ≡ true
+numbered-map f same k [] h = refl
+numbered-map f same k (m ∷ ms) h =
+    rw (same m, and_left (m.n == k) (is_numbered_from (k + 1) ms) h) (numbered-map f same (k + 1) ms (and_right (m.n == k) (is_numbered_from (k + 1) ms) h))
 
 -- nobody of those from k on has a number below k
 pub place-below : (ms : List Member) (k n : ℕ) → is_numbered_from k ms ≡ true → n < k → position_or_len (λ m. m.n == n) ms ≡ length ms
@@ -48,7 +53,7 @@ place-within (m ∷ ms) k n (suc i) h e within =
 abbrev pub changed_at : ℕ → (Member → Member) → Member → Member
 changed_at n g m = if m.n == n then g m else m
 
-changed-below : (ms : List Member) (k n : ℕ) (g : Member → Member) → is_numbered_from k ms ≡ true → n < k → map (changed_at n g) ms ≡ ms
+pub changed-below : (ms : List Member) (k n : ℕ) (g : Member → Member) → is_numbered_from k ms ≡ true → n < k → map (changed_at n g) ms ≡ ms
 changed-below [] k n g h below = refl
 changed-below (m ∷ ms) k n g h below =
     rw (differs m.n k n (and_left (m.n == k) (is_numbered_from (k + 1) ms) h) below) (ap (λ (ms : List Member). m ∷ ms) (changed-below ms (k + 1) n g (and_right _ _ h) (omega (arith, below))))
@@ -79,6 +84,35 @@ changed-there n place g ms m h is within found =
     ap (λ (x : Member). set ms place (g x)) found
     ∙ subst (λ i. set ms i (g (get_or ms i m)) ≡ map (changed_at n g) ms) (sym is) (set-place 1 n g ms m h (omega (arith, is, within)))
 
+-- the member with a number is found where it stands
+pub found-there : (n place : ℕ) (ms : List Member) (m : Member) → place ≡ position_or_len (λ m. m.n == n) ms → place < length ms → m ≡ get_or ms place m → find (λ m. m.n == n) ms ≡ Some m
+found-there n place [] m is within found = absurd (omega (arith, within))
+found-there n place (x ∷ ms) m is within found = by (x.n == n) place (found-there n (place - 1) ms m) is within found
+  where
+    at : ℕ
+    at = position_or_len (λ (m : Member). m.n == n) ms
+
+    by : (b : Bool) (place : ℕ) → (place - 1 ≡ at → place - 1 < length ms → m ≡ get_or ms (place - 1) m → find (λ m. m.n == n) ms ≡ Some m) → place ≡ cond (not b) (1 + at) 0 →
+        place < length (x ∷ ms) → m ≡ get_or (x ∷ ms) place m → cond b (Some x) (find (λ m. m.n == n) ms) ≡ Some m
+    by true zero rest is within found = ap (λ (y : Member). Some y) (sym found)
+    by true (suc k) rest is within found = absurd (omega (arith, is))
+    by false zero rest is within found = absurd (omega (arith, is))
+    by false (suc k) rest is within found =
+        let back : suc k - 1 ≡ k = omega arith in
+        rest (omega (arith, is)) (omega (arith, within)) (found ∙ ap (λ (i : ℕ). get_or ms i m) (sym back))
+
+-- where no member has the number, none is found
+pub none-found : (n : ℕ) (ms : List Member) → length ms ≤ position_or_len (λ m. m.n == n) ms → find (λ m. m.n == n) ms ≡ None
+none-found n [] h = refl
+none-found n (m ∷ ms) h = by (m.n == n) (none-found n ms) h
+  where
+    at : ℕ
+    at = position_or_len (λ (m : Member). m.n == n) ms
+
+    by : (b : Bool) → (length ms ≤ at → find (λ m. m.n == n) ms ≡ None) → length (m ∷ ms) ≤ cond (not b) (1 + at) 0 → cond b (Some m) (find (λ m. m.n == n) ms) ≡ None
+    by true rest l = absurd (omega (arith, l))
+    by false rest l = rest (omega (arith, l))
+
 -- where no member has the number, none changes
 pub none-changed : (n : ℕ) (g : Member → Member) (ms : List Member) → length ms ≤ position_or_len (λ m. m.n == n) ms → map (changed_at n g) ms ≡ ms
 none-changed n g [] h = refl
@@ -92,7 +126,7 @@ none-changed n g (m ∷ ms) h = by (m.n == n) (none-changed n g ms) h
     by false rest l = ap (λ (ys : List Member). m ∷ ys) (rest (omega (arith, l)))
 
 -- no number is another member's, so that the one that has it is live or nobody with it is
-found-below : (ms : List Member) (k n : ℕ) → is_numbered_from k ms ≡ true → n < k → member_with ms n ≡ None
+pub found-below : (ms : List Member) (k n : ℕ) → is_numbered_from k ms ≡ true → n < k → member_with ms n ≡ None
 found-below [] k n h below = refl
 found-below (m ∷ ms) k n h below =
     rw (differs m.n k n (and_left (m.n == k) (is_numbered_from (k + 1) ms) h) below) (found-below ms (k + 1) n (and_right _ _ h) (omega (arith, below)))

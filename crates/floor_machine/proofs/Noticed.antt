@@ -1,6 +1,7 @@
 -- The statuses of the changed floors, written once: to each member they are its own.
 use Rattle.std.proofs.Common.{◌≡◌, ℕ, Bool, true, false, cond, List, [], ◌∷◌, ◌++◌, map, Option, refl, ap, ◌∙◌}
-use Rattle.std.specs.Prelude.{◌&&◌, filter}
+use Rattle.std.specs.Prelude.{◌==◌, ◌&&◌, filter}
+use Rattle.std.proofs.lemmas.List.Elements.{filter-append}
 use Rattle.std.proofs.lemmas.Bool.{or_left, or_right}
 use Rattle.floor_wire.specs.Header.{addressed}
 use Rattle.floor_message.specs.Written.{tell_bytes}
@@ -9,9 +10,10 @@ use Rattle.floor_message.specs.Head.{notice_head}
 use Rattle.floor_machine.specs.declared.member.Member.{Member}
 use Rattle.floor_machine.specs.Parcel.{Parcel}
 use Rattle.floor_machine.specs.declared.tell.changed.FloorUpdate.{FloorUpdate}
+use Rattle.floor_machine.specs.declared.tell.parcels.FloorNotice.{FloorNotice}
 use Rattle.floor_machine.specs.declared.replied.Replied.{Replied}
 use Rattle.floor_machine.specs.declared.tell.changed.Update.{Update}
-use Rattle.floor_machine.specs.Journal.{parcel}
+use Rattle.floor_machine.specs.Journal.{parcel, sent_to}
 use Rattle.floor_machine.specs.Outgoing.{notice, outgoing_bytes}
 use Rattle.floor_machine.specs.steps.Telling.{answered_to, floor_notice, floor_notice_to, floor_update_to, is_due_to, is_noticed, is_watched, is_watched_by, noticed_to, noticed_to_all, parcels_to, parcels_to_all, update_to}
 
@@ -79,3 +81,40 @@ noticed-some conference reply requests q us (m ∷ members) all =
 pub noticed-all : (conference : ℕ) (reply : Option Replied) (requests : List Update) (us : List FloorUpdate) (members : List Member) →
     noticed_to_all conference reply requests (map (floor_notice conference) (filter (is_watched_by members) us)) members ≡ parcels_to_all conference reply requests us members
 noticed-all conference reply requests us members = noticed-some conference reply requests (is_watched_by members) us members (λ u seen. seen)
+
+-- the parcels of a member are to it alone
+own-map : {A : Type 0} (g : A → Parcel) (n : ℕ) → ((x : A) → (g x).n ≡ n) → (k : ℕ) (xs : List A) → sent_to k (map g xs) ≡ cond (n == k) (map g xs) []
+own-map g n own k [] = by (n == k)
+  where
+    by : (b : Bool) → ◌≡◌ {A = List Parcel} [] (cond b [] [])
+    by true = refl
+    by false = refl
+own-map g n own k (x ∷ xs) =
+    ap (λ (i : ℕ). cond (i == k) (g x ∷ sent_to k (map g xs)) (sent_to k (map g xs))) (own x)
+    ∙ ap (λ (ps : List Parcel). cond (n == k) (g x ∷ ps) ps) (own-map g n own k xs)
+    ∙ by (n == k)
+  where
+    by : (b : Bool) → cond b (g x ∷ cond b (map g xs) []) (cond b (map g xs) []) ≡ cond b (g x ∷ map g xs) []
+    by true = refl
+    by false = refl
+
+sent-both : (k : ℕ) (xs ys : List Parcel) → sent_to k (xs ++ ys) ≡ sent_to k xs ++ sent_to k ys
+sent-both k xs ys = filter-append (λ p. p.n == k) xs ys
+
+-- so of all parcels that are noticed to members, those to one are its own
+pub own-noticed : (conference : ℕ) (reply : Option Replied) (requests : List Update) (notices : List FloorNotice) (m : Member) (k : ℕ) →
+    sent_to k (noticed_to conference reply requests notices m) ≡ cond (m.n == k) (noticed_to conference reply requests notices m) []
+own-noticed conference reply requests notices m k =
+    let first : List Parcel = map (parcel m.n) (answered_to reply m.n) in
+    let second : List Parcel = map (λ u. parcel m.n (update_to conference m u)) (filter (is_due_to reply m) requests) in
+    let third : List Parcel = map (floor_notice_to m) (filter (is_noticed m) notices) in
+    sent-both k (first ++ second) third
+    ∙ ap (λ (ps : List Parcel). ps ++ sent_to k third) (sent-both k first second)
+    ∙ ap (λ (ps : List Parcel). ps ++ sent_to k second ++ sent_to k third) (own-map (parcel m.n) m.n (λ x. refl) k (answered_to reply m.n))
+    ∙ ap (λ (ps : List Parcel). cond (m.n == k) first [] ++ ps ++ sent_to k third) (own-map (λ u. parcel m.n (update_to conference m u)) m.n (λ x. refl) k (filter (is_due_to reply m) requests))
+    ∙ ap (λ (ps : List Parcel). cond (m.n == k) first [] ++ cond (m.n == k) second [] ++ ps) (own-map (floor_notice_to m) m.n (λ x. refl) k (filter (is_noticed m) notices))
+    ∙ by (m.n == k) first second third
+  where
+    by : (b : Bool) (xs ys zs : List Parcel) → cond b xs [] ++ cond b ys [] ++ cond b zs [] ≡ cond b (xs ++ ys ++ zs) []
+    by true xs ys zs = refl
+    by false xs ys zs = refl

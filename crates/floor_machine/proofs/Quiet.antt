@@ -2,7 +2,7 @@
 -- alone. A conference that ends tells nobody anything.
 use Rattle.std.proofs.Common.{◌≡◌, ℕ, zero, suc, ◌<◌, Bool, true, false, cond, List, [], ◌∷◌, ◌++◌, length, get_or, map, Option, Some, None, refl, sym, ap, ◌∙◌, arith}
 use Rattle.std.specs.Prelude.{◌==◌, not, filter, find, option_map, is_none}
-use Rattle.std.specs.List.{flat_map, list_any}
+use Rattle.std.specs.List.{list_any}
 use Rattle.std.specs.Option.{option_map_or}
 use Rattle.floor_config.specs.Configuration.{Configuration}
 use Rattle.floor_config.specs.declared.floors.Floor.{Floor}
@@ -12,44 +12,35 @@ use Rattle.floor_queue.specs.Queue.{request_at, is_ascending}
 use Rattle.floor_message.specs.declared.information.Info.{Info}
 use Rattle.floor_message.specs.declared.tell.Tell.TheVariants.{FloorRequestStatus}
 use Rattle.floor_machine.specs.declared.event.Event.{Event}
-use Rattle.floor_machine.specs.declared.event.Event.TheVariants.{Join, Close}
+use Rattle.floor_machine.specs.declared.event.Event.TheVariants.{Join, Took, Close}
 use Rattle.floor_machine.specs.declared.member.Member.{Member}
 use Rattle.floor_machine.specs.Parcel.{Parcel}
 use Rattle.floor_machine.specs.declared.replied.Replied.{Replied}
 use Rattle.floor_machine.specs.Conference.{Conference, member_with, is_numbered_from}
 use Rattle.floor_machine.specs.Shown.{Entry, entry_of, ongoing_of, settle_entries, info, info_of}
 use Rattle.floor_machine.specs.Same.{same_info, same_infos}
-use Rattle.floor_machine.specs.Change.{change, shown, settled}
+use Rattle.floor_machine.specs.Change.{acknowledging, change, shown, settled}
 use Rattle.floor_machine.specs.Outgoing.{Outgoing, notice}
 use Rattle.floor_machine.specs.Reply.{infos, infos_on, floor_status_tell}
 use Rattle.floor_machine.specs.Told.{Changed, changed_of, changed_requests, changed_floors, is_changed, is_told, reply_to, due_to, due}
-use Rattle.floor_machine.specs.Journal.{parcel, parcels_of}
+use Rattle.floor_machine.specs.steps.Counting.{due_parcels}
 use Rattle.floor_machine.specs.steps.Telling.{answered_to, floor_update, parcels_to_all}
 use Rattle.floor_machine.proofs.Configs.{config-change}
 use Rattle.floor_machine.proofs.Entries.{ongoing_of-entries}
 use Rattle.floor_machine.proofs.Found.{request_at_place}
 use Rattle.floor_machine.proofs.SameInfo.{list_own, info_own}
-use Rattle.floor_machine.proofs.Sent.{numbered-settled}
 use Rattle.floor_machine.proofs.Served.{settled-config, settled-made, settled-ongoing}
-use Rattle.floor_machine.proofs.Telling.{flat_map-same, is_telling, due-member, parcels-told, parcels_of-members, update_for}
-
--- no parcels of a member
-abbrev no_parcels : Member → List Parcel
-no_parcels m = []
-
-nothing : (ms : List Member) → flat_map no_parcels ms ≡ []
-nothing [] = refl
-nothing (m ∷ ms) = nothing ms
+use Rattle.floor_machine.proofs.Telling.{is_telling, due-member, parcels-told, update_for}
 
 -- the conference that ends keeps its members, and no request
 pub settled-close : (s : Conference) → record s { ongoing = []; is_open = false } ≡ settled s Close
 unfolding settled shown change
 settled-close s = refl
 
--- nobody is told that the conference ends
-pub parcels_of-close : (s : Conference) → parcels_of s Close ≡ []
-unfolding parcels_of due
-parcels_of-close s = nothing (settled s Close).members
+-- nothing is due to anybody where the conference ends
+pub due_of-close : (s : Conference) (n : ℕ) → due s Close n ≡ []
+unfolding due
+due_of-close s n = refl
 
 -- settles one entry, where these requests are ongoing
 abbrev settle_entry : List Floor → List Request → Entry → Entry
@@ -154,43 +145,70 @@ settled-kept s e kept is_settled given opened =
 -- the reply is all that it tells
 pub parcels-kept : (s : Conference) (e : Event) (reply : Option Replied) → is_telling e ≡ true → is_numbered_from 1 (settled s e).members ≡ true →
     ((k : ℕ) → answered_to reply k ≡ reply_to s e k) → changed_requests s e ≡ [] → changed_floors s e ≡ [] →
-    parcels_to_all s.config.conference reply [] [] (settled s e).members ≡ parcels_of s e
+    parcels_to_all s.config.conference reply [] [] (settled s e).members ≡ due_parcels s e
 parcels-kept s e reply telling numbered replied requests floors =
     let all : List Changed → List Floor → List Parcel = λ cs fs. parcels_to_all s.config.conference reply (map update_for cs) (map (floor_update (infos (settled s e))) fs) (settled s e).members in
     ap (λ (cs : List Changed). all cs []) (sym requests) ∙ ap (all (changed_requests s e)) (sym floors) ∙ parcels-told s e reply telling numbered replied
+
+-- what was found to have changed is told to a member
+abbrev notices : Conference → Event → Member → List Changed → List Floor → List Outgoing
+notices s e m requests floors =
+    map (λ c. notice s.config.conference m.user (FloorRequestStatus c.info)) (filter (is_told [] m.user) requests)
+    ++ map (λ f. notice s.config.conference m.user (floor_status_tell (settled s e) f.id)) (filter (λ f. list_any (λ floor. floor == f.id) m.watched) floors)
+
+-- an event that nobody sent, and that leaves each request as it is
+record IsUnsent (s : Conference) (e : Event) : Type 0 where
+  telling : is_telling e ≡ true
+  unsent : (k : ℕ) → reply_to s e k ≡ []
+  entries : (change s e).entries ≡ map entry_of s.ongoing
+
+-- nothing is due to anybody after it
+due-unsent : (s : Conference) (e : Event) → IsUnsent s e → settle s.config.floors s.ongoing ≡ s.ongoing → is_ascending s.ongoing ≡ true → (n : ℕ) → due s e n ≡ []
+due-unsent s e kept is_settled ascending n = due-member s e n kept.telling ∙ by (member_with (settled s e).members n)
+  where
+    one : (m : Member) → due_to s e m ≡ []
+    one m =
+        ap (λ (replied : List Outgoing). replied
+        ++ map (λ c. notice s.config.conference m.user (FloorRequestStatus c.info)) (filter (is_told replied m.user) (changed_requests s e))
+        ++ map (λ f. notice s.config.conference m.user (floor_status_tell (settled s e) f.id)) (filter (λ f. list_any (λ floor. floor == f.id) m.watched) (changed_floors s e)))
+        (kept.unsent m.n)
+        ∙ ap (λ (cs : List Changed). notices s e m cs (changed_floors s e)) (requests-kept s e kept.entries is_settled ascending)
+        ∙ ap (notices s e m []) (floors-kept s e kept.entries is_settled)
+
+    by : (o : Option Member) → option_map_or (due_to s e) o [] ≡ []
+    by None = refl
+    by (Some m) = one m
 
 kept-join : (s : Conference) (user : ℕ) → (change s (Join user)).entries ≡ map entry_of s.ongoing
 unfolding change
 kept-join s user = refl
 
--- what was found to have changed is told to a member
-abbrev notices : Conference → ℕ → Member → List Changed → List Floor → List Outgoing
-notices s user m requests floors =
-    map (λ c. notice s.config.conference m.user (FloorRequestStatus c.info)) (filter (is_told [] m.user) requests)
-    ++ map (λ f. notice s.config.conference m.user (floor_status_tell (settled s (Join user)) f.id)) (filter (λ f. list_any (λ floor. floor == f.id) m.watched) floors)
-
-due-join : (s : Conference) (user : ℕ) → settle s.config.floors s.ongoing ≡ s.ongoing → is_ascending s.ongoing ≡ true → (m : Member) → due_to s (Join user) m ≡ []
-due-join s user is_settled ascending m =
-    ap (λ (cs : List Changed). notices s user m cs (changed_floors s (Join user))) (requests-kept s (Join user) (kept-join s user) is_settled ascending)
-    ∙ ap (notices s user m []) (floors-kept s (Join user) (kept-join s user) is_settled)
-
-live-nothing : (b : Bool) (n : ℕ) (ms : List Outgoing) → ms ≡ [] → cond b (map (parcel n) ms) [] ≡ []
-live-nothing true n ms h = ap (map (parcel n)) h
-live-nothing false n ms h = refl
-
--- nobody is told that a member joins
-pub parcels_of-join : (s : Conference) (user : ℕ) → settle s.config.floors s.ongoing ≡ s.ongoing → is_ascending s.ongoing ≡ true → is_numbered_from 1 s.members ≡ true →
-    parcels_of s (Join user) ≡ []
-parcels_of-join s user is_settled ascending numbered =
-    parcels_of-members s (Join user) refl (numbered-settled s (Join user) numbered)
-    ∙ flat_map-same (λ m. cond m.is_live (map (parcel m.n) (due_to s (Join user) m)) []) no_parcels
-    (λ m. live-nothing m.is_live m.n (due_to s (Join user) m) (due-join s user is_settled ascending m)) (settled s (Join user)).members
-    ∙ nothing (settled s (Join user)).members
-
--- nothing is due to a member where another joins
+-- nothing is due to anybody where a member joins
 pub due_of-join : (s : Conference) (user : ℕ) → settle s.config.floors s.ongoing ≡ s.ongoing → is_ascending s.ongoing ≡ true → (n : ℕ) → due s (Join user) n ≡ []
-due_of-join s user is_settled ascending n = due-member s (Join user) n refl ∙ by (member_with (settled s (Join user)).members n)
-  where
-    by : (o : Option Member) → option_map_or (due_to s (Join user)) o [] ≡ []
-    by None = refl
-    by (Some m) = due-join s user is_settled ascending m
+due_of-join s user = due-unsent s (Join user) record { telling = refl; unsent = λ k. refl; entries = kept-join s user }
+
+kept-took : (s : Conference) (n k : ℕ) → (change s (Took n k)).entries ≡ map entry_of s.ongoing
+unfolding change
+kept-took s n k = refl
+
+-- nor where some of the messages to one are acknowledged
+pub due_of-took : (s : Conference) (n k : ℕ) → settle s.config.floors s.ongoing ≡ s.ongoing → is_ascending s.ongoing ≡ true → (i : ℕ) → due s (Took n k) i ≡ []
+due_of-took s n k = due-unsent s (Took n k) record { telling = refl; unsent = λ i. refl; entries = kept-took s n k }
+
+members-took : (s : Conference) (n k : ℕ) → (change s (Took n k)).members ≡ map (acknowledging n k) s.members
+unfolding change
+members-took s n k = refl
+
+given-took : (s : Conference) (n k : ℕ) → (change s (Took n k)).given ≡ s.given
+unfolding change
+given-took s n k = refl
+
+open-took : (s : Conference) (n k : ℕ) → (change s (Took n k)).is_open ≡ s.is_open
+unfolding change
+open-took s n k = refl
+
+-- the conference after that has other members, and is otherwise as it was
+pub settled-took : (s : Conference) (n k : ℕ) → settle s.config.floors s.ongoing ≡ s.ongoing → record s { members = map (acknowledging n k) s.members } ≡ settled s (Took n k)
+settled-took s n k is_settled =
+    ap (λ (ms : List Member). record s { members = ms }) (sym (members-took s n k))
+    ∙ settled-kept s (Took n k) (kept-took s n k) is_settled (given-took s n k) (open-took s n k)

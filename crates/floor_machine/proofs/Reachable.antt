@@ -1,5 +1,5 @@
 -- What each journal of a configuration keeps.
-use Rattle.std.proofs.Common.{◌≡◌, ℕ, ◌+◌, ◌≤◌, Bool, true, false, cond, List, [], ◌∷◌, ◌++◌, length, map, Option, Some, None, refl, sym, ap, subst, ◌∙◌, arith}
+use Rattle.std.proofs.Common.{◌≡◌, ℕ, ◌+◌, ◌-◌, ◌≤◌, Bool, true, false, cond, List, [], ◌∷◌, ◌++◌, length, map, Option, Some, None, refl, sym, ap, subst, ◌∙◌, arith}
 use Rattle.std.specs.Prelude.{◌==◌, ◌&&◌, All, not, filter, count_by, is_some}
 use Rattle.std.specs.List.{list_any}
 use Rattle.std.proofs.lemmas.List.Elements.{All-nil, All-weaker}
@@ -19,21 +19,22 @@ use Rattle.floor_message.specs.declared.ask.Ask.TheVariants.{FloorRequest, Floor
 use Rattle.floor_message.specs.declared.verdicts.Verdict.{Verdict}
 use Rattle.floor_message.specs.declared.code.ErrorCode.{ErrorCode}
 use Rattle.floor_machine.specs.declared.event.Event.{Event}
-use Rattle.floor_machine.specs.declared.event.Event.TheVariants.{Join, Message, Leave, Revoke, Close}
+use Rattle.floor_machine.specs.declared.event.Event.TheVariants.{Join, Message, Took, Leave, Revoke, Close}
 use Rattle.floor_machine.specs.declared.member.Member.{Member}
-use Rattle.floor_machine.specs.Conference.{Conference, binding, is_numbered_from, is_present, opening, user_of}
+use Rattle.floor_machine.specs.Conference.{Conference, binding, is_numbered_from, is_present, joining, opening, user_of}
 use Rattle.floor_machine.specs.Shown.{Entry, entry_of, ongoing_of, settle_entries}
 use Rattle.floor_machine.specs.Checks.{refusal}
-use Rattle.floor_machine.specs.Change.{Change, IsLawful, asked_change, change, decided_at, dismissed, ending, ends_at, ends_without, entries_after, given_after, is_final, leaving, members_after, message_change, settled, no_change, released, shown, watching, word_of}
+use Rattle.floor_machine.specs.Change.{Change, IsLawful, asked_change, change, decided_at, dismissed, ending, ends_at, ends_without, entries_after, given_after, is_final, leaving, members_after, message_change, settled, no_change, released, shown, acknowledging, watching, word_of}
 use Rattle.floor_machine.specs.Journal.{IsLawfulFrom, after_from}
 use Rattle.floor_machine.specs.Reachable.{IsReachable}
 use Rattle.floor_machine.specs.steps.Deciding.{MayServe, new_of_ask}
-use Rattle.floor_machine.specs.Next.{next}
+use Rattle.floor_machine.specs.Next.{counted, next}
 use Rattle.floor_machine.proofs.Allowed.{may_serve}
 use Rattle.floor_machine.proofs.Changing.{entries-added, ongoing_of-decided, ongoing_of-ending}
 use Rattle.floor_machine.proofs.Ended.{ongoing_of-ends}
 use Rattle.floor_machine.proofs.Configs.{config-change}
 use Rattle.floor_machine.proofs.Entries.{ongoing_of-entries, ongoing_of-settled}
+use Rattle.floor_machine.proofs.Counted.{AreWithin, within-next}
 use Rattle.floor_machine.proofs.Sent.{numbered-next}
 use Rattle.floor_machine.proofs.Verdicts.{undecided, word-after}
 
@@ -110,6 +111,7 @@ queue-change : (s : Conference) (e : Event) → WhatIsAskedFits → IsQueue (que
 unfolding change
 queue-change s (Join user) law h = queue-unchanged s h
 queue-change s (Message n bytes) law h = queue-message s n (ask bytes (binding s n)) (λ x is. law bytes (binding s n) x is) h
+queue-change s (Took n k) law h = queue-unchanged s h
 queue-change s (Leave n) law h = queue-left s (map (leaving n) s.members) (user_of s n) h
 queue-change s (Revoke request) law h =
     queue-of_entries s s.given (ending s (ends_at request dismissed)) (without request s.ongoing) (ongoing_of-ending request dismissed s.ongoing) (IsQueue-end (queue_of s) request h)
@@ -125,7 +127,7 @@ queue-change s Close law h =
 
 -- the floors and requests after an event are those of its change, settled
 queue-next : (s : Conference) (e : Event) → queue_of (next s e) ≡ after_settle (queue_changed s (change s e).given (ongoing_of (change s e).entries))
-unfolding settled shown
+unfolding next settled shown
 queue-next s e =
     ap (λ (config : Configuration). queue_by config.floors (change s e).given (ongoing_of (settle_entries config.floors (change s e).entries))) (config-change s e)
     ∙ ap (queue_changed s (change s e).given) (ongoing_of-settled s.config.floors (change s e).entries)
@@ -134,6 +136,13 @@ is_live-watching : (n : ℕ) (floors : List ℕ) (m : Member) → (watching n fl
 is_live-watching n floors m = by (m.n == n)
   where
     by : (b : Bool) → (cond b (record m { watched = floors }) m).is_live ≡ m.is_live
+    by true = refl
+    by false = refl
+
+is_live-acknowledging : (n k : ℕ) (m : Member) → (acknowledging n k m).is_live ≡ m.is_live
+is_live-acknowledging n k m = by (m.n == n)
+  where
+    by : (b : Bool) → (cond b (record m { backlog = m.backlog - k }) m).is_live ≡ m.is_live
     by true = refl
     by false = refl
 
@@ -168,15 +177,18 @@ live-message s n (asks a) h = by (is_some (refusal s (user_of s n) a))
 live-change : (s : Conference) (e : Event) → IsLawful s e → count_by (λ m. m.is_live) s.members ≤ 64 → count_by (λ m. m.is_live) (change s e).members ≤ 64
 unfolding change
 live-change s (Join user) lawful h =
-    omega (arith, sum_by_push (λ (m : Member). cond m.is_live 1 0) s.members record { n = length s.members + 1; user = user; watched = []; is_live = true }, lawful.2)
+    omega (arith, sum_by_push (λ (m : Member). cond m.is_live 1 0) s.members (joining (length s.members + 1) user), lawful.2)
 live-change s (Message n bytes) lawful h = live-message s n (ask bytes (binding s n)) h
+live-change s (Took n k) lawful h =
+    omega (arith, count_by-map (λ (m : Member). m.is_live) (λ (m : Member). m.is_live) (acknowledging n k) (is_live-acknowledging n k) s.members, h)
 live-change s (Leave n) lawful h = omega (arith, live-leaving n s.members, h)
 live-change s (Revoke request) lawful h = h
 live-change s Close lawful h = h
 
 live-next : (s : Conference) (e : Event) → IsLawful s e → count_by (λ m. m.is_live) s.members ≤ 64 → count_by (λ m. m.is_live) (next s e).members ≤ 64
-unfolding settled
-live-next s e lawful h = live-change s e lawful h
+unfolding next settled
+live-next s e lawful h =
+    omega (arith, count_by-map (λ (m : Member). m.is_live) (λ (m : Member). m.is_live) (counted s e) (λ m. refl) (settled s e).members, live-change s e lawful h)
 
 -- what each lawful event keeps
 pub record Keeps (s : Conference) : Type 0 where
@@ -184,6 +196,7 @@ pub record Keeps (s : Conference) : Type 0 where
   pub settled : IsSettled (queue_of s)
   pub numbered : is_numbered_from 1 s.members ≡ true
   pub live : count_by (λ m. m.is_live) s.members ≤ 64
+  pub backlogs : AreWithin s.members
 
 -- settling twice is settling once
 abbrev pub SettlesOnce : Type 0
@@ -198,6 +211,7 @@ keeps-next s e law once lawful k =
       settled = subst IsSettled (sym (queue-next s e)) (once q.floors q.ongoing);
       numbered = numbered-next s e k.numbered;
       live = live-next s e lawful k.live;
+      backlogs = within-next s e k.settled k.queue.ascending k.numbered k.backlogs;
     }
 
 -- each run of lawful events keeps it
@@ -220,6 +234,7 @@ keeps-opening config h =
       settled = refl;
       numbered = refl;
       live = omega arith;
+      backlogs = All-nil (λ (m : Member). m.backlog ≤ 1024);
     }
 
 -- queue positions fit
@@ -237,4 +252,5 @@ reachable s positions k =
       positions = positions (queue_of s) k.queue k.settled;
       numbered = k.numbered;
       live = k.live;
+      backlogs = k.backlogs;
     }

@@ -6,16 +6,16 @@ use Rattle.floor_message.specs.Ask.{Answer, asks, refused, unanswered, ask}
 use Rattle.floor_message.specs.declared.ask.Ask.{Ask}
 use Rattle.floor_message.specs.declared.ask.Ask.TheVariants.{FloorRequest, FloorRelease, FloorRequestQuery, UserQuery, FloorQuery, ChairAction, Hello}
 use Rattle.floor_machine.specs.declared.event.Event.{Event}
-use Rattle.floor_machine.specs.declared.event.Event.TheVariants.{Join, Message, Leave, Revoke, Close}
+use Rattle.floor_machine.specs.declared.event.Event.TheVariants.{Join, Message, Took, Leave, Revoke, Close}
 use Rattle.floor_machine.specs.Parcel.{Parcel}
-use Rattle.floor_machine.specs.Conference.{Conference, user_of, binding}
+use Rattle.floor_machine.specs.Conference.{Conference, joining, user_of, binding}
 use Rattle.floor_machine.specs.Checks.{refusal}
-use Rattle.floor_machine.specs.Change.{change, settled, no_change, asked_change, message_change, members_after, watching, leaving, IsLawful}
+use Rattle.floor_machine.specs.Change.{change, settled, no_change, asked_change, message_change, members_after, watching, acknowledging, leaving, IsLawful}
 use Rattle.floor_machine.specs.declared.machine.Refusal.{Refusal}
 use Rattle.floor_machine.specs.declared.machine.Refusal.TheVariants.{Broken, Ended}
 use Rattle.floor_machine.specs.Journal.{IsLawfulFrom, after_from, parcels_of, parcels_from}
 use Rattle.floor_machine.specs.Machine.{Machine, IsRefusedBy, event_refusal, machine_after, refusal_of, whole}
-use Rattle.floor_machine.specs.Next.{next}
+use Rattle.floor_machine.specs.Next.{counted, next}
 
 -- one more event
 pub after_from-more : (s : Conference) (es : List Event) (e : Event) → after_from s (es ++ e ∷ []) ≡ next (after_from s es) e
@@ -53,15 +53,16 @@ members-message s n (asks a) = by (is_some (refusal s (user_of s n) a))
 
 members-change : (s : Conference) (e : Event) → length (change s e).members ≤ length s.members + 1
 unfolding change
-members-change s (Join user) = omega (arith, length-append s.members (record { n = length s.members + 1; user = user; watched = []; is_live = true } ∷ []))
+members-change s (Join user) = omega (arith, length-append s.members (joining (length s.members + 1) user ∷ []))
 members-change s (Message n bytes) = members-message s n (ask bytes (binding s n))
+members-change s (Took n k) = omega (arith, length-map s.members (acknowledging n k))
 members-change s (Leave n) = omega (arith, length-map s.members (leaving n))
 members-change s (Revoke request) = omega arith
 members-change s Close = omega arith
 
 members-next : (s : Conference) (e : Event) → length (next s e).members ≤ length s.members + 1
-unfolding settled
-members-next s e = members-change s e
+unfolding next settled
+members-next s e = omega (arith, length-map (settled s e).members (counted s e), members-change s e)
 
 pub members-after : (s : Conference) (es : List Event) → length (after_from s es).members ≤ length s.members + length es
 members-after s [] = omega arith
@@ -82,6 +83,7 @@ whole-taken v m other h = by m.is_broken (cond (not m.conference.is_open) (Some 
 whole-event : {T : Type 0} (v : T) (m : Machine) (e : Event) → IsRefusedBy (event_refusal m e) (Ok v) → m.is_broken ≡ false
 whole-event v m (Join user) h = whole-taken v m _ h
 whole-event v m (Message n bytes) h = whole-taken v m _ h
+whole-event v m (Took n k) h = whole-taken v m _ h
 whole-event v m (Leave n) h = whole-taken v m _ h
 whole-event v m (Revoke request) h = whole-taken v m _ h
 whole-event v m Close h = whole-taken v m _ h

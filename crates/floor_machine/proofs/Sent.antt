@@ -1,6 +1,6 @@
 -- Of all parcels, those to one member are what the events tell it.
-use Rattle.std.proofs.Common.{◌≡◌, ℕ, ◌+◌, Bool, true, false, cond, List, [], ◌∷◌, ◌++◌, map, length, Option, Some, None, refl, sym, ap, subst, ◌∙◌, arith}
-use Rattle.std.specs.Prelude.{◌==◌, ◌||◌, ◌&&◌, nat_lt, is_some}
+use Rattle.std.proofs.Common.{◌≡◌, ℕ, ◌+◌, ◌-◌, Bool, true, false, cond, List, [], ◌∷◌, ◌++◌, map, length, Option, Some, None, refl, sym, ap, subst, ◌∙◌, arith}
+use Rattle.std.specs.Prelude.{◌==◌, ◌||◌, ◌&&◌, nat_le, nat_lt, not, is_some}
 use Rattle.std.specs.List.{list_any, flat_map}
 use Rattle.std.specs.Option.{option_map_or}
 use Rattle.std.proofs.lemmas.Bool.Decides.{nat_tests}
@@ -11,18 +11,20 @@ use Rattle.floor_message.specs.declared.ask.Ask.{Ask}
 use Rattle.floor_message.specs.declared.ask.Ask.TheVariants.{FloorRequest, FloorRelease, FloorRequestQuery, UserQuery, FloorQuery, ChairAction, Hello}
 use Rattle.floor_machine.specs.declared.member.Member.{Member}
 use Rattle.floor_machine.specs.Parcel.{Parcel}
-use Rattle.floor_machine.specs.Conference.{Conference, opening, member_with, user_of, binding, is_numbered_from}
+use Rattle.floor_machine.specs.Conference.{Conference, backlog, is_cut, joining, opening, member_with, user_of, binding, is_numbered_from}
 use Rattle.floor_machine.specs.declared.event.Event.{Event}
-use Rattle.floor_machine.specs.declared.event.Event.TheVariants.{Join, Message, Leave, Revoke, Close}
+use Rattle.floor_machine.specs.declared.event.Event.TheVariants.{Join, Message, Took, Leave, Revoke, Close}
 use Rattle.floor_machine.specs.Checks.{refusal}
-use Rattle.floor_machine.specs.Change.{change, settled, no_change, asked_change, message_change, members_after, watching, leaving}
+use Rattle.floor_machine.specs.Change.{change, settled, no_change, asked_change, message_change, members_after, watching, acknowledging, leaving}
 use Rattle.floor_machine.specs.Outgoing.{Outgoing}
 use Rattle.floor_machine.specs.Told.{due, due_to}
 use Rattle.floor_machine.specs.Journal.{parcel, parcels_of, parcels_from, told_from, sent_to}
 use Rattle.floor_machine.specs.Laws.{SentIsTold}
-use Rattle.floor_machine.specs.Next.{next, told}
+use Rattle.floor_machine.specs.Next.{counted, next, told}
+use Rattle.floor_machine.specs.steps.Counting.{due_parcels}
 use Rattle.floor_machine.proofs.Found.{and_left, and_right, same_number}
 use Rattle.floor_machine.proofs.Joining.{numbered-push}
+use Rattle.floor_machine.proofs.Live.{numbered-map}
 
 all_to : (n k : ℕ) (ms : List Outgoing) → (k == n) ≡ true → sent_to n (map (parcel k) ms) ≡ map (parcel k) ms
 all_to n k [] h = refl
@@ -33,7 +35,7 @@ none_to n k [] h = refl
 none_to n k (m ∷ ms) h = rw (h, none_to n k ms h) refl
 
 -- one of the members has the number
-abbrev has_number : ℕ → List Member → Bool
+abbrev pub has_number : ℕ → List Member → Bool
 has_number n ms = list_any (λ m. m.n == n) ms
 
 -- the members from k on have no number below it
@@ -87,13 +89,43 @@ absent (m ∷ ms) n h = by (m.n == n) m.is_live h (absent ms n)
     by false l h rest = rest h
 
 -- whoever isn't there is told nothing
-due-absent : (s : Conference) (e : Event) (n : ℕ) → has_number n (settled s e).members ≡ false → due s e n ≡ []
+pub due-absent : (s : Conference) (e : Event) (n : ℕ) → has_number n (settled s e).members ≡ false → due s e n ≡ []
 unfolding due
 due-absent s (Join user) n h = ap (λ (o : Option Member). option_map_or (due_to s (Join user)) o []) (absent (settled s (Join user)).members n h)
 due-absent s (Message k bytes) n h = ap (λ (o : Option Member). option_map_or (due_to s (Message k bytes)) o []) (absent (settled s (Message k bytes)).members n h)
+due-absent s (Took j k) n h = ap (λ (o : Option Member). option_map_or (due_to s (Took j k)) o []) (absent (settled s (Took j k)).members n h)
 due-absent s (Leave k) n h = ap (λ (o : Option Member). option_map_or (due_to s (Leave k)) o []) (absent (settled s (Leave k)).members n h)
 due-absent s (Revoke k) n h = ap (λ (o : Option Member). option_map_or (due_to s (Revoke k)) o []) (absent (settled s (Revoke k)).members n h)
 due-absent s Close n h = refl
+
+-- of all that is due after an event, what is due to n
+pub sent_to-due : (s : Conference) (e : Event) (n : ℕ) → is_numbered_from 1 (settled s e).members ≡ true → sent_to n (due_parcels s e) ≡ map (parcel n) (due s e n)
+unfolding due_parcels
+sent_to-due s e n h = sent_to-members (due s e) n 1 (settled s e).members h ∙ by (has_number n (settled s e).members) refl
+  where
+    by : (b : Bool) → b ≡ has_number n (settled s e).members → cond b (map (parcel n) (due s e n)) [] ≡ map (parcel n) (due s e n)
+    by true here = refl
+    by false gone = sym (ap (map (parcel n)) (due-absent s e n (sym gone)))
+
+-- where nothing is due, nothing is told
+pub told-nothing : (s : Conference) (e : Event) (n : ℕ) → due s e n ≡ [] → told s e n ≡ []
+unfolding told
+told-nothing s e n nothing =
+    ap (λ (ms : List Outgoing). cond (not (is_cut s n) && nat_le (backlog s n + length ms) 1024) ms []) nothing
+    ∙ by (not (is_cut s n) && nat_le (backlog s n + 0) 1024)
+  where
+    by : (b : Bool) → ◌≡◌ {A = List Outgoing} (cond b [] []) []
+    by true = refl
+    by false = refl
+
+-- counting adds no member
+has_number-counted : (s : Conference) (e : Event) (n : ℕ) (ms : List Member) → has_number n (map (counted s e) ms) ≡ has_number n ms
+has_number-counted s e n [] = refl
+has_number-counted s e n (m ∷ ms) = ap (λ (b : Bool). m.n == n || b) (has_number-counted s e n ms)
+
+has_number-next : (s : Conference) (e : Event) (n : ℕ) → has_number n (next s e).members ≡ has_number n (settled s e).members
+unfolding next
+has_number-next s e n = has_number-counted s e n (settled s e).members
 
 -- of an event's parcels, those to n are what it tells n
 sent_to-parcels_of : (s : Conference) (e : Event) (n : ℕ) → is_numbered_from 1 (next s e).members ≡ true → sent_to n (parcels_of s e) ≡ map (parcel n) (told s e n)
@@ -102,7 +134,7 @@ sent_to-parcels_of s e n h = sent_to-members (told s e) n 1 (next s e).members h
   where
     by : (b : Bool) → b ≡ has_number n (next s e).members → cond b (map (parcel n) (told s e n)) [] ≡ map (parcel n) (told s e n)
     by true here = refl
-    by false gone = sym (ap (map (parcel n)) (due-absent s e n (sym gone)))
+    by false gone = sym (ap (map (parcel n)) (told-nothing s e n (due-absent s e n (sym (has_number-next s e n) ∙ sym gone))))
 
 pub numbered-watching : (n : ℕ) (floors : List ℕ) (k : ℕ) (ms : List Member) → is_numbered_from k ms ≡ true → is_numbered_from k (map (watching n floors) ms) ≡ true
 numbered-watching n floors k [] h = refl
@@ -119,6 +151,20 @@ numbered-leaving n k (m ∷ ms) h = by (m.n == n) (numbered-leaving n (k + 1) ms
     by : (b : Bool) → is_numbered_from (k + 1) (map (leaving n) ms) ≡ true → is_numbered_from k (cond b (record m { is_live = false }) m ∷ map (leaving n) ms) ≡ true
     by true rest = rw (and_left (m.n == k) (is_numbered_from (k + 1) ms) h) rest
     by false rest = rw (and_left (m.n == k) (is_numbered_from (k + 1) ms) h) rest
+
+pub n-acknowledging : (n k : ℕ) (m : Member) → (acknowledging n k m).n ≡ m.n
+n-acknowledging n k m = by (m.n == n)
+  where
+    by : (b : Bool) → (cond b (record m { backlog = m.backlog - k }) m).n ≡ m.n
+    by true = refl
+    by false = refl
+
+pub live-acknowledging : (j k : ℕ) (m : Member) → (acknowledging j k m).is_live ≡ m.is_live
+live-acknowledging j k m = by (m.n == j)
+  where
+    by : (b : Bool) → (cond b (record m { backlog = m.backlog - k }) m).is_live ≡ m.is_live
+    by true = refl
+    by false = refl
 
 numbered-asked : (s : Conference) (n : ℕ) (a : Ask) → is_numbered_from 1 s.members ≡ true → is_numbered_from 1 (members_after s n a) ≡ true
 numbered-asked s n (FloorRequest beneficiary floors priority info) h = h
@@ -140,8 +186,9 @@ numbered-message s n (asks a) h = by (is_some (refusal s (user_of s n) a))
 
 numbered-change : (s : Conference) (e : Event) → is_numbered_from 1 s.members ≡ true → is_numbered_from 1 (change s e).members ≡ true
 unfolding change
-numbered-change s (Join user) h = numbered-push 1 s.members record { n = length s.members + 1; user = user; watched = []; is_live = true } refl h
+numbered-change s (Join user) h = numbered-push 1 s.members (joining (length s.members + 1) user) refl h
 numbered-change s (Message n bytes) h = numbered-message s n (ask bytes (binding s n)) h
+numbered-change s (Took n k) h = numbered-map (acknowledging n k) (n-acknowledging n k) 1 s.members h
 numbered-change s (Leave n) h = numbered-leaving n 1 s.members h
 numbered-change s (Revoke request) h = h
 numbered-change s Close h = h
@@ -152,7 +199,8 @@ unfolding settled
 numbered-settled s e h = numbered-change s e h
 
 pub numbered-next : (s : Conference) (e : Event) → is_numbered_from 1 s.members ≡ true → is_numbered_from 1 (next s e).members ≡ true
-numbered-next s e h = numbered-settled s e h
+unfolding next
+numbered-next s e h = numbered-map (counted s e) (λ m. refl) 1 (settled s e).members (numbered-settled s e h)
 
 sent_to-run : (s : Conference) (es : List Event) (n : ℕ) → is_numbered_from 1 s.members ≡ true → sent_to n (parcels_from s es) ≡ map (parcel n) (told_from s es n)
 sent_to-run s [] n h = refl

@@ -37,7 +37,7 @@ use Rattle.floor_machine.specs.Change.{Change, asked_change, change, decided_at,
 use Rattle.floor_machine.specs.Outgoing.{Outgoing}
 use Rattle.floor_machine.specs.Reply.{infos, infos_of_user, request_answer, answer_tells, reply_tells, headed, reply}
 use Rattle.floor_machine.specs.Told.{changed_of, changed_requests, changed_floors, is_changed, reply_to}
-use Rattle.floor_machine.specs.Journal.{parcels_of}
+use Rattle.floor_machine.specs.steps.Counting.{due_parcels}
 use Rattle.floor_machine.specs.steps.Telling.{entry_of_ended, entry_at, shown_of, infos_of, updates, floor_update, floor_updates, answered, answered_to, parcels_to_all}
 use Rattle.floor_machine.specs.steps.Deciding.{accepted, change_by, decision_of, refused_by}
 use Rattle.floor_machine.specs.steps.Serving.{IsChanged, conference_of, tells_by, status_tells, ended_of, numbers_in, is_rising, with_requests}
@@ -220,7 +220,7 @@ pub parcels-served : (s : Conference) (e : Event) (t : Conference) (course : Cou
     is_rising course.numbers.items ≡ true → course.before.items ≡ infos s → ((k : ℕ) → answered_to reply k ≡ reply_to s e k) →
     parcels_to_all t.config.conference reply (updates t.config t.ongoing course.ended.items course.before.items course.numbers.items)
     (floor_updates course.before.items (infos_of t.config t.ongoing) t.config.floors) t.members
-    ≡ parcels_of s e
+    ≡ due_parcels s e
 parcels-served s e t course reply telling is numbered same numbers rising before replied =
     let all : Conference → Configuration → List Parcel = λ x config.
     parcels_to_all config.conference reply (updates config x.ongoing course.ended.items course.before.items course.numbers.items) (floor_updates course.before.items (infos_of config x.ongoing) config.floors) x.members in
@@ -246,7 +246,7 @@ pub parcels-changed : (s : Conference) (e : Event) (t : State) (course : Course)
     IsChanged s (change s e) (conference_of t) course → course.before.items ≡ infos s → is_numbered_from 1 s.members ≡ true → q ≡ after_settle t.requests →
     parcels_to_all t.config.conference None (updates t.config q.ongoing course.ended.items course.before.items course.numbers.items)
     (floor_updates course.before.items (infos_of t.config q.ongoing) t.config.floors) t.members
-    ≡ parcels_of s e
+    ≡ due_parcels s e
 parcels-changed s e t course q telling unsent changed before numbered is_settled =
     parcels-served s e (with_requests (conference_of t) q) course None telling (settled-state s e (change s e) t course q refl changed is_settled) numbered
     (ended-shown s e (change s e) (conference_of t) course refl changed) (numbers-shown s e (change s e) (conference_of t) course refl changed) changed.rising before

@@ -19,13 +19,14 @@ use Rattle.floor_machine.specs.declared.replied.Replied.{Replied}
 use Rattle.floor_machine.specs.declared.tell.changed.Update.{Update}
 use Rattle.floor_machine.specs.Conference.{Conference, member_with, is_numbered_from}
 use Rattle.floor_machine.specs.declared.event.Event.{Event}
-use Rattle.floor_machine.specs.declared.event.Event.TheVariants.{Join, Message, Leave, Revoke, Close}
+use Rattle.floor_machine.specs.declared.event.Event.TheVariants.{Join, Message, Took, Leave, Revoke, Close}
 use Rattle.floor_machine.specs.Shown.{Entry, ongoing_of, info_of}
 use Rattle.floor_machine.specs.Change.{settled}
 use Rattle.floor_machine.specs.Outgoing.{Outgoing, notice}
 use Rattle.floor_machine.specs.Reply.{infos, floor_status_tell, headed}
 use Rattle.floor_machine.specs.Told.{Changed, changed_of, changed_requests, changed_floors, is_changed, is_status_of, is_told, reply_to, request_notices, floor_notices, due_to, due}
-use Rattle.floor_machine.specs.Journal.{parcel, parcels_of}
+use Rattle.floor_machine.specs.Journal.{parcel}
+use Rattle.floor_machine.specs.steps.Counting.{due_parcels}
 use Rattle.floor_machine.specs.steps.Telling.{entry_of_ended, entry_at, shown_of, update_of, update_if, update_at, updates, floor_update, answered, answered_to, is_answered, is_due_to, is_watched, is_to, update_to, floor_update_to, parcels_to, parcels_to_all}
 use Rattle.floor_machine.specs.steps.Serving.{ended_of, numbers_in, is_rising}
 use Rattle.floor_machine.proofs.Found.{and_left, and_right, same_number}
@@ -192,6 +193,7 @@ members-told f all (m ∷ ms) k h same =
 abbrev pub is_telling : Event → Bool
 is_telling (Join user) = true
 is_telling (Message n bytes) = true
+is_telling (Took n k) = true
 is_telling (Leave n) = true
 is_telling (Revoke request) = true
 is_telling Close = false
@@ -201,15 +203,16 @@ pub due-member : (s : Conference) (e : Event) (n : ℕ) → is_telling e ≡ tru
 unfolding due
 due-member s (Join user) n h = refl
 due-member s (Message k bytes) n h = refl
+due-member s (Took m k) n h = refl
 due-member s (Leave k) n h = refl
 due-member s (Revoke request) n h = refl
 due-member s Close n h = cc
 
 -- what an event calls for, member by member
-pub parcels_of-members : (s : Conference) (e : Event) → is_telling e ≡ true → is_numbered_from 1 (settled s e).members ≡ true →
-    parcels_of s e ≡ flat_map (λ m. cond m.is_live (map (parcel m.n) (due_to s e m)) []) (settled s e).members
-unfolding parcels_of
-parcels_of-members s e telling h =
+pub due_parcels-members : (s : Conference) (e : Event) → is_telling e ≡ true → is_numbered_from 1 (settled s e).members ≡ true →
+    due_parcels s e ≡ flat_map (λ m. cond m.is_live (map (parcel m.n) (due_to s e m)) []) (settled s e).members
+unfolding due_parcels
+due_parcels-members s e telling h =
     flat_map-same (λ m. map (parcel m.n) (due s e m.n)) (λ m. map (parcel m.n) (option_map_or (due_to s e) (member_with (settled s e).members m.n) []))
     (λ m. ap (map (parcel m.n)) (due-member s e m.n telling)) (settled s e).members
     ∙ members-told (due_to s e) (settled s e).members (settled s e).members 1 h (λ k l. refl)
@@ -218,11 +221,11 @@ parcels_of-members s e telling h =
 pub parcels-told : (s : Conference) (e : Event) (reply : Option Replied) → is_telling e ≡ true → is_numbered_from 1 (settled s e).members ≡ true →
     ((k : ℕ) → answered_to reply k ≡ reply_to s e k) →
     parcels_to_all s.config.conference reply (map update_for (changed_requests s e)) (map (floor_update (infos (settled s e))) (changed_floors s e)) (settled s e).members
-    ≡ parcels_of s e
+    ≡ due_parcels s e
 parcels-told s e reply telling h replied =
     flat_map-same
     (λ m. cond m.is_live (parcels_to s.config.conference reply (map update_for (changed_requests s e)) (map (floor_update (infos (settled s e))) (changed_floors s e)) m) [])
     (λ m. cond m.is_live (map (parcel m.n) (due_to s e m)) [])
     (λ m. ap (λ (ps : List Parcel). cond m.is_live ps []) (member-told s e reply m (replied m.n)))
     (settled s e).members
-    ∙ sym (parcels_of-members s e telling h)
+    ∙ sym (due_parcels-members s e telling h)

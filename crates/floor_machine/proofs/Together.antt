@@ -92,7 +92,7 @@ pub told_once_joined : ToldOnceJoined
 told_once_joined = λ config es n before. told-before (opening config) es n refl before
 
 pub settles_as_queue : SettlesAsQueue
-unfolding settled shown
+unfolding next settled shown
 settles_as_queue = λ s e.
     ongoing_of-settled (change s e).config.floors (change s e).entries
     ∙ ap (λ (config : Configuration). settle config.floors (ongoing_of (change s e).entries)) (config-change s e)

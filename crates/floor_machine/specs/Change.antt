@@ -1,5 +1,5 @@
 -- What an event does to a conference (RFC 8855, sections 10 to 13).
-use Rattle.std.specs.Prelude.{◌≡◌, ℕ, ◌+◌, ◌<◌, ◌==◌, ◌&&◌, not, if◌then◌else◌, Bool, true, false, List, [], ◌∷◌, ◌++◌, length, map, find, count_by, Option, Some, None, is_some}
+use Rattle.std.specs.Prelude.{◌≡◌, ℕ, ◌+◌, ◌-◌, ◌<◌, ◌≤◌, ◌==◌, ◌&&◌, not, if◌then◌else◌, Bool, true, false, List, [], ◌∷◌, ◌++◌, length, map, find, count_by, Option, Some, None, is_some}
 use Rattle.std.specs.List.{list_any}
 use Rattle.std.specs.Option.{option_map_or}
 use Rattle.floor_wire.specs.Message.{IsMessage}
@@ -19,9 +19,9 @@ use Rattle.floor_message.specs.declared.verdicts.Verdict.TheVariants.{Accepted, 
 use Rattle.floor_message.specs.declared.status.RequestStatus.{RequestStatus}
 use Rattle.floor_message.specs.declared.status.RequestStatus.TheVariants as status
 use Rattle.floor_machine.specs.declared.member.Member.{Member}
-use Rattle.floor_machine.specs.Conference.{Conference, is_live, is_present, user_of, binding}
+use Rattle.floor_machine.specs.Conference.{Conference, backlog, is_cut, is_live, is_present, joining, user_of, binding}
 use Rattle.floor_machine.specs.declared.event.Event.{Event}
-use Rattle.floor_machine.specs.declared.event.Event.TheVariants.{Join, Message, Leave, Revoke, Close}
+use Rattle.floor_machine.specs.declared.event.Event.TheVariants.{Join, Message, Took, Leave, Revoke, Close}
 use Rattle.floor_machine.specs.Shown.{Entry, entry_of, ongoing_of, settle_entries}
 use Rattle.floor_machine.specs.Checks.{beneficiary_of, refusal}
 
@@ -125,6 +125,10 @@ message_change s n unanswered = no_change s
 message_change s n (refused code details) = no_change s
 message_change s n (asks a) = if is_some (refusal s (user_of s n) a) then no_change s else asked_change s n a
 
+-- k of the messages that were told to n are acknowledged, and all others stay as they were
+abbrev pub acknowledging : ℕ → ℕ → Member → Member
+acknowledging n k m = if m.n == n then record m { backlog = m.backlog - k } else m
+
 -- n is no longer live, and all others are what they were
 abbrev pub leaving : ℕ → Member → Member
 leaving n m = if m.n == n then record m { is_live = false } else m
@@ -137,9 +141,10 @@ ends_without members user r = if r.beneficiary == user && not (is_present member
 unfoldable pub change : Conference → Event → Change
 change s (Join user) =
     record (no_change s) {
-      members = s.members ++ record { n = length s.members + 1; user = user; watched = []; is_live = true } ∷ [];
+      members = s.members ++ joining (length s.members + 1) user ∷ [];
     }
 change s (Message n bytes) = message_change s n (ask bytes (binding s n))
+change s (Took n k) = record (no_change s) { members = map (acknowledging n k) s.members }
 change s (Leave n) =
     let members = map (leaving n) s.members in
     record (no_change s) { members = members; entries = ending s (ends_without members (user_of s n)) }
@@ -161,11 +166,13 @@ settled s e =
       is_open = (change s e).is_open;
     }
 
--- the event may happen now: an open conference is joined by its users, 64 live members at most; a live member sends one whole
--- message, or leaves; an ongoing request is revoked; and the conference is closed
+-- the event may happen now: an open conference is joined by its users, 64 live members at most; a live member that isn't cut sends
+-- one whole message; a live member acknowledges some of its backlog, or leaves; an ongoing request is revoked; and the conference is
+-- closed
 abbrev pub IsLawful : Conference → Event → Type 0
 IsLawful s (Join user) = (s.is_open ≡ true) × (is_user s.config user ≡ true) × (count_by (λ m. m.is_live) s.members < 64)
-IsLawful s (Message n bytes) = (s.is_open ≡ true) × (is_live s n ≡ true) × IsMessage bytes
+IsLawful s (Message n bytes) = (s.is_open ≡ true) × (is_live s n ≡ true) × (is_cut s n ≡ false) × IsMessage bytes
+IsLawful s (Took n k) = (s.is_open ≡ true) × (is_live s n ≡ true) × (1 ≤ k) × (k ≤ backlog s n)
 IsLawful s (Leave n) = (s.is_open ≡ true) × (is_live s n ≡ true)
 IsLawful s (Revoke request) = (s.is_open ≡ true) × (is_some (request_at s.ongoing request) ≡ true)
 IsLawful s Close = s.is_open ≡ true

@@ -1,5 +1,5 @@
 -- The state of one conference (RFC 8855, sections 3 and 4).
-use Rattle.std.specs.Prelude.{ℕ, ◌+◌, ◌==◌, ◌&&◌, Bool, true, List, [], ◌∷◌, find, Option, is_some}
+use Rattle.std.specs.Prelude.{ℕ, ◌+◌, ◌==◌, ◌&&◌, Bool, true, false, List, [], ◌∷◌, find, filter, map, Option, is_some}
 use Rattle.std.specs.List.{list_any}
 use Rattle.std.specs.Option.{option_map_or}
 use Rattle.floor_config.specs.Configuration.{Configuration, user_ids}
@@ -24,9 +24,17 @@ opening config = record { config = config; given = 0; ongoing = []; members = []
 abbrev pub member_with : List Member → ℕ → Option Member
 member_with members n = find (λ m. m.n == n && m.is_live) members
 
+-- a member as it joins: it watches nothing, is told everything, and nothing was told to it yet
+abbrev pub joining : ℕ → ℕ → Member
+joining n user = record { n = n; user = user; watched = []; is_live = true; backlog = 0; is_cut = false }
+
 -- n has joined and hasn't left
 abbrev pub is_live : Conference → ℕ → Bool
 is_live s n = is_some (member_with s.members n)
+
+-- the numbers of the live members, in their order
+abbrev pub live_numbers : List Member → List ℕ
+live_numbers members = map (λ m. m.n) (filter (λ m. m.is_live) members)
 
 -- the members are numbered from k on, in their order
 abbrev pub is_numbered_from : ℕ → List Member → Bool
@@ -40,6 +48,14 @@ user_of s n = option_map_or (λ m. m.user) (member_with s.members n) 0
 -- some live member is a connection of this user
 abbrev pub is_present : List Member → ℕ → Bool
 is_present members user = list_any (λ m. m.user == user && m.is_live) members
+
+-- how many messages were told to n and not acknowledged, and 0 where n never joined
+abbrev pub backlog : Conference → ℕ → ℕ
+backlog s n = option_map_or (λ m. m.backlog) (find (λ m. m.n == n) s.members) 0
+
+-- n has joined and is told nothing more
+abbrev pub is_cut : Conference → ℕ → Bool
+is_cut s n = option_map_or (λ m. m.is_cut) (find (λ m. m.n == n) s.members) false
 
 -- whom n asks for: the conference, n's user, and the users of the conference
 abbrev pub binding : Conference → ℕ → Binding

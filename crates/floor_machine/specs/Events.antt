@@ -1,7 +1,8 @@
--- What an event says of itself: who joins by it, and whose message it is. Nobody joins by any other, and no other is a message.
+-- What an event says of itself: who joins by it, whose message it is, and how many messages to whom it acknowledges. Nobody joins by
+-- any other, no other is a message, and no other acknowledges any.
 use Rattle.std.specs.Prelude.{ℕ, ◌==◌, if◌then◌else◌, List, Option, Some, None}
 use Rattle.floor_machine.specs.declared.event.Event.{Event}
-use Rattle.floor_machine.specs.declared.event.Event.TheVariants.{Join, Message}
+use Rattle.floor_machine.specs.declared.event.Event.TheVariants.{Join, Message, Took}
 
 -- the user that joins
 abbrev pub joiner : Event → Option ℕ
@@ -17,3 +18,8 @@ message _ = None
 abbrev pub message_of : ℕ → Event → Option (List ℕ)
 message_of n (Message m bytes) = if m == n then Some bytes else None
 message_of n _ = None
+
+-- how many messages to n are acknowledged
+abbrev pub acknowledged_by : ℕ → Event → ℕ
+acknowledged_by n (Took m k) = if m == n then k else 0
+acknowledged_by n _ = 0

@@ -33,9 +33,9 @@ IsLawfulFrom s (e ∷ es) = IsLawful s e × IsLawfulFrom (next s e) es
 
 -- the most events of a journal
 abbrev pub MAX_EVENTS : ℕ
-MAX_EVENTS = 1000000
+MAX_EVENTS = 2000000
 
--- a journal: at most 1,000,000 events, each lawful after those before it
+-- a journal: at most 2,000,000 events, each lawful after those before it
 pub record IsJournal (config : Configuration) (es : List Event) : Type 0 where
   pub count : length es ≤ MAX_EVENTS
   pub lawful : IsLawfulFrom (opening config) es

@@ -1,12 +1,12 @@
 -- The floor machine of one conference, as contracts see it.
-use Rattle.std.specs.Prelude.{◌≡◌, ◌≢◌, ℕ, ◌<◌, List, [], ◌∷◌, ◌++◌, true, length, take, drop, not, nat_le, if◌then◌else◌, Bool, false, count_by, Option, Some, None, is_some, Result, Ok, Err}
+use Rattle.std.specs.Prelude.{◌≡◌, ◌≢◌, ℕ, ◌<◌, List, [], ◌∷◌, ◌++◌, true, length, take, drop, not, ◌&&◌, nat_le, if◌then◌else◌, Bool, false, count_by, Option, Some, None, is_some, Result, Ok, Err}
 use Rattle.floor_config.specs.Lookup.{is_user}
 use Rattle.floor_machine.specs.declared.machine.Refusal.{Refusal}
-use Rattle.floor_machine.specs.declared.machine.Refusal.TheVariants.{Broken, Ended, NoMember, NoUser, Full, NoRequest, Memory}
+use Rattle.floor_machine.specs.declared.machine.Refusal.TheVariants.{Broken, Ended, NoMember, NoUser, Full, NoRequest, Cut, BadCount, Memory}
 use Rattle.floor_machine.specs.declared.act.Act.{Act}
 use Rattle.floor_machine.specs.declared.event.Event.{Event}
 use Rattle.floor_queue.specs.Queue.{request_at}
-use Rattle.floor_machine.specs.Conference.{Conference, is_live}
+use Rattle.floor_machine.specs.Conference.{Conference, backlog, is_cut, is_live}
 use Rattle.floor_machine.specs.Change.{IsLawful}
 use Rattle.floor_machine.specs.Fitting.{ToldFits}
 use Rattle.floor_machine.specs.Parcel.{Parcel}
@@ -35,9 +35,25 @@ join_refusal m user =
     else if nat_le 64 (count_by (λ m. m.is_live) m.conference.members) then Some Full
     else None)
 
--- why nothing is taken of n, neither a message nor that it leaves: it is no live member
-abbrev pub member_refusal : Machine → ℕ → Option Refusal
-member_refusal m n = refusal_of m (if not (is_live m.conference n) then Some NoMember else None)
+-- why nothing is taken of n: it is no live member, or this applies
+abbrev pub member_refusal : Machine → ℕ → Option Refusal → Option Refusal
+member_refusal m n other = refusal_of m (if not (is_live m.conference n) then Some NoMember else other)
+
+-- why no message of n is taken: n is no live member, or is cut
+abbrev pub message_refusal : Machine → ℕ → Option Refusal
+message_refusal m n = member_refusal m n (if is_cut m.conference n then Some Cut else None)
+
+-- some of the messages to n may be acknowledged: at least one, and no more than its backlog
+abbrev pub is_backlog : Conference → ℕ → ℕ → Bool
+is_backlog s n k = nat_le 1 k && nat_le k (backlog s n)
+
+-- why it isn't taken that k messages to n are acknowledged: n is no live member, or hasn't so many to acknowledge
+abbrev pub took_refusal : Machine → ℕ → ℕ → Option Refusal
+took_refusal m n k = member_refusal m n (if not (is_backlog m.conference n k) then Some BadCount else None)
+
+-- why it isn't taken that n leaves: it is no live member
+abbrev pub leave_refusal : Machine → ℕ → Option Refusal
+leave_refusal m n = member_refusal m n None
 
 -- the event that an act of the administrator is
 abbrev pub event_of_act : Act → Event
@@ -52,8 +68,9 @@ act_refusal m Act.Close = refusal_of m None
 -- why an event is not taken
 abbrev pub event_refusal : Machine → Event → Option Refusal
 event_refusal m (Event.Join user) = join_refusal m user
-event_refusal m (Event.Message n bytes) = member_refusal m n
-event_refusal m (Event.Leave n) = member_refusal m n
+event_refusal m (Event.Message n bytes) = message_refusal m n
+event_refusal m (Event.Took n k) = took_refusal m n k
+event_refusal m (Event.Leave n) = leave_refusal m n
 event_refusal m (Event.Revoke request) = act_refusal m (Act.Revoke request)
 event_refusal m Event.Close = act_refusal m Act.Close
 

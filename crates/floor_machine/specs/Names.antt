@@ -1,7 +1,7 @@
 -- How the refusals of a machine are called.
 use Rattle.std.specs.Prelude.{ℕ, List, codes}
 use Rattle.floor_machine.specs.declared.machine.Refusal.{Refusal}
-use Rattle.floor_machine.specs.declared.machine.Refusal.TheVariants.{Broken, Ended, NoMember, NoUser, Full, NoRequest, Memory}
+use Rattle.floor_machine.specs.declared.machine.Refusal.TheVariants.{Broken, Ended, NoMember, NoUser, Full, NoRequest, Cut, BadCount, Memory}
 
 -- the refusal's own name, in ASCII
 abbrev pub name_of : Refusal → List ℕ
@@ -11,4 +11,6 @@ name_of NoMember = codes "NoMember"
 name_of NoUser = codes "NoUser"
 name_of Full = codes "Full"
 name_of NoRequest = codes "NoRequest"
+name_of Cut = codes "Cut"
+name_of BadCount = codes "BadCount"
 name_of Memory = codes "Memory"

@@ -1,20 +1,22 @@
 -- What holds of each conference that a journal leads to.
-use Rattle.std.specs.Prelude.{◌≡◌, ◌≢◌, ◌≤◌, ℕ, Bool, true, List, [], length, map, count_by, All, IsTrue, is_some}
+use Rattle.std.specs.Prelude.{◌≡◌, ◌≢◌, ◌≤◌, ℕ, ◌+◌, ◌==◌, if◌then◌else◌, Bool, true, false, List, [], ◌++◌, length, map, sum_by, count_by, All, IsTrue, is_some}
 use Rattle.floor_config.specs.Configuration.{Configuration, IsConfiguration}
 use Rattle.floor_queue.specs.Order.{holders, position, room_of, settle}
 use Rattle.floor_queue.specs.Queue.{is_ascending}
 use Rattle.floor_message.specs.Ask.{Answer, asks, refused, unanswered, ask}
+use Rattle.floor_machine.specs.declared.member.Member.{Member}
 use Rattle.floor_machine.specs.Parcel.{Parcel}
-use Rattle.floor_machine.specs.Conference.{Conference, binding, is_numbered_from, opening, user_of}
+use Rattle.floor_machine.specs.Conference.{Conference, backlog, binding, is_cut, is_numbered_from, opening, user_of}
 use Rattle.floor_machine.specs.declared.event.Event.{Event}
 use Rattle.floor_machine.specs.declared.event.Event.TheVariants.{Message}
+use Rattle.floor_machine.specs.Events.{acknowledged_by}
 use Rattle.floor_machine.specs.Checks.{refusal}
 use Rattle.floor_machine.specs.Journal.{IsJournal, after, parcels, parcels_from, sent_to}
-use Rattle.floor_machine.specs.Next.{next, told}
+use Rattle.floor_machine.specs.Next.{MAX_BACKLOG, next, told}
 
 -- What a journal keeps: the numbers of the ongoing requests ascend, none above the number of requests that were accepted; at most
 -- 256 are ongoing; no floor has more holders than room; the requests are settled; no queue position is above 255; the members are
--- numbered 1, 2, .. in the order of joining; and at most 64 of them are live.
+-- numbered 1, 2, .. in the order of joining; at most 64 of them are live; and none has a backlog above 1,024.
 pub record IsReachable (s : Conference) : Type 0 where
   pub ascending : IsTrue (is_ascending s.ongoing)
   pub numbers : All (λ r. (1 ≤ r.number) × (r.number ≤ s.given)) s.ongoing
@@ -24,6 +26,7 @@ pub record IsReachable (s : Conference) : Type 0 where
   pub positions : All (λ r. (floor : ℕ) → position s.config.floors s.ongoing r floor ≤ 255) s.ongoing
   pub numbered : IsTrue (is_numbered_from 1 s.members)
   pub live : count_by (λ m. m.is_live) s.members ≤ 64
+  pub backlogs : All (λ m. m.backlog ≤ MAX_BACKLOG) s.members
 
 -- each journal of a configuration leads to such a conference
 abbrev pub Kept : Type 0
@@ -35,9 +38,17 @@ is_unaccepted s user unanswered = true
 is_unaccepted s user (refused code details) = true
 is_unaccepted s user (asks a) = is_some (refusal s user a)
 
--- such a message of n leaves the conference as it is, and tells nobody but n anything
+-- nothing is said of how far n is behind, and of whether n is cut
+abbrev pub uncounted : ℕ → Member → Member
+uncounted n m = if m.n == n then record m { backlog = 0; is_cut = false } else m
+
+-- a conference, of which that isn't said
+abbrev pub but_for : ℕ → Conference → Conference
+but_for n s = record s { members = map (uncounted n) s.members }
+
+-- such a message of n leaves the conference as it is, but for n's backlog and whether n is cut, and tells nobody but n anything
 pub record LeavesAlone (s : Conference) (n : ℕ) (bytes : List ℕ) : Type 0 where
-  pub next : next s (Message n bytes) ≡ s
+  pub next : but_for n (next s (Message n bytes)) ≡ but_for n s
   pub told : (k : ℕ) → k ≢ n → told s (Message n bytes) k ≡ []
 
 -- after each journal, a message that isn't accepted leaves all but its sender alone
@@ -49,3 +60,17 @@ Quiet = (config : Configuration) (es : List Event) (n : ℕ) (bytes : List ℕ) 
 abbrev pub Sent : Type 0
 Sent = (config : Configuration) (es : List Event) (n : ℕ) → IsJournal config es →
     map (λ (p : Parcel). p.bytes) (sent_to n (parcels_from (opening config) es)) ≡ parcels config es n
+
+-- how many of the messages to n a journal acknowledges
+abbrev pub acknowledged : List Event → ℕ → ℕ
+acknowledged es n = sum_by (acknowledged_by n) es
+
+-- what a journal calls for at n is what it acknowledges, and the backlog of n
+abbrev pub Counted : Type 0
+Counted = (config : Configuration) (es : List Event) (n : ℕ) → IsJournal config es →
+    length (parcels config es n) ≡ acknowledged es n + backlog (after config es) n
+
+-- whoever is cut is told nothing more, whatever happens
+abbrev pub Silent : Type 0
+Silent = (config : Configuration) (es fs : List Event) (n : ℕ) → IsJournal config (es ++ fs) → is_cut (after config es) n ≡ true →
+    parcels config (es ++ fs) n ≡ parcels config es n

@@ -6,5 +6,5 @@ pub mod Ending
 pub mod Deciding
 pub mod Renewing
 pub mod Serving
-pub mod Live
+pub mod Counting
 pub mod Outcomes

@@ -6,8 +6,8 @@ ghost use Rattle.floor_queue.specs.Order.{settle};
 ghost use Rattle.floor_queue.specs.Queue.{after_settle, request_at};
 ghost use Rattle.floor_wire.specs.Message.{IsMessage};
 ghost use Rattle.floor_message.specs.Shown.{IsShownInfo};
-ghost use Rattle.floor_machine.specs.Change as change;
 ghost use Rattle.floor_machine.specs.Journal.{parcels_of};
+ghost use Rattle.floor_machine.specs.Next.{next};
 ghost use Rattle.floor_machine.specs.declared.event.Event.TheVariants.{Leave, Message, Revoke};
 ghost use Rattle.floor_machine.specs.steps.Fitting.{AreUpdatesShown, IsToldShown};
 ghost use Rattle.floor_machine.specs.steps.Renewing.{IsCourse};
@@ -36,7 +36,7 @@ impl State {
     ) -> Result<(), AllocError>
         requires rest { IsAtRest self.old }
         ensures next { OnOk result (conference_of self.new
-            ≡ change.settled (conference_of self.old) (Message n frame.now)) }
+            ≡ next (conference_of self.old) (Message n frame.now)) }
         ensures out { OnOk result (out.new.items ≡ out.old.items
             ++ parcels_of (conference_of self.old) (Message n frame.now)) }
         ensures shown { OnOk result (IsToldShown (conference_of self.old) (Message n frame.now)) }
@@ -59,7 +59,7 @@ impl State {
                     ended: &course.ended,
                 };
                 let reply = outcome.reply(alloc, n, user, frame, decision.reply)?;
-                outcome.tell(alloc, &changes, &Some(reply), out)
+                self.tell(alloc, &changes, &Some(reply), out)
             }
             // Its sender alone is told anything, and nothing that is shown is looked at.
             None => {
@@ -68,7 +68,7 @@ impl State {
                     ended: &[],
                 };
                 let reply = outcome.reply(alloc, n, user, frame, decision.reply)?;
-                outcome.tell_reply(alloc, &Some(reply), out)
+                self.tell_reply(alloc, &Some(reply), out)
             }
         }
     }
@@ -77,7 +77,7 @@ impl State {
     pub(crate) fn leave(&mut self, n: u32, out: &mut Vec<Parcel>) -> Result<(), AllocError>
         requires rest { IsAtRest self.old }
         ensures next { OnOk result (conference_of self.new
-            ≡ change.settled (conference_of self.old) (Leave n)) }
+            ≡ next (conference_of self.old) (Leave n)) }
         ensures out { OnOk result (out.new.items ≡ out.old.items
             ++ parcels_of (conference_of self.old) (Leave n)) }
         ensures shown { OnOk result (IsToldShown (conference_of self.old) (Leave n)) }
@@ -88,11 +88,7 @@ impl State {
         let mut course = begin(alloc, &self.requests, &mut self.shown)?;
         self.change_left(&mut course, n)?;
         let changes = self.settle(alloc, &mut course)?;
-        let outcome = Outcome {
-            state: self,
-            ended: &course.ended,
-        };
-        outcome.tell(alloc, &changes, &None, out)
+        self.tell(alloc, &changes, &None, out)
     }
 
     /// The administrator takes the request away where it was Granted, and denies it else: that ends
@@ -101,7 +97,7 @@ impl State {
         requires ongoing { IsSome (request_at self.old.requests.ongoing request) }
         requires rest { IsAtRest self.old }
         ensures next { OnOk result (conference_of self.new
-            ≡ change.settled (conference_of self.old) (Revoke request)) }
+            ≡ next (conference_of self.old) (Revoke request)) }
         ensures out { OnOk result (out.new.items ≡ out.old.items
             ++ parcels_of (conference_of self.old) (Revoke request)) }
         ensures shown { OnOk result (IsToldShown (conference_of self.old) (Revoke request)) }
@@ -113,11 +109,7 @@ impl State {
         let _ongoing = self.requests.ongoing();
         let mut course = self.end_ongoing(alloc, request, EndedBy::Chair)?;
         let changes = self.settle(alloc, &mut course)?;
-        let outcome = Outcome {
-            state: self,
-            ended: &course.ended,
-        };
-        outcome.tell(alloc, &changes, &None, out)
+        self.tell(alloc, &changes, &None, out)
     }
 
     /// Grants the requests that are due, shows anew those that the event may have moved, and gives

@@ -15,7 +15,7 @@ use std::alloc::AllocError;
 
 /// How many events the journal of a conference has at most: our choice, so that what is kept of a
 /// conference has an end.
-pub const MAX_EVENTS: usize = 1_000_000;
+pub const MAX_EVENTS: usize = 2_000_000;
 
 /// What happens to a conference.
 #[derive(Debug, Drop)]
@@ -31,6 +31,14 @@ pub enum Event {
         n: u32,
         /// The message.
         frame: Frame,
+    },
+    /// Some of the messages that were told to a member were brought to their end: its connection has
+    /// taken each of their bytes.
+    Took {
+        /// The number of the member.
+        n: u32,
+        /// How many: at least 1, and at most the member's backlog.
+        k: u32,
     },
     /// A member leaves.
     Leave {
@@ -124,6 +132,7 @@ impl Machine {
                 Ok(())
             }
             Event::Message { n, frame } => self.message(*n, frame, out),
+            Event::Took { n, k } => self.took(*n, *k),
             Event::Leave { n } => self.leave(*n, out),
             Event::Revoke { request } => self.admin(Act::Revoke(*request), out),
             Event::Close => self.admin(Act::Close, out),

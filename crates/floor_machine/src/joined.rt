@@ -1,14 +1,19 @@
 //! All that ever joined a conference, found by their numbers without a walk.
 
-ghost use Rattle.std.specs.Prelude.{◌≡◌, ◌==◌, ◌<◌, ◌+◌, ◌++◌, ◌∷◌, [], true, false, OnErr, OnOk, find, length, map};
+ghost use Rattle.std.specs.Prelude.{◌≡◌, ◌==◌, ◌<◌, ◌+◌, ◌-◌, ◌++◌, ◌∷◌, [], true, false, OnErr, OnOk, find, length, map};
 ghost use Rattle.std.specs.List.{list_any, position_or_len, slice_get};
 ghost use Rattle.std.specs.Option.{option_copied, option_map_or};
 ghost use Rattle.floor_machine.specs.Change as change;
-ghost use Rattle.floor_machine.specs.Conference.{is_numbered_from, member_with};
+ghost use Rattle.floor_machine.specs.Conference.{is_numbered_from, joining, member_with};
+ghost use Rattle.floor_machine.specs.steps.Counting.{counted_at, is_told, is_told_at, taken_on};
 
 use crate::member::Member;
 use floor_wire::Numbers;
 use std::alloc::{AllocError, Global};
+
+/// How many messages that were told to a member may be unacknowledged: our choice, so that what waits
+/// for a peer that doesn't read has an end.
+const MAX_BACKLOG: usize = 1024;
 
 /// All that ever joined, in the order of joining, with numbers that count from 1.
 #[derive(Debug, Drop)]
@@ -60,6 +65,28 @@ impl Joined {
         }
     }
 
+    /// How many messages were told to the member with this number and not acknowledged.
+    pub(crate) fn backlog(&self, n: u32) -> u32
+        ensures { result ≡ option_map_or (λ m. m.backlog)
+            (find (λ m. m.n == n) self.now.members.items) 0 }
+    {
+        match self.find(n) {
+            Some(member) => member.backlog,
+            None => 0,
+        }
+    }
+
+    /// Whether the member with this number, live or not, is cut.
+    pub(crate) fn is_cut(&self, n: u32) -> bool
+        ensures { result ≡ option_map_or (λ m. m.is_cut)
+            (find (λ m. m.n == n) self.now.members.items) false }
+    {
+        match self.find(n) {
+            Some(member) => member.is_cut,
+            None => false,
+        }
+    }
+
     /// Whether the live member with this number is a connection of the user.
     fn is_of(&self, n: u32, user: u16) -> bool
         ensures { result ≡ option_map_or (λ m. m.user == user)
@@ -83,12 +110,7 @@ impl Joined {
     pub(crate) fn push(&mut self, alloc: Global, n: u32, user: u16) -> Result<(), AllocError>
         requires { n ≡ length self.old.members.items + 1 }
         ensures next { OnOk result
-            (self.new.members.items ≡ self.old.members.items ++ record {
-              n = n;
-              user = user;
-              watched = [];
-              is_live = true;
-            } ∷ []) }
+            (self.new.members.items ≡ self.old.members.items ++ joining n user ∷ []) }
         ensures left { OnErr result (self.new.members.items ≡ self.old.members.items) }
     {
         self.members.push(Member {
@@ -96,6 +118,8 @@ impl Joined {
             user,
             watched: Numbers::from_vec(Vec::new(alloc)),
             is_live: true,
+            backlog: 0,
+            is_cut: false,
         })?;
         Ok(())
     }
@@ -111,6 +135,32 @@ impl Joined {
         }
     }
 
+    /// So many of the messages that were told to the member with this number are acknowledged.
+    pub(crate) fn acknowledge(&mut self, n: u32, k: u32)
+        ensures { self.new.members.items
+            ≡ map (change.acknowledging n k) self.old.members.items }
+    {
+        let place = self.place_of(n);
+        if place < self.members.len() {
+            acknowledge(&mut self.members[place], k);
+        }
+    }
+
+    /// Whether the member with this number is told so many messages, which are due to it: then they
+    /// are added to its backlog. Where that would be more than 1,024, it is cut.
+    pub(crate) fn take_on(&mut self, n: u32, due: usize) -> bool
+        ensures value { result ≡ is_told_at due n self.old.members.items }
+        ensures members { self.new.members.items
+            ≡ map (counted_at due n) self.old.members.items }
+    {
+        let place = self.place_of(n);
+        if place < self.members.len() {
+            take_on(&mut self.members[place], due)
+        } else {
+            false
+        }
+    }
+
     /// The member with this number is no longer live.
     pub(crate) fn leave(&mut self, n: u32)
         ensures { self.new.members.items ≡ map (change.leaving n) self.old.members.items }
@@ -120,6 +170,35 @@ impl Joined {
             self.members[place].is_live = false;
         }
     }
+}
+
+/// So many of the messages that were told to the member are acknowledged.
+fn acknowledge(member: &mut Member, k: u32)
+    ensures { member.new ≡ record member.old { backlog = member.old.backlog - k } }
+{
+    member.backlog = member.backlog.saturating_sub(k);
+}
+
+/// Whether the member is told so many messages, which are due to it: then they are added to its
+/// backlog. Where that would be more than 1,024, it is cut.
+fn take_on(member: &mut Member, due: usize) -> bool
+    ensures value { result ≡ is_told due member.old }
+    ensures member { member.new ≡ taken_on due member.old }
+{
+    if is_told(member, due) {
+        member.backlog += due as u32;
+        true
+    } else {
+        member.is_cut = member.is_cut || 0 < due;
+        false
+    }
+}
+
+/// Whether the member is told so many messages, which are due to it.
+fn is_told(member: &Member, due: usize) -> bool
+    ensures { result ≡ is_told due member.now }
+{
+    !member.is_cut && due <= MAX_BACKLOG && member.backlog as usize + due <= MAX_BACKLOG
 }
 
 fn member_in(joined: &[Member], place: usize) -> Option<&Member>

@@ -3,7 +3,7 @@
 ghost use Rattle.floor_machine.specs.Amount.{CalledForIsFew, MessageIsShort, ToldIsFew};
 ghost use Rattle.floor_machine.specs.Laws.{InfosSameIsEqual, SameIsEqual, SentIsTold, TakenIsLawful};
 ghost use Rattle.floor_machine.specs.Membership.{AfterBoth, BothLawful, JoinsAdd, JoinsLive, ParcelsOfBoth, SentToMembers, SettlesAsQueue, StaysLive, ToldByBoth, ToldOnceJoined, WasLive};
-ghost use Rattle.floor_machine.specs.Reachable.{Kept, Quiet, Sent};
+ghost use Rattle.floor_machine.specs.Reachable.{Counted, Kept, Quiet, Sent, Silent};
 
 use floor_message::what_is_asked_fits;
 use floor_queue::{positions_fit, settles_once};
@@ -35,7 +35,7 @@ pub fn taken_is_lawful()
 
 /// Each journal of a configuration keeps its conference: the requests are settled and their numbers
 /// ascend, at most 256 are ongoing, no floor has more holders than room, each queue position fits a
-/// byte, and at most 64 members are live.
+/// byte, at most 64 members are live, and no backlog is above 1,024.
 pub fn journals_keep()
     ensures { Kept }
 {
@@ -44,14 +44,24 @@ pub fn journals_keep()
     positions_fit();
 }
 
-/// A message that is refused or left unanswered leaves the conference as it is, and tells nobody
-/// but its sender anything.
+/// A message that is refused or left unanswered leaves the conference as it is, but for its sender's
+/// backlog and whether its sender is cut, and tells nobody but its sender anything.
 pub fn refusals_are_quiet()
     ensures { Quiet }
 {
     what_is_asked_fits();
     settles_once();
 }
+
+/// The backlog of a member is what a journal calls for there, less what the journal acknowledges.
+pub fn backlogs_are_counted()
+    ensures { Counted }
+{}
+
+/// Whoever is cut is told nothing more, whatever happens.
+pub fn cut_stays_silent()
+    ensures { Silent }
+{}
 
 /// Who joins is live until it leaves, nobody else comes, and each parcel is to one of the members
 /// and after it joined.

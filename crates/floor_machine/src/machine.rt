@@ -1,9 +1,9 @@
 //! The floor machine of one conference (RFC 8855, sections 8 to 13).
 
 ghost use Rattle.std.specs.Prelude.{◌≡◌, ◌+◌, ◌<◌, ◌≤◌, [], IfOk, IfErr, OnOk, length, count_by};
-ghost use Rattle.floor_machine.specs.Conference.{opening};
-ghost use Rattle.floor_machine.specs.declared.event.Event.TheVariants.{Join, Message, Leave};
-ghost use Rattle.floor_machine.specs.Machine.{Applied, IsRefusedBy, Left, act_refusal, event_of_act, join_refusal, member_refusal, whole};
+ghost use Rattle.floor_machine.specs.Conference.{is_cut, live_numbers, opening};
+ghost use Rattle.floor_machine.specs.declared.event.Event.TheVariants.{Join, Leave, Message, Took};
+ghost use Rattle.floor_machine.specs.Machine.{Applied, IsRefusedBy, Left, act_refusal, event_of_act, is_backlog, join_refusal, leave_refusal, member_refusal, message_refusal, took_refusal, whole};
 
 use crate::act::Act;
 use crate::conference::State;
@@ -32,6 +32,10 @@ pub enum Refusal {
     Full,
     /// No ongoing floor request has the number.
     NoRequest,
+    /// The member is cut: it came to be more than 1,024 messages behind.
+    Cut,
+    /// Nothing is acknowledged, or more than the backlog of the member.
+    BadCount,
     /// Memory was refused: the machine is broken from then on.
     Memory,
 }
@@ -50,6 +54,8 @@ impl Refusal {
             Refusal::NoUser => "NoUser",
             Refusal::Full => "Full",
             Refusal::NoRequest => "NoRequest",
+            Refusal::Cut => "Cut",
+            Refusal::BadCount => "BadCount",
             Refusal::Memory => "Memory",
         }
     }
@@ -68,9 +74,9 @@ impl From<AllocError> for Refusal {
 
 /// The floor machine of one conference: whole messages of its members in, parcels to them out.
 ///
-/// Readers, which take no memory: `joins`, `live_members`, `ongoing_requests`, `is_open`,
-/// `is_broken`. Changes: `join`, `message`, `leave` and `admin`, each an event; `apply` takes any
-/// event by the one of its kind, and `run` many. A refused call changes nothing, but that `Memory`
+/// Readers, which take no memory: `joins`, `live_members`, `live_numbers`, `ongoing_requests`,
+/// `is_open`, `is_broken`, `is_cut`. Changes: `join`, `message`, `took`, `leave` and `admin`, each an event;
+/// `apply` takes any event by the one of its kind, and `run` many. A refused call changes nothing, but that `Memory`
 /// leaves the machine broken, and from then on it answers `Broken`.
 #[derive(Debug, Drop)]
 pub struct Machine {
@@ -129,12 +135,28 @@ impl Machine {
         self.state.members.live()
     }
 
+    /// The numbers of the live members, ascending. Takes no memory.
+    pub fn live_numbers(&self) -> &[u32]
+        ensures value { result.now ≡ live_numbers self.now.conference.members }
+    {
+        self.state.members.live_numbers()
+    }
+
     /// How many floor requests are ongoing. Takes no memory.
     pub fn ongoing_requests(&self) -> usize
         ensures value { result ≡ length self.now.conference.ongoing }
         ensures range { result ≤ 256 }
     {
         self.state.requests.ongoing().len()
+    }
+
+    /// Whether the member with this number is cut: it came to be more than 1,024 messages behind, and
+    /// is told nothing more, also once it has left. Of a number that never joined it is false. Takes
+    /// no memory.
+    pub fn is_cut(&self, n: u32) -> bool
+        ensures value { result ≡ is_cut self.now.conference n }
+    {
+        self.state.members.is_cut(n)
     }
 
     /// Why the user may not join.
@@ -154,9 +176,9 @@ impl Machine {
         }
     }
 
-    /// Why nothing of this member is taken: neither a message, nor that it leaves.
-    fn member_refusal(&self, n: u32) -> Option<Refusal>
-        ensures { result ≡ member_refusal self.now n }
+    /// Why nothing of this member is taken; where it is a live one, the other refusal, if there is one.
+    fn member_refusal(&self, n: u32, other: Option<Refusal>) -> Option<Refusal>
+        ensures { result ≡ member_refusal self.now n other }
     {
         if self.is_broken {
             Some(Refusal::Broken)
@@ -165,8 +187,39 @@ impl Machine {
         } else if !self.state.has_live(n) {
             Some(Refusal::NoMember)
         } else {
-            None
+            other
         }
+    }
+
+    /// Why no message of this member is taken.
+    fn message_refusal(&self, n: u32) -> Option<Refusal>
+        ensures { result ≡ message_refusal self.now n }
+    {
+        let cut = if self.is_cut(n) {
+            Some(Refusal::Cut)
+        } else {
+            None
+        };
+        self.member_refusal(n, cut)
+    }
+
+    /// Whether so many of the messages to this member may be acknowledged.
+    fn is_backlog(&self, n: u32, k: u32) -> bool
+        ensures { result ≡ is_backlog self.now.conference n k }
+    {
+        0 < k && k <= self.state.members.backlog(n)
+    }
+
+    /// Why it isn't taken that so many of the messages to this member are acknowledged.
+    fn took_refusal(&self, n: u32, k: u32) -> Option<Refusal>
+        ensures { result ≡ took_refusal self.now n k }
+    {
+        let count = if self.is_backlog(n, k) {
+            None
+        } else {
+            Some(Refusal::BadCount)
+        };
+        self.member_refusal(n, count)
     }
 
     /// Why the administrator's act is not taken.
@@ -194,6 +247,7 @@ impl Machine {
     /// Takes a connection of the user as a member, and gives its number: 1 for the first that ever
     /// joined. Nobody is told. After a refusal nothing has changed, but that `Memory` leaves the
     /// machine broken.
+    #[tactic(auto, using(crate::proofs::Bounds::shown_fits))]
     pub fn join(&mut self, user: u16) -> Result<u32, Refusal>
         requires { length self.old.conference.members < 4294967295 }
         ensures number { IfOk result (λ n. n ≡ length self.old.conference.members + 1) }
@@ -215,15 +269,19 @@ impl Machine {
     }
 
     /// Takes the message of a member, and appends what it tells the members to `out`, by ascending
-    /// member. After a refusal nothing has changed, but that `Memory` leaves the machine broken.
+    /// member. Whoever would come to be more than 1,024 messages behind is told nothing of it, not even
+    /// the answer to its own message, and is cut from then on. Refused are, in this order, `Broken`,
+    /// `Ended`, `NoMember` and `Cut`; after a refusal nothing has changed, but that `Memory` leaves the
+    /// machine broken.
+    #[tactic(auto, using(crate::proofs::Bounds::shown_fits))]
     pub fn message(&mut self, n: u32, frame: &Frame, out: &mut Vec<Parcel>) -> Result<(), Refusal>
         ensures took { OnOk result
             (Applied self.old (Message n frame.now) self.new out.old.items out.new.items) }
-        ensures refused { IsRefusedBy (member_refusal self.old n) result }
+        ensures refused { IsRefusedBy (message_refusal self.old n) result }
         ensures left { IfErr result
             (Left self.old (Message n frame.now) self.new out.old.items out.new.items) }
     {
-        match self.member_refusal(n) {
+        match self.message_refusal(n) {
             Some(refusal) => return Err(refusal),
             None => {}
         }
@@ -234,17 +292,36 @@ impl Machine {
         Ok(())
     }
 
+    /// Takes it that so many of the messages that were told to a member were brought to their end, so
+    /// that its backlog is so many less. Nobody is told. Refused are, in this order, `Broken`, `Ended`,
+    /// `NoMember` and `BadCount`; after a refusal nothing has changed. Takes no memory.
+    #[tactic(auto, using(crate::proofs::Bounds::shown_fits))]
+    pub fn took(&mut self, n: u32, k: u32) -> Result<(), Refusal>
+        ensures took { OnOk result (Applied self.old (Took n k) self.new [] []) }
+        ensures refused { IsRefusedBy (took_refusal self.old n k) result }
+        ensures left { IfErr result (Left self.old (Took n k) self.new [] []) }
+    {
+        match self.took_refusal(n, k) {
+            Some(refusal) => return Err(refusal),
+            None => {}
+        }
+        what_is_shown_fits();
+        self.state.took(n, k);
+        Ok(())
+    }
+
     /// Takes it that a member has left, and appends what that tells the others to `out`, by
     /// ascending member. Where it was the last connection of its user, the floor requests for that
     /// user end. After a refusal nothing has changed, but that `Memory` leaves the machine broken.
+    #[tactic(auto, using(crate::proofs::Bounds::shown_fits))]
     pub fn leave(&mut self, n: u32, out: &mut Vec<Parcel>) -> Result<(), Refusal>
         ensures took { OnOk result
             (Applied self.old (Leave n) self.new out.old.items out.new.items) }
-        ensures refused { IsRefusedBy (member_refusal self.old n) result }
+        ensures refused { IsRefusedBy (leave_refusal self.old n) result }
         ensures left { IfErr result
             (Left self.old (Leave n) self.new out.old.items out.new.items) }
     {
-        match self.member_refusal(n) {
+        match self.member_refusal(n, None) {
             Some(refusal) => return Err(refusal),
             None => {}
         }
@@ -258,6 +335,7 @@ impl Machine {
     /// Does what the administrator does, and appends what that tells the members to `out`, by
     /// ascending member: a Close tells nobody anything. After a refusal nothing has changed, but
     /// that `Memory` leaves the machine broken.
+    #[tactic(auto, using(crate::proofs::Bounds::shown_fits, crate::proofs::Lawful::may_act))]
     pub fn admin(&mut self, act: Act, out: &mut Vec<Parcel>) -> Result<(), Refusal>
         ensures took { OnOk result
             (Applied self.old (event_of_act act) self.new out.old.items out.new.items) }
@@ -271,10 +349,7 @@ impl Machine {
         }
         what_is_shown_fits();
         self.is_broken = true;
-        match act {
-            Act::Revoke(request) => self.state.revoke(request, out)?,
-            Act::Close => self.state.close(),
-        }
+        self.state.administer(act, out)?;
         self.is_broken = false;
         Ok(())
     }

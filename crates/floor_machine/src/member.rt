@@ -14,4 +14,8 @@ pub struct Member {
     pub watched: Numbers,
     /// Whether it hasn't left.
     pub is_live: bool,
+    /// How many messages were told to it and not acknowledged yet: at most 1,024.
+    pub backlog: u32,
+    /// Whether it came to be further behind than that: it is told nothing more.
+    pub is_cut: bool,
 }

@@ -1,10 +1,9 @@
 //! All members of a conference, and which of them are live.
 
-ghost use Rattle.std.specs.Prelude.{◌≡◌, ◌==◌, ◌<◌, ◌+◌, ◌∷◌, ◌++◌, [], true, OnOk, OnErr, count_by, filter, length, map, not};
-ghost use Rattle.std.specs.Option.{option_copied};
+ghost use Rattle.std.specs.Prelude.{◌≡◌, ◌==◌, ◌<◌, ◌+◌, ◌∷◌, ◌++◌, [], false, true, OnOk, OnErr, count_by, filter, find, length, map, not};
+ghost use Rattle.std.specs.Option.{option_copied, option_map_or};
 ghost use Rattle.floor_machine.specs.Change as change;
-ghost use Rattle.floor_machine.specs.Conference.{is_numbered_from, is_present, member_with};
-ghost use Rattle.floor_machine.specs.steps.Live.{live_numbers};
+ghost use Rattle.floor_machine.specs.Conference.{is_numbered_from, is_present, joining, live_numbers, member_with};
 
 use crate::joined::Joined;
 use crate::member::Member;
@@ -16,15 +15,17 @@ use std::marker::Model;
 /// done for each live member costs nothing for those that left. Contracts see the members alone.
 #[derive(Debug, Drop)]
 pub(crate) struct Members {
-    joined: Joined,
-    live: Vec<u32>,
+    /// All that ever joined.
+    pub joined: Joined,
+    /// The numbers of those that are live, ascending.
+    pub live: Vec<u32>,
 }
 
 impl Model for Members {
     ghost use Rattle.std.specs.Prelude.{List};
     ghost use Rattle.floor_machine.specs.declared.member.Member.{Member};
     ghost use Rattle.std.specs.Prelude.{◌≡◌};
-    ghost use Rattle.floor_machine.specs.steps.Live.{live_numbers};
+    ghost use Rattle.floor_machine.specs.Conference.{live_numbers};
 
     ghost Value = { List Member };
 
@@ -80,6 +81,20 @@ impl Members {
         self.joined.find_live(n)
     }
 
+    /// How many messages were told to the member with this number and not acknowledged.
+    pub(crate) fn backlog(&self, n: u32) -> u32
+        ensures { result ≡ option_map_or (λ m. m.backlog) (find (λ m. m.n == n) self.now) 0 }
+    {
+        self.joined.backlog(n)
+    }
+
+    /// Whether the member with this number, live or not, is cut.
+    pub(crate) fn is_cut(&self, n: u32) -> bool
+        ensures { result ≡ option_map_or (λ m. m.is_cut) (find (λ m. m.n == n) self.now) false }
+    {
+        self.joined.is_cut(n)
+    }
+
     /// Whether some live member is a connection of the user.
     pub(crate) fn is_present(&self, user: u16) -> bool
         ensures { result ≡ is_present self.now user }
@@ -90,12 +105,7 @@ impl Members {
     /// Adds a live member, which gets the next number. After an error nothing has changed.
     pub(crate) fn join(&mut self, n: u32, user: u16) -> Result<(), AllocError>
         requires { n ≡ length self.old + 1 }
-        ensures next { OnOk result (self.new ≡ self.old ++ record {
-          n = n;
-          user = user;
-          watched = [];
-          is_live = true;
-        } ∷ []) }
+        ensures next { OnOk result (self.new ≡ self.old ++ joining n user ∷ []) }
         ensures left { OnErr result (self.new ≡ self.old) }
     {
         let alloc = *self.joined.members.allocator();
@@ -110,6 +120,13 @@ impl Members {
         ensures { self.new ≡ map (change.watching n floors) self.old }
     {
         self.joined.watch(n, floors);
+    }
+
+    /// So many of the messages that were told to the member with this number are acknowledged.
+    pub(crate) fn acknowledge(&mut self, n: u32, k: u32)
+        ensures { self.new ≡ map (change.acknowledging n k) self.old }
+    {
+        self.joined.acknowledge(n, k);
     }
 
     /// The member with this number is no longer live.

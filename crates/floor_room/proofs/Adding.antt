@@ -8,7 +8,7 @@ use Rattle.floor_machine.specs.declared.event.Event.{Event}
 use Rattle.floor_machine.specs.declared.event.Event.TheVariants.{Join}
 use Rattle.floor_machine.specs.Events.{joiner}
 use Rattle.floor_machine.specs.Parcel.{Parcel}
-use Rattle.floor_machine.specs.declared.machine.Refusal.TheVariants.{Broken, Ended, NoMember, NoUser, Full, NoRequest, Memory}
+use Rattle.floor_machine.specs.declared.machine.Refusal.TheVariants.{Broken, Ended, NoMember, NoUser, Full, NoRequest, Cut, BadCount, Memory}
 use Rattle.floor_machine.specs.Conference.{Conference, opening}
 use Rattle.floor_machine.specs.Change.{IsLawful}
 use Rattle.floor_machine.specs.Journal.{IsLawfulFrom, after, parcels_of, parcels_from, sent_to}
@@ -113,7 +113,7 @@ counted-joined k e = by (joiner e)
     by (Some user) = (omega arith, tt)
 
 -- a room after an event of which these parcels are queued
-pub room-event : (r : Room) (e : Event) (put rest : List Parcel) (b : Bool) → IsRoom r → r.ledger.is_broken ≡ false → length r.ledger.journal < 1000000 →
+pub room-event : (r : Room) (e : Event) (put rest : List Parcel) (b : Bool) → IsRoom r → r.ledger.is_broken ≡ false → length r.ledger.journal < 2000000 →
     IsLawful (conference_of r.ledger) e → parcels_of (conference_of r.ledger) e ≡ put ++ rest → (b ≡ false → rest ≡ []) → IsRoom (with_event r e put b)
 room-event r e put rest b k unbroken few lawful parts whole =
     let l : Ledger = r.ledger in
@@ -163,6 +163,8 @@ keeps-unadded r new why room_for k h = by why h
     by (Refused NoUser) e = same e
     by (Refused Full) e = same e
     by (Refused NoRequest) e = same e
+    by (Refused Cut) e = same e
+    by (Refused BadCount) e = same e
     by (Refused Memory) e =
         subst (λ (x : Ledger). Keeps (record { ledger = x; outboxes = r.outboxes }) room_for) (sym e) (keeps-broken r room_for k)
 
@@ -205,6 +207,8 @@ left-unadded r new e why h = by why h
     by (Refused NoUser) is = same r.ledger is
     by (Refused Full) is = same r.ledger is
     by (Refused NoRequest) is = same r.ledger is
+    by (Refused Cut) is = same r.ledger is
+    by (Refused BadCount) is = same r.ledger is
     by (Refused Memory) is = inl (same (broken_off r.ledger) is)
 
 -- a call is refused as the call that it makes

@@ -22,15 +22,15 @@ use Rattle.floor_room.specs.Status.{IsStatus, phase_of}
 pub record IsOpen (l : Ledger) : Type 0 where
   pub unbroken : l.is_broken ≡ false
   pub open_now : (conference_of l).is_open ≡ true
-  pub few : length l.journal < 1000000
+  pub few : length l.journal < 2000000
 
 pub opened : (l : Ledger) → None ≡ closed l → IsOpen l
-opened l h = by l.is_broken (conference_of l).is_open (nat_le 1000000 (length l.journal)) refl refl refl h
+opened l h = by l.is_broken (conference_of l).is_open (nat_le 2000000 (length l.journal)) refl refl refl h
   where
-    fewer : (n : ℕ) → nat_le 1000000 n ≡ false → n < 1000000
+    fewer : (n : ℕ) → nat_le 2000000 n ≡ false → n < 2000000
     fewer n e = grind (arith, nat_tests)
 
-    by : (a b d : Bool) → l.is_broken ≡ a → (conference_of l).is_open ≡ b → nat_le 1000000 (length l.journal) ≡ d →
+    by : (a b d : Bool) → l.is_broken ≡ a → (conference_of l).is_open ≡ b → nat_le 2000000 (length l.journal) ≡ d →
         None ≡ cond a (Some (Refused Broken)) (cond (not b) (Some (Refused Ended)) (cond d (Some JournalFull) None)) → IsOpen l
     by true b d e f g h = cc
     by false false d e f g h = cc
@@ -46,7 +46,7 @@ allowed-open l e h = opened l (sym (by (closed l) _ h))
     by (Some r) b h = cc
 
 -- the journal with one more event
-pub journal-more : (l : Ledger) (e : Event) → IsJournal l.config l.journal → length l.journal < 1000000 → IsLawful (conference_of l) e → IsJournal l.config (l.journal ++ e ∷ [])
+pub journal-more : (l : Ledger) (e : Event) → IsJournal l.config l.journal → length l.journal < 2000000 → IsLawful (conference_of l) e → IsJournal l.config (l.journal ++ e ∷ [])
 journal-more l e j few lawful =
     record {
       count = omega (arith, length-append l.journal (e ∷ []));

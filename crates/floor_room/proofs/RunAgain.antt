@@ -9,7 +9,7 @@ use Rattle.floor_config.specs.Configuration.{Configuration}
 use Rattle.floor_machine.specs.declared.event.Event.{Event}
 use Rattle.floor_machine.specs.Parcel.{Parcel}
 use Rattle.floor_machine.specs.declared.machine.Refusal.{Refusal}
-use Rattle.floor_machine.specs.declared.machine.Refusal.TheVariants.{Broken, Ended, NoMember, NoUser, Full, NoRequest, Memory}
+use Rattle.floor_machine.specs.declared.machine.Refusal.TheVariants.{Broken, Ended, NoMember, NoUser, Full, NoRequest, Cut, BadCount, Memory}
 use Rattle.floor_machine.specs.Conference.{Conference, opening}
 use Rattle.floor_machine.specs.Change.{IsLawful}
 use Rattle.floor_machine.specs.Journal.{IsJournal, IsLawfulFrom, Q, after, after_from, parcel, parcels_of, parcels_from, sent_to, told_from}
@@ -77,7 +77,7 @@ pub record IsRun (config : Configuration) (es : List Event) (n : ℕ) (m : Machi
   pub bytes_are : bytes ≡ bytes_to n config es
 
 -- one more lawful event
-run-one : (config : Configuration) (es : List Event) (e : Event) (n : ℕ) (m now : Machine) (bytes new : List ℕ) → IsRun config es n m bytes → length es < 1000000 → IsLawful m.conference e →
+run-one : (config : Configuration) (es : List Event) (e : Event) (n : ℕ) (m now : Machine) (bytes new : List ℕ) → IsRun config es n m bytes → length es < 2000000 → IsLawful m.conference e →
     now ≡ whole (next m.conference e) → new ≡ bytes ++ bytes_of (sent_to n (parcels_of m.conference e)) → IsRun config (es ++ e ∷ []) n now new
 run-one config es e n m now bytes new r few lawful is_next is_bytes =
     let lawful_now : IsLawful (after config es) e = subst (λ (x : Machine). IsLawful x.conference e) r.next lawful in
@@ -92,7 +92,7 @@ run-one config es e n m now bytes new r few lawful is_next is_bytes =
           ∙ ap (λ (ps : List Parcel). bytes_of (sent_to n ps)) (sym (parcels_from-more (opening config) es e));
     }
 
-pub run-more : (config : Configuration) (es : List Event) (i : ℕ) (e : Event) (n : ℕ) (m now : Machine) (bytes new : List ℕ) → i < length es → i < 1000000 → e ≡ get_or es i e →
+pub run-more : (config : Configuration) (es : List Event) (i : ℕ) (e : Event) (n : ℕ) (m now : Machine) (bytes new : List ℕ) → i < length es → i < 2000000 → e ≡ get_or es i e →
     IsRun config (take i es) n m bytes → IsLawful m.conference e → now ≡ whole (next m.conference e) → new ≡ bytes ++ bytes_of (sent_to n (parcels_of m.conference e)) →
     IsRun config (take (i + 1) es) n now new
 run-more config es i e n m now bytes new within few is r lawful is_next is_bytes =
@@ -130,6 +130,8 @@ refused-unlawful m e refusal same framed other h lawful =
     by NoUser o k = k
     by Full o k = k
     by NoRequest o k = k
+    by Cut o k = k
+    by BadCount o k = k
     by Memory o k = o refl
 
 bytes_of-parcels : (n : ℕ) (ms : List Outgoing) → bytes_of (map (parcel n) ms) ≡ concat (map outgoing_bytes ms)

@@ -49,8 +49,8 @@ counted_at k [] i o h l e = absurd (omega arith)
 counted_at k (x ∷ os) zero o h l e = subst (λ (y : Outbox). y.taken + length y.held ≤ 18446744073709551616 * k) (sym e) h.0
 counted_at k (x ∷ os) (suc i) o h l e = counted_at k os i o h.1 (omega arith) e
 
-pub counted_few : (os : List Outbox) (i : ℕ) (o : Outbox) → AreCounted 1000000 os → i < length os → o ≡ get_or os i o → o.taken + length o.held < 340282366920938463463374607431768211456
-counted_few os i o h l e = omega (arith, counted_at 1000000 os i o h l e)
+pub counted_few : (os : List Outbox) (i : ℕ) (o : Outbox) → AreCounted 2000000 os → i < length os → o ≡ get_or os i o → o.taken + length o.held < 340282366920938463463374607431768211456
+counted_few os i o h l e = omega (arith, counted_at 2000000 os i o h l e)
 
 pub counted-more : (j k : ℕ) (os : List Outbox) → j ≤ k → AreCounted j os → AreCounted k os
 counted-more j k [] l h = tt
@@ -119,5 +119,5 @@ keeps-given r new room_for (suc i) result k g = by (slice_get r.outboxes i) refl
     by (Some o) is h = keeps-held r new room_for i o o.held result k is refl h
 
 -- the members are at most as many as the events
-pub outboxes-few : (r : Room) (room_for : ℕ) → Keeps r room_for → length r.outboxes ≤ 1000000
+pub outboxes-few : (r : Room) (room_for : ℕ) → Keeps r room_for → length r.outboxes ≤ 2000000
 outboxes-few r room_for k = omega (arith, k.room.members, members-after (opening r.ledger.config) r.ledger.journal, k.room.journal.count)

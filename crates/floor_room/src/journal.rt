@@ -36,6 +36,7 @@ fn line(alloc: Global, place: usize, event: &Event) -> Result<String, AllocError
             let bytes = hex::encode(alloc, frame.bytes())?;
             format!(in alloc; "{place} message {n} {bytes}\n")
         }
+        Event::Took { n, k } => format!(in alloc; "{place} took {n} {k}\n"),
         Event::Leave { n } => format!(in alloc; "{place} leave {n}\n"),
         Event::Revoke { request } => format!(in alloc; "{place} revoke {request}\n"),
         Event::Close => format!(in alloc; "{place} close\n"),

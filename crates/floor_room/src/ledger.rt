@@ -1,8 +1,9 @@
 //! One conference with its journal.
 
-ghost use Rattle.std.specs.Prelude.{◌≡◌, IfErr, IfOk};
+ghost use Rattle.std.specs.Prelude.{◌≡◌, false, IfErr, IfOk};
+ghost use Rattle.floor_machine.specs.Conference.{is_cut, live_numbers};
 ghost use Rattle.floor_machine.specs.Journal.{IsJournal};
-ghost use Rattle.floor_room.specs.Ledger.{Added, IsRefusedBy, Unadded, broken_off, closed, new_ledger, refusal};
+ghost use Rattle.floor_room.specs.Ledger.{Added, IsRefusedBy, Unadded, broken_off, closed, conference_of, new_ledger, refusal};
 ghost use Rattle.floor_room.specs.Status.{IsStatus};
 
 use crate::refusal::RoomRefusal;
@@ -14,8 +15,8 @@ use std::marker::Model;
 
 /// One conference with its journal: it hands the parcels of each event to its caller.
 ///
-/// Readers: `journal`, `closed` (why no event is taken), `status`. Changes: `add`, which changes
-/// nothing where it refuses, but that `Memory` breaks the ledger off, and `break_off`.
+/// Readers: `journal`, `closed` (why no event is taken), `status`, `is_cut`, `live_numbers`. Changes:
+/// `add`, which changes nothing where it refuses, but that `Memory` breaks the ledger off, and `break_off`.
 #[derive(Debug, Drop)]
 pub struct Ledger {
     config: Config,
@@ -96,6 +97,24 @@ impl Ledger {
             events: self.journal.len() as u32,
             phase: phase_of(self.is_broken, self.machine.is_open()),
         }
+    }
+
+    /// Whether the member with this number is cut: it came to be more than 1,024 messages behind. Of a
+    /// number that never joined it is false, and of a ledger that is broken off nothing is said.
+    /// Takes no memory.
+    pub fn is_cut(&self, n: u32) -> bool
+        ensures value { self.now.is_broken ≡ false → result ≡ is_cut (conference_of self.now) n }
+    {
+        self.machine.is_cut(n)
+    }
+
+    /// The numbers of the live members, ascending; of a ledger that is broken off nothing is said.
+    /// Takes no memory.
+    pub fn live_numbers(&self) -> &[u32]
+        ensures value { self.now.is_broken ≡ false
+            → result.now ≡ live_numbers (conference_of self.now).members }
+    {
+        self.machine.live_numbers()
     }
 
     /// Adds an event, where nothing refuses it, and gives the parcels that it calls for. A message

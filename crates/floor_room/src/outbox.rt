@@ -150,7 +150,7 @@ pub(crate) fn held_of(outboxes: &[Outbox], n: u32) -> Option<&VecDeque<Parcel>>
 
 /// Takes the first parcel that waits for a member.
 pub(crate) fn take(outboxes: &mut Vec<Outbox>, n: u32) -> Result<Option<Parcel>, NoMember>
-    requires { AreCounted 1000000 outboxes.old.items }
+    requires { AreCounted 2000000 outboxes.old.items }
     ensures given { Gives outboxes.old.items outboxes.new.items n result }
     ensures capacity { vec_capacity outboxes.new ≡ vec_capacity outboxes.old }
 {

@@ -1,7 +1,8 @@
 //! One conference with its journal and its outboxes.
 
-ghost use Rattle.std.specs.Prelude.{◌≡◌, ◌+◌, IfErr, IfOk, OnOk, length, option_map};
-ghost use Rattle.floor_machine.specs.declared.event.Event.TheVariants.{Join, Leave, Message};
+ghost use Rattle.std.specs.Prelude.{◌≡◌, ◌+◌, false, IfErr, IfOk, OnOk, length, option_map};
+ghost use Rattle.floor_machine.specs.declared.event.Event.TheVariants.{Join, Leave, Message, Took};
+ghost use Rattle.floor_machine.specs.Conference.{is_cut};
 ghost use Rattle.floor_machine.specs.Machine.{event_of_act};
 ghost use Rattle.floor_room.specs.Calls.{Applied, Left};
 ghost use Rattle.floor_room.specs.Ledger.{IsRefusedBy, closed, conference_of, refusal};
@@ -23,8 +24,8 @@ use std::marker::Model;
 /// One conference with its journal and its outboxes: whole messages of its members in, and what
 /// waits for each member out.
 ///
-/// Readers: `journal`, `closed` (why no event is taken), `status`, `held`. Events: `join`, `serve`,
-/// `leave` and `admin`, each of which changes nothing where it refuses, but that `Memory` breaks
+/// Readers: `journal`, `closed` (why no event is taken), `status`, `held`, `is_cut`. Events: `join`,
+/// `serve`, `took`, `leave` and `admin`, each of which changes nothing where it refuses, but that `Memory` breaks
 /// the room off. `take` gives what waits, also in a room that takes no event. `break_off` is for a
 /// caller that meets want of memory itself.
 #[derive(Debug, Drop)]
@@ -78,6 +79,16 @@ impl Room {
         ensures value { IsStatus self.now.ledger result }
     {
         self.ledger.status()
+    }
+
+    /// Whether the member with this number is cut: it came to be more than 1,024 messages behind, and
+    /// is told nothing more. Of a number that never joined it is false, and of a broken room nothing
+    /// is said. Takes no memory.
+    pub fn is_cut(&self, n: u32) -> bool
+        ensures value { self.now.ledger.is_broken ≡ false
+            → result ≡ is_cut (conference_of self.now.ledger) n }
+    {
+        self.ledger.is_cut(n)
     }
 
     /// What waits for a member, from the front on, or None where nobody has joined under the
@@ -134,6 +145,17 @@ impl Room {
     {
         self.add(Event::Message { n, frame })?;
         Ok(self.status().events)
+    }
+
+    /// Takes it that so many of the parcels to a member were taken and brought to their end, so that it
+    /// is so many less behind. With what was taken the room doesn't compare it, with the member's
+    /// backlog alone. Nobody is told.
+    pub fn took(&mut self, n: u32, k: u32) -> Result<(), RoomRefusal>
+        ensures took { OnOk result (Applied self.old self.new (Took n k)) }
+        ensures refused { IsRefusedBy (refusal self.old.ledger (Took n k)) result }
+        ensures left { IfErr result (Left self.old self.new (Took n k)) }
+    {
+        self.add(Event::Took { n, k })
     }
 
     /// Takes it that a member has left. What waits for it stays until it is taken.

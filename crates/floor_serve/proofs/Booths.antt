@@ -168,7 +168,7 @@ booth-off b h =
     record { journal = h.journal; members = h.members; sent = are_fed-broken b.ledger.config b.ledger.journal b.ledger.is_broken 1 b.senders h.sent; seated = λ e. absurd cc }
 
 -- a booth has at most as many members as events
-pub members-few : (b : Booth) → IsBooth b → length b.senders ≤ 1000000
+pub members-few : (b : Booth) → IsBooth b → length b.senders ≤ 2000000
 members-few b h = omega (arith, h.members, members-after (opening b.ledger.config) b.ledger.journal, h.journal.count)
 
 -- what was put by the sender at a place

@@ -2,7 +2,7 @@
 //! until it has left.
 
 ghost use Rattle.std.specs.Prelude.{◌≡◌, ◌+◌, ◌-◌, ◌++◌, ◌⊎◌, [], true, None, IfErr, IfOk, IsSomeAnd, OnOk, OnErr, Err, length, slice_set, false};
-ghost use Rattle.floor_machine.specs.declared.event.Event.TheVariants.{Join, Message, Leave};
+ghost use Rattle.floor_machine.specs.declared.event.Event.TheVariants.{Join, Leave, Message, Took};
 ghost use Rattle.floor_machine.specs.Machine.{event_of_act};
 ghost use Rattle.floor_room.specs.declared.refusal.RoomRefusal.TheVariants.{Refused};
 ghost use Rattle.floor_machine.specs.declared.machine.Refusal.TheVariants.{Memory};
@@ -25,7 +25,7 @@ use std::sync::Wait;
 /// One conference with its journal, and a place for each member that ever joined, with its sender
 /// until it has left.
 ///
-/// Changes: `join`, `submit` and `leave` of a member, `admin` of the administrator, and `reclaim` or
+/// Changes: `join`, `submit`, `took` and `leave` of a member, `admin` of the administrator, and `reclaim` or
 /// `release` of what is left of a member.
 /// What they put wakes nobody yet: after each of them, also after a refusal, `wakers` gives whom to
 /// wake, once a lock that is held is given back. Readers: `journal`, `status`, `fits`.
@@ -108,6 +108,28 @@ impl Booth {
         self.senders.len() as u32
     }
 
+    /// Adds an event that is no join, where nothing refuses it, puts what it tells, and sets the closed
+    /// mark of each member that it cut.
+    fn tell<R: Wait>(&mut self, rt: &R, event: Event) -> Result<(), RoomRefusal>
+        requires { joined event ≡ [] }
+        ensures took { OnOk result (Applied self.old self.new event []) }
+        ensures refused { IsRefusedBy (refusal self.old.ledger event) result }
+        ensures left { IfErr result (Left self.old self.new event) }
+    {
+        self.add(rt, event)?;
+        self.close_cut();
+        Ok(())
+    }
+
+    /// Sets the closed mark of each live member that is cut. Takes no memory.
+    fn close_cut(&self) {
+        for n in self.ledger.live_numbers() {
+            if self.ledger.is_cut(*n) {
+                close_of(&self.senders, *n);
+            }
+        }
+    }
+
     /// Adds an event that is no join, where nothing refuses it, and puts what it tells.
     fn add<R: Wait>(&mut self, rt: &R, event: Event) -> Result<(), RoomRefusal>
         requires { joined event ≡ [] }
@@ -157,7 +179,7 @@ impl Booth {
         ensures refused { IsRefusedBy (refusal self.old.ledger (Message n frame)) result }
         ensures left { IfErr result (Left self.old self.new (Message n frame)) }
     {
-        self.add(rt, Event::Message { n, frame })?;
+        self.tell(rt, Event::Message { n, frame })?;
         Ok(self.journal().len() as u32)
     }
 
@@ -195,13 +217,23 @@ impl Booth {
         close_all(&self.senders);
     }
 
+    /// Takes it that so many of the parcels to a member were brought to their end, so that it is so many
+    /// less behind. Nobody is told, and nobody is woken.
+    pub fn took<R: Wait>(&mut self, rt: &R, n: u32, k: u32) -> Result<(), RoomRefusal>
+        ensures took { OnOk result (Applied self.old self.new (Took n k) []) }
+        ensures refused { IsRefusedBy (refusal self.old.ledger (Took n k)) result }
+        ensures left { IfErr result (Left self.old self.new (Took n k)) }
+    {
+        self.add(rt, Event::Took { n, k })
+    }
+
     /// Takes it that a member has left. Its sender's closed mark is set, also after a refusal.
     pub fn leave<R: Wait>(&mut self, rt: &R, n: u32) -> Result<(), RoomRefusal>
         ensures took { OnOk result (Applied self.old self.new (Leave n) []) }
         ensures refused { IsRefusedBy (refusal self.old.ledger (Leave n)) result }
         ensures left { IfErr result (Left self.old self.new (Leave n)) }
     {
-        let left = self.add(rt, Event::Leave { n });
+        let left = self.tell(rt, Event::Leave { n });
         close_of(&self.senders, n);
         left
     }
@@ -212,7 +244,7 @@ impl Booth {
         ensures refused { IsRefusedBy (refusal self.old.ledger (event_of_act act)) result }
         ensures left { IfErr result (Left self.old self.new (event_of_act act)) }
     {
-        self.add(rt, Event::of(act))?;
+        self.tell(rt, Event::of(act))?;
         if self.is_closed() {
             close_all(&self.senders);
         }

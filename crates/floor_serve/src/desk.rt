@@ -14,7 +14,7 @@ use std::sync::{Arc, Mutex, Wait};
 /// One conference as threads share it. Each call is one hold of the conference's lock, and wakes
 /// whom it told something once the lock is given back. Contracts see its number.
 ///
-/// Changes: `join`, `submit` and `leave` of a member, `admin` of the administrator. Readers:
+/// Changes: `join`, `submit`, `took` and `leave` of a member, `admin` of the administrator. Readers:
 /// `conference`, `status`, `journal_text`. What the calls do to the conference stands in the
 /// contracts of [`Booth`].
 #[derive(Drop)]
@@ -98,6 +98,12 @@ impl Desk {
         let place = sent.place;
         seat.sent.push_reserved(sent);
         Ok(Receipt { place })
+    }
+
+    /// Takes it that so many of the parcels to a member were brought to their end, as its writer says.
+    /// Refused as [`Booth::took`].
+    pub fn took<R: Wait>(&self, rt: &R, n: u32, k: u32) -> Result<(), RoomRefusal> {
+        self.booth.lock(rt).took(rt, n, k)
     }
 
     /// Takes it that the seat's member has left, and lets its writer end, also after a refusal.

@@ -4,6 +4,7 @@ ghost use Rattle.std.specs.Prelude.{◌≡◌, ◌+◌, ◌-◌, ◌++◌, ◌�
 ghost use Rattle.std.specs.Io.KnownBytes.{Appends};
 ghost use Rattle.floor_serve.specs.Written.{Failed, Moved, Stopped, Wrote, capped};
 
+use crate::desk::Desk;
 use crate::fault::WriteFault;
 use crate::marked::Sink;
 use floor_outbox::{Parcel, Taker};
@@ -12,6 +13,10 @@ use std::sync::Wait;
 
 /// How many bytes are gathered into one write.
 const GATHERED: usize = 65_536;
+
+/// How many parcels are acknowledged at once at most, so that a peer that reads as fast as it can is
+/// never far behind.
+const ACKNOWLEDGED: u32 = 64;
 
 /// What was written. Each count stops at the greatest value.
 #[derive(Clone, Copy, Debug, PartialEq, Eq)]
@@ -22,14 +27,19 @@ pub struct Written {
     pub bytes: u64,
 }
 
-/// Writes the parcels in order as they come, until the queue is empty after its sender was closed.
+/// Writes the parcels to the member n of the desk's conference in order as they come, until the queue
+/// is empty after its sender was closed.
 ///
-/// What waits goes into one write, as far as 64 KiB hold it. Where memory for that is refused, each
-/// parcel is written by itself, its header and then its payload.
+/// What waits goes into one write, as far as 64 KiB hold it, and at most 64 parcels. Where memory for
+/// that is refused, each parcel is written by itself, its header and then its payload. After each 64
+/// parcels, and whenever nothing waits, those that were written since are acknowledged; where that is
+/// refused, as after the member has left, nothing more is done.
 pub fn write_loop<S: Sink, R: Wait>(
     rt: &R,
     alloc: Global,
     sink: &mut S,
+    desk: &Desk,
+    n: u32,
     taker: &mut Taker,
 ) -> Result<Written, WriteFault>
     requires { S.marked sink.old ≡ false }
@@ -45,6 +55,7 @@ pub fn write_loop<S: Sink, R: Wait>(
     let mut buffer = gathering(alloc);
     let mut parcels = 0u64;
     let mut bytes = 0u64;
+    let mut unacknowledged = 0u32;
     for _ in rt.forever() {
         let closed = taker.closed();
         match taker.take(rt) {
@@ -54,12 +65,22 @@ pub fn write_loop<S: Sink, R: Wait>(
                     Ok(()) => {}
                     Err(fault) => return Err(fault),
                 }
+                unacknowledged = unacknowledged.saturating_add(1);
+                if unacknowledged < ACKNOWLEDGED {
+                    continue;
+                }
+                match flush(sink, &mut buffer, &mut bytes) {
+                    Ok(()) => {}
+                    Err(fault) => return Err(fault),
+                }
+                acknowledge(rt, desk, n, &mut unacknowledged);
             }
             None => {
                 match flush(sink, &mut buffer, &mut bytes) {
                     Ok(()) => {}
                     Err(fault) => return Err(fault),
                 }
+                acknowledge(rt, desk, n, &mut unacknowledged);
                 if closed {
                     return Ok(Written { parcels, bytes });
                 }
@@ -68,6 +89,14 @@ pub fn write_loop<S: Sink, R: Wait>(
         }
     }
     unreachable!()
+}
+
+/// Acknowledges the parcels to the member that were written since it last did, if there are any.
+fn acknowledge<R: Wait>(rt: &R, desk: &Desk, n: u32, unacknowledged: &mut u32) {
+    if *unacknowledged > 0 {
+        let _taken = desk.took(rt, n, *unacknowledged);
+        *unacknowledged = 0;
+    }
 }
 
 /// The bytes that are gathered, none yet.

@@ -1,9 +1,10 @@
 -- What a call has done to one room, by which it does what it has to the worlds.
-use Rattle.std.specs.Prelude.{◌≡◌, ◌≢◌, ◌⊎◌, ℕ, ◌+◌, List, [], ◌∷◌, ◌++◌, length, true, Option, Some, None, is_some, Ok, Err, Result, IfOk, OnOk, IfErr, IsErr, MatchResult}
+use Rattle.std.specs.Prelude.{◌≡◌, ◌≢◌, ◌⊎◌, ℕ, ◌+◌, List, [], ◌∷◌, ◌++◌, length, true, false, Option, Some, None, is_some, Ok, Err, Result, IfOk, OnOk, IfErr, IsErr, MatchResult}
 use Rattle.floor_wire.specs.Message.{messages}
 use Rattle.floor_machine.specs.Parcel.{Parcel}
+use Rattle.floor_machine.specs.Conference.{is_cut}
 use Rattle.floor_machine.specs.declared.event.Event.{Event}
-use Rattle.floor_machine.specs.declared.event.Event.TheVariants.{Join, Message, Leave as Leaves}
+use Rattle.floor_machine.specs.declared.event.Event.TheVariants.{Join, Message, Took as Takes, Leave as Leaves}
 use Rattle.floor_room.specs.declared.refusal.RoomRefusal.{RoomRefusal}
 use Rattle.floor_room.specs.Room.{Room, broken_room}
 use Rattle.floor_room.specs.Ledger.{IsRefusedBy, closed, conference_of, refusal}
@@ -13,7 +14,7 @@ use Rattle.floor_room.specs.Calls.{Applied, Left}
 use Rattle.floor_hub.specs.declared.connection.Connection.{Connection}
 use Rattle.floor_hub.specs.declared.step.Served.{Served}
 use Rattle.floor_hub.specs.Connections.{Connections, Puts}
-use Rattle.floor_machine.specs.declared.machine.Refusal.TheVariants.{Memory}
+use Rattle.floor_machine.specs.declared.machine.Refusal.TheVariants.{Cut, Memory}
 use Rattle.floor_room.specs.declared.refusal.RoomRefusal.TheVariants.{JournalFull, Refused as ByMachine}
 use Rattle.floor_hub.specs.declared.refusal.HubRefusal.{HubRefusal}
 use Rattle.floor_hub.specs.declared.refusal.HubRefusal.TheVariants.{ByRoom}
@@ -29,13 +30,14 @@ abbrev pub ServesIn : Room → Room → ℕ → List ℕ → List ℕ → Served
 ServesIn old new n held rest Served.Nothing = IsServable (closed old.ledger) × (messages held ≡ []) × (new ≡ old) × (rest ≡ held)
 ServesIn old new n held rest Served.Message = (frame : List ℕ) × (messages held ≡ frame ∷ messages rest) × (held ≡ frame ++ rest) × Applied old new (Message n frame)
 
--- why serving n has failed: its room is closed; memory was refused for the message; or the room has refused the message
+-- why serving n has failed: its room is closed; n is cut; memory was refused for the message; or the room has refused the message
 abbrev pub ServeFailsIn : Room → Room → ℕ → List ℕ → List ℕ → RoomRefusal → Type 0
 ServeFailsIn old new n held rest why =
     ((closed old.ledger ≡ Some why) × (why ≡ JournalFull → messages held ≢ []) × (new ≡ old) × (rest ≡ held))
+    ⊎ (((why ≡ ByMachine Cut) × (closed old.ledger ≡ None) × (is_cut (conference_of old.ledger) n ≡ true) × (messages held ≢ []) × (new ≡ old) × (rest ≡ held))
     ⊎ (((why ≡ ByMachine Memory) × (closed old.ledger ≡ None) × (new ≡ broken_room old) × (rest ≡ held))
-    ⊎ ((frame : List ℕ) × (closed old.ledger ≡ None) × IsRefusedBy {T = Unit {0}} (refusal old.ledger (Message n frame)) (Err why) × Left old new (Message n frame) why
-    × (messages held ≡ frame ∷ messages rest) × (held ≡ frame ++ rest)))
+    ⊎ ((frame : List ℕ) × (closed old.ledger ≡ None) × (is_cut (conference_of old.ledger) n ≡ false) × IsRefusedBy {T = Unit {0}} (refusal old.ledger (Message n frame)) (Err why) × Left old new (Message n frame) why
+    × (messages held ≡ frame ∷ messages rest) × (held ≡ frame ++ rest))))
 
 -- what serving n has done, or why it has failed
 pub record ServedIn (old new : Room) (n : ℕ) (held rest : List ℕ) (result : Result Served HubRefusal) : Type 0 where
@@ -82,6 +84,10 @@ AttachIn c user number old_connections new_connections old new result =
 abbrev pub ServeOf : Connection → Option Connection → Room → Room → Result Served HubRefusal → Type 0
 ServeOf x y old new result =
     (rest : List ℕ) × (y ≡ Some record { conference = x.conference; n = x.n; held = rest }) × ServedIn old new x.n x.held rest result
+
+-- so many of the parcels to it were acknowledged
+abbrev pub TookOf : ℕ → Connection → Option Connection → Room → Room → Result (Unit {0}) HubRefusal → Type 0
+TookOf k x y old new result = (y ≡ Some x) × EventIn (Takes x.n k) old new result
 
 -- it has left
 abbrev pub LeaveOf : Connection → Option Connection → Room → Room → Result (Unit {0}) HubRefusal → Type 0

@@ -1,5 +1,5 @@
 -- What a message comes to once it is checked, what that changes, and what it answers.
-use Rattle.std.specs.Prelude.{◌≡◌, ◌≢◌, ◌≤◌, ◌<◌, ℕ, ◌+◌, Bool, true, false, List, [], ◌∷◌, ◌++◌, length, map, Option, IsSome, IsSomeAnd, if◌then◌else◌}
+use Rattle.std.specs.Prelude.{◌≡◌, ◌≢◌, ◌<◌, ℕ, ◌+◌, Bool, true, false, List, [], ◌∷◌, ◌++◌, length, map, Option, IsSome, IsSomeAnd, if◌then◌else◌}
 use Rattle.std.specs.List.{list_any, list_all}
 use Rattle.std.specs.Option.{option_map_or}
 use Rattle.floor_queue.specs.declared.request.New.{New}
@@ -16,6 +16,7 @@ use Rattle.floor_machine.specs.declared.decision.Change.TheVariants as to
 use Rattle.floor_machine.specs.declared.decision.Reply.TheVariants as say
 use Rattle.floor_machine.specs.declared.decision.Decision.{Decision}
 use Rattle.floor_machine.specs.declared.decision.EndedBy.TheVariants.{Chair, Participant}
+use Rattle.floor_machine.specs.declared.act.Act.{Act}
 use Rattle.floor_machine.specs.declared.member.Member.{Member}
 use Rattle.floor_machine.specs.Conference.{Conference, binding, user_of}
 use Rattle.floor_machine.specs.Shown.{entry_of}
@@ -116,6 +117,11 @@ MayChange s (to.Add new) = IsAddable s.config.floors new × HasRoom s.ongoing s.
 MayChange s (to.End request by) = IsSome (request_at s.ongoing request)
 MayChange s (to.Words request verdicts) = MayDecide s.ongoing request verdicts × (list_any (λ v. is_final v.1) verdicts ≡ false)
 MayChange s (to.Watch floors) = Unit {0}
+
+-- an act of the administrator may be done: a request that it revokes is ongoing
+abbrev pub MayAct : List Request → Act → Type 0
+MayAct ongoing (Act.Revoke request) = IsSome (request_at ongoing request)
+MayAct ongoing Act.Close = Unit {0}
 
 -- what is asked by this user, and no check refuses, may be done
 abbrev pub MayServe : Conference → ℕ → Ask → Type 0

@@ -1,11 +1,12 @@
-//! A member joins or leaves, and what ends with the last connection of its user (RFC 8855, section
+//! A member joins, acknowledges what it was told, or leaves, and what ends with the last connection of its user (RFC 8855, section
 //! 13.4, for the requests that are given back).
 
 ghost use Rattle.std.specs.Prelude.{◌≡◌, ◌++◌, ◌+◌, ◌<◌, ◌==◌, [], OnOk, find, length, option_map};
 ghost use Rattle.floor_queue.specs.Queue.{IsQueue};
 ghost use Rattle.floor_machine.specs.Change as change;
 ghost use Rattle.floor_machine.specs.Journal.{parcels_of};
-ghost use Rattle.floor_machine.specs.declared.event.Event.TheVariants.{Join, Leave};
+ghost use Rattle.floor_machine.specs.Next.{next};
+ghost use Rattle.floor_machine.specs.declared.event.Event.TheVariants.{Join, Leave, Took};
 ghost use Rattle.floor_machine.specs.steps.Fitting.{IsToldShown};
 ghost use Rattle.floor_machine.specs.steps.Marks.{KeepsNoted};
 ghost use Rattle.floor_machine.specs.steps.Serving.{IsAtRest, IsBegun, IsChanged, after_release_for, conference_of, released_for};
@@ -23,7 +24,7 @@ impl State {
     pub(crate) fn join(&mut self, n: u32, user: u16) -> Result<(), AllocError>
         requires { n ≡ length self.old.members + 1 }
         ensures next { IsAtRest self.old → OnOk result (conference_of self.new
-            ≡ change.settled (conference_of self.old) (Join user)) }
+            ≡ next (conference_of self.old) (Join user)) }
         ensures told { IsAtRest self.old
             → OnOk result (parcels_of (conference_of self.old) (Join user) ≡ []) }
         ensures shown { IsAtRest self.old
@@ -34,6 +35,21 @@ impl State {
         let _ongoing = self.requests.ongoing();
         let _alloc = self.members.allocator();
         self.members.join(n, user)
+    }
+
+    /// So many of the messages that were told to a member are acknowledged. Nobody is told. Takes no
+    /// memory.
+    pub(crate) fn took(&mut self, n: u32, k: u32)
+        requires rest { IsAtRest self.old }
+        ensures next { conference_of self.new ≡ next (conference_of self.old) (Took n k) }
+        ensures told { parcels_of (conference_of self.old) (Took n k) ≡ [] }
+        ensures shown { IsToldShown (conference_of self.old) (Took n k) }
+        ensures rest { IsAtRest self.new }
+    {
+        // The ongoing requests ascend, so that each is shown as before, and nobody is told of it.
+        let _ongoing = self.requests.ongoing();
+        let _alloc = self.members.allocator();
+        self.members.acknowledge(n, k);
     }
 
     /// A member leaves, before the requests are settled: where it was the last of its user, the

@@ -1,18 +1,18 @@
 //! Telling the members what an event changed (RFC 8855, sections 8 and 12.1).
 
 ghost use Rattle.std.specs.List.{list_any};
-ghost use Rattle.std.specs.Option.{option_map_or};
 ghost use Rattle.std.specs.Prelude.{◌≡◌, ◌++◌, ◌∷◌, [], All, IfOk, OnErr, OnOk, filter, map};
 ghost use Rattle.floor_message.specs.Shown.{IsShown};
-ghost use Rattle.floor_machine.specs.Conference.{member_with};
 ghost use Rattle.floor_machine.specs.Journal.{parcel};
 ghost use Rattle.floor_machine.specs.Told.{is_status_of};
 ghost use Rattle.floor_machine.specs.steps.Fitting.{AreFloorsShown};
-ghost use Rattle.floor_machine.specs.steps.Telling.{answered, answered_to, floor_notice, floor_notice_to, floors_changed, is_answered, is_due_to, is_noticed, is_watched_by, noticed_to, noticed_to_all, parcels_to_all, update_to, updates};
+ghost use Rattle.floor_machine.specs.steps.Counting.{counted_all, counted_of, told_of_all};
+ghost use Rattle.floor_machine.specs.steps.Serving.{IsAtRest, conference_of};
+ghost use Rattle.floor_machine.specs.steps.Telling.{answered, answered_to, floor_notice, floor_notice_to, floors_changed, is_answered, is_due_to, is_noticed, is_watched_by, noticed_to, parcels_to_all, update_to};
 
+use crate::conference::State;
 use crate::member::Member;
 use crate::members::Members;
-use crate::outcome::Outcome;
 use crate::parcel::Parcel;
 use crate::replied::Replied;
 use crate::tell::changed::{FloorUpdate, Update, Updates, floor_updates};
@@ -25,98 +25,113 @@ use std::alloc::{AllocError, Global};
 /// The status of a changed floor as it is written once, under User ID 0, for all who watch the
 /// floor.
 #[derive(Debug, Drop)]
-struct FloorNotice {
+pub(crate) struct FloorNotice {
     /// The Floor ID.
-    floor: u16,
+    pub floor: u16,
     /// The message.
-    message: SharedFrame,
+    pub message: SharedFrame,
 }
 
-impl Outcome<'_> {
-    /// Puts what the event tells each live member. After an error `out` is as it was.
+impl State {
+    /// Tells each live member what the event changed, or cuts it. After an error `out` is as it was.
     pub(crate) fn tell(
-        &self,
+        &mut self,
         alloc: Global,
         changes: &Changes,
         reply: &Option<Replied>,
         out: &mut Vec<Parcel>,
     ) -> Result<(), AllocError>
+        requires rest { IsAtRest self.old }
         ensures told { OnOk result (out.new.items ≡ out.old.items
-            ++ parcels_to_all self.now.conference.config.conference reply.now
+            ++ told_of_all (parcels_to_all self.old.config.conference reply.now
             changes.now.updates
-            (floors_changed self.now.shown changes.now.floors.items
-            self.now.conference.config.floors)
-            self.now.conference.members) }
+            (floors_changed self.old.shown.items changes.now.floors.items self.old.config.floors)
+            self.old.members) self.old.members) }
+        ensures counted { OnOk result (conference_of self.new
+            ≡ counted_all (parcels_to_all self.old.config.conference reply.now
+            changes.now.updates
+            (floors_changed self.old.shown.items changes.now.floors.items self.old.config.floors)
+            self.old.members) (conference_of self.old)) }
         ensures floors_shown { OnOk result
-            (AreFloorsShown (filter (is_watched_by self.now.conference.members)
-            (floors_changed self.now.shown changes.now.floors.items
-            self.now.conference.config.floors))) }
+            (AreFloorsShown (filter (is_watched_by self.old.members)
+            (floors_changed self.old.shown.items changes.now.floors.items
+            self.old.config.floors))) }
         ensures left { OnErr result (out.new.items ≡ out.old.items) }
+        ensures rest { IsAtRest self.new }
     {
-        let state = self.state;
         // At most 256 requests are ongoing.
-        let _ongoing = state.requests.ongoing();
-        let floors = watched_floors(alloc, &state.config, &state.members)?;
-        let floor_updates = floor_updates(alloc, &floors, &changes.floors, &state.shown)?;
+        let _ongoing = self.requests.ongoing();
+        let conference = self.config.conference();
+        let floors = watched_floors(alloc, &self.config, &self.members)?;
+        let floor_updates = floor_updates(alloc, &floors, &changes.floors, &self.shown)?;
         let mut parcels = Vec::new(alloc);
-        put_all(
+        tell_all(
             alloc,
             &mut parcels,
-            state.config.conference(),
-            &state.members,
+            conference,
+            &mut self.members,
             reply,
             &changes.updates,
             &floor_updates,
         )?;
-        put_behind(out, parcels)?;
-        Ok(())
+        put_behind(out, parcels)
     }
 
-    /// Puts the reply alone, of an event that changes nothing that is shown. After an error `out` is
-    /// as it was.
+    /// Tells the reply alone, of an event that changes nothing that is shown, or cuts its sender.
+    /// After an error `out` is as it was.
     pub(crate) fn tell_reply(
-        &self,
+        &mut self,
         alloc: Global,
         reply: &Option<Replied>,
         out: &mut Vec<Parcel>,
     ) -> Result<(), AllocError>
+        requires rest { IsAtRest self.old }
         ensures told { OnOk result (out.new.items ≡ out.old.items
-            ++ parcels_to_all self.now.conference.config.conference reply.now [] []
-            self.now.conference.members) }
+            ++ told_of_all (parcels_to_all self.old.config.conference reply.now [] []
+            self.old.members) self.old.members) }
+        ensures counted { OnOk result (conference_of self.new
+            ≡ counted_all (parcels_to_all self.old.config.conference reply.now [] []
+            self.old.members) (conference_of self.old)) }
         ensures left { OnErr result (out.new.items ≡ out.old.items) }
+        ensures rest { IsAtRest self.new }
     {
-        let state = self.state;
+        let conference = self.config.conference();
         let mut parcels = Vec::new(alloc);
-        put_all(
+        let none = Updates::new(alloc);
+        tell_all(
             alloc,
             &mut parcels,
-            state.config.conference(),
-            &state.members,
+            conference,
+            &mut self.members,
             reply,
-            &Updates::new(alloc),
+            &none,
             &[],
         )?;
         put_behind(out, parcels)
     }
 }
 
-/// Puts all that an event tells the live members, by ascending number. The status of a changed
-/// floor is spelled once, however many watch the floor, and where nobody does not at all.
-pub(crate) fn put_all(
+/// Tells the live members, by ascending number, what is due to each, or cuts it. The status of a
+/// changed floor is spelled once, however many watch the floor, and where nobody does not at all.
+fn tell_all(
     alloc: Global,
     out: &mut Vec<Parcel>,
     conference: u32,
-    members: &Members,
+    members: &mut Members,
     reply: &Option<Replied>,
     updates: &Updates,
     floor_updates: &[FloorUpdate],
 ) -> Result<(), AllocError>
     requires floors { AreFloorsShown floor_updates.now }
-    ensures { OnOk result (out.new.items ≡ out.old.items
-        ++ parcels_to_all conference reply.now updates.now floor_updates.now members.now) }
+    ensures told { OnOk result (out.new.items ≡ out.old.items ++ told_of_all
+        (parcels_to_all conference reply.now updates.now floor_updates.now members.old)
+        members.old) }
+    ensures counted { OnOk result (members.new ≡ map (counted_of
+        (parcels_to_all conference reply.now updates.now floor_updates.now members.old))
+        members.old) }
 {
     let notices = floor_notices(alloc, conference, members, floor_updates)?;
-    put_members(alloc, out, conference, members, reply, updates, &notices)
+    members.tell(alloc, out, conference, reply, updates, &notices)
 }
 
 /// Puts parcels behind those that are there, or in place of none. After an error `out` is as it was.
@@ -131,49 +146,8 @@ pub(crate) fn put_behind(out: &mut Vec<Parcel>, mut parcels: Vec<Parcel>) -> Res
     out.append(&mut parcels)
 }
 
-/// Puts all that is for the live members, by ascending number.
-fn put_members(
-    alloc: Global,
-    out: &mut Vec<Parcel>,
-    conference: u32,
-    members: &Members,
-    reply: &Option<Replied>,
-    updates: &Updates,
-    notices: &[FloorNotice],
-) -> Result<(), AllocError>
-    ensures { OnOk result (out.new.items ≡ out.old.items
-        ++ noticed_to_all conference reply.now updates.now notices.now members.now) }
-{
-    let live = members.live_numbers();
-    for n in live {
-        put_live(alloc, out, conference, members, *n, reply, updates, notices)?;
-    }
-    Ok(())
-}
-
-/// Puts all that is for the member with this number, if it is live.
-fn put_live(
-    alloc: Global,
-    out: &mut Vec<Parcel>,
-    conference: u32,
-    members: &Members,
-    n: u32,
-    reply: &Option<Replied>,
-    updates: &Updates,
-    notices: &[FloorNotice],
-) -> Result<(), AllocError>
-    ensures { OnOk result (out.new.items ≡ out.old.items ++ option_map_or
-        (noticed_to conference reply.now updates.now notices.now)
-        (member_with members.now n) []) }
-{
-    match members.get(n) {
-        Some(member) => { put_member(alloc, out, conference, member, reply, updates, notices) }
-        None => Ok(()),
-    }
-}
-
 /// Puts all that is for the member.
-fn put_member(
+pub(crate) fn put_member(
     alloc: Global,
     out: &mut Vec<Parcel>,
     conference: u32,

@@ -1,4 +1,4 @@
-use Rattle.floor_hub.proofs.Acting.{acted}
+use Rattle.floor_hub.proofs.Acting.{acted, admin_acted, quiet-act}
 use Rattle.floor_hub.proofs.Left.{left-at}
 use Rattle.floor_hub.proofs.RoomSteps.{event-room}
 use Rattle.std.proofs.Common.{◌≡◌, ◌⊎◌, refl, sym, subst}
@@ -38,9 +38,10 @@ turns : (c : goal.After-admin_at) (w : World) → StandsFor (old c) w → MatchR
 turns c w st =
     let g = good (old c) w st in
     ended (new c) w w (Admin c.args.conference c.args.act) Want (λ v. Done) tt g g c.admin_at.result
-    (acted (room_at (old c)) (room_at (new c)) (connection_at c.self.inside.connections) c.self.inside.arrivals w c.args.conference c.args.act st.stands
+    (admin_acted (room_at (old c)) (room_at (new c)) (connection_at c.self.inside.connections) c.self.inside.arrivals w c.args.conference c.args.act st.stands c.admin_at.result
+    (acted (room_at (old c)) (room_at (new c)) (connection_at c.self.inside.connections) c.self.inside.arrivals w c.args.conference (event_of_act c.args.act) (quiet-act c.args.act) st.stands
     c.admin_at.result (room_at (old c) c.args.conference) refl c.admin_at.ensures.room.absent
-    (λ r is. let t = c.admin_at.ensures.room.there r is in (t.0, t.1, t.2, t.3.0, t.3.1)))
+    (λ r is. let t = c.admin_at.ensures.room.there r is in (t.0, t.1, t.2, t.3.0, t.3.1))))
 
 room : (c : goal.After-admin_at) → OneRoom by_broken (refusal_in c.admin_at.result) (admin_event c.args.act) c.args.conference (old c) (new c)
 room c =

@@ -18,7 +18,9 @@ use Rattle.floor_machine.specs.Told.{reply_to}
 use Rattle.floor_machine.specs.steps.Fitting.{AreAddable, AreUpdatesShown}
 use Rattle.floor_machine.specs.steps.Deciding.{change_by, decision_of}
 use Rattle.floor_machine.specs.steps.Serving.{IsChanged, IsTaken, conference_of, is_rising, tells_by, with_requests}
-use Rattle.floor_machine.specs.steps.Telling.{answered_to, parcels_to_all}
+use Rattle.floor_machine.specs.steps.Telling.{answered_to, floors_changed, parcels_to_all}
+use Rattle.floor_machine.specs.steps.Counting.{counted_all, due_parcels, told_of_all}
+use Rattle.floor_machine.proofs.Counted.{counted-all, told-all}
 use Rattle.floor_machine.proofs.Addable.{decided_addable, queue_addable}
 use Rattle.floor_machine.proofs.Asked.{on_ok, on_ok_all}
 use Rattle.floor_machine.proofs.Bounds.{served-shown}
@@ -84,7 +86,25 @@ returns-in_ok-reply-in-Some-clause-next c =
     let is_next : t ≡ settled s e = settled-state s e (change_by s n j.change) before course (after_settle before.requests) changes changed refl in
     let done = c.in_ok-changes-in-Some.ensures in
     let to : IsSettledTo before after course c.in_ok-changes-in-Some.changes = record { next = done.next; shows = done.rest.shows; updates = done.updates; floors = done.floors } in
-    on_ok_all c.tell.result (to.next ∙ is_next)
+    let ended = ended-shown s e (change_by s n j.change) (conference_of before) course changes changed in
+    let numbers = numbers-shown s e (change_by s n j.change) (conference_of before) course changes changed in
+    let r : Replied = c.in_ok-reply-in-Some.reply in
+    let tells : r.tells ≡ tells_by (settled s e) course.ended.items (user_of s n) (decision_of s (user_of s n) a).reply =
+    c.in_ok-reply-in-Some.ensures.tells
+    ∙ ap (λ (x : Conference). tells_by x c.deref.result.now user j.reply) to.next
+    ∙ ap (λ (d : List Ended). tells_by t d user j.reply) (c.deref.ensures.value ∙ ap (λ x. x.items) c.settle.ensures.ended)
+    ∙ ap (λ (x : Conference). tells_by x course.ended.items user j.reply) is_next
+    ∙ ap (λ (u : ℕ). tells_by (settled s e) course.ended.items u j.reply) is_user
+    ∙ ap (λ (d : Decision). tells_by (settled s e) course.ended.items (user_of s n) d.reply) is_decided in
+    let answered = reply-answered s n bytes r a course.ended.items refl ended (ap is_rising (sym numbers) ∙ changed.rising) c.in_ok-reply-in-Some.ensures.to c.in_ok-reply-in-Some.ensures.head tells in
+    let all : parcels_to_all after.config.conference (Some r) c.in_ok-changes-in-Some.changes.updates (floors_changed after.shown.items c.in_ok-changes-in-Some.changes.floors.items after.config.floors) after.members ≡ due_parcels s e =
+    parcels-settled before after course c.in_ok-changes-in-Some.changes (Some r) to
+    ∙ parcels-served s e t course (Some r) refl is_next c.allocator-alloc.ensures.kept ended numbers changed.rising (taken.1 ∙ c.requires.rest.shows.infos) answered in
+    on_ok c.tell.result (λ counted. counted
+    ∙ ap (λ (ps : List Parcel). counted_all ps (conference_of after)) all
+    ∙ ap (counted_all (due_parcels s e)) (to.next ∙ is_next)
+    ∙ counted-all s e refl c.allocator-alloc.ensures.kept)
+    c.tell.ensures.counted
 
 pub returns-in_ok-reply-in-Some-clause-out : goal.returns-in_ok-reply-in-Some-clause-out
 returns-in_ok-reply-in-Some-clause-out c =
@@ -121,9 +141,13 @@ returns-in_ok-reply-in-Some-clause-out c =
     ∙ ap (λ (u : ℕ). tells_by (settled s e) course.ended.items u j.reply) is_user
     ∙ ap (λ (d : Decision). tells_by (settled s e) course.ended.items (user_of s n) d.reply) is_decided in
     let answered = reply-answered s n bytes r a course.ended.items refl ended (ap is_rising (sym numbers) ∙ changed.rising) c.in_ok-reply-in-Some.ensures.to c.in_ok-reply-in-Some.ensures.head tells in
-    on_ok c.tell.result (λ told. told ∙ ap (λ (ps : List Parcel). c.args.out.now.items ++ ps)
-    (parcels-settled before after course c.in_ok-changes-in-Some.changes (Some r) to
-    ∙ parcels-served s e t course (Some r) refl is_next c.allocator-alloc.ensures.kept ended numbers changed.rising (taken.1 ∙ c.requires.rest.shows.infos) answered))
+    let all : parcels_to_all after.config.conference (Some r) c.in_ok-changes-in-Some.changes.updates (floors_changed after.shown.items c.in_ok-changes-in-Some.changes.floors.items after.config.floors) after.members ≡ due_parcels s e =
+    parcels-settled before after course c.in_ok-changes-in-Some.changes (Some r) to
+    ∙ parcels-served s e t course (Some r) refl is_next c.allocator-alloc.ensures.kept ended numbers changed.rising (taken.1 ∙ c.requires.rest.shows.infos) answered in
+    on_ok c.tell.result (λ told. told
+    ∙ ap (λ (ps : List Parcel). c.args.out.now.items ++ told_of_all ps after.members) all
+    ∙ ap (λ (x : Conference). c.args.out.now.items ++ told_of_all (due_parcels s e) x.members) (to.next ∙ is_next)
+    ∙ ap (λ (ps : List Parcel). c.args.out.now.items ++ ps) (told-all s e refl c.allocator-alloc.ensures.kept))
     c.tell.ensures.told
 
 pub returns-in_ok-reply-in-Some-clause-shown : goal.returns-in_ok-reply-in-Some-clause-shown
@@ -184,7 +208,23 @@ returns-in_ok-reply-in-None-clause-next c =
     let F : List Floor → Type 0 = λ fs. settle fs s.ongoing ≡ s.ongoing in
     let is_settled : settle s.config.floors s.ongoing ≡ s.ongoing = subst F S.same_floors c.requires.rest.settled in
     let is_next : conference_of after ≡ settled s e = ap (λ (x : State). conference_of x) taken.1 ∙ settled-message s n bytes j is_decided taken.0 is_settled in
-    on_ok_all c.tell_reply.result is_next
+    let r : Replied = c.in_ok-reply-in-None.reply in
+    let tells : r.tells ≡ tells_by (settled s e) [] (user_of s n) j.reply =
+    c.in_ok-reply-in-None.ensures.tells
+    ∙ ap (λ (x : Conference). tells_by x [] user j.reply) is_next
+    ∙ ap (λ (u : ℕ). tells_by (settled s e) [] u j.reply) is_user in
+    let ascending = c.ongoing-ongoing.ensures.kept.ascending in
+    let replied : (k : ℕ) → answered_to (Some r) k ≡ reply_to s e k =
+    replied-message s n bytes j r is_decided taken.0 is_settled ascending c.in_ok-reply-in-None.ensures.to c.in_ok-reply-in-None.ensures.head tells in
+    let all : parcels_to_all after.config.conference (Some r) [] [] after.members ≡ due_parcels s e =
+    ap (λ (x : Conference). parcels_to_all x.config.conference (Some r) [] [] x.members) is_next
+    ∙ ap (λ (config : Configuration). parcels_to_all config.conference (Some r) [] [] (settled s e).members) (settled-config s e)
+    ∙ parcels-message s n bytes j r is_decided taken.0 is_settled ascending c.allocator-alloc.ensures.kept replied in
+    on_ok c.tell_reply.result (λ counted. counted
+    ∙ ap (λ (ps : List Parcel). counted_all ps (conference_of after)) all
+    ∙ ap (counted_all (due_parcels s e)) is_next
+    ∙ counted-all s e refl c.allocator-alloc.ensures.kept)
+    c.tell_reply.ensures.counted
 
 pub returns-in_ok-reply-in-None-clause-out : goal.returns-in_ok-reply-in-None-clause-out
 returns-in_ok-reply-in-None-clause-out c =
@@ -212,10 +252,14 @@ returns-in_ok-reply-in-None-clause-out c =
     let ascending = c.ongoing-ongoing.ensures.kept.ascending in
     let replied : (k : ℕ) → answered_to (Some r) k ≡ reply_to s e k =
     replied-message s n bytes j r is_decided taken.0 is_settled ascending c.in_ok-reply-in-None.ensures.to c.in_ok-reply-in-None.ensures.head tells in
-    on_ok c.tell_reply.result (λ told. told ∙ ap (λ (ps : List Parcel). c.args.out.now.items ++ ps)
-    (ap (λ (x : Conference). parcels_to_all x.config.conference (Some r) [] [] x.members) is_next
+    let all : parcels_to_all after.config.conference (Some r) [] [] after.members ≡ due_parcels s e =
+    ap (λ (x : Conference). parcels_to_all x.config.conference (Some r) [] [] x.members) is_next
     ∙ ap (λ (config : Configuration). parcels_to_all config.conference (Some r) [] [] (settled s e).members) (settled-config s e)
-    ∙ parcels-message s n bytes j r is_decided taken.0 is_settled ascending c.allocator-alloc.ensures.kept replied))
+    ∙ parcels-message s n bytes j r is_decided taken.0 is_settled ascending c.allocator-alloc.ensures.kept replied in
+    on_ok c.tell_reply.result (λ told. told
+    ∙ ap (λ (ps : List Parcel). c.args.out.now.items ++ told_of_all ps after.members) all
+    ∙ ap (λ (x : Conference). c.args.out.now.items ++ told_of_all (due_parcels s e) x.members) is_next
+    ∙ ap (λ (ps : List Parcel). c.args.out.now.items ++ ps) (told-all s e refl c.allocator-alloc.ensures.kept))
     c.tell_reply.ensures.told
 
 pub returns-in_ok-reply-in-None-clause-shown : goal.returns-in_ok-reply-in-None-clause-shown

@@ -13,5 +13,5 @@ pushed false ms m h k = k
 pub invariant_of-self : goal.invariant_of-self
 invariant_of-self c =
     let ms = c.args.self.now.members.items in
-    let m : Member = record { n = c.args.n; user = c.args.user; watched = c.from_vec.result; is_live = true } in
+    let m : Member = record { n = c.args.n; user = c.args.user; watched = c.from_vec.result; is_live = true; backlog = 0; is_cut = false } in
     record { numbered = ap (is_numbered_from 1) c.push.ensures.items ∙ pushed (is_ok c.push.result) ms m c.requires c.args.self.now.numbered }

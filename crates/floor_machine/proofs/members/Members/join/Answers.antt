@@ -1,14 +1,14 @@
 use Rattle.std.proofs.Common.{◌≡◌, ◌∙◌, ◌++◌, ◌∷◌, [], ℕ, List, true, ap, arith, refl, sym}
 use Rattle.std.specs.Prelude.{is_ok}
 use Rattle.floor_machine.specs.declared.member.Member.{Member}
-use Rattle.floor_machine.specs.steps.Live.{live_numbers}
+use Rattle.floor_machine.specs.Conference.{joining, live_numbers}
 use Rattle.floor_machine.proofs.Live.{live-push}
 use Rattle.floor_machine.proofs.members.Members.join.Goals as goal
 
 pub invariant_of-self-2 : goal.invariant_of-self-2
 invariant_of-self-2 c =
     let ms = c.self.inside.joined.members.items in
-    let m : Member = record { n = c.args.n; user = c.args.user; watched = []; is_live = true } in
+    let m : Member = joining c.args.n c.args.user in
     let ok : is_ok c.push-pushed.result ≡ true = c.push-pushed.ensures.succeeds (omega (arith, c.in_ok-reserve.ensures.ok)) in
     let items : c.push-pushed.new.self.items ≡ c.self.inside.live.items ++ c.args.n ∷ [] =
     c.push-pushed.ensures.items ∙ rw ok (ap (λ (ns : List ℕ). ns ++ c.args.n ∷ []) c.in_ok-reserve.ensures.items) in

@@ -1,6 +1,6 @@
 use Rattle.std.proofs.Common.{ap, ◌∙◌, sym}
 use Rattle.std.specs.Prelude.{◌==◌, filter, not}
-use Rattle.floor_machine.specs.steps.Live.{live_numbers}
+use Rattle.floor_machine.specs.Conference.{live_numbers}
 use Rattle.floor_machine.proofs.Live.{live-leaving}
 use Rattle.floor_machine.proofs.members.Members.leave.Goals as goal
 

@@ -1,5 +1,5 @@
 use Rattle.std.proofs.Common.{ap, ◌∙◌, sym}
-use Rattle.floor_machine.specs.steps.Live.{live_numbers}
+use Rattle.floor_machine.specs.Conference.{live_numbers}
 use Rattle.floor_machine.proofs.Live.{live-watching}
 use Rattle.floor_machine.proofs.members.Members.watch.Goals as goal
 

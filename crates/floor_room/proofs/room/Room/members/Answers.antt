@@ -6,5 +6,5 @@ use Rattle.floor_room.proofs.room.Room.members.Goals as goal
 pub overflow_cast-result : goal.overflow_cast-result
 overflow_cast-result c =
     let r : spec.Room = record { ledger = c.self.inside.ledger; outboxes = c.self.inside.outboxes.items } in
-    let few : length c.self.inside.outboxes.items ≤ 1000000 = outboxes-few r (vec_capacity c.self.inside.outboxes) c.self.invariant in
+    let few : length c.self.inside.outboxes.items ≤ 2000000 = outboxes-few r (vec_capacity c.self.inside.outboxes) c.self.invariant in
     omega arith

@@ -5,7 +5,7 @@ use Rattle.floor_room.proofs.Taking.{counted-more, keeps-given}
 use Rattle.floor_room.proofs.room.Room.take.Goals as goal
 
 pub take-requires : goal.take-requires
-take-requires c = counted-more (length c.self.inside.ledger.journal) 1000000 c.self.inside.outboxes.items c.self.invariant.room.journal.count c.self.invariant.counted
+take-requires c = counted-more (length c.self.inside.ledger.journal) 2000000 c.self.inside.outboxes.items c.self.invariant.room.journal.count c.self.invariant.counted
 
 pub invariant_of-self : goal.invariant_of-self
 invariant_of-self c =

@@ -1,0 +1,80 @@
+use Rattle.floor_hub.proofs.Acknowledging.{took_result}
+use Rattle.floor_hub.proofs.Left.{left-took}
+use Rattle.floor_hub.proofs.RoomSteps.{took-room}
+use Rattle.std.proofs.Common.{◌≡◌, ◌⊎◌, ℕ, false, Some, refl, sym, subst}
+use Rattle.std.specs.Prelude.{IfErr, MatchResult, Result, Ok, Err, nat_eq}
+use Rattle.floor_machine.specs.declared.event.Event.TheVariants.{Took as Takes}
+use Rattle.floor_machine.specs.declared.machine.Refusal.TheVariants.{Memory, Broken}
+use Rattle.floor_room.specs.declared.refusal.RoomRefusal.{RoomRefusal}
+use Rattle.floor_room.specs.declared.refusal.RoomRefusal.TheVariants.{Refused as ByMachine}
+use Rattle.floor_room.specs.Calls.{Left}
+use Rattle.floor_room.specs.Room.{Room}
+use Rattle.floor_hub.specs.declared.connection.Connection.{Connection}
+use Rattle.floor_hub.specs.declared.refusal.HubRefusal.{HubRefusal}
+use Rattle.floor_hub.specs.declared.refusal.HubRefusal.TheVariants.{ByRoom}
+use Rattle.floor_hub.specs.declared.step.Step.TheVariants.{Took}
+use Rattle.floor_hub.specs.declared.step.Answer.TheVariants.{Done}
+use Rattle.floor_hub.specs.Connections.{connection_at}
+use Rattle.floor_hub.specs.Hub.{Hub, room_at}
+use Rattle.floor_hub.specs.Left.{LeftTaking}
+use Rattle.floor_hub.specs.Rooms.{RoomOf, by_broken, refusal_in, took_event}
+use Rattle.floor_hub.specs.StandsFor.{StandsFor}
+use Rattle.floor_hub.specs.Calls.{Fails, Turns}
+use Rattle.floor_hub.specs.steps.Serving.{EventIn}
+use Rattle.floor_hub.specs.World.{World}
+use Rattle.floor_hub.proofs.Closing.{ended, good, stood}
+use Rattle.floor_hub.proofs.Outboxes.{grows-of, keeps-outboxes, outbox-room, were-same}
+use Rattle.floor_hub.proofs.hub.Hub.took.Goals as goal
+
+abbrev old : goal.After-took_at → Hub
+old c = record { rooms = c.self.inside.rooms.entries; connections = c.self.inside.connections; arrivals = c.self.inside.arrivals }
+
+abbrev new : goal.After-took_at → Hub
+new c = record { rooms = c.took_at.new.rooms.entries; connections = c.self.inside.connections; arrivals = c.self.inside.arrivals }
+
+abbrev Want : HubRefusal → Type 0
+Want r = (r ≡ ByRoom (ByMachine Memory)) ⊎ (r ≡ ByRoom (ByMachine Broken))
+
+there : (c : goal.After-took_at) (x : Connection) → connection_at (old c).connections c.args.number ≡ Some x → (r : Room) → room_at (old c) x.conference ≡ Some r →
+    (s : Room) × (room_at (new c) x.conference ≡ Some s) × ((d : ℕ) → nat_eq x.conference d ≡ false → room_at (new c) d ≡ room_at (old c) d) × EventIn (Takes x.n c.args.k) r s c.took_at.result
+there c x is r room = let t = c.took_at.ensures.connection.there x is r room in (t.0, t.2, t.3, t.5.1)
+
+turns : (c : goal.After-took_at) (w : World) → StandsFor (old c) w → MatchResult c.took_at.result (λ v. Turns (new c) w (Took c.args.number c.args.k) Done) (λ r. Fails (new c) w (Took c.args.number c.args.k) r)
+turns c w st =
+    let g = good (old c) w st in
+    ended (new c) w w (Took c.args.number c.args.k) Want (λ v. Done) tt g g c.took_at.result
+    (took_result (room_at (old c)) (room_at (new c)) (connection_at c.self.inside.connections) c.self.inside.arrivals w c.args.number c.args.k st.stands
+    c.took_at.result (connection_at c.self.inside.connections c.args.number) refl
+    (λ none. let a = c.took_at.ensures.connection.absent none in (a.0, a.1)) (there c))
+
+room : (c : goal.After-took_at) → RoomOf by_broken (refusal_in c.took_at.result) (took_event c.args.k) (connection_at (old c).connections c.args.number) (old c) (new c)
+room c =
+    took-room c.args.number (old c) (new c) c.self.invariant.0 c.self.invariant.1 c.args.k c.took_at.result (connection_at c.self.inside.connections c.args.number) refl
+    c.took_at.ensures.connection.absent refl (there c)
+
+pub invariant_of-self : goal.invariant_of-self
+invariant_of-self c =
+    let w = c.self.invariant.0 in
+    stood (new c) w w (Took c.args.number c.args.k) Want (λ v. Done) c.took_at.result (turns c w c.self.invariant.1)
+    (keeps-outboxes (old c) (new c) (grows-of by_broken (refusal_in c.took_at.result) (took_event c.args.k) (connection_at (old c).connections c.args.number) (old c) (new c) (room c))
+    (were-same (old c).connections (new c).connections (λ k. refl)) c.self.invariant.2)
+
+pub returns-clause-next : goal.returns-clause-next
+returns-clause-next c = λ w st. turns c w (subst (λ h. StandsFor h w) (sym c.self.view_is) st)
+
+pub returns-clause-room : goal.returns-clause-room
+returns-clause-room c = subst (λ h. RoomOf by_broken (refusal_in c.took_at.result) (took_event c.args.k) (connection_at h.connections c.args.number) h (new c)) c.self.view_is (room c)
+
+-- what the room's refusal has left
+fails : (c : goal.After-took_at) (x : Connection) (r s : Room) (res : Result (Unit {0}) HubRefusal) → EventIn (Takes x.n c.args.k) r s res →
+    IfErr res (λ z. (why : RoomRefusal) × (z ≡ ByRoom why) × Left r s (Takes x.n c.args.k) why)
+fails c x r s (Ok v) h = tt
+fails c x r s (Err z) h = (h.1.0, h.1.1, h.1.3)
+
+pub returns-clause-left : goal.returns-clause-left
+returns-clause-left c =
+    subst (λ h. IfErr c.took_at.result (LeftTaking c.args.k (connection_at h.connections c.args.number) h (new c))) c.self.view_is
+    (left-took c.args.number c.args.k (old c) (new c) refl c.took_at.result (connection_at c.self.inside.connections c.args.number) refl
+    (λ none. let a = c.took_at.ensures.connection.absent none in (a.0, a.1))
+    (λ x is. let r = outbox-room (room_at (old c) x.conference) x.n (c.self.invariant.2 c.args.number x is) in
+    let t = there c x is r.0 r.1 in (r.0, t.0, r.1, t.1, t.2, fails c x r.0 t.0 c.took_at.result t.3)) (λ k. refl))

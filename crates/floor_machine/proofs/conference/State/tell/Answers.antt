@@ -1,0 +1,46 @@
+use Rattle.std.proofs.Common.{◌≡◌, ℕ, List, ◌++◌, ap, map, rules, ◌∙◌}
+use Rattle.std.specs.Prelude.{filter}
+use Rattle.floor_machine.specs.declared.member.Member.{Member}
+use Rattle.floor_machine.specs.declared.tell.changed.FloorUpdate.{FloorUpdate}
+use Rattle.floor_machine.specs.Parcel.{Parcel}
+use Rattle.floor_machine.specs.steps.Counting.{counted_of, told_of_all}
+use Rattle.floor_machine.specs.steps.Serving.{conference_of}
+use Rattle.floor_machine.specs.steps.Telling.{floors_changed, is_floor_watched, parcels_to_all}
+use Rattle.floor_machine.proofs.Asked.{on_ok, on_ok_all}
+use Rattle.floor_machine.proofs.Watched.{parcels-watched, updates-watched}
+use Rattle.floor_machine.proofs.conference.State.tell.Goals as goal
+
+pub returns-clause-told : goal.returns-clause-told
+returns-clause-told c =
+    let s = c.args.self.now in
+    let reply = c.args.reply.now in
+    let updates = c.args.changes.now.updates in
+    let are : c.deref-4.result.now ≡ floors_changed s.shown.items c.args.changes.now.floors.items (filter (is_floor_watched s.members) s.config.floors) = search rules in
+    let is : c.conference-conference.result ≡ s.config.conference = search rules in
+    on_ok c.put_behind.result (λ put. put
+    ∙ ap (λ (ps : List Parcel). c.args.out.now.items ++ ps)
+    (c.in_ok-tell_all.ensures.told
+    ∙ ap (λ (ps : List Parcel). ps ++ told_of_all (parcels_to_all c.conference-conference.result reply updates c.deref-4.result.now s.members) s.members) c.new-parcels.ensures.items
+    ∙ ap (λ (fs : List FloorUpdate). told_of_all (parcels_to_all c.conference-conference.result reply updates fs s.members) s.members) are
+    ∙ ap (λ (n : ℕ). told_of_all (parcels_to_all n reply updates (floors_changed s.shown.items c.args.changes.now.floors.items (filter (is_floor_watched s.members) s.config.floors)) s.members) s.members) is
+    ∙ ap (λ (ps : List Parcel). told_of_all ps s.members) (parcels-watched s.config.conference reply updates s.shown.items c.args.changes.now.floors.items s.config.floors s.members)))
+    c.put_behind.ensures.out
+
+pub returns-clause-counted : goal.returns-clause-counted
+returns-clause-counted c =
+    let s = c.args.self.now in
+    let reply = c.args.reply.now in
+    let updates = c.args.changes.now.updates in
+    let are : c.deref-4.result.now ≡ floors_changed s.shown.items c.args.changes.now.floors.items (filter (is_floor_watched s.members) s.config.floors) = search rules in
+    let is : c.conference-conference.result ≡ s.config.conference = search rules in
+    on_ok_all c.put_behind.result
+    (ap (λ (ms : List Member). record (conference_of s) { members = ms })
+    (c.in_ok-tell_all.ensures.counted
+    ∙ ap (λ (fs : List FloorUpdate). map (counted_of (parcels_to_all c.conference-conference.result reply updates fs s.members)) s.members) are
+    ∙ ap (λ (n : ℕ). map (counted_of (parcels_to_all n reply updates (floors_changed s.shown.items c.args.changes.now.floors.items (filter (is_floor_watched s.members) s.config.floors)) s.members)) s.members) is
+    ∙ ap (λ (ps : List Parcel). map (counted_of ps) s.members) (parcels-watched s.config.conference reply updates s.shown.items c.args.changes.now.floors.items s.config.floors s.members)))
+
+pub returns-clause-floors_shown : goal.returns-clause-floors_shown
+returns-clause-floors_shown c =
+    let s = c.args.self.now in
+    rw (← updates-watched s.shown.items c.args.changes.now.floors.items s.members s.config.floors) (search rules)

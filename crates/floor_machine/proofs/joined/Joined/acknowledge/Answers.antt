@@ -1,0 +1,30 @@
+use Rattle.std.proofs.Common.{◌<◌, ◌-◌, ◌∙◌, ap, length, rules, set, sym}
+use Rattle.floor_machine.specs.Change.{acknowledging}
+use Rattle.floor_machine.specs.Conference.{is_numbered_from}
+use Rattle.floor_machine.specs.declared.member.Member.{Member}
+use Rattle.floor_machine.proofs.Live.{changed-there, none-changed, numbered-map}
+use Rattle.floor_machine.proofs.Sent.{n-acknowledging}
+use Rattle.floor_machine.proofs.joined.Joined.acknowledge.Goals as goal
+
+pub returns-then-place-len : goal.returns-then-place-len
+returns-then-place-len c =
+    let ms = c.args.self.now.members.items in
+    let within : c.place_of-place.result < length ms = search rules in
+    ap (λ (m : Member). set ms c.place_of-place.result m) c.acknowledge.ensures
+    ∙ changed-there c.args.n c.place_of-place.result (λ m. record m { backlog = m.backlog - c.args.k }) ms c.index_mut.result.now c.args.self.now.numbered c.place_of-place.ensures within c.index_mut.ensures.value
+
+pub returns-else-place-len : goal.returns-else-place-len
+returns-else-place-len c =
+    let ms = c.args.self.now.members.items in
+    sym (none-changed c.args.n (λ m. record m { backlog = m.backlog - c.args.k }) ms (search rules))
+
+pub invariant_of-self : goal.invariant_of-self
+invariant_of-self c =
+    let ms = c.args.self.now.members.items in
+    let within : c.place_of-place.result < length ms = search rules in
+    record {
+      numbered =
+          ap (λ (m : Member). is_numbered_from 1 (set ms c.place_of-place.result m)) c.acknowledge.ensures
+          ∙ ap (is_numbered_from 1) (changed-there c.args.n c.place_of-place.result (λ m. record m { backlog = m.backlog - c.args.k }) ms c.index_mut.result.now c.args.self.now.numbered c.place_of-place.ensures within c.index_mut.ensures.value)
+          ∙ numbered-map (acknowledging c.args.n c.args.k) (n-acknowledging c.args.n c.args.k) 1 ms c.args.self.now.numbered;
+    }

@@ -1,0 +1,15 @@
+use Rattle.std.proofs.Common.{◌≡◌, ◌++◌, drop}
+use Rattle.floor_machine.specs.Conference.{live_numbers}
+use Rattle.floor_machine.specs.steps.Counting.{members_each, told_each}
+use Rattle.floor_machine.specs.steps.Telling.{noticed_to}
+use Rattle.floor_machine.proofs.tell.backlog.tell_each.Given as goal
+
+-- what is told and what is left are all that is told, and the members come to be as after it
+abbrev pub invariant-loop-n : goal.invariant-loop-n
+invariant-loop-n l = record {
+  told : l.out.items ++ told_each (noticed_to l.conference l.reply l.updates l.notices) (drop l.n-index l.live) l.joined.members.items
+      ≡ l.fn.out.items ++ told_each (noticed_to l.conference l.reply l.updates l.notices) l.live l.fn.joined.members.items;
+  members : members_each (noticed_to l.conference l.reply l.updates l.notices) (drop l.n-index l.live) l.joined.members.items
+      ≡ members_each (noticed_to l.conference l.reply l.updates l.notices) l.live l.fn.joined.members.items;
+  live : live_numbers l.joined.members.items ≡ live_numbers l.fn.joined.members.items;
+}

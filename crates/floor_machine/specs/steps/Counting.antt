@@ -1,0 +1,70 @@
+-- What is due to the members is told and counted, member by member.
+use Rattle.std.specs.Prelude.{ℕ, ◌+◌, ◌==◌, ◌&&◌, ◌||◌, nat_le, nat_lt, not, if◌then◌else◌, Bool, false, List, [], ◌∷◌, ◌++◌, find, length, map}
+use Rattle.std.specs.List.{flat_map}
+use Rattle.std.specs.Option.{option_map_or}
+use Rattle.floor_machine.specs.declared.member.Member.{Member}
+use Rattle.floor_machine.specs.Parcel.{Parcel}
+use Rattle.floor_machine.specs.Conference.{Conference, member_with}
+use Rattle.floor_machine.specs.declared.event.Event.{Event}
+use Rattle.floor_machine.specs.Change.{settled}
+use Rattle.floor_machine.specs.Told.{due}
+use Rattle.floor_machine.specs.Journal.{parcel, sent_to}
+use Rattle.floor_machine.specs.Next.{MAX_BACKLOG}
+
+-- so many messages that are due to the member are told
+abbrev pub is_told : ℕ → Member → Bool
+is_told many m = not m.is_cut && nat_le (m.backlog + many) MAX_BACKLOG
+
+-- the member, to which so many messages are due: they are told, or it is cut
+abbrev pub taken_on : ℕ → Member → Member
+taken_on many m = if is_told many m then record m { backlog = m.backlog + many } else record m { is_cut = m.is_cut || nat_lt 0 many }
+
+-- so many messages that are due to the member with this number are told
+abbrev pub is_told_at : ℕ → ℕ → List Member → Bool
+is_told_at many n members = option_map_or (is_told many) (find (λ m. m.n == n) members) false
+
+-- the member with this number, to which so many messages are due, and any other as it is
+abbrev pub counted_at : ℕ → ℕ → Member → Member
+counted_at many n m = if m.n == n then taken_on many m else m
+
+-- what is due to the live member with this number
+abbrev pub due_at : (Member → List Parcel) → ℕ → List Member → List Parcel
+due_at to n members = option_map_or to (member_with members n) []
+
+-- what it is told of that
+abbrev pub told_at : (Member → List Parcel) → ℕ → List Member → List Parcel
+told_at to n members = if is_told_at (length (due_at to n members)) n members then due_at to n members else []
+
+-- the members, once what is due to it is told to the member with this number
+abbrev pub members_at : (Member → List Parcel) → ℕ → List Member → List Member
+members_at to n members = map (counted_at (length (due_at to n members)) n) members
+
+-- what those with these numbers are told, one after another
+abbrev pub told_each : (Member → List Parcel) → List ℕ → List Member → List Parcel
+told_each to [] members = []
+told_each to (n ∷ ns) members = told_at to n members ++ told_each to ns (members_at to n members)
+
+-- the members after it
+abbrev pub members_each : (Member → List Parcel) → List ℕ → List Member → List Member
+members_each to [] members = members
+members_each to (n ∷ ns) members = members_each to ns (members_at to n members)
+
+-- of what is due to all, what this member is told
+abbrev pub told_of : List Parcel → Member → List Parcel
+told_of all m = if is_told (length (sent_to m.n all)) m then sent_to m.n all else []
+
+-- of what is due to all, what all are told
+abbrev pub told_of_all : List Parcel → List Member → List Parcel
+told_of_all all members = flat_map (told_of all) members
+
+-- the member, once what is due to all is told
+abbrev pub counted_of : List Parcel → Member → Member
+counted_of all m = taken_on (length (sent_to m.n all)) m
+
+-- the conference, once what is due to all is told
+abbrev pub counted_all : List Parcel → Conference → Conference
+counted_all all s = record s { members = map (counted_of all) s.members }
+
+-- all that is due after an event, by ascending number
+unfoldable pub due_parcels : Conference → Event → List Parcel
+due_parcels s e = flat_map (λ m. map (parcel m.n) (due s e m.n)) (settled s e).members

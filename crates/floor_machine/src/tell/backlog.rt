@@ -1,0 +1,123 @@
+//! A member is told all that an event calls for, or nothing: nothing where it would come to be more than
+//! 1,024 messages behind, and then it is cut.
+
+ghost use Rattle.std.specs.List.{flat_map};
+ghost use Rattle.std.specs.Prelude.{◌≡◌, ◌++◌, [], OnOk, map};
+ghost use Rattle.floor_machine.specs.Conference.{live_numbers};
+ghost use Rattle.floor_machine.specs.steps.Counting.{counted_of, due_at, members_at, members_each, told_at, told_each, told_of_all};
+ghost use Rattle.floor_machine.specs.steps.Telling.{noticed_to, noticed_to_all};
+
+use crate::joined::Joined;
+use crate::members::Members;
+use crate::parcel::Parcel;
+use crate::replied::Replied;
+use crate::tell::changed::Updates;
+use crate::tell::parcels::{FloorNotice, put_member};
+use std::alloc::{AllocError, Global};
+
+impl Members {
+    /// Tells the live members, by ascending number, what is due to each, or cuts it.
+    pub(crate) fn tell(
+        &mut self,
+        alloc: Global,
+        out: &mut Vec<Parcel>,
+        conference: u32,
+        reply: &Option<Replied>,
+        updates: &Updates,
+        notices: &[FloorNotice],
+    ) -> Result<(), AllocError>
+        ensures told { OnOk result (out.new.items ≡ out.old.items ++ told_of_all
+            (noticed_to_all conference reply.now updates.now notices.now self.old) self.old) }
+        ensures counted { OnOk result (self.new ≡ map (counted_of
+            (noticed_to_all conference reply.now updates.now notices.now self.old)) self.old) }
+    {
+        tell_each(
+            alloc,
+            out,
+            conference,
+            &mut self.joined,
+            &self.live,
+            reply,
+            updates,
+            notices,
+        )
+    }
+}
+
+/// Tells the live members with these numbers, one after another, what is due to each, or cuts it.
+fn tell_each(
+    alloc: Global,
+    out: &mut Vec<Parcel>,
+    conference: u32,
+    joined: &mut Joined,
+    live: &[u32],
+    reply: &Option<Replied>,
+    updates: &Updates,
+    notices: &[FloorNotice],
+) -> Result<(), AllocError>
+    ensures told { OnOk result (out.new.items ≡ out.old.items
+        ++ told_each (noticed_to conference reply.now updates.now notices.now)
+        live.now joined.old.members.items) }
+    ensures counted { OnOk result (joined.new.members.items
+        ≡ members_each (noticed_to conference reply.now updates.now notices.now)
+        live.now joined.old.members.items) }
+    ensures live { live_numbers joined.new.members.items ≡ live_numbers joined.old.members.items }
+{
+    for n in live {
+        tell_one(alloc, out, conference, joined, *n, reply, updates, notices)?;
+    }
+    Ok(())
+}
+
+/// Tells the member with this number what is due to it, or cuts it.
+fn tell_one(
+    alloc: Global,
+    out: &mut Vec<Parcel>,
+    conference: u32,
+    joined: &mut Joined,
+    n: u32,
+    reply: &Option<Replied>,
+    updates: &Updates,
+    notices: &[FloorNotice],
+) -> Result<(), AllocError>
+    ensures told { OnOk result (out.new.items ≡ out.old.items
+        ++ told_at (noticed_to conference reply.now updates.now notices.now)
+        n joined.old.members.items) }
+    ensures counted { OnOk result (joined.new.members.items
+        ≡ members_at (noticed_to conference reply.now updates.now notices.now)
+        n joined.old.members.items) }
+    ensures live { live_numbers joined.new.members.items ≡ live_numbers joined.old.members.items }
+{
+    // Whoever is cut is told nothing, and costs nothing.
+    if joined.is_cut(n) {
+        return Ok(());
+    }
+    let before = out.len();
+    put_due(alloc, out, conference, joined, n, reply, updates, notices)?;
+    let due = out.len() - before;
+    if !joined.take_on(n, due) {
+        out.truncate(before);
+    }
+    Ok(())
+}
+
+/// Puts what is due to the member with this number, if it is live.
+fn put_due(
+    alloc: Global,
+    out: &mut Vec<Parcel>,
+    conference: u32,
+    joined: &Joined,
+    n: u32,
+    reply: &Option<Replied>,
+    updates: &Updates,
+    notices: &[FloorNotice],
+) -> Result<(), AllocError>
+    ensures { OnOk result (out.new.items ≡ out.old.items
+        ++ due_at (noticed_to conference reply.now updates.now notices.now)
+        n joined.now.members.items) }
+{
+    match joined.find_live(n) {
+        Some(member) => put_member(alloc, out, conference, member, reply, updates, notices),
+        None => Ok(()),
+    }
+}

@@ -1,0 +1,12 @@
+use Rattle.std.proofs.Common.{◌≡◌, Bool, false, ap, subst, ◌∙◌}
+use Rattle.floor_machine.specs.Conference.{live_numbers}
+use Rattle.floor_machine.specs.Machine.{Machine}
+use Rattle.floor_room.specs.Ledger as spec
+use Rattle.floor_room.proofs.ledger.Ledger.live_numbers.Goals as goal
+
+pub returns : goal.returns
+returns c =
+    record {
+      value = subst (λ (x : spec.Ledger). x.is_broken ≡ false → c.live_numbers.result.now ≡ live_numbers (spec.conference_of x).members) c.self.view_is
+          (λ whole. c.live_numbers.ensures.value ∙ ap (λ (m : Machine). live_numbers m.conference.members) (c.self.invariant.whole whole));
+    }
