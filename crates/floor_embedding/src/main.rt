@@ -64,14 +64,20 @@ fn receive(hub: &mut Hub, connection: ConnNo, bytes: &[u8]) -> Result<(), Fault>
     Ok(())
 }
 
-/// Sends all that waits for a connection. What waits when it leaves can't be had any more.
+/// Sends all that waits for a connection, and acknowledges it: who is 1,024 messages behind is cut.
+/// What waits when it leaves can't be had any more.
 fn send<W: Write>(hub: &mut Hub, connection: ConnNo, socket: &mut W) -> Result<(), Fault> {
+    let mut sent = 0u32;
     for _ in 0..u64::MAX {
         let Some(parcel) = hub.take(connection)? else {
             break;
         };
         socket.write_all(parcel.header())?;
         socket.write_all(parcel.payload())?;
+        sent = sent.saturating_add(1);
+    }
+    if sent > 0 {
+        hub.took(connection, sent)?;
     }
     Ok(())
 }
