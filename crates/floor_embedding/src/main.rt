@@ -1,6 +1,6 @@
 //! A program that has a hub in it, as a conference bridge would: it hands in the bytes that its
-//! connections gave, cut anywhere, and sends what waits for each. Where a bridge has sockets, this
-//! one has bytes of its own, and prints what each connection was sent.
+//! connections gave, cut anywhere, sends what waits for each, and acknowledges what it sent. Where a
+//! bridge has sockets, this one has bytes of its own, and prints what each connection was sent.
 #![tactic(auto)]
 
 mod fault;
@@ -64,8 +64,8 @@ fn receive(hub: &mut Hub, connection: ConnNo, bytes: &[u8]) -> Result<(), Fault>
     Ok(())
 }
 
-/// Sends all that waits for a connection, and acknowledges it: who is 1,024 messages behind is cut.
-/// What waits when it leaves can't be had any more.
+/// Sends all that waits for a connection, and acknowledges it: whoever is more than 1,024 messages
+/// behind is cut. What waits when it leaves can't be had any more.
 fn send<W: Write>(hub: &mut Hub, connection: ConnNo, socket: &mut W) -> Result<(), Fault> {
     let mut sent = 0u32;
     for _ in 0..u64::MAX {
@@ -76,7 +76,7 @@ fn send<W: Write>(hub: &mut Hub, connection: ConnNo, socket: &mut W) -> Result<(
         socket.write_all(parcel.payload())?;
         sent = sent.saturating_add(1);
     }
-    if sent > 0 {
+    if 0 < sent {
         hub.took(connection, sent)?;
     }
     Ok(())

@@ -6,6 +6,7 @@
 //! - `< line` is a line that the script prints. Spaces between words of bytes are for reading.
 //! - `>  words` and `<  words`, with two spaces, go on with the line above. An empty line says
 //!   nothing.
+//! - `>1024 line` and `<1024 line` stand for so many of these lines.
 //!
 //! Bytes may stand as a shorthand. A case whose last line is an error ends with status 2, and every
 //! other with status 0.
@@ -45,13 +46,28 @@ impl Case {
     }
 
     fn push_line(&mut self, alloc: Global, line: &str) -> Result<(), Fault> {
-        match line.split_once(' ').unwrap_or((line, "")) {
-            ("", "") => Ok(()),
-            ("#", _) => push_script(alloc, &mut self.script, line),
-            (">", line) => push_script(alloc, &mut self.script, spelled(alloc, line)?.as_str()),
-            ("<", line) => push_printed(&mut self.printed, spelled(alloc, line)?.as_str()),
-            _ => Err(Fault::Layout("no line of a case")),
+        let (mark, text) = line.split_once(' ').unwrap_or((line, ""));
+        if mark == "#" {
+            return push_script(alloc, &mut self.script, line);
         }
+        if let Some(count) = mark.strip_prefix('>') {
+            let text = spelled(alloc, text)?;
+            for _ in 0..times(count)? {
+                push_script(alloc, &mut self.script, text.as_str())?;
+            }
+            return Ok(());
+        }
+        if let Some(count) = mark.strip_prefix('<') {
+            let text = spelled(alloc, text)?;
+            for _ in 0..times(count)? {
+                push_printed(&mut self.printed, text.as_str())?;
+            }
+            return Ok(());
+        }
+        if !line.is_empty() {
+            return Err(Fault::Layout("no line of a case"));
+        }
+        Ok(())
     }
 
     /// The status that the script has to end with.
@@ -98,6 +114,17 @@ fn differing(alloc: Global, name: &str, wanted: &str, printed: &str) -> Result<F
 /// The line with a number, counted from 1, or nothing.
 fn line_of(text: &str, number: usize) -> &str {
     text.lines().nth(number.saturating_sub(1)).unwrap_or("")
+}
+
+/// How often a line stands, of which a mark says so, or once where it says nothing.
+fn times(count: &str) -> Result<u16, Fault> {
+    if count.is_empty() {
+        return Ok(1);
+    }
+    match count.parse() {
+        Ok(times) => Ok(times),
+        Err(_) => Err(Fault::Layout("no number of lines")),
+    }
 }
 
 /// Appends a line of the script, or what goes on with the one above.

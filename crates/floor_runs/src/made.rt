@@ -1,6 +1,8 @@
-//! Cases that are made by code, and what no case says: readers and writers that fail, interleavings,
-//! refusals of the hub that no line meets, and how its conferences stand.
+//! Cases that are made by code, and what no case says: what is acknowledged by the calls of a hub,
+//! readers and writers that fail, interleavings, refusals of the hub that no line meets, and how its
+//! conferences stand.
 
+mod acknowledgements;
 mod conferences;
 mod cuts;
 mod faults;
@@ -16,6 +18,7 @@ use std::io::Write;
 
 /// Runs all cases that are made, and prints how many of each kind there are.
 pub fn run_made<W: Write>(alloc: Global, output: &mut W) -> Result<(), Fault> {
+    print_count(output, "acknowledgements", acknowledgements::run(alloc)?)?;
     print_count(output, "conferences", conferences::run(alloc)?)?;
     print_count(output, "cuts", cuts::run(alloc)?)?;
     print_count(output, "faults", faults::run(alloc)?)?;

@@ -5,7 +5,7 @@ use Rattle.floor_words.specs.Words.{number, spelled, words}
 use Rattle.floor_words.specs.declared.hexadecimal.HexadecimalFault.{HexadecimalFault}
 use Rattle.floor_words.specs.declared.hexadecimal.HexadecimalFault.TheVariants as hexadecimal
 use Rattle.floor_script.specs.declared.line.Command.{Command}
-use Rattle.floor_script.specs.declared.line.Command.TheVariants.{Attach, Piece, Serve, Send, Leave, Revoke, Close}
+use Rattle.floor_script.specs.declared.line.Command.TheVariants.{Attach, Piece, Serve, Send, Leave, Slow, Fast, Revoke, Close}
 use Rattle.floor_script.specs.declared.line.LineFault.{LineFault}
 use Rattle.floor_script.specs.declared.line.LineFault.TheVariants.{UnknownCommand, BadNumber, BadHex, Memory}
 
@@ -40,11 +40,13 @@ abbrev pub of_parts : {A B : Type 0} → (A → B → Command) → Result A Line
 of_parts make (Ok part) other = of_part (make part) other
 of_parts make (Err fault) other = Err fault
 
--- `serve <connection>`, `leave <connection>`, `close <conference>`
+-- `serve <connection>`, `leave <connection>`, `slow <connection>`, `fast <connection>`, `close <conference>`
 abbrev pub two_words : List ℕ → List ℕ → Result Command LineFault
 two_words name word =
     if bytes_eq name (codes "serve") then of_part Serve (number_of (10 ^ 10) word)
     else if bytes_eq name (codes "leave") then of_part Leave (number_of (10 ^ 10) word)
+    else if bytes_eq name (codes "slow") then of_part Slow (number_of (10 ^ 10) word)
+    else if bytes_eq name (codes "fast") then of_part Fast (number_of (10 ^ 10) word)
     else if bytes_eq name (codes "close") then of_part Close (number_of (2 ^ 32) word)
     else Err UnknownCommand
 

@@ -1,7 +1,23 @@
-//! Which connections are live in which conference.
+//! Which connections are live in which conference, and which of them are slow.
 
 use std::alloc::{AllocError, Global};
 use std::collections::BTreeMap;
+
+/// Whether what a connection is sent is taken behind each line.
+#[derive(Clone, Copy, Debug, PartialEq, Eq)]
+pub enum Pace {
+    /// It waits.
+    Slow,
+    /// It is taken, as it is of a connection that no line made slow.
+    Fast,
+}
+
+/// A live connection.
+#[derive(Clone, Copy, Debug)]
+pub struct Live {
+    pub connection: u64,
+    pub pace: Pace,
+}
 
 /// The conference of each connection that was ever attached, and the live connections of each
 /// conference: what a line prints is looked for in its own conference alone.
@@ -10,8 +26,8 @@ pub struct Attached {
     alloc: Global,
     /// The conference of each connection, in the order of their numbers, which begin at 1.
     conferences: Vec<u32>,
-    /// The numbers of the live connections of each conference, ascending.
-    live: BTreeMap<u32, Vec<u64>>,
+    /// The live connections of each conference, by ascending number.
+    live: BTreeMap<u32, Vec<Live>>,
 }
 
 impl Attached {
@@ -29,35 +45,61 @@ impl Attached {
         self.conferences.get(place).copied()
     }
 
-    /// The live connections of a conference, ascending.
-    pub fn live_in(&self, conference: u32) -> &[u64] {
+    /// The live connections of a conference, by ascending number.
+    pub fn live_in(&self, conference: u32) -> &[Live] {
         match self.live.get(&conference) {
             Some(live) => live.as_slice(),
             None => &[],
         }
     }
 
-    /// Takes in the connection with the next number.
+    /// Takes in the connection with the next number, which is fast.
     pub fn add(&mut self, conference: u32, connection: u64) -> Result<(), AllocError> {
         self.conferences.push(conference)?;
+        let added = Live {
+            connection,
+            pace: Pace::Fast,
+        };
         match self.live.get_mut(&conference) {
             Some(live) => {
-                live.push(connection)?;
+                live.push(added)?;
             }
             None => {
                 let mut live = Vec::new(self.alloc);
-                live.push(connection)?;
+                live.push(added)?;
                 self.live.insert(conference, live)?;
             }
         }
         Ok(())
     }
 
+    /// Sets the pace of a connection, and says whether it is live. Where it isn't, nothing changes.
+    pub fn set_pace(&mut self, connection: u64, pace: Pace) -> bool {
+        let Some(conference) = self.conference_of(connection) else {
+            return false;
+        };
+        match self.live.get_mut(&conference) {
+            Some(live) => set_pace_in(live, connection, pace),
+            None => false,
+        }
+    }
+
     /// Takes a connection out that has left.
     pub fn remove(&mut self, conference: u32, connection: u64) {
         match self.live.get_mut(&conference) {
-            Some(live) => live.retain(|number| *number != connection),
+            Some(live) => live.retain(|live| live.connection != connection),
             None => {}
         }
     }
+}
+
+/// Sets the pace of a connection, and says whether it is one of these.
+fn set_pace_in(live: &mut Vec<Live>, connection: u64, pace: Pace) -> bool {
+    for live in live {
+        if live.connection == connection {
+            live.pace = pace;
+            return true;
+        }
+    }
+    false
 }

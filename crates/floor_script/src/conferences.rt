@@ -1,6 +1,6 @@
 //! The conferences of a script, and what its lines are answered.
 
-use crate::attached::Attached;
+use crate::attached::{Attached, Pace};
 use crate::fault::RunFault;
 use crate::line::Command;
 use crate::script::MAX_TURNS;
@@ -8,12 +8,20 @@ use floor_hub::{Act, Config, Hub, HubRefusal, Parcel, Served};
 use std::alloc::{AllocError, Global};
 use std::io::Write;
 
-/// The conferences of a script. Nothing waits for a live connection between two lines.
+/// The conferences of a script. Between two lines nothing waits for a live connection that isn't slow,
+/// and all that was taken is acknowledged.
 #[derive(Drop)]
 pub struct Conferences {
     alloc: Global,
     hub: Hub,
     attached: Attached,
+}
+
+/// What was taken of a connection behind a line.
+#[derive(Clone, Copy, Debug)]
+struct Taken {
+    connection: u64,
+    parcels: u32,
 }
 
 impl Conferences {
@@ -33,7 +41,9 @@ impl Conferences {
         }
     }
 
-    /// Does what a line asks for, and prints its answer and what the live connections are sent.
+    /// Does what a line asks for, and prints its answer; then takes and prints what waits for the live
+    /// connections that aren't slow, and then acknowledges what it took of each. A refusal of the line is
+    /// printed, one of an acknowledgement isn't, and want of memory of either ends the run.
     pub fn answer<W: Write>(&mut self, command: Command, output: &mut W) -> Result<(), RunFault> {
         let conference = self.conference_of(&command);
         match self.carry_out(command, output)? {
@@ -47,7 +57,10 @@ impl Conferences {
         }
         match conference {
             None => Ok(()),
-            Some(conference) => self.print_waiting(conference, output),
+            Some(conference) => {
+                let taken = self.print_waiting(conference, output)?;
+                self.acknowledge(taken.as_slice())
+            }
         }
     }
 
@@ -60,7 +73,9 @@ impl Conferences {
             Command::Piece { connection, .. }
             | Command::Serve { connection }
             | Command::Send { connection, .. }
-            | Command::Leave { connection } => self.attached.conference_of(*connection),
+            | Command::Leave { connection }
+            | Command::Slow { connection }
+            | Command::Fast { connection } => self.attached.conference_of(*connection),
         }
     }
 
@@ -77,6 +92,8 @@ impl Conferences {
             Command::Serve { connection } => self.serve(connection, output),
             Command::Send { connection, bytes } => Ok(self.send(connection, bytes.as_slice())),
             Command::Leave { connection } => Ok(self.leave(connection)),
+            Command::Slow { connection } => Ok(self.set_pace(connection, Pace::Slow)),
+            Command::Fast { connection } => Ok(self.set_pace(connection, Pace::Fast)),
             Command::Revoke {
                 conference,
                 request,
@@ -136,30 +153,66 @@ impl Conferences {
         Ok(())
     }
 
-    /// Prints the parcels that wait in a conference, those of each connection together, by
-    /// ascending number.
-    fn print_waiting<W: Write>(&mut self, conference: u32, output: &mut W) -> Result<(), RunFault> {
-        for connection in self.attached.live_in(conference) {
-            print_parcels(self.alloc, &mut self.hub, *connection, output)?;
+    /// Says whether what a connection is sent waits. Refused by `NoConnection`.
+    fn set_pace(&mut self, connection: u64, pace: Pace) -> Result<(), HubRefusal> {
+        if self.attached.set_pace(connection, pace) {
+            Ok(())
+        } else {
+            Err(HubRefusal::NoConnection)
+        }
+    }
+
+    /// Takes and prints the parcels that wait in a conference for connections that aren't slow, those
+    /// of each together, by ascending number. Gives how many it took of each connection that had any.
+    fn print_waiting<W: Write>(
+        &mut self,
+        conference: u32,
+        output: &mut W,
+    ) -> Result<Vec<Taken>, RunFault> {
+        let mut taken = Vec::new(self.alloc);
+        for live in self.attached.live_in(conference) {
+            if live.pace == Pace::Slow {
+                continue;
+            }
+            let connection = live.connection;
+            let parcels = print_parcels(self.alloc, &mut self.hub, connection, output)?;
+            if 0 < parcels {
+                taken.push(Taken {
+                    connection,
+                    parcels,
+                })?;
+            }
+        }
+        Ok(taken)
+    }
+
+    /// Acknowledges what was taken. A conference that has ended or whose journal is full takes no
+    /// acknowledgement, and needs none, since it tells nobody anything more.
+    fn acknowledge(&mut self, taken: &[Taken]) -> Result<(), RunFault> {
+        for taken in taken {
+            match self.hub.took(taken.connection, taken.parcels) {
+                Err(refusal) if refusal.is_memory() => return Err(RunFault::Memory),
+                Ok(()) | Err(_) => {}
+            }
         }
         Ok(())
     }
 }
 
-/// Takes and prints the parcels that wait for a connection.
+/// Takes and prints the parcels that wait for a connection, and gives how many they were.
 fn print_parcels<W: Write>(
     alloc: Global,
     hub: &mut Hub,
     connection: u64,
     output: &mut W,
-) -> Result<(), RunFault> {
-    for _ in 0..MAX_TURNS {
+) -> Result<u32, RunFault> {
+    for taken in 0..MAX_TURNS {
         match hub.take(connection) {
             Ok(Some(parcel)) => print_parcel(alloc, connection, &parcel, output)?,
-            Ok(None) | Err(_) => break,
+            Ok(None) | Err(_) => return Ok(taken),
         }
     }
-    Ok(())
+    Ok(MAX_TURNS)
 }
 
 fn print_parcel<W: Write>(

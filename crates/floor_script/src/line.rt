@@ -20,6 +20,10 @@ pub enum Command {
     Send { connection: u64, bytes: Octets },
     /// A connection leaves its conference.
     Leave { connection: u64 },
+    /// From now on what a connection is sent waits.
+    Slow { connection: u64 },
+    /// From now on it is taken again behind each line.
+    Fast { connection: u64 },
     /// The administrator revokes a floor request.
     Revoke { conference: u32, request: u16 },
     /// The administrator closes a conference.
@@ -112,6 +116,14 @@ fn of_two_words(name: &str, word: &str) -> Result<Command, LineFault>
     if name == "leave" {
         let connection = connection_of(word)?;
         return Ok(Command::Leave { connection });
+    }
+    if name == "slow" {
+        let connection = connection_of(word)?;
+        return Ok(Command::Slow { connection });
+    }
+    if name == "fast" {
+        let connection = connection_of(word)?;
+        return Ok(Command::Fast { connection });
     }
     if name == "close" {
         let conference = conference_of(word)?;

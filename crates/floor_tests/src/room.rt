@@ -47,6 +47,7 @@ closed > no
 break_off > ok
 closed > Broken
 serve 1 200b0000000000010001000a > Broken
+took 1 1 > Broken
 close > Broken
 take 1 > sent 20040007 00000001 0002000a 1e1c0001 24080001 0a040300 22080001 0a040300 1c04000a 08044000
 take 1 > none
@@ -59,18 +60,56 @@ serve 1 20010001000000010002000c04040001 > ok 2
 leave 1 > ok
 close > ok
 join 10 > Ended
+took 1 1 > Ended
 leave 1 > Ended
 close > Ended
 waits 1 > 1";
 
-/// A journal of a million events is full: 999,999 Hellos stand behind the join.
+/// Whoever is 1,024 parcels behind is cut by the next one, for good; what was told to it before waits,
+/// and may be acknowledged.
+const CUT: &str = "\
+join 10 > ok 1
+took 1 1 > BadCount
+took 2 0 > NoMember
+hellos 1024 > 1024
+took 1 0 > BadCount
+took 1 1025 > BadCount
+cut 1 > no
+hellos 1 > 1
+cut 1 > yes
+cut 2 > no
+serve 1 200b0000000000010001000a > Cut
+took 1 1024 > ok
+took 1 1 > BadCount
+cut 1 > yes
+serve 1 200b0000000000010001000a > Cut
+leave 1 > ok
+cut 1 > yes
+took 1 0 > NoMember
+waits 1 > 1024
+status > 0 0 1028 open";
+
+/// An acknowledgement is an event, of which nobody is told.
+const ACKNOWLEDGED: &str = "\
+join 10 > ok 1
+serve 1 200b0000000000010001000a > ok 2
+take 1 > sent 200c0009 00000001 0001000a 160f0102 03040506 0708090a 0b0c0d00 14140204 06080a0c 0e101214 16181a1c 1e202224
+took 1 1 > ok
+waits 1 > 0
+serve 1 20020001000000010002000a06040001 > ok 4
+journal > 1 join 10|2 message 1 200b0000000000010001000a|3 took 1 1|4 message 1 20020001000000010002000a06040001|end 4|
+replay 1 > sent 200c0009 00000001 0001000a 160f0102 03040506 0708090a 0b0c0d00 14140204 06080a0c 0e101214 16181a1c 1e202224 200d0001 00000001 0002000a 0c030700";
+
+/// A journal of two million events is full: behind the join stand a million Hellos, and between each
+/// two of them the acknowledgement of an answer.
 const FULL_JOURNAL: &str = "\
 join 10 > ok 1
-fill 1000000 > 999999
+fill 2000000 > 1000000 served, 999999 acknowledged
 serve 1 200b0000000000010001000a > JournalFull
+took 1 1 > JournalFull
 leave 1 > JournalFull
 closed > JournalFull
-status > 1 0 1000000 open";
+status > 1 0 2000000 open";
 
 /// 64 members at most are live, and one more may join where one has left.
 const FULL_ROOM: &str = "\
@@ -93,9 +132,17 @@ fn answer(alloc: Global, room: &mut Room, line: &str) -> Result<String, AllocErr
     match word {
         "waits" => waits(alloc, room, number(rest)),
         "status" => status(alloc, room),
-        "journal" => barred(alloc, &journal_text(alloc, room.journal())?),
+        "journal" => text_of(alloc, room.journal()),
         "replay" => replayed(alloc, room.journal(), number(rest)),
         "closed" => closed(alloc, room),
+        "cut" => String::from_str(
+            alloc,
+            if room.is_cut(number(rest)) {
+                "yes"
+            } else {
+                "no"
+            },
+        ),
         _ => change(alloc, room, word, rest),
     }
 }
@@ -107,7 +154,9 @@ fn change(alloc: Global, room: &mut Room, word: &str, rest: &str) -> Result<Stri
         "join" => numbered(alloc, room.join(short)),
         "joins" => join_often(alloc, room, number(rest)),
         "serve" => serve(alloc, room, rest),
+        "hellos" => hellos(alloc, room, number(rest)),
         "fill" => fill(alloc, room, number(rest)),
+        "took" => took(alloc, room, rest),
         "leave" => done(alloc, room.leave(number(rest))),
         "revoke" => done(alloc, room.admin(Act::Revoke(short))),
         "close" => done(alloc, room.admin(Act::Close)),
@@ -143,6 +192,11 @@ fn serve(alloc: Global, room: &mut Room, words: &str) -> Result<String, AllocErr
         None => String::from_str(alloc, "no message"),
         Some(frame) => numbered(alloc, room.serve(number(n), frame)),
     }
+}
+
+fn took(alloc: Global, room: &mut Room, words: &str) -> Result<String, AllocError> {
+    let (n, k) = words.split_once(' ').unwrap_or((words, ""));
+    done(alloc, room.took(number(n), number(k)))
 }
 
 fn take(alloc: Global, room: &mut Room, n: u32) -> Result<String, AllocError> {
@@ -213,15 +267,34 @@ fn is_served_at(alloc: Global, room: &mut Room, place: u32) -> Result<bool, Allo
     }
 }
 
-/// How many Hellos are served at the places from 2 to this one.
-fn fill(alloc: Global, room: &mut Room, place: u32) -> Result<String, AllocError> {
+/// How many of so many Hellos of the first member are served.
+fn hellos(alloc: Global, room: &mut Room, times: u32) -> Result<String, AllocError> {
     let mut served = 0u32;
-    for before in 1..place {
-        if is_served_at(alloc, room, before.wrapping_add(1))? {
-            served = served.wrapping_add(1);
+    for _ in 0..times {
+        if let Some(frame) = hello(alloc)? {
+            if room.serve(1, frame).is_ok() {
+                served = served.wrapping_add(1);
+            }
         }
     }
     format!(in alloc; "{served}")
+}
+
+/// How many Hellos are served at the even places up to this one, and how many of their answers are
+/// acknowledged at the odd ones between.
+fn fill(alloc: Global, room: &mut Room, place: u32) -> Result<String, AllocError> {
+    let mut served = 0u32;
+    let mut acknowledged = 0u32;
+    for before in 1..place {
+        if before % 2 == 1 {
+            if is_served_at(alloc, room, before.wrapping_add(1))? {
+                served = served.wrapping_add(1);
+            }
+        } else if room.took(1, 1).is_ok() {
+            acknowledged = acknowledged.wrapping_add(1);
+        }
+    }
+    format!(in alloc; "{served} served, {acknowledged} acknowledged")
 }
 
 /// The answer to the last of so many joins of one user.
@@ -241,23 +314,49 @@ fn a_journal_that_is_run_again_sends_what_was_sent(rt: HostRuntime) {
 
 #[test]
 fn a_refused_event_is_named_and_a_broken_room_keeps_what_waits(rt: HostRuntime) {
-    assert_told(&rt, told_of_script(rt.alloc(), REFUSALS), "18 cases");
+    assert_told(&rt, told_of_script(rt.alloc(), REFUSALS), "19 cases");
 }
 
 #[test]
 fn a_conference_that_has_ended_keeps_what_waits(rt: HostRuntime) {
-    assert_told(&rt, told_of_script(rt.alloc(), ENDED), "8 cases");
+    assert_told(&rt, told_of_script(rt.alloc(), ENDED), "9 cases");
+}
+
+#[test]
+fn a_member_that_is_1024_parcels_behind_is_cut(rt: HostRuntime) {
+    assert_told(&rt, told_of_script(rt.alloc(), CUT), "20 cases");
+}
+
+#[test]
+fn an_acknowledgement_is_an_event(rt: HostRuntime) {
+    assert_told(&rt, told_of_script(rt.alloc(), ACKNOWLEDGED), "8 cases");
+}
+
+#[test]
+fn an_acknowledgement_has_a_line_in_the_journal(rt: HostRuntime) {
+    let events = [Event::Join { user: 10 }, Event::Took { n: 2, k: 64 }];
+    assert_told(
+        &rt,
+        text_of(rt.alloc(), &events),
+        "1 join 10|2 took 2 64|end 2|",
+    );
+}
+
+fn text_of(alloc: Global, events: &[Event]) -> Result<String, AllocError> {
+    barred(alloc, &journal_text(alloc, events)?)
 }
 
 #[test]
 fn an_event_that_comes_too_early_has_its_place(rt: HostRuntime) {
     let events = [Event::Leave { n: 1 }];
     assert_told(&rt, replayed(rt.alloc(), &events, 1), "NotAJournal 1");
+    let events = [Event::Join { user: 10 }, Event::Took { n: 1, k: 1 }];
+    assert_told(&rt, replayed(rt.alloc(), &events, 1), "NotAJournal 2");
 }
 
 #[test]
-fn a_journal_is_full_at_a_million_events(rt: HostRuntime) {
-    assert_told(&rt, told_of_script(rt.alloc(), FULL_JOURNAL), "6 cases");
+fn a_journal_is_full_at_two_million_events(rt: HostRuntime) {
+    assert_told(&rt, told_of_script(rt.alloc(), FULL_JOURNAL), "7 cases");
 }
 
 #[test]

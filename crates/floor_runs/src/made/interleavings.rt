@@ -70,7 +70,9 @@ fn push_steps(alloc: Global, steps: &mut Vec<Step>, line: &str) -> Result<(), Fa
             conference,
             act: Act::Close,
         })?,
-        Ok(Command::Revoke { .. }) | Err(_) => return Err(Fault::Layout("another line")),
+        Ok(Command::Slow { .. } | Command::Fast { .. } | Command::Revoke { .. }) | Err(_) => {
+            return Err(Fault::Layout("another line"));
+        }
     }
     Ok(())
 }

@@ -26,7 +26,7 @@ fn send(hub: &mut Hub, connection: u64) -> Result<(), HubRefusal> {
     hub.piece(connection, &[0x20])
 }
 
-/// Opening again, and what is asked of a connection that left, is refused.
+/// Opening again, and what is asked or acknowledged of a connection that left, is refused.
 pub fn run(alloc: Global) -> Result<usize, Fault> {
     let mut hub = Hub::new(alloc);
     let first = Config::demonstration(alloc)?;
@@ -38,12 +38,13 @@ pub fn run(alloc: Global) -> Result<usize, Fault> {
     let gone = [
         take(&mut hub, connection).err(),
         send(&mut hub, connection).err(),
+        hub.took(connection, 1).err(),
     ];
     if opened != [Ok(()), Err(HubRefusal::Used)] || taken != Ok(false) || left != Ok(()) {
         return Err(Fault::Wrong("opening, taking or leaving"));
     }
-    if gone != [Some(HubRefusal::NoConnection); 2] {
+    if gone != [Some(HubRefusal::NoConnection); 3] {
         return Err(Fault::Wrong("a connection that left"));
     }
-    Ok(5)
+    Ok(6)
 }

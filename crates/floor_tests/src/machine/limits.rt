@@ -5,7 +5,7 @@ use crate::cases::{assert_told, differing, number, part};
 use crate::framed::message;
 use crate::hexadecimal::{payload, spelled};
 use floor_config::{Floors, Users};
-use floor_machine::{Config, Floor, Machine, Parcel, User};
+use floor_machine::{Config, Floor, Machine, Parcel, Refusal, User};
 use floor_wire::Frame;
 use std::alloc::{AllocError, Global};
 use std::fmt::Write;
@@ -153,4 +153,54 @@ fn push_leave(alloc: Global, text: &mut String, machine: &mut Machine) -> Result
     write!(text, ", {} live", machine.live_members())?;
     let to_one = out.iter().all(|parcel| parcel.n() == 1);
     write!(text, ", {} told, all to 1 {to_one}", out.len())
+}
+
+#[test]
+fn a_member_that_is_1024_messages_behind_is_cut(rt: HostRuntime) {
+    let wanted = "1024 told, cut false; 0 told, cut true; took 1025 BadCount; took 1024 Ok; \
+        cut true, Hello Cut";
+    assert_told(&rt, told_of_backlog(rt.alloc()), wanted);
+}
+
+fn told_of_backlog(alloc: Global) -> Result<String, AllocError> {
+    match machine(alloc, 1, 1, 1)? {
+        Some(mut machine) => backlogged(alloc, &mut machine),
+        None => String::from_str(alloc, "no machine"),
+    }
+}
+
+/// What 1,024 Hellos of member 1 tell it, what one more does, and what it may do from then on.
+fn backlogged(alloc: Global, machine: &mut Machine) -> Result<String, AllocError> {
+    let mut text = String::new(alloc);
+    for times in [1_024u16, 1] {
+        let mut count = 0usize;
+        for _ in 0..times {
+            count = count.saturating_add(told(alloc, machine, 11, &[])?.len());
+        }
+        write!(text, "{count} told, cut {}; ", machine.is_cut(1))?;
+    }
+    for k in [1_025, 1_024] {
+        let outcome = name_of(machine.took(1, k));
+        write!(text, "took {k} {outcome}; ")?;
+    }
+    let outcome = hello(alloc, machine)?;
+    write!(text, "cut {}, Hello {outcome}", machine.is_cut(1))?;
+    Ok(text)
+}
+
+/// How a Hello of member 1 is taken.
+fn hello(alloc: Global, machine: &mut Machine) -> Result<&'static str, AllocError> {
+    let mut out = Vec::new(alloc);
+    let bytes = message(alloc, 11, 1, &[])?;
+    match Frame::of(alloc, &bytes)? {
+        Some(frame) => Ok(name_of(machine.message(1, &frame, &mut out))),
+        None => Ok("no message"),
+    }
+}
+
+fn name_of(outcome: Result<(), Refusal>) -> &'static str {
+    match outcome {
+        Ok(()) => "Ok",
+        Err(refusal) => refusal.name(),
+    }
 }

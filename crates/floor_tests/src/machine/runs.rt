@@ -148,12 +148,13 @@ const EVENTS: &str = "\
 join 10
 join 11
 message 1 20010001 00000001 0002000a 04040001
+took 1
 message 2 20010001 00000001 0001000b 04040001
 revoke 1
 leave 2
 close
 join 10
-=>7 Ended
+=>8 Ended
 1 20040007 00000001 0002000a 1e1c0001 24080001 0a040300 22080001 0a040300 1c04000a 08044000
 2 20040007 00000001 0001000b 1e1c0002 24080002 0a040201 22080001 0a040201 1c04000b 08044000
 1 20040007 00000001 0000000a 1e1c0001 24080001 0a040700 22080001 0a040700 1c04000a 08044000
@@ -185,6 +186,11 @@ fn event(alloc: Global, line: &str) -> Result<Option<Event>, AllocError> {
         })),
         "revoke" => Ok(Some(Event::Revoke {
             request: number(rest),
+        })),
+        // One of the messages to a member is acknowledged.
+        "took" => Ok(Some(Event::Took {
+            n: u32::from(number(rest)),
+            k: 1,
         })),
         "close" => Ok(Some(Event::Close)),
         _ => message(alloc, rest),
