@@ -4,7 +4,7 @@ use Rattle.std.specs.Prelude.{◌==◌, nat_eq, nat_lt, if◌then◌else◌, sli
 use Rattle.std.specs.Option.{option_map_or}
 use Rattle.std.proofs.lemmas.Bool.Decides.{nat_tests}
 use Rattle.floor_machine.specs.declared.event.Event.{Event}
-use Rattle.floor_machine.specs.declared.event.Event.TheVariants.{Join, Message, Leave, Revoke, Close}
+use Rattle.floor_machine.specs.declared.event.Event.TheVariants.{Join, Message, Took, Leave, Revoke, Close}
 use Rattle.floor_serve.specs.Fits.{messages_of, sent_at, sent_from}
 use Rattle.floor_serve.specs.Seat.{Seat}
 use Rattle.floor_serve.specs.declared.seat.Sent.{Sent}
@@ -112,6 +112,7 @@ below-more (e ∷ es) b n place h = by e (below-more es b n (place + 1) h)
         sums (lower_count b (Message m bytes)) (length own) (lower_count (n + 1) (Message m bytes)) (messages_below b es) (length (sent_from (place + 1) es n)) (messages_below (n + 1) es)
         (length (own ++ sent_from (place + 1) es n)) (counts b n m place bytes h) r (length-append own (sent_from (place + 1) es n))
     by (Join user) r = none (messages_below b es) (messages_below (n + 1) es) (length (sent_from (place + 1) es n)) r
+    by (Took m k) r = none (messages_below b es) (messages_below (n + 1) es) (length (sent_from (place + 1) es n)) r
     by (Leave m) r = none (messages_below b es) (messages_below (n + 1) es) (length (sent_from (place + 1) es n)) r
     by (Revoke request) r = none (messages_below b es) (messages_below (n + 1) es) (length (sent_from (place + 1) es n)) r
     by Close r = none (messages_below b es) (messages_below (n + 1) es) (length (sent_from (place + 1) es n)) r
@@ -133,6 +134,7 @@ below-all (e ∷ es) b = by e (below-all es b)
     by : (x : Event) → messages_below b es ≤ messages_in es → lower_count b x + messages_below b es ≤ message_count x + messages_in es
     by (Message m bytes) r = sums (lower_count b (Message m bytes)) (messages_below b es) (messages_in es) (one (nat_lt m b)) r
     by (Join user) r = none (messages_below b es) (messages_in es) r
+    by (Took m k) r = none (messages_below b es) (messages_in es) r
     by (Leave m) r = none (messages_below b es) (messages_in es) r
     by (Revoke request) r = none (messages_below b es) (messages_in es) r
     by Close r = none (messages_below b es) (messages_in es) r
@@ -150,6 +152,7 @@ messages-few (e ∷ es) = by e (messages-few es)
     by : (x : Event) → messages_in es ≤ length es → message_count x + messages_in es ≤ suc (length es)
     by (Message m bytes) r = more (messages_in es) (length es) r
     by (Join user) r = less (messages_in es) (length es) r
+    by (Took m k) r = less (messages_in es) (length es) r
     by (Leave m) r = less (messages_in es) (length es) r
     by (Revoke request) r = less (messages_in es) (length es) r
     by Close r = less (messages_in es) (length es) r

@@ -92,6 +92,23 @@ pub failed-last : (a b c : Option (List ℕ)) (old before bytes : List ℕ) (tot
 failed-last a b c old before bytes total after (Ok x) same h e f = tt
 failed-last a b c old before bytes total after (Err x) same h e f = failed-behind a b c (old ++ bytes) before bytes total after x.bytes (ap (λ (xs : List ℕ). xs ++ bytes) (sym same)) h e f
 
+-- what is gathered with one more parcel is written at once
+pub moved-then-flushed : (a b c : Option (List ℕ)) (all mid new : List ℕ) (total between after : ℕ) (result : Result (Unit {0}) WriteFault) → Moved a b all mid total between →
+    OnOk result (Appends b c mid) → OnOk result (new ≡ []) → OnOk result (after ≡ capped (between + length mid)) → OnOk result (Moved a c all new total after)
+moved-then-flushed a b c all mid new total between after (Ok x) m h none e =
+    record {
+      wrote = m.wrote ++ mid;
+      parts = m.parts ∙ sym (append-nil (m.wrote ++ mid)) ∙ ap (λ l. (m.wrote ++ mid) ++ l) (sym none);
+      grew = appends-both a b c m.wrote mid (m.wrote ++ mid) m.grew h refl;
+      count = omega (arith, m.count, e, length-append m.wrote mid);
+    }
+moved-then-flushed a b c all mid new total between after (Err x) m h none e = tt
+
+pub failed-then-flushing : (a b c : Option (List ℕ)) (all mid : List ℕ) (total between : ℕ) (result : Result (Unit {0}) WriteFault) → Moved a b all mid total between →
+    IfErr result (λ f. Failed b c mid between f.bytes) → IfErr result (λ f. Failed a c all total f.bytes)
+failed-then-flushing a b c all mid total between (Ok x) m f = tt
+failed-then-flushing a b c all mid total between (Err x) m f = failed-behind a b c all m.wrote mid total between x.bytes m.parts m.grew m.count f
+
 all_bytes-more : (ps : List Parcel) (p : Parcel) → all_bytes (ps ++ p ∷ []) ≡ all_bytes ps ++ p.bytes
 all_bytes-more [] p = append-nil p.bytes
 all_bytes-more (q ∷ ps) p = ap (λ l. q.bytes ++ l) (all_bytes-more ps p) ∙ sym (append_assoc q.bytes (all_bytes ps) p.bytes)

@@ -7,6 +7,7 @@ use Rattle.floor_machine.specs.Conference.{Conference, opening, is_live, member_
 use Rattle.floor_machine.specs.Change.{change, settled, leaving}
 use Rattle.floor_machine.specs.Next.{next}
 use Rattle.floor_machine.proofs.Runs.{after_from-more}
+use Rattle.floor_machine.proofs.Staying.{live-counted}
 use Rattle.floor_room.specs.Ledger.{Ledger, conference_of, with_entry}
 use Rattle.floor_room.specs.declared.status.Phase.TheVariants.{Running}
 use Rattle.floor_room.specs.declared.status.Status.{Status}
@@ -25,7 +26,7 @@ gone-members n (m ∷ ms) = by (m.n == n) refl (gone-members n ms)
 
 gone-next : (s : Conference) (n : ℕ) → is_live (next s (Leave n)) n ≡ false
 unfolding settled change
-gone-next s n = gone-members n s.members
+gone-next s n = live-counted s (Leave n) n ∙ gone-members n s.members
 
 -- who has left isn't live
 pub gone-left : (l : Ledger) (n : ℕ) → is_live (conference_of (with_entry l (Leave n))) n ≡ false

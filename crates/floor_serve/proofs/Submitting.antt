@@ -142,6 +142,8 @@ read-refused old mid new a b c held piece pushed refusal marked h more e g unmar
     by (Refused Refusal.NoUser) k = (k, refl, unmarked)
     by (Refused Refusal.Full) k = (k, refl, unmarked)
     by (Refused Refusal.NoRequest) k = (k, refl, unmarked)
+    by (Refused Refusal.Cut) k = (k, refl, unmarked)
+    by (Refused Refusal.BadCount) k = (k, refl, unmarked)
     by (Refused Refusal.Memory) k = (k, unmarked)
 
 -- a piece finds no memory

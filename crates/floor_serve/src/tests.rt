@@ -9,6 +9,7 @@ use std::io::Cursor;
 use std::sync::Wait;
 use std::test::*;
 
+mod acknowledged;
 mod booths;
 mod ends;
 mod gates;
@@ -112,6 +113,25 @@ fn submits<R: Wait>(rt: &R, desk: &Desk, seat: &mut Seat, frame: Frame) -> bool 
     place_of(rt, desk, seat, frame, &FreePass).is_some()
 }
 
+/// Whether the member leaves.
+fn leaves<R: Wait>(rt: &R, desk: &Desk, seat: &mut Seat) -> bool {
+    seat.conference() == desk.conference() && desk.leave(rt, seat).is_ok()
+}
+
+/// The desk of a conference whose member 1, user 10, has sent so many Hellos, its seat and what takes
+/// its parcels.
+fn greeted<R: Wait>(rt: &R, alloc: Global, count: u32) -> Result<(Desk, Seat, Taker), Fail> {
+    let (_registry, desk) = opened(rt, alloc)?;
+    let (mut seat, taker) = joined(rt, &desk, 10)?;
+    let hello = frame(alloc, &HELLO)?;
+    for _ in 0..count {
+        if !submits(rt, &desk, &mut seat, hello.share()?) {
+            return Err(Fail::from("a Hello is refused"));
+        }
+    }
+    Ok((desk, seat, taker))
+}
+
 #[test]
 fn a_member_is_served_from_joining_to_the_end(rt: HostRuntime) -> Result<(), Fail> {
     let alloc = rt.alloc();
@@ -130,7 +150,7 @@ fn a_member_is_served_from_joining_to_the_end(rt: HostRuntime) -> Result<(), Fai
     assert_eq!(rt; desk.leave(&rt, &mut seat), Ok(()));
     let mut sink = Marked::new(Vec::new(alloc));
     assert_eq!(rt;
-        write_loop(&rt, alloc, &mut sink, &mut taker),
+        write_loop(&rt, alloc, &mut sink, &desk, seat.n(), &mut taker),
         Ok(Written {
             parcels: 1,
             bytes: 48

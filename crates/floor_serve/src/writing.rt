@@ -55,32 +55,39 @@ pub fn write_loop<S: Sink, R: Wait>(
     let mut buffer = gathering(alloc);
     let mut parcels = 0u64;
     let mut bytes = 0u64;
-    let mut unacknowledged = 0u32;
+    let mut unacknowledged = Unacknowledged {
+        desk,
+        n,
+        parcels: 0,
+    };
     for _ in rt.forever() {
         let closed = taker.closed();
         match taker.take(rt) {
             Some(parcel) => {
                 parcels = parcels.saturating_add(1);
-                match gather_taken(sink, &mut buffer, parcel, &mut bytes) {
+                match take_up(
+                    rt,
+                    sink,
+                    &mut buffer,
+                    parcel,
+                    &mut bytes,
+                    &mut unacknowledged,
+                ) {
                     Ok(()) => {}
                     Err(fault) => return Err(fault),
                 }
-                unacknowledged = unacknowledged.saturating_add(1);
-                if unacknowledged < ACKNOWLEDGED {
-                    continue;
-                }
-                match flush(sink, &mut buffer, &mut bytes) {
-                    Ok(()) => {}
-                    Err(fault) => return Err(fault),
-                }
-                acknowledge(rt, desk, n, &mut unacknowledged);
             }
             None => {
-                match flush(sink, &mut buffer, &mut bytes) {
+                match flush_and_acknowledge(
+                    rt,
+                    sink,
+                    &mut buffer,
+                    &mut bytes,
+                    &mut unacknowledged,
+                ) {
                     Ok(()) => {}
                     Err(fault) => return Err(fault),
                 }
-                acknowledge(rt, desk, n, &mut unacknowledged);
                 if closed {
                     return Ok(Written { parcels, bytes });
                 }
@@ -91,11 +98,24 @@ pub fn write_loop<S: Sink, R: Wait>(
     unreachable!()
 }
 
-/// Acknowledges the parcels to the member that were written since it last did, if there are any.
-fn acknowledge<R: Wait>(rt: &R, desk: &Desk, n: u32, unacknowledged: &mut u32) {
-    if *unacknowledged > 0 {
-        let _taken = desk.took(rt, n, *unacknowledged);
-        *unacknowledged = 0;
+/// The parcels to a member that were taken and not acknowledged yet.
+#[derive(Drop)]
+struct Unacknowledged<'a> {
+    desk: &'a Desk,
+    /// The member's number in the desk's conference.
+    n: u32,
+    /// How many parcels.
+    parcels: u32,
+}
+
+impl<'a> Unacknowledged<'a> {
+    /// Acknowledges them, all of which were written, if there are any. A refusal changes nothing for
+    /// the writer: its queue is closed where its member can't be told anything more.
+    fn acknowledge<R: Wait>(&mut self, rt: &R) {
+        if self.parcels > 0 {
+            let _taken = self.desk.took(rt, self.n, self.parcels);
+            self.parcels = 0;
+        }
     }
 }
 
@@ -109,12 +129,15 @@ fn gathering(alloc: Global) -> Vec<u8>
     }
 }
 
-/// Puts a parcel that was taken behind the bytes that are gathered.
-fn gather_taken<S: Sink>(
+/// Puts a parcel that was taken behind the bytes that are gathered, and writes them where it is the
+/// last of those that are acknowledged at once.
+fn take_up<S: Sink, R: Wait>(
+    rt: &R,
     sink: &mut S,
     buffer: &mut Vec<u8>,
     parcel: Parcel,
     total: &mut u64,
+    unacknowledged: &mut Unacknowledged<'_>,
 ) -> Result<(), WriteFault>
     requires { S.marked sink.old ≡ false }
     ensures moved { OnOk result (Moved (S.contents sink.old) (S.contents sink.new)
@@ -125,7 +148,39 @@ fn gather_taken<S: Sink>(
         (buffer.old.items ++ parcel.bytes) total.old f.bytes) }
     ensures marked { IfErr result (λ f. S.marked sink.new ≡ true) }
 {
-    gather(sink, buffer, &parcel, total)
+    match gather(sink, buffer, &parcel, total) {
+        Ok(()) => {}
+        Err(fault) => return Err(fault),
+    }
+    unacknowledged.parcels = unacknowledged.parcels.saturating_add(1);
+    if unacknowledged.parcels < ACKNOWLEDGED {
+        return Ok(());
+    }
+    flush_and_acknowledge(rt, sink, buffer, total, unacknowledged)
+}
+
+/// Writes what is gathered, and acknowledges the parcels that it was made of.
+fn flush_and_acknowledge<S: Sink, R: Wait>(
+    rt: &R,
+    sink: &mut S,
+    buffer: &mut Vec<u8>,
+    total: &mut u64,
+    unacknowledged: &mut Unacknowledged<'_>,
+) -> Result<(), WriteFault>
+    requires { S.marked sink.old ≡ false }
+    ensures grew { OnOk result (Appends (S.contents sink.old) (S.contents sink.new)
+        buffer.old.items) }
+    ensures empty { OnOk result (buffer.new.items ≡ []) }
+    ensures total { OnOk result (total.new ≡ capped (total.old + length buffer.old.items)) }
+    ensures unmarked { OnOk result (S.marked sink.new ≡ false) }
+
+    ensures failed { IfErr result (λ f. Failed (S.contents sink.old) (S.contents sink.new)
+        buffer.old.items total.old f.bytes) }
+    ensures marked { IfErr result (λ f. S.marked sink.new ≡ true) }
+{
+    flush(sink, buffer, total)?;
+    unacknowledged.acknowledge(rt);
+    Ok(())
 }
 
 /// Puts a parcel behind the bytes that are gathered. Where it doesn't fit behind them, those are

@@ -74,30 +74,22 @@ where
     match desk.join(&rt, binding.user()) {
         Ok((mut seat, taker)) => {
             let member = begun.joined();
-            let gone = attend(
-                rt,
-                alloc,
-                &desk,
-                &mut seat,
-                taker,
-                binding.gate(),
-                socket,
-                member,
-            );
+            let gone = attend(rt, alloc, &desk, &mut seat, taker, binding, socket, member);
             (gone, Some(seat))
         }
         Err(_) => (begun.refused(), None),
     }
 }
 
-/// Serves a member until the stream ends, and takes it that the member has left.
+/// Serves a member until the stream ends, and takes it that the member has left. Without a desk or a
+/// thread for its writer it isn't served.
 fn attend<G, R>(
     rt: R,
     alloc: Global,
     desk: &Desk,
     seat: &mut Seat,
     taker: Taker,
-    gate: &G,
+    binding: &Binding<G>,
     socket: &Socket,
     member: Member,
 ) -> Gone
@@ -107,10 +99,18 @@ where
     requires { seat.old.conference ≡ desk.now.conference }
     ensures { result.has_joined ≡ true }
 {
-    if let (Ok(source), Ok(sink)) = (socket.share(), outgoing(socket, &taker)) {
-        if let Ok(writer) = thread::spawn(&rt, move || write_all(&rt, alloc, sink, taker)) {
+    let n = seat.n();
+    if let (Ok(source), Ok(sink), Some(theirs)) = (
+        socket.share(),
+        outgoing(socket, &taker),
+        binding.desk(&rt),
+    ) {
+        if let Ok(writer) = thread::spawn(
+            &rt,
+            move || write_all(&rt, alloc, sink, &theirs, n, taker),
+        ) {
             let mut source = Marked::new(source);
-            let _end = read_loop(&rt, &mut source, desk, seat, gate);
+            let _end = read_loop(&rt, &mut source, desk, seat, binding.gate());
             let gone = leave(&rt, desk, seat, member);
             writer.join(&rt);
             return gone;
@@ -136,10 +136,18 @@ fn outgoing(socket: &Socket, taker: &Taker) -> Result<Outgoing, AllocError> {
     })
 }
 
-/// Writes what the member is sent, and shuts the socket down at the end: also where the peer takes
-/// nothing any more of what waits behind the closed mark.
-fn write_all<R: Wait>(rt: &R, alloc: Global, outgoing: Outgoing, mut taker: Taker) {
+/// Writes what the member n is sent, and acknowledges it at the desk. At the end it shuts the socket
+/// down, so that the reader of a member that was cut ends too: also where the peer takes nothing any
+/// more of what waits behind the closed mark.
+fn write_all<R: Wait>(
+    rt: &R,
+    alloc: Global,
+    outgoing: Outgoing,
+    desk: &Desk,
+    n: u32,
+    mut taker: Taker,
+) {
     let mut sink = Marked::new(outgoing);
-    let _written = write_loop(rt, alloc, &mut sink, &mut taker);
+    let _written = write_loop(rt, alloc, &mut sink, desk, n, &mut taker);
     sink.into_inner().socket.shut_down();
 }

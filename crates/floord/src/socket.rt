@@ -11,7 +11,12 @@ use std::time::Duration;
 
 /// How long a write waits at most for a peer that takes nothing, until it looks whether the outbox
 /// is closed, in seconds.
-const WRITE_SECONDS: u64 = 30;
+const WRITE_SECONDS: u64 = 1;
+
+/// How often a write finds the outbox closed and that the peer took nothing, until it fails. To a slow
+/// peer the system hands tens of thousands of bytes at once, and nothing for some seconds between. In
+/// two waits more at most the system's own buffers take the last that they hold.
+const MAX_LOOKS: u32 = 5;
 
 /// The socket of a connection, as its threads share it.
 #[derive(Drop)]
@@ -72,7 +77,10 @@ impl Read for Socket {
 }
 
 /// The sending side of a connection. A write that waits for the peer goes on waiting for as long as
-/// the connection's outbox is open; behind its closed mark it fails.
+/// the connection's outbox is open, and looks at its closed mark each second. Behind that mark, which
+/// is set where the member was cut or has left and where the conference has ended or was broken off,
+/// it waits on while the peer takes something within each 5 seconds, and else fails. So a connection
+/// whose peer takes nothing is gone within 10 seconds, and a slow peer is sent all.
 #[derive(Drop)]
 pub struct Outgoing {
     pub socket: Socket,
@@ -82,9 +90,17 @@ pub struct Outgoing {
 impl Write for Outgoing {
     fn write(&mut self, buf: &[u8]) -> io::Result<usize> {
         let mut stream = &self.socket.shared.stream;
+        let mut looks = 0u32;
         for _ in 0..u64::MAX {
             match stream.write(buf) {
-                Err(error) if is_timeout(&error) && !self.mark.is_set() => {}
+                Err(error) if is_timeout(&error) => {
+                    if self.mark.is_set() {
+                        looks = looks.saturating_add(1);
+                    }
+                    if looks == MAX_LOOKS {
+                        return Err(error);
+                    }
+                }
                 outcome => return outcome,
             }
         }

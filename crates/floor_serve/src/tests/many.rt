@@ -1,6 +1,6 @@
 //! Many seats of several conferences at the end, in whatever order they come.
 
-use super::{frame, joined, opens, place_of};
+use super::{frame, joined, leaves, opens, place_of};
 use crate::*;
 use std::alloc::Global;
 use std::sync::Wait;
@@ -17,11 +17,6 @@ fn message(alloc: Global, primitive: u8, conference: u8) -> Result<Frame, Fail> 
         alloc,
         &[0x20, primitive, 0, 0, 0, 0, 0, conference, 0, 1, 0, 10],
     )
-}
-
-/// Whether the member leaves.
-fn leaves<R: Wait>(rt: &R, desk: &Desk, seat: &mut Seat) -> bool {
-    seat.conference() == desk.conference() && desk.leave(rt, seat).is_ok()
 }
 
 /// The seats of connections that came, sent a message and left, of each conference in turn. That of

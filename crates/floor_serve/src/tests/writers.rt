@@ -11,6 +11,12 @@ use std::test::*;
 use std::thread;
 use std::thread::Threads;
 
+/// How often a thread asks at most whether it may go on.
+const MAX_ASKS: u32 = 1_000_000;
+
+/// How many Hellos each user sends.
+const HELLOS: u8 = 200;
+
 /// Keeps what is written where another thread reads it.
 #[derive(Drop)]
 struct Kept<'a, R> {
@@ -44,6 +50,8 @@ fn writes<R: Wait>(
     rt: &R,
     alloc: Global,
     bytes: &Mutex<Vec<u8>>,
+    desk: &Desk,
+    n: u32,
     taker: &mut Taker,
 ) -> Result<Written, WriteFault> {
     let mut sink = Kept {
@@ -51,7 +59,7 @@ fn writes<R: Wait>(
         bytes,
         failed: false,
     };
-    write_loop(rt, alloc, &mut sink, taker)
+    write_loop(rt, alloc, &mut sink, desk, n, taker)
 }
 
 /// What was written so far.
@@ -62,9 +70,9 @@ fn copied<R: Wait>(rt: &R, alloc: Global, bytes: &Mutex<Vec<u8>>) -> Option<Vec<
     }
 }
 
-/// Whether 200 Hellos of the user are taken.
+/// Whether the Hellos of the user are taken.
 fn hellos<R: Wait>(rt: &R, alloc: Global, desk: &Desk, seat: &mut Seat, user: u8) -> bool {
-    for transaction in 1..201u8 {
+    for transaction in 1..=HELLOS {
         let bytes = [0x20, 0x0b, 0, 0, 0, 0, 0, 1, 0, transaction, 0, user];
         let Ok(Some(hello)) = Frame::of(alloc, &bytes) else {
             return false;
@@ -86,6 +94,36 @@ fn leave_both<R: Wait>(rt: &R, desk: &Desk, seats: &mut [Seat; 2]) -> bool {
         left = desk.leave(rt, seat).is_ok() && left;
     }
     left
+}
+
+/// How many parcels to the member the journal of the registry's conference acknowledges.
+fn acknowledged<R: Wait>(rt: &R, registry: &Registry, member: u32) -> u32 {
+    let table = registry.table.lock(rt);
+    let Some(slot) = table.slots.first() else {
+        return 0;
+    };
+    let booth = slot.booth.lock(rt);
+    let mut sum = 0u32;
+    for event in booth.journal() {
+        match event {
+            Event::Took { n, k } if *n == member => sum = sum.saturating_add(*k),
+            _ => {}
+        }
+    }
+    sum
+}
+
+/// Whether the answer to each Hello is found acknowledged before it was asked for too often.
+fn are_acknowledged<R: Wait>(rt: &R, registry: &Registry) -> bool {
+    for _ in 0..MAX_ASKS {
+        let first = acknowledged(rt, registry, 1);
+        let second = acknowledged(rt, registry, 2);
+        if first == u32::from(HELLOS) && second == u32::from(HELLOS) {
+            return true;
+        }
+        thread::yield_now();
+    }
+    false
 }
 
 /// What the journal of the registry's conference calls for at the member.
@@ -117,8 +155,8 @@ fn taken_is_replay(rt: HostRuntime) -> Result<(), Fail> {
         || {
             thread::join(
                 &rt,
-                || writes(&rt, alloc, &wrote[0], &mut first),
-                || writes(&rt, alloc, &wrote[1], &mut second),
+                || writes(&rt, alloc, &wrote[0], &desk, 1, &mut first),
+                || writes(&rt, alloc, &wrote[1], &desk, 2, &mut second),
             )
         },
         || {
@@ -128,13 +166,11 @@ fn taken_is_replay(rt: HostRuntime) -> Result<(), Fail> {
                 || hellos(&rt, alloc, &desk, &mut eleven, 11),
             );
             let parts = (copied(&rt, alloc, &wrote[0]), copied(&rt, alloc, &wrote[1]));
+            // While both are members, so that the journal has all that their writers acknowledge.
+            let heard = taken == (true, true) && are_acknowledged(&rt, &registry);
             let mut seats = [ten, eleven];
             let left = leave_both(&rt, &desk, &mut seats);
-            if taken == (true, true) && left {
-                Some(parts)
-            } else {
-                None
-            }
+            if heard && left { Some(parts) } else { None }
         },
     );
     let all = Ok(Written {
@@ -142,7 +178,7 @@ fn taken_is_replay(rt: HostRuntime) -> Result<(), Fail> {
         bytes: 9600,
     });
     assert_eq!(rt; written, (all, all));
-    let (first_part, second_part) = parts.ok_or("a message is refused")?;
+    let (first_part, second_part) = parts.ok_or("a message is refused or not acknowledged")?;
     let calls = [
         called_for(&rt, alloc, &registry, 1)?,
         called_for(&rt, alloc, &registry, 2)?,

@@ -2,7 +2,7 @@
 
 ghost use Rattle.std.specs.Prelude.{◌≡◌, None, false};
 
-use super::{HELLO, HELLO_ACK, frame, joined, opened, submits};
+use super::{HELLO, HELLO_ACK, frame, greeted, joined, leaves, opened, submits};
 use crate::*;
 use floor_outbox::pair;
 use std::alloc::{AllocError, Global};
@@ -96,23 +96,36 @@ fn write_by<R: Wait>(
     let Ok(()) = desk.admin(rt, Act::Close) else {
         return Err(Fail::from("the conference doesn't close"));
     };
-    let outcome = write_loop(rt, alloc, &mut sink, &mut taker);
+    let outcome = write_loop(rt, alloc, &mut sink, &desk, seat.n(), &mut taker);
     Ok((outcome, sink))
 }
 
 #[test]
 fn an_answer_is_written_byte_by_byte(rt: HostRuntime) -> Result<(), Fail> {
     let alloc = rt.alloc();
-    let messages = [HELLO.as_slice()];
-    let (written, _) = write_by(&rt, alloc, &messages, Narrow::new(alloc, 1, 5))?;
-    assert_eq!(rt; written, Err(WriteFault { bytes: 5 }));
-    let (written, _) = write_by(&rt, alloc, &messages, Narrow::new(alloc, 1, 48))?;
+    let (desk, _seat, mut taker) = greeted(&rt, alloc, 1)?;
+    let mut sink = Narrow::new(alloc, 1, 5);
     assert_eq!(rt;
-        written,
+        write_loop(&rt, alloc, &mut sink, &desk, 1, &mut taker),
+        Err(WriteFault { bytes: 5 })
+    );
+    assert_eq!(rt;
+        desk.journal_text(&rt)?.as_str(),
+        "1 join 10\n2 message 1 200b0000000000010001000a\nend 2\n"
+    );
+    let (desk, mut seat, mut taker) = greeted(&rt, alloc, 1)?;
+    assert!(rt; leaves(&rt, &desk, &mut seat));
+    let mut sink = Narrow::new(alloc, 1, 48);
+    assert_eq!(rt;
+        write_loop(&rt, alloc, &mut sink, &desk, 1, &mut taker),
         Ok(Written {
             parcels: 1,
             bytes: 48
         })
+    );
+    assert_eq!(rt;
+        desk.journal_text(&rt)?.as_str(),
+        "1 join 10\n2 message 1 200b0000000000010001000a\n3 leave 1\nend 3\n"
     );
     Ok(())
 }
@@ -182,8 +195,10 @@ fn write_long<R: Wait>(
         };
     }
     sender.close();
+    let (_registry, desk) = opened(rt, alloc)?;
     let mut sink = Narrow::new(alloc, usize::MAX, writes);
-    let outcome = write_loop(rt, alloc, &mut sink, &mut taker);
+    // Of the conference this is no member, and what it acknowledges is refused.
+    let outcome = write_loop(rt, alloc, &mut sink, &desk, 1, &mut taker);
     Ok((outcome, sink))
 }
 

@@ -11,34 +11,34 @@ loop-init g c = record { unmarked = c.requires; pair = refl; gathered = gathered
 pub returns-in-Err-clause-stopped : goal.returns-in-Err-clause-stopped
 returns-in-Err-clause-stopped g c =
     let was = g.S.Sink.contents c.loop.sink in
-    let now = g.S.Sink.contents c.gather_taken.new.sink in
+    let now = g.S.Sink.contents c.take_up.new.sink in
     stopped-gathering _ c.loop.taker.taken _ _ was now c.loop.buffer.items c.loop.parcels c.loop.bytes c.in-Err.fault.bytes c.in-Some-take.parcel c.loop.invariant.gathered (ap (λ (t : Taker). t.taken) c.in-Some-take.ensures.took)
     c.in-Err.ensures.failed
 
 pub loop-preserved-in-Ok : goal.loop-preserved-in-Ok
 loop-preserved-in-Ok g c =
     let was = g.S.Sink.contents c.loop.sink in
-    let now = g.S.Sink.contents c.gather_taken.new.sink in
+    let now = g.S.Sink.contents c.take_up.new.sink in
     record {
       unmarked = c.in-Ok.ensures.unmarked;
       pair = ap (λ (t : Taker). t.pair) c.in-Some-take.ensures.took ∙ c.loop.invariant.pair;
-      gathered = gathered-more _ c.loop.taker.taken _ _ was now c.loop.buffer.items c.gather_taken.new.buffer.items c.loop.parcels c.loop.bytes _ c.gather_taken.new.total c.in-Some-take.parcel c.loop.invariant.gathered (ap (λ (t : Taker). t.taken) c.in-Some-take.ensures.took)
+      gathered = gathered-more _ c.loop.taker.taken _ _ was now c.loop.buffer.items c.take_up.new.buffer.items c.loop.parcels c.loop.bytes _ c.take_up.new.total c.in-Some-take.parcel c.loop.invariant.gathered (ap (λ (t : Taker). t.taken) c.in-Some-take.ensures.took)
           c.in-Ok.ensures.moved c.saturating_add-parcels.ensures;
     }
 
-pub returns-in-Err-flush-clause-stopped : goal.returns-in-Err-flush-clause-stopped
-returns-in-Err-flush-clause-stopped g c =
-    stopped-flushing _ _ (g.S.Sink.contents c.args.sink.now) (g.S.Sink.contents c.loop.sink) (g.S.Sink.contents c.flush.new.sink) c.loop.buffer.items c.loop.parcels c.loop.bytes c.in-Err-flush.fault.bytes
+pub returns-in-Err-flush_and_acknowledge-clause-stopped : goal.returns-in-Err-flush_and_acknowledge-clause-stopped
+returns-in-Err-flush_and_acknowledge-clause-stopped g c =
+    stopped-flushing _ _ (g.S.Sink.contents c.args.sink.now) (g.S.Sink.contents c.loop.sink) (g.S.Sink.contents c.flush_and_acknowledge.new.sink) c.loop.buffer.items c.loop.parcels c.loop.bytes c.in-Err-flush_and_acknowledge.fault.bytes
     (subst (λ (ps : List Parcel). Gathered c.args.taker.now.taken ps (g.S.Sink.contents c.args.sink.now) (g.S.Sink.contents c.loop.sink) c.loop.buffer.items c.loop.parcels c.loop.bytes) (sym (ap (λ (t : Taker). t.taken) c.in-None-take.ensures.none)) c.loop.invariant.gathered)
-    c.in-Err-flush.ensures.failed
+    c.in-Err-flush_and_acknowledge.ensures.failed
 
 pub loop-preserved : goal.loop-preserved
 loop-preserved g c =
     let kept = c.wait.ensures in
     record {
-      unmarked = c.in-Ok-flush.ensures.unmarked;
+      unmarked = c.in-Ok-flush_and_acknowledge.ensures.unmarked;
       pair = ap (λ (t : Taker). t.pair) kept ∙ ap (λ (t : Taker). t.pair) c.in-None-take.ensures.none ∙ c.loop.invariant.pair;
-      gathered = gathered-flushed _ _ (g.S.Sink.contents c.args.sink.now) (g.S.Sink.contents c.loop.sink) (g.S.Sink.contents c.flush.new.sink) c.loop.buffer.items c.flush.new.buffer.items c.loop.parcels c.loop.bytes c.flush.new.total
+      gathered = gathered-flushed _ _ (g.S.Sink.contents c.args.sink.now) (g.S.Sink.contents c.loop.sink) (g.S.Sink.contents c.flush_and_acknowledge.new.sink) c.loop.buffer.items c.flush_and_acknowledge.new.buffer.items c.loop.parcels c.loop.bytes c.flush_and_acknowledge.new.total
           (subst (λ (ps : List Parcel). Gathered c.args.taker.now.taken ps (g.S.Sink.contents c.args.sink.now) (g.S.Sink.contents c.loop.sink) c.loop.buffer.items c.loop.parcels c.loop.bytes) (sym (ap (λ (t : Taker). t.taken) kept ∙ ap (λ (t : Taker). t.taken) c.in-None-take.ensures.none)) c.loop.invariant.gathered)
-          c.in-Ok-flush.ensures.grew c.in-Ok-flush.ensures.empty c.in-Ok-flush.ensures.total;
+          c.in-Ok-flush_and_acknowledge.ensures.grew c.in-Ok-flush_and_acknowledge.ensures.empty c.in-Ok-flush_and_acknowledge.ensures.total;
     }

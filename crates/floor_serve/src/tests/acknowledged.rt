@@ -1,0 +1,89 @@
+//! What writers acknowledge: no parcel that wasn't wholly written, and in the end all that were.
+
+ghost use Rattle.std.specs.Prelude.{None};
+
+use super::{HELLO, answer_of, frame, greeted};
+use crate::*;
+use std::test::*;
+
+/// How many bytes the answer to a Hello has.
+const HELLO_ACK_LEN: usize = 48;
+
+/// Takes so many bytes, and then fails.
+#[derive(Drop)]
+struct Short {
+    room: usize,
+    failed: bool,
+}
+
+impl Sink for Short {
+    ghost contents = { λ _. None };
+
+    ghost marked = { λ s. s.failed };
+
+    fn write(&mut self, bytes: &[u8]) -> Option<usize> {
+        let count = self.room.min(bytes.len());
+        if count == 0 && !bytes.is_empty() {
+            self.failed = true;
+            return None;
+        }
+        self.room = self.room.saturating_sub(count);
+        Some(count)
+    }
+
+    fn failed(&self) -> bool {
+        self.failed
+    }
+}
+
+/// How many of its parcels a line of a journal acknowledges for member 1.
+fn acknowledged_by(line: &str) -> u32 {
+    match line.split_once(" took 1 ") {
+        Some((_, k)) => k.parse().unwrap_or(u32::MAX),
+        None => 0,
+    }
+}
+
+#[test]
+fn took_counts(rt: HostRuntime) -> Result<(), Fail> {
+    let alloc = rt.alloc();
+    let (desk, _seat, mut taker) = greeted(&rt, alloc, 3)?;
+    let mut short = Short {
+        room: HELLO_ACK_LEN.saturating_add(5),
+        failed: false,
+    };
+    assert_eq!(rt;
+        write_loop(&rt, alloc, &mut short, &desk, 1, &mut taker),
+        Err(WriteFault { bytes: 53 })
+    );
+    let journal = desk.journal_text(&rt)?;
+    let mut acknowledged = 0u32;
+    for line in journal.lines() {
+        acknowledged = acknowledged.saturating_add(acknowledged_by(line));
+    }
+    assert!(rt; acknowledged <= 1);
+    let (desk, mut seat, mut taker) = greeted(&rt, alloc, 1025)?;
+    assert_eq!(rt;
+        answer_of(&rt, &desk, &mut seat, frame(alloc, &HELLO)?, &FreePass),
+        Some(Err(RoomRefusal::Refused(Refusal::Cut)))
+    );
+    let mut sink = Marked::new(Vec::new(alloc));
+    assert_eq!(rt;
+        write_loop(&rt, alloc, &mut sink, &desk, 1, &mut taker),
+        Ok(Written {
+            parcels: 1024,
+            bytes: 49_152
+        })
+    );
+    let journal = desk.journal_text(&rt)?;
+    let mut tooks = 0u32;
+    for line in journal.lines() {
+        if line.contains(" took ") {
+            assert!(rt; line.ends_with(" took 1 64"), "{line}");
+            tooks = tooks.saturating_add(1);
+        }
+    }
+    assert_eq!(rt; tooks, 16);
+    assert!(rt; journal.as_str().ends_with("\nend 1042\n"));
+    Ok(())
+}
