@@ -6,6 +6,8 @@ messages anywhere, read late or never, leave, are cut off, while an administrato
 closes. Then the console prints each conference's journal. The journal has to hold what each
 connection sent, in its order; and floorsim, which runs it as a script, has to print for each
 connection the bytes that it heard: all of them where it ended in order, else a beginning of them.
+An acknowledgement is no line of a script, which acknowledges all that it prints: so there nobody is
+cut, and who is cut by the server has heard a beginning of what is printed.
 So many rounds (3), each with the next seed. A difference is printed with its seed, conference,
 connection and place, and the script is kept; then the status is 1.
 """
@@ -274,14 +276,16 @@ def script_of(conference, lines):
         elif words[1] == 'message':
             sent[int(words[2])].append(bytes.fromhex(words[3]))
             script.append('send %s %s' % (words[2], words[3]))
+        elif words[1] == 'took':
+            continue
         elif words[1] == 'leave':
             script.append('leave %s' % words[2])
         elif words[1] == 'revoke':
             script.append('revoke %d %s' % (conference, words[2]))
         else:
             script.append('close %d' % conference)
-    if lines[-1] != 'end %d' % len(script):
-        raise Difference('%d events end by "%s"' % (len(script), lines[-1]))
+    if lines[-1] != 'end %d' % (len(lines) - 1):
+        raise Difference('%d events end by "%s"' % (len(lines) - 1, lines[-1]))
     return script, users, sent
 
 
@@ -392,8 +396,9 @@ def round_of(floord, floorsim, seed):
         events = 0
         for conference in range(1, CONFERENCES + 1):
             where = 'seed %d, conference %d' % (seed, conference)
-            script, users, sent = script_of(conference, server.journal(conference))
-            events += len(script)
+            journal = server.journal(conference)
+            script, users, sent = script_of(conference, journal)
+            events += len(journal) - 1
             script = texts[conference - 1] + '---\n' + '\n'.join(script) + '\n'
             told = printed_for(floorsim, script, len(users))
             compare(conference, users, sent, told,

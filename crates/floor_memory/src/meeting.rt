@@ -27,14 +27,15 @@ chair = 10
 ";
 
 /// The lines of a long meeting: `attach <user>`, `send <connection> <message>`,
-/// `leave <connection>`, `revoke <request>` and `close`. The connections are numbered in the order
-/// of attaching, and each message has the conference's number put in.
+/// `took <connection> <parcels>`, `leave <connection>`, `revoke <request>` and `close`. The connections
+/// are numbered in the order of attaching, and each message has the conference's number put in.
 pub const LONG: &str = "\
 attach 10
 attach 11
 attach 12
 send 1 200b0000 00000000 0001 000a
 send 1 20070002 00000000 0002 000a 04040001 04040002
+took 1 2
 send 3 20070001 00000000 0001 000c 04040002
 send 1 20010001 00000000 0003 000a 04040001
 send 2 20010004 00000000 0002 000b 04040001 1005 686921 000000 08046000
@@ -73,6 +74,7 @@ const FIRST_PIECE: usize = 9;
 enum Line {
     Attach(u16),
     Send(usize, Vec<u8>),
+    Took(usize, u32),
     Leave(usize),
     Revoke(u16),
     Close,
@@ -141,6 +143,10 @@ impl Meeting {
                 Some(connection) => send(hub, *connection, message),
                 None => Ok(()),
             },
+            Line::Took(connection, parcels) => match self.connections.get(*connection) {
+                Some(connection) => hub.took(*connection, *parcels),
+                None => Ok(()),
+            },
             Line::Leave(connection) => match self.connections.get(*connection) {
                 Some(connection) => hub.leave(*connection),
                 None => Ok(()),
@@ -161,6 +167,9 @@ fn read_line(alloc: Global, conference: u32, text: &str) -> Result<Line, Unread>
             };
             put_conference(&mut message, conference);
             Ok(Line::Send(place(connection)?, message))
+        }
+        ["took", connection, parcels] => {
+            Ok(Line::Took(place(connection)?, u32::from(number(parcels)?)))
         }
         ["leave", connection] => Ok(Line::Leave(place(connection)?)),
         ["revoke", request] => Ok(Line::Revoke(number(request)?)),
