@@ -2,6 +2,7 @@
 
 use crate::run::run_with;
 use floor_serve::Gate;
+use floor_words::read_u32;
 use std::alloc::Global;
 use std::fs;
 use std::io::{Read, Write};
@@ -130,6 +131,14 @@ pub fn ask<R: AllocGlobal>(rt: &R, server: &Server, text: &str) -> Result<String
     line(rt, server)
 }
 
+/// How many events the answer to `stop` has behind these words; `None` where it has other words.
+pub fn events_of_stop(stopped: &str, words: &str) -> Option<u32> {
+    match stopped.split_once(words) {
+        Some(("", events)) => read_u32(events),
+        _ => None,
+    }
+}
+
 /// The next line that the server prints.
 pub fn line<R: AllocGlobal>(rt: &R, server: &Server) -> Result<String, Fail> {
     let mut console = &server.console;
@@ -172,6 +181,21 @@ pub fn hear<R: AllocGlobal>(rt: &R, client: &mut TcpStream, count: usize) -> Opt
         bytes.push(byte[0]).ok()?;
     }
     hex::encode(rt.alloc(), bytes.as_slice()).ok()
+}
+
+/// The next message that the client is sent; `None` where the stream ends before its end.
+pub fn hear_message(alloc: Global, client: &mut TcpStream) -> Option<Vec<u8>> {
+    let mut header = [0u8; 12];
+    client.read_exact(&mut header).ok()?;
+    let words = u16::from_be_bytes([header[2], header[3]]);
+    let mut payload = Vec::new(alloc);
+    payload
+        .resize(usize::from(words).saturating_mul(4), 0u8)
+        .ok()?;
+    client.read_exact(payload.as_mut_slice()).ok()?;
+    let mut message = Vec::from_slice(alloc, &header).ok()?;
+    message.extend_from_slice(payload.as_slice()).ok()?;
+    Some(message)
 }
 
 /// Spaced hexadecimal without its spaces.

@@ -1,6 +1,8 @@
 //! Connections that come and go, and more of them than a conference takes.
 
-use super::clients::{Server, ask, connect, free_port, hear, line, prepare, run_to_end, send};
+use super::clients::{
+    Server, ask, connect, events_of_stop, free_port, hear, line, prepare, run_to_end, send,
+};
 use floor_serve::FreePass;
 use std::io::Read;
 use std::net::{Net, Shutdown, TcpListener, TcpStream};
@@ -44,10 +46,10 @@ fn connections_come_and_go(rt: HostRuntime) -> Result<(), Fail> {
         let (mut client, is_heard) = greets(&rt, port)?;
         assert!(rt; is_heard && ends(&mut client), "connection {turn}");
     }
-    assert_eq!(rt;
-        ask(&rt, &server, "stop")?.as_str(),
-        "ok stopped seats 300 events 900"
-    );
+    let stopped = ask(&rt, &server, "stop")?;
+    let events = events_of_stop(stopped.as_str(), "ok stopped seats 300 events ").ok_or("stopped")?;
+    // Each joins, says Hello and leaves, and its writer acknowledges the answer before that or not.
+    assert!(rt; (900..=1200).contains(&events), "{stopped}");
     assert_eq!(rt; server.end(&rt), 0);
     fs::remove_file(&rt, "come_and_go.toml")?;
     Ok(())

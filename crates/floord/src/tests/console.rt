@@ -6,18 +6,33 @@ use super::clients::{
 use floor_serve::FreePass;
 use std::net::TcpListener;
 use std::test::Fail;
+use std::time::Duration;
 use std::{fs, thread};
 
-/// A Hello of user 10, and then its request for floor 1.
-const HELLO_AND_REQUEST: &str = "200b0000 00000001 0001 000a 20010001 00000001 0002 000a 04040001";
+/// A Hello of user 10, the number of bytes of its answer, and how conference 1 stands once that is
+/// acknowledged; and then its request for floor 1.
+const ASKED: [(&str, usize, &str); 2] = [
+    (
+        "200b0000 00000001 0001 000a",
+        48,
+        "conference 1 members 1 ongoing 0 events 3 open",
+    ),
+    (
+        "20010001 00000001 0002 000a 04040001",
+        40,
+        "conference 1 members 1 ongoing 1 events 5 open",
+    ),
+];
+
+/// How often a status is asked for at most, 10 milliseconds apart.
+const MAX_ASKS: u32 = 2_000;
 
 /// A line, and the lines that answer it, with a comma between each two. Conference 1 is open and
 /// has one member, which asked for a floor. console_more.toml has conference 2, console_again.toml
 /// conference 3 at the same port. console_taken.toml has conference 4, of whose two ports another
 /// program has the second; console_free.toml has conference 5 at the first of them, and then
 /// conference 1.
-const EXCHANGE: &str = "status 1=conference 1 members 1 ongoing 1 events 3 open
-open console_more.toml=ok opened 1
+const EXCHANGE: &str = "open console_more.toml=ok opened 1
 open console_more.toml=error Used
 open console_again.toml=error CannotListen
 open console_taken.toml=error CannotListen
@@ -28,11 +43,11 @@ open console_bad.toml=error MissingKey
 open console_nowhere.toml=error CannotRead
 status 2=conference 2 members 0 ongoing 0 events 0 open
 status 3=error NoConference
-journal 1=1 join 10,2 message 1 200b0000000000010001000a,3 message 1 20010001000000010002000a04040001,end 3
+journal 1=1 join 10,2 message 1 200b0000000000010001000a,3 took 1 1,4 message 1 20010001000000010002000a04040001,5 took 1 1,end 5
 revoke 1 2=error NoRequest
 revoke 3 1=error NoConference
 revoke 1 1=ok revoked 1 1
-status 1=conference 1 members 1 ongoing 0 events 4 open
+status 1=conference 1 members 1 ongoing 0 events 7 open
 close 3=error NoConference
 close 2=ok closed 2
 close 2=error Ended
@@ -45,14 +60,26 @@ open console_again.toml=ok opened 1
 journal 3=end 0
   status   3 =conference 3 members 0 ongoing 0 events 0 open
 close 1=ok closed 1
-status 1=conference 1 members 1 ongoing 0 events 5 ended
+status 1=conference 1 members 1 ongoing 0 events 8 ended
 close x=error BadNumber
 close 4294967296=error BadNumber
 revoke 1 65536=error BadNumber
 close 1 2=error UnknownCommand
  =error UnknownCommand
 halt=error UnknownCommand
-stop=ok stopped seats 1 events 6";
+stop=ok stopped seats 1 events 9";
+
+/// Whether conference 1 is found to stand so before it was asked for too often: what a member was
+/// told is acknowledged a little later.
+fn stands(rt: &HostRuntime, server: &Server, wanted: &str) -> Result<bool, Fail> {
+    for _ in 0..MAX_ASKS {
+        if ask(rt, server, "status 1")?.as_str() == wanted {
+            return Ok(true);
+        }
+        thread::sleep(rt, Duration::from_millis(10));
+    }
+    Ok(false)
+}
 
 #[test]
 fn each_line_has_its_answer(rt: HostRuntime) -> Result<(), Fail> {
@@ -76,11 +103,16 @@ fn each_line_has_its_answer(rt: HostRuntime) -> Result<(), Fail> {
     let server = Server { console, thread };
     assert_eq!(rt; line(&rt, &server)?.as_str(), "ready");
     let mut client = connect(&rt, port)?;
-    send(&rt, &mut client, HELLO_AND_REQUEST).ok_or("sent")?;
-    // The HelloAck, and the header of what answers the request.
-    hear(&rt, &mut client, 60).ok_or("heard")?;
+    for (asked, len, wanted) in ASKED {
+        send(&rt, &mut client, asked).ok_or("sent")?;
+        hear(&rt, &mut client, len).ok_or("heard")?;
+        assert!(rt; stands(&rt, &server, wanted)?, "{asked}");
+    }
     for row in EXCHANGE.lines() {
         let (asked, wanted) = row.split_once('=').ok_or("a row has a sign")?;
+        if asked == "status 1" {
+            assert!(rt; stands(&rt, &server, wanted)?, "{wanted}");
+        }
         // The empty line before it has no answer.
         let asked_after = format!(in alloc; "\n{asked}")?;
         let mut found = ask(&rt, &server, asked_after.as_str())?;

@@ -1,6 +1,8 @@
 //! Random clients, and what the journal that the server prints calls for.
 
-use super::clients::{Server, ask, connect, free_port, hear, line, prepare, run_to_end, send};
+use super::clients::{
+    Server, ask, connect, events_of_stop, free_port, hear, line, prepare, run_to_end, send,
+};
 use floor_config::read_configs;
 use floor_room::{Event, Frame, replay};
 use floor_serve::FreePass;
@@ -125,6 +127,10 @@ fn event_of(alloc: Global, text: &str) -> Option<Event> {
                 frame,
             })
         }
+        "took" => Some(Event::Took {
+            n: read_u32(named)?,
+            k: read_u32(words.next()?)?,
+        }),
         "leave" => Some(Event::Leave {
             n: read_u32(named)?,
         }),
@@ -188,8 +194,15 @@ fn what_is_sent_is_what_the_journal_calls_for(rt: HostRuntime) -> Result<(), Fai
         all.push(player.join(&rt).ok_or("a client is cut off")?)?;
     }
     let events = events_of(&rt, &server)?;
+    let mut others = 0usize;
+    for event in events.iter() {
+        match event {
+            Event::Took { n: _, k: _ } => {}
+            _ => others = others.saturating_add(1),
+        }
+    }
     // Each joins, says Hello, sends its messages and leaves.
-    assert_eq!(rt; events.len(), 4 * (3 + usize::from(MESSAGES)));
+    assert_eq!(rt; others, 4 * (3 + usize::from(MESSAGES)));
     let mut n = 0u32;
     for heard in all {
         n = n.saturating_add(1);
@@ -205,10 +218,9 @@ fn what_is_sent_is_what_the_journal_calls_for(rt: HostRuntime) -> Result<(), Fai
             heard.len()
         );
     }
-    assert_eq!(rt;
-        ask(&rt, &server, "stop")?.as_str(),
-        "ok stopped seats 4 events 612"
-    );
+    let stopped = ask(&rt, &server, "stop")?;
+    let counted = events_of_stop(stopped.as_str(), "ok stopped seats 4 events ").ok_or("stopped")?;
+    assert_eq!(rt; counted as usize, events.len());
     assert_eq!(rt; server.end(&rt), 0);
     fs::remove_file(&rt, "replayed.toml")?;
     Ok(())

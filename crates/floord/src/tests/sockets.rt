@@ -1,7 +1,7 @@
 //! A server in the same process, its administrator's lines and its clients over sockets.
 
 use super::clients::{
-    Server, ask, connect, free_port, hear, joined, line, prepare, run_to_end, send,
+    Server, ask, connect, events_of_stop, free_port, hear, joined, line, prepare, run_to_end, send,
 };
 use floor_serve::{FreePass, Gate};
 use std::alloc::Global;
@@ -34,9 +34,12 @@ fn floord_hello(rt: HostRuntime) -> Result<(), Fail> {
     let mut client = connect(&rt, port)?;
     send(&rt, &mut client, HELLO).ok_or("sent")?;
     assert!(rt; is_heard(&rt, &mut client, HELLO_ACK));
-    assert_eq!(rt;
-        ask(&rt, &server, "stop")?.as_str(),
-        "ok stopped seats 1 events 3"
+    let stopped = ask(&rt, &server, "stop")?;
+    // The writer acknowledges the answer before the member leaves, or too late.
+    assert!(rt;
+        stopped.as_str() == "ok stopped seats 1 events 3"
+            || stopped.as_str() == "ok stopped seats 1 events 4",
+        "{stopped}"
     );
     assert_eq!(rt; server.end(&rt), 0);
     fs::remove_file(&rt, "floord_hello.toml")?;
@@ -102,10 +105,10 @@ fn gate_two_sockets(rt: HostRuntime) -> Result<(), Fail> {
     assert!(rt; is_heard(&rt, &mut held, HELLO_ACK));
     assert!(rt; is_held.load(Ordering::SeqCst));
     assert!(rt; !gave_up.load(Ordering::SeqCst));
-    assert_eq!(rt;
-        ask(&rt, &server, "stop")?.as_str(),
-        "ok stopped seats 2 events 6"
-    );
+    let stopped = ask(&rt, &server, "stop")?;
+    let events = events_of_stop(stopped.as_str(), "ok stopped seats 2 events ").ok_or("stopped")?;
+    // Two joins, two Hellos, two leaves, and what the writers acknowledge before these.
+    assert!(rt; (6..=8).contains(&events), "{stopped}");
     assert_eq!(rt; server.end(&rt), 0);
     fs::remove_file(&rt, "gate_two_sockets.toml")?;
     Ok(())
