@@ -19,6 +19,17 @@ pub struct Shared<G> {
     pub gate: G,
 }
 
+impl<G> Shared<G> {
+    /// What the ports of a server share that opened nothing yet.
+    pub fn new(alloc: Global, gate: G) -> Shared<G> {
+        Shared {
+            registry: Registry::new(alloc),
+            connections: Connections::new(alloc),
+            gate,
+        }
+    }
+}
+
 /// The user of a conference that a port leads to. The port's thread, the threads of its connections
 /// and whoever closes it share it.
 #[derive(Drop)]

@@ -1,5 +1,7 @@
 //! A port: whoever connects to it is one user of one conference.
 
+ghost use Rattle.std.specs.Iterator.{IsFinite};
+
 use crate::binding::Binding;
 use crate::connection;
 use floor_console::BoardRefusal;
@@ -47,7 +49,10 @@ impl<G> Port<G> {
         };
         let theirs = Arc::try_clone(&binding)?;
         let (listener, second) = listen(rt, number)?;
-        match thread::spawn(&rt, move || accept_all(rt, alloc, &theirs, &listener)) {
+        match thread::spawn(
+            &rt,
+            move || accept_all(rt, alloc, &theirs, listener.incoming()),
+        ) {
             Ok(acceptor) => Ok(Port {
                 binding,
                 listener: second,
@@ -107,13 +112,17 @@ fn refusal_of(error: &io::Error) -> BoardRefusal {
     }
 }
 
-/// Accepts until the port ends.
-fn accept_all<G, R>(rt: R, alloc: Global, binding: &Arc<Binding<G>, Global>, listener: &TcpListener)
+/// Starts a connection with each stream that is accepted, until the port ends. Where an accept fails,
+/// as without a descriptor left, the port goes on after a while.
+pub fn accept_all<G, R, I>(rt: R, alloc: Global, binding: &Arc<Binding<G>, Global>, incoming: I)
 where
     G: Gate + Send + Sync + Drop + 'static,
     R: Clock + Threads + Wait + Copy + Drop + Send + 'static,
+    I: Iterator<Item = io::Result<TcpStream>> + Drop,
+    requires can { I.can_next incoming }
+    requires ends { IsFinite (I.remaining incoming) }
 {
-    for accepted in listener.incoming() {
+    for accepted in incoming {
         match after_accept(binding.is_ending(), accepted) {
             Accepting::End => return,
             Accepting::Start(stream) => {

@@ -3,6 +3,7 @@
 ghost use Rattle.std.specs.Prelude.{◌≡◌};
 ghost use Rattle.floor_listen.specs.Ending.{status_of};
 
+use crate::binding::Shared;
 use crate::fault::{fault_of_opening, fault_of_stop};
 use crate::lines::{answer_lines, print};
 use crate::server::Server;
@@ -14,7 +15,7 @@ use std::alloc::Global;
 use std::io::{Read, Write};
 use std::net::{Net, TcpListener, TcpStream};
 use std::rt::Files;
-use std::sync::Wait;
+use std::sync::{Arc, Wait};
 use std::thread::Threads;
 use std::time::Clock;
 
@@ -67,7 +68,10 @@ where
     G: Gate + Send + Sync + Drop + 'static,
 {
     let ending = match configuration_path(alloc, words) {
-        Ok(path) => serve(rt, alloc, path.as_str(), input, output, gate),
+        Ok(path) => {
+            let shared = Shared::new(alloc, gate);
+            serve(rt, alloc, path.as_str(), input, output, shared)
+        }
         Err(WordsFault::Help(text)) => after_help(print(output, text.as_str())),
         Err(WordsFault::Refused(text)) => {
             let _outcome = print(errors, text.as_str());
@@ -78,7 +82,8 @@ where
     tell(errors, ending)
 }
 
-fn serve<
+/// Serves the configuration of a file until `input` says `stop` or ends, by ports that share this.
+pub fn serve<
     G,
     R: Net<Listener = TcpListener, Stream = TcpStream>
         + Files
@@ -92,13 +97,14 @@ fn serve<
         + 'static,
     I: Read,
     O: Write,
->(rt: R, alloc: Global, path: &str, input: &mut I, output: &mut O, gate: G) -> Ending
+>(rt: R, alloc: Global, path: &str, input: &mut I, output: &mut O, shared: Shared<G>) -> Ending
 where
     G: Gate + Send + Sync + Drop + 'static,
 {
-    let Ok(mut server) = Server::new(rt, alloc, gate) else {
+    let Ok(shared) = Arc::new(alloc, shared) else {
         return Ending::Fault(ServerFault::Memory);
     };
+    let mut server = Server::new(rt, alloc, shared);
     let served = converse(rt, alloc, &mut server, path, input, output);
     // Whatever went wrong, no thread is left behind.
     let outcome = match server.outcome() {

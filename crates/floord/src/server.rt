@@ -1,14 +1,14 @@
 //! The server: its conferences, its ports, and what its administrator's lines do.
 
 use crate::binding::{Binding, Shared};
-use crate::connections::Connections;
+use crate::fault::stopped;
 use crate::port::Port;
 use floor_config::{Config, ConfigFault, read_configs};
 use floor_console::{Board, BoardRefusal, Command, StopRefusal, Stopped, Text, parse_line};
 use floor_listen::{Chosen, Ports};
 use floor_room::Status;
-use floor_serve::{Act, Desk, DeskRefusal, FinishFault, Gate, OpenRefusal, Registry, Report};
-use std::alloc::{AllocError, Global};
+use floor_serve::{Act, Desk, DeskRefusal, Gate, OpenRefusal};
+use std::alloc::Global;
 use std::fs;
 use std::io::ErrorKind;
 use std::net::{Net, TcpListener, TcpStream};
@@ -43,21 +43,16 @@ where
         + Send
         + 'static,
 {
-    /// A server without conferences.
-    pub fn new(rt: R, alloc: Global, gate: G) -> Result<Server<G, R>, AllocError> {
-        let shared = Shared {
-            registry: Registry::new(alloc),
-            connections: Connections::new(alloc),
-            gate,
-        };
-        Ok(Server {
+    /// A server whose ports share this. Takes no memory.
+    pub fn new(rt: R, alloc: Global, shared: Arc<Shared<G>, Global>) -> Server<G, R> {
+        Server {
             rt,
             alloc,
-            shared: Arc::new(alloc, shared)?,
+            shared,
             ports: Ports::new(alloc),
             opening: None,
             outcome: None,
-        })
+        }
     }
 
     /// Does what an `open` line asks for, ahead of the board's answer: a conference's ports need
@@ -216,17 +211,12 @@ impl<G: Drop, R: Threads + Wait + Drop> Board for Server<G, R> {
         // All of them first, so that the connections of all ports end beside each other.
         self.ports.each(|port: &Port<G>| port.end(rt));
         self.close_ports(Chosen::All);
-        let outcome = match self
-            .shared
-            .connections
-            .finish(&self.rt, &self.shared.registry)
-        {
-            Ok(Report { seats, events }) => Ok(Stopped { seats, events }),
-            Err(FinishFault::Broken { conference }) => Err(StopRefusal::Broken { conference }),
-            Err(FinishFault::Mismatch { conference, n }) => {
-                Err(StopRefusal::Mismatch { conference, n })
-            }
-        };
+        let Shared {
+            registry,
+            connections,
+            gate: _,
+        } = &*self.shared;
+        let outcome = stopped(connections.finish(&self.rt, registry));
         self.outcome = Some(outcome);
         outcome
     }

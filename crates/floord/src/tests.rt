@@ -4,6 +4,7 @@ mod clients;
 mod connections;
 mod console;
 mod endings;
+mod faults;
 mod load;
 mod ports;
 mod replayed;

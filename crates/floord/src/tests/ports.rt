@@ -1,11 +1,16 @@
-//! Where the server listens, and which ports it gives back.
+//! Where the server listens, which ports it gives back, and what it does where an accept fails.
 
-use super::clients::{Server, ask, connect, free_port, line, prepare, run_to_end};
+use super::clients::{Server, ask, connect, free_port, hear, line, prepare, run_to_end, send};
+use crate::binding::{Binding, Shared};
+use crate::port::accept_all;
 use crate::socket::Socket;
+use floor_config::read_configs;
 use floor_serve::FreePass;
+use std::io::ErrorKind;
 use std::net::{TcpListener, TcpStream};
+use std::sync::Arc;
 use std::test::Fail;
-use std::{fs, thread};
+use std::{fs, io, thread};
 
 #[test]
 fn both_ports_of_a_closed_conference_are_free(rt: HostRuntime) -> Result<(), Fail> {
@@ -57,5 +62,34 @@ fn a_socket_sends_without_delay(rt: HostRuntime) -> Result<(), Fail> {
     let same = stream.try_clone()?;
     let _socket = Socket::new(rt.alloc(), stream)?;
     assert!(rt; same.nodelay()?);
+    Ok(())
+}
+
+/// The configuration of conference 1, in which there is user 10.
+const CONFIGURATION: &str = "[[conference]]\nid = 1\n[[conference.user]]\nid = 10\n";
+
+#[test]
+fn a_port_serves_on_after_an_accept_that_failed(rt: HostRuntime) -> Result<(), Fail> {
+    let alloc = rt.alloc();
+    let mut configs = read_configs(alloc, CONFIGURATION).map_err(|_| "no configuration")?;
+    let shared = Shared::new(alloc, FreePass);
+    let Ok(()) = shared
+        .registry
+        .open(&rt, configs.pop().ok_or("no conference")?)
+    else {
+        return Err(Fail::from("the conference doesn't open"));
+    };
+    let binding = Binding::new(Arc::new(alloc, shared)?, 1, 10, 1);
+    let binding = Arc::new(alloc, binding)?;
+    let listener = TcpListener::bind(&rt, "127.0.0.1:0")?;
+    let mut client = TcpStream::connect(&rt, listener.local_addr()?)?;
+    let (stream, _) = listener.accept()?;
+    let failed = Err(io::Error::from(ErrorKind::Other));
+    let incoming = vec![in alloc; failed, Ok(stream)]?;
+    accept_all(rt, alloc, &binding, incoming.into_iter());
+    send(&rt, &mut client, "200b0000 00000001 0001 000a").ok_or("sent")?;
+    assert!(rt; hear(&rt, &mut client, 48).is_some());
+    binding.shut_down(&rt);
+    binding.wait(&rt);
     Ok(())
 }
