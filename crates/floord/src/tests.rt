@@ -8,5 +8,6 @@ mod faults;
 mod load;
 mod ports;
 mod replayed;
+mod slow;
 mod sockets;
 mod words;
