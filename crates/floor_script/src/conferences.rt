@@ -1,5 +1,9 @@
 //! The conferences of a script, and what its lines are answered.
 
+ghost use Rattle.std.specs.Prelude.{OnOk};
+ghost use Rattle.std.specs.Io.KnownBytes.{Appends};
+ghost use Rattle.floor_script.specs.Printed.{sent_line};
+
 use crate::attached::{Attached, Pace};
 use crate::fault::RunFault;
 use crate::line::Command;
@@ -215,12 +219,16 @@ fn print_parcels<W: Write>(
     Ok(MAX_TURNS)
 }
 
+/// Prints the line of a parcel.
 fn print_parcel<W: Write>(
     alloc: Global,
     connection: u64,
     parcel: &Parcel,
     output: &mut W,
-) -> Result<(), RunFault> {
+) -> Result<(), RunFault>
+    ensures printed { OnOk result (Appends (W.contents output.old) (W.contents output.new)
+        (sent_line connection parcel.now.bytes)) }
+{
     let header = hex::encode(alloc, parcel.header())?;
     let payload = hex::encode(alloc, parcel.payload())?;
     writeln!(
