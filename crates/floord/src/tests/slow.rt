@@ -1,18 +1,16 @@
 //! Peers that read late, or never.
 
 use super::clients::{
-    Server, ask, connect, free_port, hear_message, joined, line, prepare, run_to_end, send,
+    Server, Start, ask, connect, free_port, hear_message, joined, line, prepare, run_to_end, send,
 };
 use floor_serve::FreePass;
 use std::alloc::Global;
 use std::io::{Read, Write};
-use std::net::{Net, Shutdown, TcpListener, TcpStream};
-use std::rt::Files;
+use std::net::{Shutdown, TcpStream};
+use std::sync::Arc;
 use std::sync::atomic::{AtomicBool, Ordering};
-use std::sync::{Arc, Wait};
 use std::test::Fail;
-use std::thread::Threads;
-use std::time::{Clock, Duration};
+use std::time::Duration;
 use std::{fs, thread};
 
 /// What is told of each user: it is long, so that the system's buffers are soon full.
@@ -44,23 +42,16 @@ fn answer<R: AllocGlobal>(rt: &R, client: &mut TcpStream, message: &str) -> Opti
     hear_message(rt.alloc(), client)
 }
 
-/// Starts a server whose conference 1 has user 10 at the first port and user 11 at the second, and
-/// connects user 10, who asks for floor 1 for others.
-fn start<R>(rt: R, path: &str, ports: [u16; 2]) -> Result<(Server, TcpStream), Fail>
-where
-    R: Net<Listener = TcpListener, Stream = TcpStream>
-        + Files
-        + AllocGlobal
-        + Clock
-        + Threads
-        + Wait
-        + Copy
-        + Drop
-        + Send
-        + 'static,
-{
+/// Writes the configuration of a server whose conference 1 has user 10 at the first port and user 11 at
+/// the second, and gives the test's end of the server's standard input and output, and what it is
+/// started with.
+fn prepare_users(
+    rt: &HostRuntime,
+    path: &str,
+    ports: [u16; 2],
+) -> Result<(TcpStream, Start), Fail> {
     let alloc = rt.alloc();
-    let (console, start) = prepare(&rt, path, &[(1, ports[0])])?;
+    let prepared = prepare(rt, path, &[(1, ports[0])])?;
     let mut text = format!(in alloc; "[[conference]]\nid = 1\nlimit = {EACH}\n")?;
     for (user, port) in [(10, ports[0]), (11, ports[1])] {
         let part = format!(in alloc;
@@ -73,22 +64,26 @@ where
         text.push_str(part.as_str())?;
     }
     text.push_str("[[conference.floor]]\nid = 1\n")?;
-    fs::write(&rt, path, text.as_str())?;
-    let thread = thread::spawn(&rt, move || run_to_end(rt, alloc, start, FreePass))?;
-    let server = Server { console, thread };
-    if line(&rt, &server)?.as_str() != "ready" {
+    fs::write(rt, path, text.as_str())?;
+    Ok(prepared)
+}
+
+/// Connects user 10 once the server is ready, who asks for floor 1 for others.
+fn enter(rt: &HostRuntime, server: &Server, port: u16) -> Result<TcpStream, Fail> {
+    let alloc = rt.alloc();
+    if line(rt, server)?.as_str() != "ready" {
         return Err(Fail::from("the server isn't ready"));
     }
-    let mut client = connect(&rt, ports[0])?;
+    let mut client = connect(rt, port)?;
     for beneficiary in BENEFICIARIES {
         let request = format!(in alloc;
             "20010002 00000001 0001 000a 04040001 0204{beneficiary:04x}"
         )?;
         for _ in 0..EACH {
-            answer(&rt, &mut client, request.as_str()).ok_or("asks")?;
+            answer(rt, &mut client, request.as_str()).ok_or("asks")?;
         }
     }
-    Ok((server, client))
+    Ok(client)
 }
 
 /// How often it is asked at most whether a member has left, 10 milliseconds apart.
@@ -139,7 +134,13 @@ fn a_client_that_never_reads_is_cut_and_its_user_connects_again(
 ) -> Result<(), Fail> {
     let alloc = rt.alloc();
     let ports = [free_port(&rt)?, free_port(&rt)?];
-    let (server, unread) = start(rt, "slow_unread.toml", ports)?;
+    let (console, start) = prepare_users(&rt, "slow_unread.toml", ports)?;
+    let serving = thread::spawn(&rt, move || run_to_end(rt, alloc, start, FreePass))?;
+    let server = Server {
+        console,
+        thread: serving,
+    };
+    let unread = enter(&rt, &server, ports[0])?;
     let mut other = connect(&rt, ports[1])?;
     let is_over = Arc::new(alloc, AtomicBool::new(false))?;
     let theirs = Arc::try_clone(&is_over)?;
@@ -191,8 +192,15 @@ fn come_and_go<R: AllocGlobal>(rt: &R, client: &mut TcpStream, accepted: u16) ->
 
 #[test]
 fn a_client_that_watches_a_floor_and_never_reads_is_cut(rt: HostRuntime) -> Result<(), Fail> {
+    let alloc = rt.alloc();
     let ports = [free_port(&rt)?, free_port(&rt)?];
-    let (server, mut watcher) = start(rt, "slow_watcher.toml", ports)?;
+    let (console, start) = prepare_users(&rt, "slow_watcher.toml", ports)?;
+    let serving = thread::spawn(&rt, move || run_to_end(rt, alloc, start, FreePass))?;
+    let server = Server {
+        console,
+        thread: serving,
+    };
+    let mut watcher = enter(&rt, &server, ports[0])?;
     answer(&rt, &mut watcher, QUERY).ok_or("watches")?;
     let mut other = connect(&rt, ports[1])?;
     let mut accepted = STANDING;
@@ -250,7 +258,13 @@ fn hears_all(alloc: Global, client: &mut TcpStream, wanted: &[u8]) -> bool {
 fn a_client_that_reads_late_is_sent_everything(rt: HostRuntime) -> Result<(), Fail> {
     let alloc = rt.alloc();
     let ports = [free_port(&rt)?, free_port(&rt)?];
-    let (server, mut client) = start(rt, "slow_reader.toml", ports)?;
+    let (console, start) = prepare_users(&rt, "slow_reader.toml", ports)?;
+    let serving = thread::spawn(&rt, move || run_to_end(rt, alloc, start, FreePass))?;
+    let server = Server {
+        console,
+        thread: serving,
+    };
+    let mut client = enter(&rt, &server, ports[0])?;
     let wanted = answer(&rt, &mut client, QUERY).ok_or("the first answer")?;
     // Together the answers are more than the system's buffers hold.
     assert!(rt; wanted.len() > 6_000);
