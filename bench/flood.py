@@ -16,7 +16,8 @@ from server import Server, configuration, connect, hear, hello
 
 TIMED = 4000
 EVENTS = 900_000
-PIECE = 500
+# Two pieces are unanswered at most, so that no member falls behind and is cut.
+PIECE = 450
 
 
 def pin(processors):

@@ -3,10 +3,12 @@
 
 Runs each case (or those that are named) against a floord of its own, whose conference 1 the case
 may do to what it likes. Meanwhile a Hello of conference 2 is answered all the while, each within
-DEADLINE. Every answer is compared with what messages.py has for it; at the end of a case the
-conference's events, the report of `stop` and its status are what the case did, and threads and
-descriptors are what they were. Prints what was answered, the times of conference 2's Hellos, and
-the server's memory, threads and descriptors: before, at most, after. Status 1 where a case failed.
+DEADLINE. Every answer is compared with what messages.py has for it; at the end of a case the events
+in the conference's journal that are no acknowledgements, the report of `stop` and its status are
+what the case did, and threads and descriptors are what they were. (Acknowledgements depend on how
+often a writer finds nothing waiting.) Prints what was answered, the times of conference 2's Hellos,
+and the server's memory, threads and descriptors: before, at most, after. Status 1 where a case
+failed.
 """
 import multiprocessing
 import random
@@ -29,6 +31,13 @@ USERS = (10, 11, 12, 13)
 OTHER_PORT = FIRST_PORT + len(USERS)
 CONFERENCE = messages.Conference(1, messages.WORKED.users, range(1, 10))
 FLOOD = 100_000
+MAX_EVENTS = 2_000_000
+# So many messages that aren't acknowledged wait for a member; with one more it is cut. A client that
+# keeps fewer than AHEAD unanswered never is.
+MAX_WAITING = 1024
+AHEAD = 900
+# A connection that was cut, or has left, and takes nothing is gone after so many seconds.
+GONE = 10
 
 
 class Failed(Exception):
@@ -101,7 +110,7 @@ class Case:
                                              daemon=True)
         self.other.start()
         self.idle = self.some_times(100)
-        self.remains = None
+        self.remains = (0,)
         self.is_stopped = False
         self.before = self.most = self.server.held()
         self.goes_on = True
@@ -135,15 +144,15 @@ class Case:
             times += self.times()
         return sorted(times)
 
-    def member(self, user=10, unread=None):
+    def member(self, user=10, narrow=False):
         """A connection that becomes a member: a seat, and events for its join and its leave."""
-        client = self.connect(user, unread)
+        client = self.connect(user, narrow)
         self.seats += 1
         self.events += 2
         return client
 
-    def connect(self, user=10, unread=None):
-        client = connect(port_of(user), unread)
+    def connect(self, user=10, narrow=False):
+        client = connect(port_of(user), narrow)
         client.settimeout(DEADLINE)
         return client
 
@@ -163,21 +172,33 @@ class Case:
     def status(self):
         return self.server.ask('status 1', DEADLINE)
 
-    def wait_for(self, wanted):
-        """Waits until the status of conference 1 is this."""
+    def came(self):
+        """How many events of conference 1 are no acknowledgements."""
+        return sum(' took ' not in line for line in self.server.journal(1, DEADLINE)[:-1])
+
+    def wait_for(self, members, ongoing=0, phase='open', conference=1):
+        """Waits until a conference has so many members and ongoing requests; its events."""
+        wanted = 'conference %d members %d ongoing %d events ' % (conference, members, ongoing)
         end = time.monotonic() + DEADLINE
         while True:
-            seen = self.status()
-            if seen == wanted:
-                return
+            seen = self.server.ask('status %d' % conference, DEADLINE)
+            if seen.startswith(wanted) and seen.endswith(phase):
+                return int(seen.split()[7])
             if time.monotonic() > end:
-                raise Failed('the status is "%s", not "%s"' % (seen, wanted))
+                raise Failed('the status is "%s", not "%s.. %s"' % (seen, wanted, phase))
             time.sleep(0.01)
 
-    def wait_for_members(self, members, ongoing=0):
+    def wait_for_members(self, members, ongoing=0, phase='open'):
         """Waits until so many are members, and all events have come but their leaves."""
-        self.wait_for('conference 1 members %d ongoing %d events %d open' % (
-            members, ongoing, self.events - members))
+        end = time.monotonic() + DEADLINE
+        while True:
+            self.wait_for(members, ongoing, phase)
+            came = self.came()
+            if came == self.events - members:
+                return
+            if came > self.events - members or time.monotonic() > end:
+                raise Failed('%d events came, not %d' % (came, self.events - members))
+            time.sleep(0.01)
 
     def wait_until_back(self):
         """Waits until threads and descriptors are what they were before the case."""
@@ -190,18 +211,20 @@ class Case:
                 raise Failed('threads and descriptors stay: %s, before %s' % (held, self.before))
             time.sleep(0.02)
 
-    def stop(self):
-        """Stops the server, and compares its report; the seconds that it took."""
-        self.goes_on = False
-        self.sampler.join()
-        if self.other.is_alive():
-            self.pipe.send('end')
-            self.events += 2 + self.pipe.recv()
-            self.seats += 1
-            self.other.join()
+    def stop(self, leaving=0):
+        """Stops the server, while so many members of conference 1 have yet to leave, and compares
+        its report; the seconds that it took."""
+        self.pipe.send('end')
+        hellos = self.pipe.recv()
+        self.other.join()
+        self.seats += 1
+        others = self.wait_for(0, conference=2)
+        if not 2 + hellos <= others <= 2 + 2 * hellos:
+            raise Failed('%d Hellos of conference 2 are %d events' % (hellos, others))
+        events = int(self.status().split()[7]) + leaving + others
         began = time.monotonic()
         report = self.server.stop()
-        wanted = ('ok stopped seats %d events %d' % (self.seats, self.events), 0)
+        wanted = ('ok stopped seats %d events %d' % (self.seats, events), 0)
         if report != wanted:
             raise Failed('the report is %s, not %s' % (report, wanted))
         return time.monotonic() - began
@@ -211,10 +234,11 @@ class Case:
         if self.is_stopped:
             return
         times = self.some_times(20)
-        if self.remains:
-            self.wait_for(self.remains)
-        else:
-            self.wait_for_members(0)
+        self.wait_for(*self.remains)
+        # What the printing of a journal takes isn't the peers' doing.
+        self.goes_on = False
+        self.sampler.join()
+        self.wait_for_members(*self.remains)
         after = self.wait_until_back()
         took = self.stop()
 
@@ -226,7 +250,8 @@ class Case:
                 at(0.5, self.idle), at(0.99, self.idle)))
         say('; '.join('%s %d, %d, %d' % (name, self.before[name], self.most[name], after[name])
                       for name in ('VmRSS', 'Threads', 'descriptors')))
-        say('%d seats, %d events; stopped in %.2f s' % (self.seats, self.events, took))
+        say('%d seats, %d events beside acknowledgements; stopped in %.2f s' % (
+            self.seats, self.events, took))
 
     def abandon(self):
         self.goes_on = False
@@ -521,7 +546,7 @@ def resets(case):
     for pause in (0, 0.0005, 0.002, 0.01, 0.05):
         for _ in range(20):
             client = case.member()
-            seen = case.events
+            case.exchange(client, hello(), ack())
             try:
                 client.sendall(hello() * 500)
                 time.sleep(pause)
@@ -529,25 +554,13 @@ def resets(case):
                 pass
             reset(client)
             points += 1
-            # Of a flood that is reset any beginning has come.
-            settle(case, seen, 500)
-    return '%d connections reset before, in and behind messages and answers: each has left' % points
-
-
-def settle(case, seen, most):
-    """Waits until nobody is a member, and takes as many events as came of at most so many."""
-    end = time.monotonic() + DEADLINE
-    while True:
-        words = case.status().split()
-        if words[3] == '0' and int(words[7]) >= seen:
-            break
-        if time.monotonic() > end:
-            raise Failed('the status is "%s"' % ' '.join(words))
-        time.sleep(0.005)
-    came = int(words[7]) - seen
-    if came > most:
-        raise Failed('of %d messages %d came' % (most, came))
+            case.wait_for(0)
+    # Of a flood that is reset any beginning has come.
+    came = case.came() - case.events
+    if not 0 <= came <= 100 * 500:
+        raise Failed('of 50,000 messages %d came' % came)
     case.events += came
+    return '%d connections reset before, in and behind messages and answers: each has left' % points
 
 
 def crowd(case):
@@ -565,125 +578,221 @@ def crowd(case):
     return clients
 
 
+def wait_until_gone(case, held, beside=None):
+    """Waits until threads and descriptors are these again, though no peer closes, while a member of
+    user 11 is answered where there is one beside; the seconds."""
+    began = time.monotonic()
+    while True:
+        now = case.server.held()
+        took = time.monotonic() - began
+        if all(now[name] <= held[name] for name in ('Threads', 'descriptors')):
+            return took
+        if took > GONE:
+            raise Failed('after %d s there is still %s, before %s' % (took, now, held))
+        if beside:
+            case.exchange(beside, hello(1, 11), ack(1, 11))
+        time.sleep(0.05)
+
+
+def told_until_cut(case, member):
+    """How many answers a member was told until it was cut, as the journal has it. It sent only
+    Hellos, and never read. Counts its messages."""
+    told = taken = 0
+    is_cut = False
+    for line in case.server.journal(1, DEADLINE)[:-1]:
+        _, kind, number_, *rest = line.split() + ['']
+        if number_ != str(member) or kind not in ('message', 'took'):
+            continue
+        if kind == 'took':
+            taken += int(rest[0])
+        elif is_cut:
+            raise Failed('a message of a member that was cut is an event')
+        elif told - taken == MAX_WAITING:
+            is_cut = True
+        else:
+            told += 1
+    if not is_cut:
+        raise Failed('a member has left, and was told %d and took %d' % (told, taken))
+    case.events += told + 1
+    return told
+
+
 def unread(case):
-    """A peer that floods and never reads: what its outbox holds, and that it is used again.
+    """A peer that asks and never reads: it is cut, and gone soon; its user connects again."""
+    neighbour = case.member(11)
+    case.exchange(neighbour, hello(1, 11), ack(1, 11))
+    held = case.server.held()
+    client = case.member(narrow=True)
+    case.wait_for(2)
+    while not case.status().startswith('conference 1 members 1 '):
+        client.sendall(hello() * 100)
+        case.exchange(neighbour, hello(1, 11), ack(1, 11))
+    grown = case.server.held()['VmRSS'] - held['VmRSS']
+    again = case.member()
+    case.exchange(again, hello(), ack())
+    again.close()
+    took = wait_until_gone(case, held, neighbour)
+    told = told_until_cut(case, 2)
+    reset(client)
+    neighbour.close()
+    return ('cut after %d answers, of which %d waited; %d kB in all; gone %.1f s after it had left, '
+            'while another is answered' % (told, MAX_WAITING, grown, took))
+
+
+def unread_again(case):
+    """Five peers, one after another, that are cut with long answers: memory is used again.
 
     With one arena, so that malloc keeps what was given back in one place.
     """
-    before = case.server.held()['VmRSS']
-    client = case.member(unread=4096)
-    for _ in range(200):
-        client.sendall(hello() * 1000)
-    case.events += 200_000
-    case.wait_for_members(1)
-    full = case.server.held()['VmRSS']
-    client.close()
-    case.wait_for_members(0)
-    said = '200,000 Hellos %d bytes each' % (1024 * (full - before) / 200_000)
     fulls = []
     for _ in range(5):
         clients = crowd(case)
-        before = case.server.held()['VmRSS']
         clients[3].sendall(message(FLOOR_QUERY, 1, 1, 13, floors(1, 2, 3, 4)) * 1500)
-        case.events += 1500
-        case.wait_for_members(4, 256)
+        case.wait_for(3, 192)
         fulls.append(case.server.held()['VmRSS'])
         for client in clients:
             reset(client)
-        case.wait_for_members(0)
-    if fulls[-1] > 1.2 * fulls[0]:
+        case.wait_for(0)
+        # What came of the queries before their sender was cut.
+        came = case.came() - case.events
+        if not MAX_WAITING // 4 < came < 1500:
+            raise Failed('%d of 1,500 queries came' % came)
+        case.events += came
+        case.wait_until_back()
+    if fulls[0] - case.before['VmRSS'] > 16 * MAX_WAITING or fulls[-1] > 1.2 * fulls[0]:
         raise Failed('five outboxes one after another take %s kB' % fulls)
-    return said + '; 1,500 FloorQuerys of 256 requests, five times: %s MB in all' % (
-        ', '.join('%.0f' % (full / 1024) for full in fulls))
+    return '1,024 statuses of 64 requests each, five times: %s MB in all' % ', '.join(
+        '%.0f' % (full / 1024) for full in fulls)
+
+
+def far_ahead(case):
+    """A peer that reads, and keeps 900 messages unanswered, beside one that is cut."""
+    client = case.member()
+    case.exchange(client, hello(), ack())
+    deaf = case.member(11, narrow=True)
+    case.wait_for(2)
+    client.sendall(hello() * (AHEAD - 100))
+    case.events += AHEAD - 100
+    is_cut = False
+    for _ in range(2000):
+        case.exchange(client, hello() * 100, ack() * 100, 100)
+        if not is_cut:
+            deaf.sendall(hello(1, 11) * 20)
+            is_cut = case.status().startswith('conference 1 members 1 ')
+    case.hear(client, ack() * (AHEAD - 100))
+    told = told_until_cut(case, 2)
+    case.exchange(client, hello(), ack())
+    reset(deaf)
+    client.close()
+    return '200,000 Hellos and more are answered; the other is cut after %d answers' % told
+
+
+def hear_messages(client, count):
+    """The next so many messages."""
+    heard = b''
+    for _ in range(count):
+        head = hear(client, 12)
+        heard += head + hear(client, 4 * struct.unpack('>H', head[2:4])[0])
+    return heard
+
+
+QUERY = message(FLOOR_QUERY, 1, 1, 10, floors(1, 2, 3, 4))
 
 
 def slow(case):
-    """A peer that reads a byte now and then: what it reads is right, and others don't wait."""
-    client = case.member(unread=4096)
-    client.sendall(hello() * 4000)
-    case.events += 4000
+    """A peer that reads a byte now and then, and then nothing for a while, but isn't 1,024 behind:
+    what it reads is right, and others don't wait."""
+    members = crowd(case)
+    neighbour = case.member()
+    neighbour.sendall(QUERY)
+    wanted = 40 * hear_messages(neighbour, 4)
+    client = case.member(narrow=True)
+    client.sendall(QUERY * 40)
+    case.events += 41
     heard = b''
     for _ in range(1000):
         heard += client.recv(1)
         time.sleep(0.001)
-    neighbour = case.member(11)
-    case.exchange(neighbour, hello(1, 11), ack(1, 11))
-    neighbour.close()
-    case.hear(client, (ack() * 4000)[len(heard):])
-    if heard != (ack() * 21)[:1000]:
+    case.exchange(neighbour, hello(), ack())
+    time.sleep(GONE + 2)
+    case.exchange(neighbour, hello(), ack())
+    if heard != wanted[:1000]:
         raise Failed('a byte that was read alone is wrong')
-    client.close()
-    return '1,000 bytes one by one, then the rest of 4,000 HelloAcks: all right'
+    case.hear(client, wanted[1000:])
+    for peer in members + [neighbour, client]:
+        reset(peer)
+    return '1,000 bytes one by one, none for 12 s, then the rest of %d: all right' % len(wanted)
 
 
-def unread_queries(case, count, turns=120):
-    """So many connections of user 10, each with more unread answers than its socket takes."""
-    query = message(FLOOR_QUERY, 1, 1, 10, floors(1, 2, 3, 4))
+def unread_queries(case, count, turns=8):
+    """So many connections of user 10, each with more unread answers than its sockets hold, but not
+    so many that it is cut."""
     clients = []
     for _ in range(count):
-        client = case.member(unread=4096)
-        client.sendall(query * turns)
+        client = case.member(narrow=True)
+        client.sendall(QUERY * turns)
         case.events += turns
         clients.append(client)
     return clients
 
 
-def unread_by_60(case):
-    """60 peers that watch four floors with 256 requests, and never read."""
-    members = crowd(case) + unread_queries(case, 60)
+def watchers(case):
+    """59 peers that watch four floors with 256 requests, and never read: all are cut by what
+    another asks for."""
+    members = crowd(case)
+    neighbour, driver = members[1], case.member(13)
+    hear_messages(neighbour, 64)
+    case.exchange(driver, hello(1, 13), ack(1, 13))
+    held = case.server.held()
+    peers = unread_queries(case, 59, 1)
     case.wait_for_members(64, 256)
     before = case.server.held()['VmRSS']
+    ask = message(FLOOR_REQUEST, 1, 1, 13, floors(4))
     began = time.monotonic()
-    for request in range(200, 100, -1):
-        user = USERS[(request - 1) // 64]
-        members[USERS.index(user)].sendall(
-            message(FLOOR_RELEASE, 1, 1, user, number(FLOOR_REQUEST_ID, request)))
-    case.events += 100
-    case.wait_for_members(64, 156)
-    took = time.monotonic() - began
-    full = case.server.held()['VmRSS']
-    for client in members:
-        reset(client)
-    return '100 releases, of which all are told, take %.0f kB and %.1f ms each' % (
-        (full - before) / 100, 10 * took)
-
-
-def wait_until_cut(case, before):
-    """Waits until threads and descriptors are these again, though no peer closes; the seconds."""
-    began = time.monotonic()
-    while True:
-        held = case.server.held()
-        if all(held[name] <= before[name] for name in ('Threads', 'descriptors')):
-            return time.monotonic() - began
-        if time.monotonic() > began + DEADLINE:
-            raise Failed('blocked writers stay: %s, before %s' % (held, before))
-        time.sleep(0.1)
+    for request in range(256, 856):
+        for asked in (message(FLOOR_RELEASE, 1, 1, 13, number(FLOOR_REQUEST_ID, request)), ask):
+            driver.sendall(asked)
+            if hear_messages(driver, 1)[1] != messages.FLOOR_REQUEST_STATUS:
+                raise Failed('request %d is not answered by its status' % request)
+    case.events += 1200
+    each = (time.monotonic() - began) / 1200
+    grown = case.server.held()['VmRSS'] - before
+    took = wait_until_gone(case, held, neighbour)
+    case.wait_for_members(5, 256)
+    again = case.member()
+    case.exchange(again, hello(), ack())
+    for peer in members + peers + [driver, again]:
+        reset(peer)
+    return ('1,200 events of another, of which all are told, take %.1f ms each, and %d kB in all; '
+            'all 59 are gone %.1f s after the last' % (1000 * each, grown, took))
 
 
 def half_closed(case):
-    """Peers that end their sending and leave their answers unread: 128 at once, for a while."""
+    """Peers that end their sending and leave their answers unread: 124 at once, for a while."""
     members = crowd(case)
-    before = case.server.held()
-    clients = []
-    for _ in range(124):
-        clients += unread_queries(case, 1, 150)
-        clients[-1].shutdown(socket.SHUT_WR)
-        case.wait_for_members(4, 256)
     held = case.server.held()
-    if held['Threads'] - before['Threads'] != 2 * 124:
-        raise Failed('124 keep %d threads' % (held['Threads'] - before['Threads']))
+    clients = []
+    for count in (60, 60, 4):
+        some = unread_queries(case, count)
+        for client in some:
+            client.shutdown(socket.SHUT_WR)
+        clients += some
+        case.wait_for_members(4, 256)
+    full = case.server.held()
+    if full['Threads'] - held['Threads'] != 2 * 124:
+        raise Failed('124 keep %d threads' % (full['Threads'] - held['Threads']))
     for user in USERS:
         ended(case.connect(user))
-    took = wait_until_cut(case, before)
+    took = wait_until_gone(case, held)
     client = case.member()
     case.exchange(client, hello(), ack())
     client.close()
     for client in clients + members:
         reset(client)
     return ('124 are no members any more, and keep %d threads, %d descriptors and %.1f MB each; '
-            'beside them and 4 members a newcomer is shut down; they are cut off after %.0f s' % (
-                held['Threads'] - before['Threads'], held['descriptors'] - before['descriptors'],
-                (held['VmRSS'] - before['VmRSS']) / 124 / 1024, took))
+            'beside them and 4 members a newcomer is shut down; they are gone after %.1f s' % (
+                full['Threads'] - held['Threads'], full['descriptors'] - held['descriptors'],
+                (full['VmRSS'] - held['VmRSS']) / 124 / 1024, took))
 
 
 def closed_while_blocked(case):
@@ -699,9 +808,9 @@ def closed_while_blocked(case):
     if answer != 'ok closed 1':
         raise Failed('close is answered by %s' % answer)
     # The 34 that were members never leave, and the Close is an event.
-    case.events -= 34 - 1
-    case.remains = 'conference 1 members 34 ongoing 0 events %d ended' % case.events
-    case.wait_for(case.remains)
+    case.events += 1
+    case.remains = (34, 0, 'ended')
+    case.wait_for_members(*case.remains)
     # So do the threads and descriptors of its four ports.
     case.before['Threads'] -= 4
     case.before['descriptors'] -= 2 * 4
@@ -718,8 +827,9 @@ def stopped_while_blocked(case):
     for client in clients[:20]:
         client.shutdown(socket.SHUT_WR)
     case.wait_for_members(34, 256)
-    case.times()
-    took = case.stop()
+    # Until the sockets hold what they can, and nothing is acknowledged any more.
+    time.sleep(1)
+    took = case.stop(leaving=34)
     if took > 10:
         raise Failed('stop took %.1f s' % took)
     case.is_stopped = True
@@ -728,53 +838,58 @@ def stopped_while_blocked(case):
     return 'stopped in %.0f ms, with its report' % (1000 * took)
 
 
+def fill(case, client):
+    """Sends Hellos until one finds the journal full and ends the connection."""
+    # So many Hellos are at most twice as many events, with their acknowledgements.
+    while int(case.status().split()[7]) <= MAX_EVENTS - 2 * AHEAD:
+        case.exchange(client, hello() * AHEAD, ack() * AHEAD, AHEAD)
+    while True:
+        client.sendall(hello())
+        heard = hear(client, 48)
+        if not heard:
+            break
+        if heard != ack():
+            raise Failed('a Hello is answered by %s' % heard.hex())
+        case.events += 1
+    events = int(case.status().split()[7])
+    if events != MAX_EVENTS:
+        raise Failed('the journal is full with %d events' % events)
+
+
 def journal_full(case):
-    """All 1,000,000 events of a conference, and what comes behind them."""
+    """All 2,000,000 events of a conference, and what comes behind them."""
     client = case.member()
-    wanted = ack() * 1000
-    for k in range(1000):
-        client.sendall(hello() * 1000)
-        # The first event was the join, so that the last Hello finds the journal full.
-        case.hear(client, wanted[48 * (k == 999):])
-    case.events += 999_999
-    how = ended(client)
+    fill(case, client)
     client.close()
     # Its leave is no event any more.
-    case.events -= 1
-    case.remains = 'conference 1 members 1 ongoing 0 events 1000000 open'
-    case.wait_for(case.remains)
+    case.remains = (1,)
     for user in USERS:
         ended(case.connect(user))
     for line in ('close 1', 'revoke 1 1'):
         answer = case.server.ask(line, DEADLINE)
         if answer != 'error JournalFull':
             raise Failed('%s is answered by %s' % (line, answer))
-    return '999,999 Hellos are answered, then comes %s; newcomers are shut down' % how
+    return '%d Hellos are answered, then comes the end; newcomers are shut down' % (
+        case.events - 2)
 
 
 def full_while_blocked(case):
-    """All 1,000,000 events, while 10 writers are blocked on peers that never read."""
+    """All 2,000,000 events, while 10 writers are blocked on peers that never read."""
     members = crowd(case)
-    idle = case.server.held()
-    blocked = unread_queries(case, 10, 400)
+    held = case.server.held()
+    blocked = unread_queries(case, 10)
     filler = case.member()
     case.wait_for_members(15, 256)
-    left = 1_000_000 - (case.events - 15)
-    while left:
-        count = min(left, 1000)
-        case.exchange(filler, hello() * count, ack() * count, count)
-        left -= count
+    fill(case, filler)
+    filler.close()
     # No leave is an event any more.
-    case.events -= 15
-    case.remains = 'conference 1 members 15 ongoing 256 events 1000000 open'
-    case.wait_for(case.remains)
+    case.remains = (15, 256)
     for client in blocked:
         client.sendall(hello())
-    filler.close()
-    took = wait_until_cut(case, idle)
+    took = wait_until_gone(case, held)
     for client in members + blocked:
         reset(client)
-    return 'those that send once more are cut off after %.0f s, though they never read' % took
+    return 'those that send once more are gone after %.1f s, though they never read' % took
 
 
 def beyond_descriptors(case):
@@ -827,13 +942,11 @@ def beyond_addresses(case):
             client.close()
     for client, user in served:
         case.exchange(client, hello(2, user), ack(2, user))
-    seen = case.status().split()
-    if seen[3] != str(len(served)) or seen[8] != 'open':
-        raise Failed('%d are served, and the status is %s' % (len(served), seen))
+    case.wait_for(len(served))
     if not served or not refused:
         raise Failed('%d are served, %d refused' % (len(served), refused))
     # One for whose writer there was no thread had joined, and left.
-    others = (int(seen[7]) - 3 * len(served)) // 2
+    others = (case.came() - 3 * len(served)) // 2
     case.seats += len(served) + others
     case.events += 3 * len(served) + 2 * others
     for client, _ in served:
@@ -849,7 +962,7 @@ def beyond_addresses(case):
 def beyond_memory(case):
     """Long messages until memory is refused, under a limit of 600 MB of addresses, while two
     writers are blocked on peers that never read."""
-    peers = crowd(case) + unread_queries(case, 2, 400)
+    peers = crowd(case) + unread_queries(case, 2)
     case.wait_for_members(6, 256)
     client = case.member()
     count = 0
@@ -876,7 +989,7 @@ def beyond_memory(case):
         answer = case.server.ask(line, DEADLINE)
         if not answer.startswith(wanted):
             raise Failed('%s is answered by %s' % (line, answer))
-    took = wait_until_cut(case, case.before)
+    took = wait_until_gone(case, case.before)
     for peer in peers:
         reset(peer)
     case.pipe.send('end')
@@ -886,7 +999,7 @@ def beyond_memory(case):
     if report != ('error Broken 1', 1):
         raise Failed('the report is %s' % (report,))
     return ('after %d messages conference 1 is broken, and it alone: conference 2 goes on; its '
-            'blocked peers are cut off after %.0f s; the report says so' % (count, took))
+            'blocked peers are gone after %.1f s; the report says so' % (count, took))
 
 
 def main():
@@ -926,8 +1039,10 @@ CASES = (
     (connect_and_leave, {}),
     (resets, {}),
     (slow, {}),
-    (unread, {'variables': {'MALLOC_ARENA_MAX': '1'}}),
-    (unread_by_60, {}),
+    (unread, {}),
+    (unread_again, {'variables': {'MALLOC_ARENA_MAX': '1'}}),
+    (far_ahead, {}),
+    (watchers, {}),
     (half_closed, {}),
     (closed_while_blocked, {}),
     (stopped_while_blocked, {}),

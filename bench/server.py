@@ -114,11 +114,13 @@ class Server:
         return seen
 
 
-def connect(port, unread=None):
-    """A client of the port, whose side keeps some so many bytes unread where that is given."""
+def connect(port, narrow=False):
+    """A client of the port. Of what a narrow one doesn't read the sockets hold some 100 kB, else a
+    few MB."""
     client = socket.socket()
-    if unread:
-        client.setsockopt(socket.SOL_SOCKET, socket.SO_RCVBUF, unread)
+    if narrow:
+        client.setsockopt(socket.SOL_SOCKET, socket.SO_RCVBUF, 4096)
+        client.setsockopt(socket.IPPROTO_TCP, socket.TCP_MAXSEG, 536)
     client.connect(('127.0.0.1', port))
     client.setsockopt(socket.IPPROTO_TCP, socket.TCP_NODELAY, 1)
     return client

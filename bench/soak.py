@@ -1,14 +1,15 @@
 #!/usr/bin/env python3
 """A long run: ./soak.py FLOORD [EVENTS [SECONDS]]
 
-At least so many events (5,000,000) over 100 conferences. Each has 64 live connections for a while,
-then 8; it has 256 ongoing requests, the last in position 255, and is refused one more of each. Then
-it is served Hellos, queries, malformed messages and pairs of a request and its release, while
-connections leave and others join. Conference 1 goes on to its 65,535th floor request, conference 2
-to its 1,000,000th event. Every byte is compared with what RFC 8855 and docs/PROTOCOL.md call for.
-Prints the server's memory each so many seconds (5); at the end threads and descriptors have to be
-what they were at the start, and the report of `stop` what the clients did. Status 1 where anything
-is otherwise.
+At least so many events (5,000,000) beside acknowledgements, over 100 conferences. Each has 64 live
+connections for a while, then 8; it has 256 ongoing requests, the last in position 255, and is
+refused one more of each. Then it is served Hellos, queries, malformed messages and pairs of a
+request and its release, while connections leave and others join. Conference 1 goes on to its
+65,535th floor request, conference 2 to its 2,000,000th event. Every byte is compared with what RFC
+8855 and docs/PROTOCOL.md call for. Prints the server's memory each so many seconds (5); at the end
+threads and descriptors have to be what they were at the start. Each conference has at least the
+events that its clients made, and the report of `stop` is their sum. Status 1 where anything is
+otherwise.
 """
 import multiprocessing
 import queue
@@ -21,7 +22,7 @@ from messages import (ACCEPTED, BENEFICIARY_ID, CANCELLED, FLOOR_QUERY, FLOOR_RE
                       FLOOR_REQUEST, FLOOR_REQUEST_ID, FLOOR_REQUEST_QUERY, GRANTED, HELLO,
                       RELEASED, USER_QUERY, error, floor_request_status, floors, hello_ack,
                       message, number)
-from server import Server, connect
+from server import Server, connect, hear
 
 CONFERENCES = 100
 FIRST_PORT = 10_000
@@ -31,6 +32,7 @@ USERS = range(10, 26)
 LIVE = 8
 DEADLINE = 60
 DRIVERS = 2
+MAX_EVENTS = 2_000_000
 
 
 def port_of(conference, user):
@@ -213,11 +215,21 @@ class Conference:
         self.exchange(client, [(self.ask(FLOOR_REQUEST, user, floors(2)), self.error(user, 14))])
 
     def all_events(self):
-        """Hellos up to the 1,000,000th event; then every connection is shut down that speaks."""
-        client, user = self.clients[0]
-        pair = (self.hello(user), hello_ack(self.conference, 1, user))
-        while self.events < 1_000_000:
-            self.exchange(client, [pair] * min(500, 1_000_000 - self.events))
+        """Hellos up to the 2,000,000th event, acknowledgements among them; then every connection is
+        shut down that speaks."""
+        client, user = self.clients.pop(0)
+        wanted = heard = hello_ack(self.conference, 1, user) * 500
+        while heard == wanted:
+            try:
+                client.sendall(self.hello(user) * 500)
+                heard = hear(client, len(wanted))
+            except ConnectionResetError:
+                # Hellos that nobody reads any more make the end a reset, which may overtake answers.
+                break
+        if not wanted.startswith(heard):
+            raise Wrong('conference %d: a HelloAck is wrong' % self.conference)
+        client.close()
+        self.events = MAX_EVENTS
         for client, user in self.clients:
             client.sendall(self.hello(user))
             if client.recv(1):
@@ -250,9 +262,9 @@ def drive(numbers, events, start, results):
                     conference.go_on()
         for conference in conferences:
             conference.end()
-        results.put((None, sum(c.seats for c in conferences), sum(c.events for c in conferences)))
+        results.put((None, [(c.conference, c.seats, c.events) for c in conferences]))
     except Exception as fault:
-        results.put((repr(fault), 0, 0))
+        results.put((repr(fault), []))
 
 
 def tell(server, began, what=''):
@@ -279,20 +291,19 @@ def main():
         for k in range(DRIVERS)]
     for driver in drivers:
         driver.start()
-    seats = total = 0
+    made = []
     for _ in drivers:
         while True:
             tell(server, began)
             try:
-                wrong, some_seats, some_events = results.get(timeout=seconds)
+                wrong, some = results.get(timeout=seconds)
                 break
             except queue.Empty:
                 pass
         if wrong:
             server.process.kill()
             raise SystemExit('FAILED: %s' % wrong)
-        seats += some_seats
-        total += some_events
+        made += some
     took = time.monotonic() - began
     end = time.monotonic() + DEADLINE
     while True:
@@ -303,13 +314,21 @@ def main():
             raise SystemExit('FAILED: threads and descriptors stay: %s' % after)
         time.sleep(0.1)
     tell(server, began, ' at the end')
+    seats = total = 0
+    for conference, some_seats, least in made:
+        events = int(server.ask('status %d' % conference).split()[7])
+        if not least <= events <= MAX_EVENTS:
+            raise SystemExit('FAILED: %d events of conference %d, and at least %d were made' % (
+                events, conference, least))
+        seats += some_seats
+        total += events
     print('%d events in %.0f s, %.0f bytes of memory for each' % (
         total, took, 1024 * (after['VmRSS'] - before['VmRSS']) / total))
     began = time.monotonic()
     report = server.stop()
     print('%s, status %d, after %.1f s' % (*report, time.monotonic() - began))
     if report != ('ok stopped seats %d events %d' % (seats, total), 0):
-        raise SystemExit('FAILED: %d seats and %d events were made' % (seats, total))
+        raise SystemExit('FAILED: there were %d seats and %d events' % (seats, total))
 
 
 if __name__ == '__main__':
