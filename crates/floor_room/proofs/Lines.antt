@@ -10,12 +10,13 @@ lines-more place (x ∷ es) e =
     ap (λ (bs : List ℕ). line place x ++ bs) (lines-more (place + 1) es e ∙ ap (λ (k : ℕ). lines (place + 1) es ++ line k e) (omega arith))
     ∙ sym (append_assoc (line place x) (lines (place + 1) es) (line (place + length (x ∷ es)) e))
 
-pub text-more : (es : List Event) (i : ℕ) (e : Event) (text now new : List ℕ) → i < length es → e ≡ get_or es i e → text ≡ lines 1 (take i es) → now ≡ line (i + 1) e → new ≡ text ++ now →
+-- the line of the next event, behind the lines of those before it
+pub text-more : (es : List Event) (i : ℕ) (e : Event) (text new : List ℕ) → i < length es → e ≡ get_or es i e → new ≡ text ++ line (i + 1) e → text ≡ lines 1 (take i es) →
     new ≡ lines 1 (take (i + 1) es)
-text-more es i e text now new within is before written put =
+text-more es i e text new within is put before =
     let place : i + 1 ≡ 1 + length (take i es) = omega (arith, length-take-le i es) in
     put
-    ∙ ap (λ (bs : List ℕ). bs ++ now) before
-    ∙ ap (λ (bs : List ℕ). lines 1 (take i es) ++ bs) (written ∙ ap (λ (k : ℕ). line k e) place)
+    ∙ ap (λ (bs : List ℕ). bs ++ line (i + 1) e) before
+    ∙ ap (λ (k : ℕ). lines 1 (take i es) ++ line k e) place
     ∙ sym (lines-more 1 (take i es) e)
     ∙ ap (lines 1) (sym (take_more es i e within ∙ ap (λ (x : Event). take i es ++ x ∷ []) (sym is)))

@@ -1,13 +1,19 @@
 //! What happened in a conference, event by event.
 
-ghost use Rattle.std.specs.Prelude.{◌≡◌, IfOk, string_bytes};
-ghost use Rattle.floor_room.specs.Text.{journal_text, line};
+ghost use Rattle.std.specs.Prelude.{◌≡◌, ◌+◌, ◌++◌, ◌<◌, ◌≤◌, IfOk, OnOk, length, string_bytes, take};
+ghost use Rattle.floor_room.specs.Text.{end_line, journal_text, line, lines};
 
 use floor_machine::Event;
 use std::alloc::{AllocError, Global};
 
 /// The place of an event in the journal, from 1.
 pub type Place = u32;
+
+/// The most events whose lines are added at once.
+const MOST_AT_ONCE: usize = 4_096;
+
+/// Behind so many bytes of lines no further event is begun.
+const ENOUGH_AT_ONCE: usize = 262_144;
 
 /// The lines of a journal: the place of each event and what happened; then `end` and their number.
 ///
@@ -16,14 +22,58 @@ pub fn journal_text(alloc: Global, events: &[Event]) -> Result<String, AllocErro
     ensures { IfOk result (λ text. string_bytes text ≡ journal_text events.now) }
 {
     let mut text = String::new(alloc);
-    for (done, event) in events.iter().enumerate() {
-        let line = line(alloc, done + 1, event)?;
-        text.push_str(line.as_str())?;
+    let mut done = 0;
+    while done < events.len() {
+        done = add_lines(alloc, &mut text, events, done)?;
     }
-    let count = events.len();
-    let end = format!(in alloc; "end {count}\n")?;
-    text.push_str(end.as_str())?;
+    add_end(alloc, &mut text, done)?;
     Ok(text)
+}
+
+/// Adds to a text the lines of the events behind the first `done`, and gives how many have theirs
+/// then: at least one more where there is one, at most 4,096 more, and no further one behind 256 KiB of
+/// lines. So whoever holds a journal that others wait for can let go of it between the pieces; as a
+/// journal only grows, they are one text. With want of memory the text may have some lines more.
+pub fn add_lines(
+    alloc: Global,
+    text: &mut String,
+    events: &[Event],
+    done: usize,
+) -> Result<usize, AllocError>
+    ensures lines { IfOk result (λ now. string_bytes text.old ≡ lines 1 (take done events.now)
+        → string_bytes text.new ≡ lines 1 (take now events.now)) }
+    ensures one { IfOk result (λ now. done < length events.now → done < now) }
+    ensures most { IfOk result (λ now. now ≤ done + 4096) }
+    ensures within { IfOk result (λ now. done ≤ length events.now → now ≤ length events.now) }
+{
+    let enough = text.len() + ENOUGH_AT_ONCE;
+    if done >= events.len() {
+        return Ok(done);
+    }
+    add_line(alloc, text, done + 1, &events[done])?;
+    let mut now = done + 1;
+    while now < events.len() && now - done < MOST_AT_ONCE && text.len() < enough {
+        add_line(alloc, text, now + 1, &events[now])?;
+        now += 1;
+    }
+    Ok(now)
+}
+
+/// Adds to a text the last line of a journal of so many events. With want of memory the text may have a
+/// part of it.
+pub fn add_end(alloc: Global, text: &mut String, count: usize) -> Result<(), AllocError>
+    ensures { OnOk result (string_bytes text.new ≡ string_bytes text.old ++ end_line count) }
+{
+    let end = format!(in alloc; "end {count}\n")?;
+    text.push_str(end.as_str())
+}
+
+/// Adds to a text the line of the event at this place.
+fn add_line(alloc: Global, text: &mut String, place: usize, event: &Event) -> Result<(), AllocError>
+    ensures { OnOk result (string_bytes text.new ≡ string_bytes text.old ++ line place event.now) }
+{
+    let line = line(alloc, place, event)?;
+    text.push_str(line.as_str())
 }
 
 /// The line of the event at this place.

@@ -14,7 +14,7 @@ mod room;
 mod status;
 
 pub use floor_machine::{Act, Config, Event, Frame, Parcel, Refusal};
-pub use journal::{Place, journal_text};
+pub use journal::{Place, add_end, add_lines, journal_text};
 pub use ledger::Ledger;
 pub use outbox::NoMember;
 pub use refusal::RoomRefusal;

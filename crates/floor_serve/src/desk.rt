@@ -6,13 +6,13 @@ use crate::booth::Booth;
 use crate::gate::Gate;
 use crate::seat::{Receipt, Seat};
 use floor_outbox::Taker;
-use floor_room::{Act, Frame, RoomRefusal, Status, journal_text};
+use floor_room::{Act, Frame, RoomRefusal, Status, add_end, add_lines};
 use std::alloc::{AllocError, Global};
 use std::marker::Model;
 use std::sync::{Arc, Mutex, Wait};
 
-/// One conference as threads share it. Each call is one hold of the conference's lock, and wakes
-/// whom it told something once the lock is given back. Contracts see its number.
+/// One conference as threads share it. Each call but `journal_text` is one hold of the conference's
+/// lock, and wakes whom it told something once the lock is given back. Contracts see its number.
 ///
 /// Changes: `join`, `submit`, `took` and `leave` of a member, `admin` of the administrator. Readers:
 /// `conference`, `status`, `journal_text`. What the calls do to the conference stands in the
@@ -141,9 +141,21 @@ impl Desk {
         self.booth.lock(rt).status()
     }
 
-    /// The lines of the conference's journal, a line for each event, and their number.
+    /// The lines of the conference's journal, a line for each event, and their number: of all events
+    /// that it had when the call began, and perhaps of some behind them. Taken in pieces, a hold of the
+    /// lock each ([`add_lines`]), so that nobody in the conference waits for a long journal.
     pub fn journal_text<R: Wait>(&self, rt: &R) -> Result<String, AllocError> {
-        let booth = self.booth.lock(rt);
-        journal_text(self.alloc, booth.journal())
+        let mut text = String::new(self.alloc);
+        let count = self.booth.lock(rt).journal().len();
+        let mut done = 0;
+        while done < count {
+            let before = done;
+            done = add_lines(self.alloc, &mut text, self.booth.lock(rt).journal(), before)?;
+            if done <= before {
+                break; // never: a journal only grows
+            }
+        }
+        add_end(self.alloc, &mut text, done)?;
+        Ok(text)
     }
 }

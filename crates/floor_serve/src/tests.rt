@@ -13,6 +13,7 @@ mod acknowledged;
 mod booths;
 mod ends;
 mod gates;
+mod journals;
 mod many;
 mod registries;
 mod threads;

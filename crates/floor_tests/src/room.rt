@@ -4,7 +4,8 @@ use crate::cases::{assert_told, barred, differing};
 use crate::framed::message;
 use crate::hexadecimal::{frame, spelled};
 use floor_room::{
-    Act, Config, Event, Frame, Ledger, Parcel, ReplayFault, Room, RoomRefusal, journal_text, replay,
+    Act, Config, Event, Frame, Ledger, Parcel, ReplayFault, Room, RoomRefusal, add_lines,
+    journal_text, replay,
 };
 use floor_words::{read_u16, read_u32};
 use std::alloc::{AllocError, Global};
@@ -340,6 +341,34 @@ fn an_acknowledgement_has_a_line_in_the_journal(rt: HostRuntime) {
         text_of(rt.alloc(), &events),
         "1 join 10|2 took 2 64|end 2|",
     );
+}
+
+#[test]
+fn a_piece_of_a_journal_has_4096_events_or_256_kib(rt: HostRuntime) {
+    assert_told(&rt, pieces(rt.alloc(), 10, 40_000), "4 8 10 10");
+    assert_told(&rt, pieces(rt.alloc(), 5_000, 0), "4096 5000 5000 5000");
+}
+
+/// How many events of a journal have their lines behind each of four pieces. The journal has so many
+/// messages with a payload of so many bytes.
+fn pieces(alloc: Global, count: usize, len: usize) -> Result<String, AllocError> {
+    let bytes = message(alloc, 11, 1, &vec![in alloc; 0u8; len]?)?;
+    let Some(frame) = Frame::of(alloc, &bytes)? else {
+        return String::from_str(alloc, "no message");
+    };
+    let mut events = Vec::new(alloc);
+    for _ in 0..count {
+        events.push(Event::Message {
+            n: 1,
+            frame: frame.share()?,
+        })?;
+    }
+    let mut text = String::new(alloc);
+    let one = add_lines(alloc, &mut text, &events, 0)?;
+    let two = add_lines(alloc, &mut text, &events, one)?;
+    let three = add_lines(alloc, &mut text, &events, two)?;
+    let four = add_lines(alloc, &mut text, &events, three)?;
+    format!(in alloc; "{one} {two} {three} {four}")
 }
 
 fn text_of(alloc: Global, events: &[Event]) -> Result<String, AllocError> {

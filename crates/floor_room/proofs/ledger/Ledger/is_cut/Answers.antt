@@ -1,4 +1,4 @@
-use Rattle.std.proofs.Common.{◌≡◌, Bool, false, ap, subst, ◌∙◌}
+use Rattle.std.proofs.Common.{◌≡◌, false, ap, subst, ◌∙◌}
 use Rattle.floor_machine.specs.Conference.{is_cut}
 use Rattle.floor_machine.specs.Machine.{Machine}
 use Rattle.floor_room.specs.Ledger as spec
