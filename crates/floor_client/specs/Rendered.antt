@@ -66,9 +66,13 @@ floor_text f = floor_number f.0 ++ optional (status_behind (codes ":")) f.1
 abbrev pub priority_text : ℕ → List ℕ
 priority_text priority = codes " priority " ++ decimal priority
 
--- a floor request's number, its overall status where it has one, and its floors
+-- a floor request's number, its overall status and the reason for it where it has them, and its floors
 abbrev pub statuses_text : Info → List ℕ
-statuses_text i = codes "request " ++ decimal i.request ++ optional (status_behind (codes " overall ")) i.overall ++ flat_map floor_text i.floors
+statuses_text i =
+    codes "request " ++ decimal i.request
+    ++ optional (status_behind (codes " overall ")) i.overall
+    ++ optional (text_behind (codes " reason ")) i.reason
+    ++ flat_map floor_text i.floors
 
 -- a floor request: its statuses, then each part that is there
 abbrev pub info_text : Info → List ℕ

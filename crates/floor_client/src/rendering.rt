@@ -169,7 +169,7 @@ fn put_info(out: &mut String, info: &Info) -> Result<(), AllocError>
     put_text(out, " info ", &info.info)
 }
 
-/// Appends the number of a floor request, its overall status and its floors.
+/// Appends the number of a floor request, its overall status, the reason for it and its floors.
 fn put_statuses(out: &mut String, info: &Info) -> Result<(), AllocError>
     ensures { OnOk result (string_bytes out.new
         ≡ string_bytes out.old ++ spec.statuses_text info.now) }
@@ -177,6 +177,7 @@ fn put_statuses(out: &mut String, info: &Info) -> Result<(), AllocError>
     out.push_str("request ")?;
     put_number(out, u32::from(info.request))?;
     put_status(out, " overall ", info.overall)?;
+    put_text(out, " reason ", &info.reason)?;
     put_floors(out, &info.floors)
 }
 

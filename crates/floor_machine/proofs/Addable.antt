@@ -1,11 +1,11 @@
--- The requests that an event ended are ones that could be added.
-use Rattle.std.proofs.Common.{◌≡◌, ℕ, suc, ◌+◌, List, [], ◌∷◌, map, Option, Some, None, refl, sym, subst, ◌∙◌, ap, arith}
-use Rattle.std.specs.Prelude.{All}
-use Rattle.std.proofs.lemmas.List.Elements.{All-nil, All-cons}
+-- The requests that an event ended are such as can be shown.
+use Rattle.std.proofs.Common.{◌≡◌, ℕ, suc, ◌+◌, Bool, true, false, cond, List, [], ◌∷◌, map, Option, Some, None, refl, sym, subst, ◌∙◌, ap, arith}
+use Rattle.std.specs.Prelude.{◌==◌, All, IfSome}
+use Rattle.std.proofs.lemmas.List.Elements.{All-nil, All-cons, All-map}
 use Rattle.floor_config.specs.Configuration.{Configuration}
 use Rattle.floor_config.specs.declared.floors.Floor.{Floor}
 use Rattle.floor_queue.specs.declared.request.Request.{Request}
-use Rattle.floor_queue.specs.Queue.{IsAddable, IsQueue, first_request, new_of}
+use Rattle.floor_queue.specs.Queue.{IsQueue, IsReason, first_request, with_reason}
 use Rattle.floor_message.specs.declared.status.RequestStatus.{RequestStatus}
 use Rattle.floor_machine.specs.declared.course.Course.{Course}
 use Rattle.floor_machine.specs.declared.course.Ended.{Ended}
@@ -15,12 +15,12 @@ use Rattle.floor_machine.specs.declared.conference.State.{State}
 use Rattle.floor_machine.specs.declared.event.Event.TheVariants.{Leave, Revoke}
 use Rattle.floor_machine.specs.Conference.{Conference, user_of}
 use Rattle.floor_machine.specs.Shown.{Entry, entry_of}
-use Rattle.floor_machine.specs.Change.{Change, change, leaving, ends_without, ending, ends_at, dismissed, decided_at}
+use Rattle.floor_machine.specs.Change.{Change, change, leaving, ends_without, ending, ends_at, dismissed, decided_at, reasoned_among}
 use Rattle.floor_machine.specs.steps.Telling.{entry_of_ended}
-use Rattle.floor_machine.specs.steps.Deciding.{change_adding, change_by}
+use Rattle.floor_machine.specs.steps.Deciding.{MayChange, change_adding, change_by}
 use Rattle.floor_machine.specs.steps.Ending.{ending_by}
 use Rattle.floor_machine.specs.steps.Serving.{IsChanged, ended_of}
-use Rattle.floor_machine.specs.steps.Fitting.{AreAddable}
+use Rattle.floor_machine.specs.steps.Fitting.{AreFit, IsFit}
 use Rattle.floor_machine.proofs.Entries.{ended_of-entries}
 use Rattle.floor_machine.proofs.Changing.{ended_of-decided, none-ended-added}
 
@@ -45,57 +45,73 @@ noted_all P (d ∷ ended) h = All-cons (λ d. P d.request) d ended (h 0 (entry_o
 none_all : (P : Request → Type 0) (es : List Entry) → es ≡ [] → All (λ e. P e.request) es
 none_all P es same = let Q : List Entry → Type 0 = λ xs. All (λ e. P e.request) xs in subst Q (sym same) (All-nil (λ e. P e.request))
 
-decided_all : (P : Request → Type 0) (s : Conference) (n : ℕ) (c : Decided) → All P s.ongoing → All (λ e. P e.request) (ended_of (change_by s n c).entries)
-decided_all P s n to.Nothing h = none_all P (ended_of (map entry_of s.ongoing)) (ended_of-entries s.ongoing)
-decided_all P s n (to.Add new) h =
-    none_all P (ended_of (change_adding s new).entries) (none-ended-added s.ongoing (first_request s.config.floors (s.given + 1) new))
-decided_all P s n (to.End request by) h = ending_all P (ends_at request (ending_by by)) s.ongoing h
-decided_all P s n (to.Words request verdicts) h = none_all P (ended_of (map (λ r. entry_of (decided_at request verdicts r)) s.ongoing)) (ended_of-decided request verdicts s.ongoing)
-decided_all P s n (to.Watch floors) h = none_all P (ended_of (map entry_of s.ongoing)) (ended_of-entries s.ongoing)
+-- a request with another reason is as fit as it was
+with_fit : (floors : List Floor) (k : ℕ) (reason : List ℕ) (r : Request) → IsReason reason → IsFit floors r → IsFit floors (with_reason k reason r)
+with_fit floors k reason r fits h = by (r.number == k)
+  where
+    by : (b : Bool) → IsFit floors (cond b (record r { reason = Some reason }) r)
+    by true = record { addable = h.addable; reason = fits }
+    by false = h
+
+reasoned_fit : (floors : List Floor) (k : ℕ) (reason : Option (List ℕ)) (rs : List Request) → IfSome reason IsReason → All (IsFit floors) rs → All (IsFit floors) (reasoned_among k reason rs)
+reasoned_fit floors k None rs fits h = h
+reasoned_fit floors k (Some reason) rs fits h =
+    All-map (IsFit floors) (with_reason k reason) rs (λ i d within. with_fit floors k reason _ fits (h i d within))
+
+decided_all : (s : Conference) (n : ℕ) (c : Decided) → MayChange s c → All (IsFit s.config.floors) s.ongoing → All (λ e. IsFit s.config.floors e.request) (ended_of (change_by s n c).entries)
+decided_all s n to.Nothing may h = none_all (IsFit s.config.floors) (ended_of (map entry_of s.ongoing)) (ended_of-entries s.ongoing)
+decided_all s n (to.Add new) may h =
+    none_all (IsFit s.config.floors) (ended_of (change_adding s new).entries) (none-ended-added s.ongoing (first_request s.config.floors (s.given + 1) new))
+decided_all s n (to.End request by reason) may h =
+    ending_all (IsFit s.config.floors) (ends_at request (ending_by by)) (reasoned_among request reason s.ongoing) (reasoned_fit s.config.floors request reason s.ongoing may.1 h)
+decided_all s n (to.Words request verdicts reason) may h =
+    let qs = reasoned_among request reason s.ongoing in
+    none_all (IsFit s.config.floors) (ended_of (map (λ r. entry_of (decided_at request verdicts r)) qs)) (ended_of-decided request verdicts qs)
+decided_all s n (to.Watch floors) may h = none_all (IsFit s.config.floors) (ended_of (map entry_of s.ongoing)) (ended_of-entries s.ongoing)
 
 -- where the entries that ended are ones that could be added, so are those that the course has noted
-noted_addable : (floors : List Floor) (ended : List Ended) (es : List Entry) → map entry_of_ended ended ≡ es → All (λ e. IsAddable floors (new_of e.request)) es → AreAddable floors ended
+noted_addable : (floors : List Floor) (ended : List Ended) (es : List Entry) → map entry_of_ended ended ≡ es → All (λ e. IsFit floors e.request) es → AreFit floors ended
 noted_addable floors ended es same h =
-    let Q : List Entry → Type 0 = λ xs. All (λ e. IsAddable floors (new_of e.request)) xs in
-    noted_all (λ r. IsAddable floors (new_of r)) ended (subst Q (sym same) h)
+    let Q : List Entry → Type 0 = λ xs. All (λ e. IsFit floors e.request) xs in
+    noted_all (λ r. IsFit floors r) ended (subst Q (sym same) h)
 
--- the ongoing requests are ones that could be added
-pub queue_addable : (t : State) → IsQueue t.requests → All (λ r. IsAddable t.config.floors (new_of r)) t.requests.ongoing
+-- the ongoing requests are so
+pub queue_addable : (t : State) → IsQueue t.requests → All (λ r. IsFit t.config.floors r) t.requests.ongoing
 queue_addable t queue =
-    let Q : List Floor → Type 0 = λ fs. All (λ r. IsAddable fs (new_of r)) t.requests.ongoing in
-    subst Q t.same_floors queue.addable
+    let Q : List Floor → Type 0 = λ fs. All (λ r. IsFit fs r) t.requests.ongoing in
+    subst Q t.same_floors (λ i d within. record { addable = queue.addable i d within; reason = queue.reasons i d within })
 
 -- those of them that end are, too
-pub ending_addable : (s : Conference) (ends : Request → Option RequestStatus) (ended : List Ended) → All (λ r. IsAddable s.config.floors (new_of r)) s.ongoing →
-    map entry_of_ended ended ≡ ended_of (ending s ends) → AreAddable s.config.floors ended
+pub ending_addable : (s : Conference) (ends : Request → Option RequestStatus) (ended : List Ended) → All (λ r. IsFit s.config.floors r) s.ongoing →
+    map entry_of_ended ended ≡ ended_of (ending s ends) → AreFit s.config.floors ended
 ending_addable s ends ended h same =
-    noted_addable s.config.floors ended (ended_of (ending s ends)) same (ending_all (λ r. IsAddable s.config.floors (new_of r)) ends s.ongoing h)
+    noted_addable s.config.floors ended (ended_of (ending s ends)) same (ending_all (λ r. IsFit s.config.floors r) ends s.ongoing h)
 
 -- those that such a change ended, by the configuration that it leaves
-pub changed_addable : (s t : Conference) (c : Change) (ends : Request → Option RequestStatus) (course : Course) → All (λ r. IsAddable s.config.floors (new_of r)) s.ongoing →
-    IsChanged s c t course → c.entries ≡ ending s ends → AreAddable t.config.floors course.ended.items
+pub changed_addable : (s t : Conference) (c : Change) (ends : Request → Option RequestStatus) (course : Course) → All (λ r. IsFit s.config.floors r) s.ongoing →
+    IsChanged s c t course → c.entries ≡ ending s ends → AreFit t.config.floors course.ended.items
 changed_addable s t c ends course h changed same =
-    let Q : List Floor → Type 0 = λ fs. AreAddable fs course.ended.items in
+    let Q : List Floor → Type 0 = λ fs. AreFit fs course.ended.items in
     subst Q (sym (ap (λ (k : Configuration). k.floors) changed.config))
     (ending_addable s ends course.ended.items h (changed.ended ∙ ap (λ (es : List Entry). ended_of es) same))
 
 -- those that a leave ended
-pub left_addable : (s t : Conference) (n : ℕ) (course : Course) → All (λ r. IsAddable s.config.floors (new_of r)) s.ongoing →
-    IsChanged s (change s (Leave n)) t course → AreAddable t.config.floors course.ended.items
+pub left_addable : (s t : Conference) (n : ℕ) (course : Course) → All (λ r. IsFit s.config.floors r) s.ongoing →
+    IsChanged s (change s (Leave n)) t course → AreFit t.config.floors course.ended.items
 unfolding change
 left_addable s t n course h changed =
     changed_addable s t (change s (Leave n)) (ends_without (map (leaving n) s.members) (user_of s n)) course h changed refl
 
 -- the one that a revoke ended
-pub revoked_addable : (s t : Conference) (request : ℕ) (course : Course) → All (λ r. IsAddable s.config.floors (new_of r)) s.ongoing →
-    IsChanged s (change s (Revoke request)) t course → AreAddable t.config.floors course.ended.items
+pub revoked_addable : (s t : Conference) (request : ℕ) (course : Course) → All (λ r. IsFit s.config.floors r) s.ongoing →
+    IsChanged s (change s (Revoke request)) t course → AreFit t.config.floors course.ended.items
 unfolding change
 revoked_addable s t request course h changed = changed_addable s t (change s (Revoke request)) (ends_at request dismissed) course h changed refl
 
 -- those that a decision ended, by the configuration that the change leaves
-pub decided_addable : (s t : Conference) (n : ℕ) (c : Decided) (course : Course) → All (λ r. IsAddable s.config.floors (new_of r)) s.ongoing →
-    IsChanged s (change_by s n c) t course → AreAddable t.config.floors course.ended.items
-decided_addable s t n c course h changed =
-    let Q : List Floor → Type 0 = λ fs. AreAddable fs course.ended.items in
+pub decided_addable : (s t : Conference) (n : ℕ) (c : Decided) (course : Course) → MayChange s c → All (λ r. IsFit s.config.floors r) s.ongoing →
+    IsChanged s (change_by s n c) t course → AreFit t.config.floors course.ended.items
+decided_addable s t n c course may h changed =
+    let Q : List Floor → Type 0 = λ fs. AreFit fs course.ended.items in
     subst Q (sym (ap (λ (k : Configuration). k.floors) changed.config))
-    (noted_addable s.config.floors course.ended.items (ended_of (change_by s n c).entries) changed.ended (decided_all (λ r. IsAddable s.config.floors (new_of r)) s n c h))
+    (noted_addable s.config.floors course.ended.items (ended_of (change_by s n c).entries) changed.ended (decided_all s n c may h))

@@ -9,10 +9,10 @@ use Rattle.floor_config.specs.Doubles.{AllDiffer}
 use Rattle.floor_config.specs.Lookup.{is_floor, is_user, has_proxy, chair_is}
 use Rattle.floor_queue.specs.declared.request.Request.{Request}
 use Rattle.floor_queue.specs.Order.{names}
-use Rattle.floor_queue.specs.Queue.{MaySetFloor, Queue, request_at}
+use Rattle.floor_queue.specs.Queue.{IsReason, MaySetFloor, Queue, request_at}
 use Rattle.floor_message.specs.Picked.{IsOnceBy}
-use Rattle.floor_message.specs.Fits.{AskPartsFit, FloorRequestFits, TextFits}
-use Rattle.floor_message.specs.Laws.{CountsFit}
+use Rattle.floor_message.specs.Fits.{FloorRequestFits, TextFits}
+use Rattle.floor_message.specs.Laws.{FitsButForCounts}
 use Rattle.floor_message.specs.declared.ask.Ask.{Ask}
 use Rattle.floor_message.specs.declared.verdicts.Verdict.{Verdict}
 use Rattle.floor_message.specs.declared.verdicts.Verdict.TheVariants.{Accepted, Granted, Denied, Revoked}
@@ -74,9 +74,14 @@ once_differ (x ∷ xs) h = λ i j d below within. at (once_differ xs h.1) i j d 
     at rest zero (suc j) d below within = not_among xs x j d h.0 (omega arith)
     at rest (suc i) (suc j) d below within = rest i j d (omega arith) (omega arith)
 
-text_kept : (info : Option (List ℕ)) → IfSome info TextFits → IfSome info (λ text. (1 ≤ length text) × (length text ≤ 62))
+text_kept : (info : Option (List ℕ)) → IfSome info (TextFits 62) → IfSome info (λ text. (1 ≤ length text) × (length text ≤ 62))
 text_kept None h = tt
 text_kept (Some text) h = (omega (arith, h.some), h.short)
+
+-- a chair's reason that is read is one
+is_reason : (reason : Option (List ℕ)) → IfSome reason (TextFits 30) → IfSome reason IsReason
+is_reason None h = tt
+is_reason (Some reason) h = record { utf8 = h.utf8; some = omega (arith, h.some); short = h.short }
 
 at_most : (n : ℕ) → nat_lt 8 n ≡ false → n ≤ 8
 at_most n h = grind (arith, nat_tests)
@@ -117,7 +122,7 @@ decidable s user verdicts (Some r) h =
     (not_false (list_all (λ v. names r v.0) verdicts) free.0, not_false (list_all (λ v. is_allowed r.is_granted v.1) verdicts) free.1)
 
 -- what no own check refuses, and is read of a message, may be done
-pub may_serve : (s : Conference) (user : ℕ) (a : Ask) → (CountsFit a → AskPartsFit a) → None ≡ refusal s user a → MayServe s user a
+pub may_serve : (s : Conference) (user : ℕ) (a : Ask) → FitsButForCounts a → None ≡ refusal s user a → MayServe s user a
 unfolding refusal
 may_serve s user (FloorRequest beneficiary floors priority info) fits none =
     let b = beneficiary_of user beneficiary in
@@ -126,7 +131,7 @@ may_serve s user (FloorRequest beneficiary floors priority info) fits none =
     (list_any (λ floor. nat_le s.config.limit (requests_for s.ongoing b floor)) floors) (nat_le 256 (length s.ongoing) || s.given == 65535)
     UnauthorizedOperation UserDoesNotExist InvalidFloorId GenericError MaximumFloorRequestsReached GenericError (sym none) in
     let few : length floors ≤ 8 = at_most (length floors) free.1 in
-    let fit : FloorRequestFits floors priority info = fits (omega arith) in (
+    let fit : FloorRequestFits floors priority info = fits.parts (omega arith) in (
       record {
         floors_least = omega (arith, fit.some);
         floors_most = few;
@@ -141,7 +146,7 @@ may_serve s user (FloorRelease request) fits none = found (request_at s.ongoing 
 may_serve s user (FloorRequestQuery request) fits none = tt
 may_serve s user (UserQuery beneficiary) fits none = tt
 may_serve s user (FloorQuery floors) fits none = tt
-may_serve s user (ChairAction request verdicts) fits none = decidable s user verdicts (request_at s.ongoing request) (sym none)
+may_serve s user (ChairAction request verdicts reason) fits none = (decidable s user verdicts (request_at s.ongoing request) (sym none), is_reason reason fits.text)
 may_serve s user Hello fits none = tt
 
 -- a verdict that a request allows, and that doesn't end it, finds it not granted
@@ -172,23 +177,23 @@ may_words q request verdicts may lasting = by (request_at q.ongoing request) may
 -- so may what it comes to
 may_accept : (s : Conference) (user : ℕ) (a : Ask) → MayServe s user a → MayChange s (accepted user a).change
 may_accept s user (FloorRequest beneficiary floors priority info) may = may
-may_accept s user (FloorRelease request) may = may
+may_accept s user (FloorRelease request) may = (may, tt)
 may_accept s user (FloorRequestQuery request) may = tt
 may_accept s user (UserQuery beneficiary) may = tt
 may_accept s user (FloorQuery floors) may = tt
-may_accept s user (ChairAction request verdicts) may = by (list_any (λ v. is_final v.1) verdicts) refl
+may_accept s user (ChairAction request verdicts reason) may = by (list_any (λ v. is_final v.1) verdicts) refl
   where
     ongoing : (P : Request → Type 0) (o : Option Request) → IsSomeAnd o P → IsSome o
     ongoing P None h = absurd h
     ongoing P (Some r) h = refl
 
-    by : (b : Bool) → list_any (λ v. is_final v.1) verdicts ≡ b → MayChange s (cond b (to.End request Chair) (to.Words request verdicts))
-    by true is = ongoing _ (request_at s.ongoing request) may
-    by false is = (may, is)
+    by : (b : Bool) → list_any (λ v. is_final v.1) verdicts ≡ b → MayChange s (cond b (to.End request Chair reason) (to.Words request verdicts reason))
+    by true is = (ongoing _ (request_at s.ongoing request) may.0, may.1)
+    by false is = (may.0, is, may.1)
 may_accept s user Hello may = tt
 
 -- what is asked comes to what may be done
-may_asked : (s : Conference) (user : ℕ) (a : Ask) → (CountsFit a → AskPartsFit a) → MayChange s (asked s user a).change
+may_asked : (s : Conference) (user : ℕ) (a : Ask) → FitsButForCounts a → MayChange s (asked s user a).change
 may_asked s user a fits = by (refusal s user a) refl
   where
     by : (o : Option ErrorCode) → o ≡ refusal s user a → MayChange s (option_map_or refused_by o (accepted user a)).change
@@ -201,7 +206,7 @@ details_accepted user (FloorRelease request) = tt
 details_accepted user (FloorRequestQuery request) = tt
 details_accepted user (UserQuery beneficiary) = tt
 details_accepted user (FloorQuery floors) = tt
-details_accepted user (ChairAction request verdicts) = tt
+details_accepted user (ChairAction request verdicts reason) = tt
 details_accepted user Hello = tt
 
 -- and the details of its Error, if it is answered by one, fit
@@ -217,7 +222,7 @@ if_same P d (Ok x) h same = subst P (sym same) h
 if_same P d (Err e) h same = tt
 
 -- what is decided of what is asked may be done
-pub may_decided : {E : Type 0} (s : Conference) (user : ℕ) (a : Ask) (r : Result Decision E) → (CountsFit a → AskPartsFit a) → IfOk r (λ d. d ≡ asked s user a) → IfOk r (λ d. MayChange s d.change)
+pub may_decided : {E : Type 0} (s : Conference) (user : ℕ) (a : Ask) (r : Result Decision E) → FitsButForCounts a → IfOk r (λ d. d ≡ asked s user a) → IfOk r (λ d. MayChange s d.change)
 may_decided s user a r fits same = if_same (λ d. MayChange s d.change) (asked s user a) r (may_asked s user a fits) same
 
 -- and the details of its Error fit

@@ -9,20 +9,21 @@ use Rattle.std.proofs.lemmas.List.Elements.{All-head, All-tail}
 use Rattle.floor_config.specs.declared.floors.Floor.{Floor}
 use Rattle.floor_queue.specs.declared.request.New.{New}
 use Rattle.floor_queue.specs.declared.request.Request.{Request}
-use Rattle.floor_queue.specs.Queue.{IsQueue, request_at, numbers_of, is_ascending, first_request, after_add, after_end}
+use Rattle.floor_queue.specs.Queue.{IsQueue, request_at, numbers_of, is_ascending, first_request, after_add, without}
 use Rattle.floor_message.specs.declared.verdicts.Verdict.{Verdict}
 use Rattle.floor_message.specs.declared.status.RequestStatus.{RequestStatus}
 use Rattle.floor_machine.specs.declared.course.Course.{Course}
 use Rattle.floor_machine.specs.declared.course.Ended.{Ended}
 use Rattle.floor_machine.specs.declared.conference.State.{State}
 use Rattle.floor_machine.specs.Conference.{Conference}
-use Rattle.floor_machine.specs.Change.{no_change, ending, ends_at, decided_at}
+use Rattle.floor_machine.specs.Change.{no_change, ending, ends_at, decided_at, reasoned, reasoned_among}
 use Rattle.floor_machine.specs.steps.Telling.{entry_of_ended, listed}
 use Rattle.floor_machine.specs.steps.Marks.{AreNoted}
 use Rattle.floor_machine.specs.steps.Deciding.{change_adding, change_words}
 use Rattle.floor_machine.specs.steps.Serving.{IsChanged, conference_of, is_rising, with_requests}
 use Rattle.floor_machine.proofs.Found.{request_at_place}
 use Rattle.floor_machine.proofs.Noting.{noted-none}
+use Rattle.floor_machine.proofs.Reasoned.{numbers-reasoned}
 use Rattle.floor_machine.proofs.Entries.{ongoing_of-entries, ended_of-entries, numbers_in-entries}
 use Rattle.floor_machine.proofs.Changing.{rising-numbers, rising-next, entries-added, none-ended-added, numbers-added, ongoing_of-ending, ended_of-ending, numbers_in-ending, ongoing_of-decided, ended_of-decided, numbers_in-decided}
 
@@ -112,54 +113,82 @@ none-ended s course begun = empty course.ended.items (begun.ended ∙ ended_of-e
     empty [] h = refl
     empty (e ∷ es) h = cc
 
--- a request has ended, as `how` says
-pub changed-end : (s : State) (how : Request → RequestStatus) (course course' : Course) (request : ℕ) →
-    IsQueue s.requests → IsChanged (conference_of s) (no_change (conference_of s)) (conference_of s) course →
-    IsSome (request_at s.requests.ongoing request) →
-    IfSome (request_at s.requests.ongoing request) (λ r. course'.ended.items ≡ course.ended.items ++ record { request = r; ending = how r } ∷ []) →
-    course'.numbers ≡ course.numbers →
-    AreNoted s.config.floors s.requests.ongoing (after_end s.requests request).ongoing course'.marks.items →
-    IsChanged (conference_of s) (record (no_change (conference_of s)) { entries = ending (conference_of s) (ends_at request how) }) (with_requests (conference_of s) (after_end s.requests request)) course'
-changed-end s how course course' request queue begun ongoing told numbers noted =
-    let rs = s.requests.ongoing in
+-- a chair's reason is stored, and nothing else is changed yet
+pub begun-reasoned : (s : Conference) (course course' : Course) (request : ℕ) (reason : Option (List ℕ)) → is_ascending s.ongoing ≡ true → IsChanged s (no_change s) s course →
+    course'.ended ≡ course.ended → course'.numbers ≡ course.numbers → AreNoted s.config.floors s.ongoing (reasoned_among request reason s.ongoing) course'.marks.items →
+    IsChanged s (no_change (reasoned s request reason)) (reasoned s request reason) course'
+begun-reasoned s course course' request reason h begun ended numbers noted =
+    let rs = s.ongoing in
+    let qs = reasoned_among request reason rs in
     let same : course'.numbers.items ≡ numbers_of rs = ap (λ x. x.items) numbers ∙ begun.numbers ∙ numbers_in-entries rs in
     record {
       config = refl;
       given = refl;
       members = refl;
       is_open = refl;
-      ongoing = sym (ongoing_of-ending request how rs);
-      ended = by (request_at rs request) ongoing told ∙ sym (ended_of-ending request how rs queue.ascending);
-      numbers = same ∙ sym (numbers_in-ending request how rs);
-      rising = ap is_rising same ∙ rising-numbers rs ∙ queue.ascending;
+      ongoing = sym (ongoing_of-entries qs);
+      ended = ap (map entry_of_ended) (ap (λ x. x.items) ended ∙ none-ended s course begun) ∙ sym (ended_of-entries qs);
+      numbers = same ∙ sym (numbers-reasoned request reason rs) ∙ sym (numbers_in-entries qs);
+      rising = ap is_rising same ∙ rising-numbers rs ∙ h;
       old = ap (λ (ns : List ℕ). flat_map (λ n. listed (request_at rs n)) ns) (ap (λ x. x.items) numbers) ∙ begun.old;
+      noted = noted;
+    }
+
+-- nothing has ended where nothing but a reason is stored
+none-ended-reasoned : (s t : Conference) (course : Course) → IsChanged s (no_change t) t course → course.ended.items ≡ []
+none-ended-reasoned s t course begun = empty course.ended.items (begun.ended ∙ ended_of-entries t.ongoing)
+  where
+    empty : (es : List Ended) → map entry_of_ended es ≡ [] → es ≡ []
+    empty [] h = refl
+    empty (e ∷ es) h = cc
+
+-- a request has ended, as `how` says
+pub changed-end : (s t : Conference) (how : Request → RequestStatus) (course course' : Course) (request : ℕ) →
+    is_ascending t.ongoing ≡ true → IsChanged s (no_change t) t course →
+    IsSome (request_at t.ongoing request) →
+    IfSome (request_at t.ongoing request) (λ r. course'.ended.items ≡ course.ended.items ++ record { request = r; ending = how r } ∷ []) →
+    course'.numbers ≡ course.numbers →
+    AreNoted s.config.floors s.ongoing (without request t.ongoing) course'.marks.items →
+    IsChanged s (record (no_change t) { entries = ending t (ends_at request how) }) (record t { ongoing = without request t.ongoing }) course'
+changed-end s t how course course' request h begun ongoing told numbers noted =
+    let rs = t.ongoing in
+    let same : course'.numbers.items ≡ numbers_of rs = ap (λ x. x.items) numbers ∙ begun.numbers ∙ numbers_in-entries rs in
+    record {
+      config = begun.config;
+      given = refl;
+      members = refl;
+      is_open = refl;
+      ongoing = sym (ongoing_of-ending request how rs);
+      ended = by (request_at rs request) ongoing told ∙ sym (ended_of-ending request how rs h);
+      numbers = same ∙ sym (numbers_in-ending request how rs);
+      rising = ap is_rising same ∙ rising-numbers rs ∙ h;
+      old = ap (λ (ns : List ℕ). flat_map (λ n. listed (request_at s.ongoing n)) ns) (ap (λ x. x.items) numbers) ∙ begun.old;
       noted = noted;
     }
   where
     by : (o : Option Request) → IsSome o → IfSome o (λ r. course'.ended.items ≡ course.ended.items ++ record { request = r; ending = how r } ∷ []) →
         map entry_of_ended course'.ended.items ≡ option_map_or (λ r. entry_of_ended record { request = r; ending = how r } ∷ []) o []
     by None some h = cc
-    by (Some r) some h = ap (map entry_of_ended) (h ∙ ap (λ (es : List Ended). es ++ record { request = r; ending = how r } ∷ []) (none-ended (conference_of s) course begun))
+    by (Some r) some h = ap (map entry_of_ended) (h ∙ ap (λ (es : List Ended). es ++ record { request = r; ending = how r } ∷ []) (none-ended-reasoned s t course begun))
 
 -- verdicts that end no request have left their words
-pub changed-words : (s : State) (course course' : Course) (request : ℕ) (verdicts : List (ℕ × Verdict)) →
-    IsQueue s.requests → IsChanged (conference_of s) (no_change (conference_of s)) (conference_of s) course →
+pub changed-words : (s t : Conference) (course course' : Course) (request : ℕ) (verdicts : List (ℕ × Verdict)) →
+    is_ascending t.ongoing ≡ true → IsChanged s (no_change t) t course →
     course'.ended ≡ course.ended → course'.numbers ≡ course.numbers →
-    AreNoted s.config.floors s.requests.ongoing (map (decided_at request verdicts) s.requests.ongoing) course'.marks.items →
-    IsChanged (conference_of s) (change_words (conference_of s) request verdicts)
-    (with_requests (conference_of s) (record s.requests { ongoing = map (decided_at request verdicts) s.requests.ongoing })) course'
-changed-words s course course' request verdicts queue begun ended numbers noted =
-    let rs = s.requests.ongoing in
+    AreNoted s.config.floors s.ongoing (map (decided_at request verdicts) t.ongoing) course'.marks.items →
+    IsChanged s (change_words t request verdicts) (record t { ongoing = map (decided_at request verdicts) t.ongoing }) course'
+changed-words s t course course' request verdicts h begun ended numbers noted =
+    let rs = t.ongoing in
     let same : course'.numbers.items ≡ numbers_of rs = ap (λ x. x.items) numbers ∙ begun.numbers ∙ numbers_in-entries rs in
     record {
-      config = refl;
+      config = begun.config;
       given = refl;
       members = refl;
       is_open = refl;
       ongoing = sym (ongoing_of-decided request verdicts rs);
-      ended = ap (map entry_of_ended) (ap (λ x. x.items) ended ∙ none-ended (conference_of s) course begun) ∙ sym (ended_of-decided request verdicts rs);
+      ended = ap (map entry_of_ended) (ap (λ x. x.items) ended ∙ none-ended-reasoned s t course begun) ∙ sym (ended_of-decided request verdicts rs);
       numbers = same ∙ sym (numbers_in-decided request verdicts rs);
-      rising = ap is_rising same ∙ rising-numbers rs ∙ queue.ascending;
-      old = ap (λ (ns : List ℕ). flat_map (λ n. listed (request_at rs n)) ns) (ap (λ x. x.items) numbers) ∙ begun.old;
+      rising = ap is_rising same ∙ rising-numbers rs ∙ h;
+      old = ap (λ (ns : List ℕ). flat_map (λ n. listed (request_at s.ongoing n)) ns) (ap (λ x. x.items) numbers) ∙ begun.old;
       noted = noted;
     }

@@ -10,10 +10,10 @@ use Rattle.floor_wire.specs.View.{items}
 use Rattle.floor_wire.specs.declared.attribute.Attr.{Attr}
 use Rattle.floor_message.specs.Ask.{Answer, Check, ask, asks, asks_if_any, checks, first_of, has_any, is_error, is_served, refused, unanswered, unknown_types, wanted, when}
 use Rattle.floor_message.specs.Binding.{Binding}
-use Rattle.floor_message.specs.Fields.{chair_action, chair_asked, fields, floor_request, floors_judged, given, priority_asked}
+use Rattle.floor_message.specs.Fields.{chair_action, chair_asked, fields, floor_request, floors_judged, given, priority_asked, reason_kept}
 use Rattle.floor_message.specs.Picked.{IsOnceBy, distinct, first, groups, numbers, octet_strings, pairs}
 use Rattle.floor_message.specs.Primitive.{primitive_of}
-use Rattle.floor_message.specs.Text.{info_kept}
+use Rattle.floor_message.specs.Text.{text_kept}
 use Rattle.floor_message.specs.declared.ask.Ask.{Ask}
 use Rattle.floor_message.specs.declared.ask.Ask.TheVariants.{FloorRequest, FloorRelease, FloorRequestQuery, UserQuery, FloorQuery, ChairAction, Hello}
 use Rattle.floor_message.specs.declared.verdicts.Verdict.{Verdict}
@@ -30,7 +30,7 @@ AreOnce (FloorRelease request) = Unit {0}
 AreOnce (FloorRequestQuery request) = Unit {0}
 AreOnce (UserQuery beneficiary) = Unit {0}
 AreOnce (FloorQuery floors) = IsOnceBy (λ n. n) floors
-AreOnce (ChairAction request verdicts) = Unit {0}
+AreOnce (ChairAction request verdicts reason) = Unit {0}
 AreOnce Hello = Unit {0}
 
 once : (x a : Ask) → Some x ≡ Some a → AreOnce x → AreOnce a
@@ -45,19 +45,24 @@ once_of : (f : ℕ → Ask) (o : Option ℕ) (a : Ask) → ((n : ℕ) → AreOnc
 once_of f None a h e = cc
 once_of f (Some n) a h e = once (f n) a e (h n)
 
-once_action : (request : ℕ) (o : Option (List (ℕ × Verdict))) (a : Ask) → option_and_then (chair_action request) o ≡ Some a → AreOnce a
-once_action request None a e = cc
-once_action request (Some []) a e = cc
-once_action request (Some (v ∷ verdicts)) a e = once (ChairAction request (v ∷ verdicts)) a e tt
+once_kept : (request : ℕ) (verdicts : List (ℕ × Verdict)) (kept : Option (Option (List ℕ))) (a : Ask) → option_and_then (chair_action request verdicts) kept ≡ Some a → AreOnce a
+once_kept request verdicts None a e = cc
+once_kept request [] (Some reason) a e = cc
+once_kept request (v ∷ verdicts) (Some reason) a e = once (ChairAction request (v ∷ verdicts) reason) a e tt
+
+once_action : (request : ℕ) (kept : Option (Option (List ℕ))) (o : Option (List (ℕ × Verdict))) (a : Ask)
+    → option_and_then (λ verdicts. option_and_then (chair_action request verdicts) kept) o ≡ Some a → AreOnce a
+once_action request kept None a e = cc
+once_action request kept (Some verdicts) a e = once_kept request verdicts kept a e
 
 once_chair : (o : Option (ℕ × List Attr)) (a : Ask) → option_and_then chair_asked o ≡ Some a → AreOnce a
 once_chair None a e = cc
-once_chair (Some g) a e = once_action g.0 (given (floors_judged g.1)) a e
+once_chair (Some g) a e = once_action g.0 (reason_kept g.1) (given (floors_judged g.1)) a e
 
 once_fields : (p : Primitive) (attrs : List Attr) (a : Ask) → fields p attrs ≡ Some a → AreOnce a
 once_fields primitive.FloorRequest attrs a e =
     once_request (distinct (numbers FLOOR_ID attrs)) (first (numbers BENEFICIARY_ID attrs)) (priority_asked (first (pairs PRIORITY attrs)))
-    (info_kept (first (octet_strings PARTICIPANT_PROVIDED_INFO attrs))) a e
+    (text_kept 62 (first (octet_strings PARTICIPANT_PROVIDED_INFO attrs))) a e
 once_fields primitive.FloorRelease attrs a e = once_of FloorRelease (first (numbers FLOOR_REQUEST_ID attrs)) a (λ n. tt) e
 once_fields primitive.FloorRequestQuery attrs a e = once_of FloorRequestQuery (first (numbers FLOOR_REQUEST_ID attrs)) a (λ n. tt) e
 once_fields primitive.UserQuery attrs a e = once (UserQuery (first (numbers BENEFICIARY_ID attrs))) a e tt

@@ -129,7 +129,7 @@ said-asked g d steady s k n (FloorRelease request) = refl
 said-asked g d steady s k n (FloorRequestQuery request) = refl
 said-asked g d steady s k n (UserQuery beneficiary) = refl
 said-asked g d steady s k n (FloorQuery floors) = said-map g d (watching k floors) (n-watching k floors) (steady.watch k floors) n s.members
-said-asked g d steady s k n (ChairAction request verdicts) = refl
+said-asked g d steady s k n (ChairAction request verdicts reason) = refl
 said-asked g d steady s k n Hello = refl
 
 said-message : {B : Type 0} (g : Member → B) (d : B) → IsSteady g d → (s : Conference) (k n : ℕ) (a : Answer) → said_of g d n (message_change s k a).members ≡ said_of g d n s.members
@@ -318,7 +318,7 @@ within-asked s n (FloorRelease request) h = h
 within-asked s n (FloorRequestQuery request) h = h
 within-asked s n (UserQuery beneficiary) h = h
 within-asked s n (FloorQuery floors) h = within-map (watching n floors) (within-watching n floors) s.members h
-within-asked s n (ChairAction request verdicts) h = h
+within-asked s n (ChairAction request verdicts reason) h = h
 within-asked s n Hello h = h
 
 within-message : (s : Conference) (n : ℕ) (a : Answer) → AreWithin s.members → AreWithin (message_change s n a).members

@@ -16,7 +16,7 @@ use Rattle.floor_machine.specs.Change.{Change}
 use Rattle.floor_machine.specs.Conference.{Conference}
 use Rattle.floor_machine.specs.Reply.{infos}
 use Rattle.floor_machine.specs.Shown.{Entry, entry_of, ongoing_of}
-use Rattle.floor_machine.specs.steps.Fitting.{AreAddable}
+use Rattle.floor_machine.specs.steps.Fitting.{AreFit}
 use Rattle.floor_machine.specs.steps.Marks.{AreNoted, marks_waiting}
 use Rattle.floor_machine.specs.steps.Renewing.{IsCourse, left_at}
 use Rattle.floor_machine.specs.steps.Serving.{IsChanged, ended_of, is_rising, numbers_in}
@@ -60,11 +60,11 @@ left-numbers ended es ongoing ns left gone numbered rising =
     ∙ sym left
 
 -- what the course of a changed event knows
-pub course-changed : (s t : Conference) (c : Change) (course : Course) → IsChanged s c t course → course.before.items ≡ infos s → AreAddable t.config.floors course.ended.items →
+pub course-changed : (s t : Conference) (c : Change) (course : Course) → IsChanged s c t course → course.before.items ≡ infos s → AreFit t.config.floors course.ended.items →
     IsCourse t.config t.ongoing course.before.items course
 course-changed s t c course changed before addable =
     let C : Configuration → Type 0 = λ config. IsCourse config t.ongoing course.before.items course in
-    let A : Configuration → Type 0 = λ config. AreAddable config.floors course.ended.items in
+    let A : Configuration → Type 0 = λ config. AreFit config.floors course.ended.items in
     subst C (sym changed.config) record {
       requests = s.ongoing;
       before = before;
@@ -91,7 +91,7 @@ course-settled config floors ongoing shown course course' same ascending known n
     let ns : List ℕ = course.numbers.items in
     let numbered : course'.numbers.items ≡ ns = ap (λ x. x.items) numbers in
     let gone : course'.ended.items ≡ course.ended.items = ap (λ x. x.items) ended in
-    let A : List Ended → Type 0 = λ ds. AreAddable config.floors ds in
+    let A : List Ended → Type 0 = λ ds. AreFit config.floors ds in
     let F : List Floor → Type 0 = λ fs. AreNoted fs known.requests ongoing course.marks.items in
     let G : List Floor → Type 0 = λ fs. AreNoted fs known.requests (settle floors ongoing) course'.marks.items in
     record {

@@ -23,8 +23,7 @@ use Rattle.floor_message.specs.declared.primitive.Primitive.{Primitive}
 use Rattle.floor_wire.specs.declared.attribute.Attr.{Attr}
 use Rattle.floor_config.specs.Lookup.{is_floor}
 use Rattle.floor_message.specs.Code.{code_number}
-use Rattle.floor_message.specs.Fits.{AskPartsFit}
-use Rattle.floor_message.specs.Laws.{CountsFit, WhatIsAskedFits}
+use Rattle.floor_message.specs.Laws.{FitsButForCounts, WhatIsAskedFits}
 use Rattle.floor_message.specs.Picked.{IsOnceBy}
 use Rattle.floor_message.specs.declared.ask.Ask.{Ask}
 use Rattle.floor_message.specs.declared.ask.Ask.TheVariants.{FloorRequest, FloorRelease, FloorRequestQuery, UserQuery, FloorQuery, ChairAction, Hello}
@@ -43,7 +42,7 @@ use Rattle.floor_machine.specs.Amount.{MessageIsShort}
 use Rattle.floor_machine.specs.Conference.{Conference, binding, member_with, opening, user_of}
 use Rattle.floor_machine.specs.Shown.{Entry, entry_of, info_of, ongoing_of}
 use Rattle.floor_machine.specs.Checks.{first_of, refusal, when}
-use Rattle.floor_machine.specs.Change.{asked_change, change, decided_at, dismissed, ending, ends_at, ends_without, entries_after, is_final, leaving, message_change, settled, no_change, released, shown}
+use Rattle.floor_machine.specs.Change.{asked_change, change, decided_at, dismissed, ending, ends_at, ends_without, entries_after, is_final, leaving, message_change, settled, no_change, reasoned, reasoned_among, released, shown}
 use Rattle.floor_machine.specs.Same.{same_infos}
 use Rattle.floor_machine.specs.Reply.{answer_tells, floor_answers, floor_status_tell, headed, infos, infos_on, reply, reply_tells, request_answer}
 use Rattle.floor_machine.specs.Outgoing.{Outgoing, notice, outgoing_bytes}
@@ -60,6 +59,7 @@ use Rattle.floor_machine.proofs.Found.{and_left, and_right}
 use Rattle.floor_machine.proofs.Kept.{IsKept, event-kept}
 use Rattle.floor_machine.proofs.Quiet.{floors-kept, requests-kept}
 use Rattle.floor_machine.proofs.Reachable.{Keeps, SettlesOnce, keeps-after, keeps-next, keeps-opening}
+use Rattle.floor_machine.proofs.Reasoned.{numbers-reasoned}
 use Rattle.floor_machine.proofs.Served.{settled-config}
 use Rattle.floor_machine.proofs.Telling.{is_telling, due-member}
 
@@ -106,14 +106,17 @@ few-asked s user (FloorRelease request) k may = of_ongoing s _ k (numbers_in-end
 few-asked s user (FloorRequestQuery request) k may = of_ongoing s _ k (numbers_in-entries s.ongoing)
 few-asked s user (UserQuery beneficiary) k may = of_ongoing s _ k (numbers_in-entries s.ongoing)
 few-asked s user (FloorQuery floors) k may = of_ongoing s _ k (numbers_in-entries s.ongoing)
-few-asked s user (ChairAction request verdicts) k may = by (list_any (λ v. is_final v.1) verdicts)
+few-asked s user (ChairAction request verdicts reason) k may = by (list_any (λ v. is_final v.1) verdicts)
   where
-    by : (b : Bool) → AreFew (cond b (ending s (ends_at request dismissed)) (map (λ r. entry_of (decided_at request verdicts r)) s.ongoing))
-    by true = of_ongoing s _ k (numbers_in-ends (ends_at request dismissed) s.ongoing)
-    by false = of_ongoing s _ k (numbers_in-decided request verdicts s.ongoing)
+    qs : List Request
+    qs = reasoned_among request reason s.ongoing
+
+    by : (b : Bool) → AreFew (cond b (ending (reasoned s request reason) (ends_at request dismissed)) (map (λ r. entry_of (decided_at request verdicts r)) qs))
+    by true = of_ongoing s _ k (numbers_in-ends (ends_at request dismissed) qs ∙ numbers-reasoned request reason s.ongoing)
+    by false = of_ongoing s _ k (numbers_in-decided request verdicts qs ∙ numbers-reasoned request reason s.ongoing)
 few-asked s user Hello k may = of_ongoing s _ k (numbers_in-entries s.ongoing)
 
-few-message : (s : Conference) (n : ℕ) (a : Answer) → ((x : Ask) → a ≡ asks x → CountsFit x → AskPartsFit x) → Keeps s → AreFew (message_change s n a).entries
+few-message : (s : Conference) (n : ℕ) (a : Answer) → ((x : Ask) → a ≡ asks x → FitsButForCounts x) → Keeps s → AreFew (message_change s n a).entries
 few-message s n unanswered fits k = of_ongoing s _ k (numbers_in-entries s.ongoing)
 few-message s n (refused code details) fits k = of_ongoing s _ k (numbers_in-entries s.ongoing)
 few-message s n (asks a) fits k = by (refusal s (user_of s n) a) refl
@@ -263,7 +266,7 @@ sum-asked s n bytes (FloorRequestQuery request) is none law k most =
     omega (arith, status-few s.config (shown s e) request (few-shown s e law k), requests-few s e law k, floors-few s e, most)
 sum-asked s n bytes (UserQuery beneficiary) is none law k most = let e : Event = Message n bytes in omega (arith, requests-few s e law k, floors-few s e, most)
 sum-asked s n bytes (FloorQuery floors) is none law k most = sum-queried s n bytes floors is none k most
-sum-asked s n bytes (ChairAction request verdicts) is none law k most = let e : Event = Message n bytes in omega (arith, requests-few s e law k, floors-few s e, most)
+sum-asked s n bytes (ChairAction request verdicts reason) is none law k most = let e : Event = Message n bytes in omega (arith, requests-few s e law k, floors-few s e, most)
 sum-asked s n bytes Hello is none law k most = let e : Event = Message n bytes in omega (arith, requests-few s e law k, floors-few s e, most)
 
 sum-answered : (s : Conference) (n : ℕ) (bytes : List ℕ) (a : Answer) → ask bytes (binding s n) ≡ a → WhatIsAskedFits → Keeps s → length s.config.floors ≤ 32 →

@@ -11,14 +11,14 @@ use Rattle.floor_config.specs.declared.users.User.{User}
 use Rattle.floor_config.specs.Lookup.{is_floor, user_with}
 use Rattle.floor_queue.specs.declared.request.Request.{Request}
 use Rattle.floor_queue.specs.declared.requested_floor.RequestedFloor.{RequestedFloor}
-use Rattle.floor_queue.specs.Queue.{Queue, IsAddable, IsQueue, new_of, request_at}
+use Rattle.floor_queue.specs.Queue.{Queue, IsQueue, IsReason, request_at}
 use Rattle.floor_message.specs.Shown.{AreShown, IsDescribed, IsNamed, IsShown, IsShownInfo}
 use Rattle.floor_message.specs.declared.information.Info.{Info}
 use Rattle.floor_machine.specs.declared.tell.changed.FloorUpdate.{FloorUpdate}
 use Rattle.floor_machine.specs.Shown.{Entry, info, info_of, named, described, floor_shown}
 use Rattle.floor_machine.specs.Reply.{infos_on}
 use Rattle.floor_machine.specs.steps.Telling.{AreInfos, floor_update, floors_changed, is_one_of}
-use Rattle.floor_machine.specs.steps.Fitting.{AreFloorsShown, HasNumbers}
+use Rattle.floor_machine.specs.steps.Fitting.{AreFloorsShown, HasNumbers, IsFit}
 
 -- what holds of all holds of the one that is found
 pub find_all : {A : Type 0} (P : A → Type 0) (p : A → Bool) (xs : List A) → All P xs → IfSome (find p xs) P
@@ -91,31 +91,37 @@ text_fits : (o : Option (List ℕ)) → IfSome o (λ t. (1 ≤ length t) × (len
 text_fits None h = tt
 text_fits (Some t) h = h.1
 
--- what is shown of a request that could be added is no more than a conference has
-pub info_fits : (config : Configuration) (ongoing : List Request) (e : Entry) → IsConfiguration config → HasNumbers e.request → IsAddable config.floors (new_of e.request) →
+reason_fits : (o : Option (List ℕ)) → IfSome o IsReason → IfSome o (λ t. length t ≤ 30)
+reason_fits None h = tt
+reason_fits (Some t) h = h.short
+
+-- what is shown of a request that is fit is no more than a conference has
+pub info_fits : (config : Configuration) (ongoing : List Request) (e : Entry) → IsConfiguration config → HasNumbers e.request → IsFit config.floors e.request →
     IsShownInfo (info_of config ongoing e)
 unfolding info_of
-info_fits config ongoing e h numbers addable = record {
+info_fits config ongoing e h numbers fit = record {
   request = numbers.number;
-  floors = floors_range config.floors config ongoing e e.request.floors h.floors addable.floors_known;
-  few = omega (arith, addable.floors_most, length-map e.request.floors (λ (f : RequestedFloor). f.floor), length-map e.request.floors (floor_shown config.floors ongoing e));
+  reason = reason_fits e.request.reason fit.reason;
+  floors = floors_range config.floors config ongoing e e.request.floors h.floors fit.addable.floors_known;
+  few = omega (arith, fit.addable.floors_most, length-map e.request.floors (λ (f : RequestedFloor). f.floor), length-map e.request.floors (floor_shown config.floors ongoing e));
   beneficiary = named_fits config e.request.beneficiary h numbers.beneficiary;
   requester = requester_fits config (e.request.requester == e.request.beneficiary) e.request.requester h numbers.requester;
-  priority = addable.priority;
-  text = text_fits e.request.info addable.info;
+  priority = fit.addable.priority;
+  text = text_fits e.request.info fit.addable.info;
 }
 
 -- a call that gives what is shown of such a request gives what fits
 pub info_given : {E : Type 0} (r : Result Info E) (config : Configuration) (ongoing : List Request) (e : Entry) → IfOk r (λ i. i ≡ info_of config ongoing e) →
-    OnOk r (IsConfiguration config) → OnOk r (HasNumbers e.request) → IsAddable config.floors (new_of e.request) → IfOk r IsShownInfo
+    OnOk r (IsConfiguration config) → OnOk r (HasNumbers e.request) → IsFit config.floors e.request → IfOk r IsShownInfo
 info_given (Ok i) config ongoing e same h numbers addable = subst IsShownInfo (sym same) (info_fits config ongoing e h numbers addable)
 info_given (Err x) config ongoing e same h numbers addable = tt
 
--- an ongoing request is one that could be added
-pub ongoing_addable : (q : Queue) (floors : List Floor) (k : ℕ) (r : Request) → IsQueue q → q.floors ≡ floors → request_at q.ongoing k ≡ Some r → IsAddable floors (new_of r)
+-- an ongoing request is fit
+pub ongoing_addable : (q : Queue) (floors : List Floor) (k : ℕ) (r : Request) → IsQueue q → q.floors ≡ floors → request_at q.ongoing k ≡ Some r → IsFit floors r
 ongoing_addable q floors k r h same found =
-    let P : List Floor → Type 0 = λ fs. IsAddable fs (new_of r) in
-    subst P same (found_all (λ r. IsAddable q.floors (new_of r)) (λ r. r.number == k) q.ongoing r h.addable found)
+    let P : List Floor → Type 0 = λ fs. IsFit fs r in
+    subst P same
+    (found_all (λ r. IsFit q.floors r) (λ r. r.number == k) q.ongoing r (λ i d within. record { addable = h.addable i d within; reason = h.reasons i d within }) found)
 
 length-filter_le : {A : Type 0} (p : A → Bool) (xs : List A) → length (filter p xs) ≤ length xs
 length-filter_le p [] = omega arith

@@ -46,8 +46,8 @@ pub record IsKept (s : Conference) (left : List Member) (c : Change) : Type 0 wh
 pub kept : (s : Conference) (n : ℕ) (c : Decided) → changes_requests c ≡ false → IsKept s (members_by s.members n c) (change_by s n c)
 kept s n to.Nothing h = record { entries = refl; given = refl; is_open = refl; members = refl }
 kept s n (to.Add new) h = cc
-kept s n (to.End request by) h = cc
-kept s n (to.Words request verdicts) h = cc
+kept s n (to.End request by reason) h = cc
+kept s n (to.Words request verdicts reason) h = cc
 kept s n (to.Watch floors) h = record { entries = refl; given = refl; is_open = refl; members = refl }
 
 -- so the event changes the members at the most

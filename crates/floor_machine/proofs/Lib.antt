@@ -29,6 +29,7 @@ pub mod Live
 pub mod Counting
 pub mod Counted
 pub mod Reachable
+pub mod Reasoned
 pub mod Together
 pub mod Alone
 pub mod AskedOnce

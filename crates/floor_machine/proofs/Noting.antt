@@ -1,6 +1,6 @@
 -- What the marks of an event note of the requests that it left alone.
 use Rattle.std.proofs.Common.{◌≡◌, ℕ, ◌+◌, Bool, true, false, cond, List, [], ◌∷◌, ◌++◌, map, Option, Some, None, refl, sym, ap, subst, ◌∙◌, arith, append_assoc, append-nil}
-use Rattle.std.specs.Prelude.{◌==◌, ◌&&◌, ◌||◌, not, nat_lt, count_by, filter, option_map, All}
+use Rattle.std.specs.Prelude.{◌==◌, ◌&&◌, ◌||◌, not, nat_lt, count_by, filter, option_map, All, IsSome}
 use Rattle.std.specs.List.{flat_map, list_all, list_any}
 use Rattle.std.specs.Option.{option_map_or}
 use Rattle.std.proofs.lemmas.Bool.{eqb-true}
@@ -12,7 +12,7 @@ use Rattle.floor_config.specs.declared.floors.Floor.{Floor}
 use Rattle.floor_queue.specs.declared.request.Request.{Request}
 use Rattle.floor_queue.specs.declared.requested_floor.RequestedFloor.{RequestedFloor}
 use Rattle.floor_queue.specs.Order.{ahead, due_numbers, earlier, earlier_by_priority, granted_if, is_chaired, is_due, is_express, names, settle, waits}
-use Rattle.floor_queue.specs.Queue.{is_ascending, request_at, without}
+use Rattle.floor_queue.specs.Queue.{is_ascending, request_at, with_reason, without}
 use Rattle.floor_queue.specs.Requested.{is_granting}
 use Rattle.floor_message.specs.declared.verdicts.Verdict.{Verdict}
 use Rattle.floor_message.specs.Status.{status_number}
@@ -21,6 +21,7 @@ use Rattle.floor_machine.specs.Change.{decided, decided_at}
 use Rattle.floor_machine.specs.Shown.{entry_of, floor_shown, floor_status, info, overall_status}
 use Rattle.floor_machine.specs.steps.Marks.{AreNoted, KeepsNoted, concerns, is_before, is_marked, is_noted, has_granting_chair, mark_of, marks_at, marks_waiting, precedes, waiting_mark}
 use Rattle.floor_machine.specs.steps.Telling.{info_with}
+use Rattle.floor_queue.proofs.Reasons.{ahead_same}
 use Rattle.floor_machine.proofs.Found.{and_left, and_right, or_right, request_at_place, same_number}
 use Rattle.floor_machine.proofs.Shows.{info_with-ongoing}
 
@@ -318,6 +319,31 @@ noted-decided rs k verdicts marks some more h before after = by (request_at rs k
     by : (o : Option Request) → request_at rs k ≡ o → KeepsNoted rs marks (map (decided_at k verdicts) rs) more
     by None e = none e
     by (Some r) e = found r e
+
+at-reasoned : (k n : ℕ) (reason : List ℕ) (rs : List Request) → (k == n) ≡ false → request_at (map (with_reason k reason) rs) n ≡ request_at rs n
+at-reasoned k n reason [] h = refl
+at-reasoned k n reason (q ∷ rs) h = by (q.number == k) refl (at-reasoned k n reason rs h)
+  where
+    other : (a k n : ℕ) → (a == k) ≡ true → (k == n) ≡ false → (a == n) ≡ false
+    other a k n e d = grind (arith, nat_tests)
+
+    by : (b : Bool) → (q.number == k) ≡ b → request_at (map (with_reason k reason) rs) n ≡ request_at rs n →
+        request_at (cond b (record q { reason = Some reason }) q ∷ map (with_reason k reason) rs) n ≡ request_at (q ∷ rs) n
+    by true e rest = rw (other q.number k n e h) rest
+    by false e rest = ap (λ (o : Option Request). cond (q.number == n) (Some q) o) rest
+
+-- a request has another reason, and is marked: no other is ahead of it, or behind it, that wasn't
+pub noted-reasoned : (rs : List Request) (k : ℕ) (reason : List ℕ) (marks more : List Mark) → IsSome (request_at rs k) → more ≡ marks ++ marks_at rs k →
+    KeepsNoted rs marks (map (with_reason k reason) rs) more
+noted-reasoned rs k reason marks more some put = by (request_at rs k) refl some
+  where
+    by : (o : Option Request) → request_at rs k ≡ o → IsSome o → KeepsNoted rs marks (map (with_reason k reason) rs) more
+    by None e h = cc
+    by (Some r) e h =
+        stepped rs (map (with_reason k reason) rs) marks (mark_of r ∷ []) more
+        (put ∙ ap (λ (o : Option Request). marks ++ option_map_or (λ x. mark_of x ∷ []) o []) e)
+        (λ n own. at-reasoned k n reason rs (ap (λ (m : ℕ). m == n) (sym (found-own rs k r e)) ∙ own-number (mark_of r) n own))
+        (λ floors q floor own named. ahead_same floors k reason rs q floor)
 
 -- settles one request
 abbrev pub settle_one : List Floor → List Request → Request → Request

@@ -1,6 +1,6 @@
 -- What each journal of a configuration keeps.
 use Rattle.std.proofs.Common.{◌≡◌, ℕ, ◌+◌, ◌-◌, ◌≤◌, Bool, true, false, cond, List, [], ◌∷◌, ◌++◌, length, map, Option, Some, None, refl, sym, ap, subst, ◌∙◌, arith}
-use Rattle.std.specs.Prelude.{◌==◌, ◌&&◌, All, not, filter, count_by, is_some}
+use Rattle.std.specs.Prelude.{◌==◌, ◌&&◌, All, IfSome, not, filter, count_by, is_some}
 use Rattle.std.specs.List.{list_any}
 use Rattle.std.proofs.lemmas.List.Elements.{All-nil, All-weaker}
 use Rattle.std.proofs.lemmas.List.Sums.{sum_by_push}
@@ -8,12 +8,11 @@ use Rattle.floor_config.specs.Configuration.{Configuration, IsConfiguration, IsF
 use Rattle.floor_config.specs.declared.floors.Floor.{Floor}
 use Rattle.floor_queue.specs.declared.request.Request.{Request}
 use Rattle.floor_queue.specs.Order.{settle, position}
-use Rattle.floor_queue.specs.Queue.{Queue, IsAddable, IsQueue, IsSettled, after_settle, first_request, new_of, without}
+use Rattle.floor_queue.specs.Queue.{Queue, IsAddable, IsQueue, IsReason, IsSettled, after_settle, first_request, new_of, without}
 use Rattle.floor_queue.proofs.Counts.{count-cons, count_by-map, one}
 use Rattle.floor_queue.proofs.Kept.{IsQueue-add, IsQueue-end, IsQueue-filter, IsQueue-set_floor, IsQueue-settle}
 use Rattle.floor_message.specs.Ask.{Answer, asks, refused, unanswered, ask}
-use Rattle.floor_message.specs.Fits.{AskPartsFit}
-use Rattle.floor_message.specs.Laws.{CountsFit, WhatIsAskedFits}
+use Rattle.floor_message.specs.Laws.{FitsButForCounts, WhatIsAskedFits}
 use Rattle.floor_message.specs.declared.ask.Ask.{Ask}
 use Rattle.floor_message.specs.declared.ask.Ask.TheVariants.{FloorRequest, FloorRelease, FloorRequestQuery, UserQuery, FloorQuery, ChairAction, Hello}
 use Rattle.floor_message.specs.declared.verdicts.Verdict.{Verdict}
@@ -24,7 +23,7 @@ use Rattle.floor_machine.specs.declared.member.Member.{Member}
 use Rattle.floor_machine.specs.Conference.{Conference, binding, is_numbered_from, is_present, joining, opening, user_of}
 use Rattle.floor_machine.specs.Shown.{Entry, entry_of, ongoing_of, settle_entries}
 use Rattle.floor_machine.specs.Checks.{refusal}
-use Rattle.floor_machine.specs.Change.{Change, IsLawful, asked_change, change, decided_at, dismissed, ending, ends_at, ends_without, entries_after, given_after, is_final, leaving, members_after, message_change, settled, no_change, released, shown, acknowledging, watching, word_of}
+use Rattle.floor_machine.specs.Change.{Change, IsLawful, asked_change, change, decided_at, dismissed, ending, ends_at, ends_without, entries_after, given_after, is_final, leaving, members_after, message_change, settled, no_change, reasoned, released, shown, acknowledging, watching, word_of}
 use Rattle.floor_machine.specs.Journal.{IsLawfulFrom, after_from}
 use Rattle.floor_machine.specs.Reachable.{IsReachable}
 use Rattle.floor_machine.specs.steps.Deciding.{MayServe, new_of_ask}
@@ -35,6 +34,7 @@ use Rattle.floor_machine.proofs.Ended.{ongoing_of-ends}
 use Rattle.floor_machine.proofs.Configs.{config-change}
 use Rattle.floor_machine.proofs.Entries.{ongoing_of-entries, ongoing_of-settled}
 use Rattle.floor_machine.proofs.Counted.{AreWithin, within-next}
+use Rattle.floor_machine.proofs.Reasoned.{queue-reasoned}
 use Rattle.floor_machine.proofs.Sent.{numbered-next}
 use Rattle.floor_machine.proofs.Verdicts.{undecided, word-after}
 
@@ -77,18 +77,24 @@ queue-asked s user (FloorRelease request) may h =
 queue-asked s user (FloorRequestQuery request) may h = queue-unchanged s h
 queue-asked s user (UserQuery beneficiary) may h = queue-unchanged s h
 queue-asked s user (FloorQuery floors) may h = queue-unchanged s h
-queue-asked s user (ChairAction request verdicts) may h = by (list_any (λ v. is_final v.1) verdicts)
+queue-asked s user (ChairAction request verdicts reason) may h = by (list_any (λ v. is_final v.1) verdicts)
   where
-    by : (b : Bool) → IsQueue (queue_changed s s.given (ongoing_of (cond b (ending s (ends_at request dismissed)) (map (λ r. entry_of (decided_at request verdicts r)) s.ongoing))))
+    t : Conference
+    t = reasoned s request reason
+
+    stays : IsQueue (queue_of t)
+    stays = queue-reasoned (queue_of s) request reason may.1 h
+
+    by : (b : Bool) → IsQueue (queue_changed s s.given (ongoing_of (cond b (ending t (ends_at request dismissed)) (map (λ r. entry_of (decided_at request verdicts r)) t.ongoing))))
     by true =
-        queue-of_entries s s.given (ending s (ends_at request dismissed)) (without request s.ongoing) (ongoing_of-ending request dismissed s.ongoing) (IsQueue-end (queue_of s) request h)
+        queue-of_entries t s.given (ending t (ends_at request dismissed)) (without request t.ongoing) (ongoing_of-ending request dismissed t.ongoing) (IsQueue-end (queue_of t) request stays)
     by false =
-        queue-of_entries s s.given (map (λ r. entry_of (decided_at request verdicts r)) s.ongoing) (map (decided_at request verdicts) s.ongoing)
-        (ongoing_of-decided request verdicts s.ongoing) (queue-decided (queue_of s) request verdicts h)
+        queue-of_entries t s.given (map (λ r. entry_of (decided_at request verdicts r)) t.ongoing) (map (decided_at request verdicts) t.ongoing)
+        (ongoing_of-decided request verdicts t.ongoing) (queue-decided (queue_of t) request verdicts stays)
 queue-asked s user Hello may h = queue-unchanged s h
 
 -- after a message
-queue-message : (s : Conference) (n : ℕ) (a : Answer) → ((x : Ask) → a ≡ asks x → CountsFit x → AskPartsFit x) → IsQueue (queue_of s) →
+queue-message : (s : Conference) (n : ℕ) (a : Answer) → ((x : Ask) → a ≡ asks x → FitsButForCounts x) → IsQueue (queue_of s) →
     IsQueue (queue_changed s (message_change s n a).given (ongoing_of (message_change s n a).entries))
 queue-message s n unanswered fits h = queue-unchanged s h
 queue-message s n (refused code details) fits h = queue-unchanged s h
@@ -122,6 +128,7 @@ queue-change s Close law h =
       numbers = All-nil (λ (r : Request). (1 ≤ r.number) × (r.number ≤ s.given));
       few = omega arith;
       addable = All-nil (λ (r : Request). IsAddable s.config.floors (new_of r));
+      reasons = All-nil (λ (r : Request). IfSome r.reason IsReason);
       holders_fit = λ floor. omega arith;
     }
 
@@ -162,7 +169,7 @@ live-asked s n (FloorRequestQuery request) h = h
 live-asked s n (UserQuery beneficiary) h = h
 live-asked s n (FloorQuery floors) h =
     omega (arith, count_by-map (λ (m : Member). m.is_live) (λ (m : Member). m.is_live) (watching n floors) (is_live-watching n floors) s.members, h)
-live-asked s n (ChairAction request verdicts) h = h
+live-asked s n (ChairAction request verdicts reason) h = h
 live-asked s n Hello h = h
 
 live-message : (s : Conference) (n : ℕ) (a : Answer) → count_by (λ m. m.is_live) s.members ≤ 64 → count_by (λ m. m.is_live) (message_change s n a).members ≤ 64
@@ -229,6 +236,7 @@ keeps-opening config h =
         numbers = All-nil (λ (r : Request). (1 ≤ r.number) × (r.number ≤ 0));
         few = omega arith;
         addable = All-nil (λ (r : Request). IsAddable config.floors (new_of r));
+        reasons = All-nil (λ (r : Request). IfSome r.reason IsReason);
         holders_fit = λ floor. omega arith;
       };
       settled = refl;

@@ -39,7 +39,7 @@ members-asked s n (FloorRelease request) = omega arith
 members-asked s n (FloorRequestQuery request) = omega arith
 members-asked s n (UserQuery beneficiary) = omega arith
 members-asked s n (FloorQuery floors) = omega (arith, length-map s.members (watching n floors))
-members-asked s n (ChairAction request verdicts) = omega arith
+members-asked s n (ChairAction request verdicts reason) = omega arith
 members-asked s n Hello = omega arith
 
 members-message : (s : Conference) (n : ℕ) (a : Answer) → length (message_change s n a).members ≤ length s.members + 1

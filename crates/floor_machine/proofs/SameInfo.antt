@@ -89,8 +89,8 @@ users = record {
       (and_both (x.user == x.user) (same_option same_octets x.name x.name) (number_own x.user) (texts.own x.name)) (texts.own x.uri);
 }
 
--- seven tests one after another
-record AllSeven (a b c d e f g : Bool) : Type 0 where
+-- eight tests one after another
+record AllEight (a b c d e f g h : Bool) : Type 0 where
   first : a ≡ true
   second : b ≡ true
   third : c ≡ true
@@ -98,39 +98,42 @@ record AllSeven (a b c d e f g : Bool) : Type 0 where
   fifth : e ≡ true
   sixth : f ≡ true
   seventh : g ≡ true
+  eighth : h ≡ true
 
-apart : (a b c d e f g : Bool) → (a && b && c && d && e && f && g) ≡ true → AllSeven a b c d e f g
-apart true true true true true true true h = record { first = refl; second = refl; third = refl; fourth = refl; fifth = refl; sixth = refl; seventh = refl }
-apart true true true true true true false h = cc
-apart true true true true true false g h = cc
-apart true true true true false f g h = cc
-apart true true true false e f g h = cc
-apart true true false d e f g h = cc
-apart true false c d e f g h = cc
-apart false b c d e f g h = cc
+apart : (a b c d e f g h : Bool) → (a && b && c && d && e && f && g && h) ≡ true → AllEight a b c d e f g h
+apart true true true true true true true true k = record { first = refl; second = refl; third = refl; fourth = refl; fifth = refl; sixth = refl; seventh = refl; eighth = refl }
+apart true true true true true true true false k = cc
+apart true true true true true true false h k = cc
+apart true true true true true false g h k = cc
+apart true true true true false f g h k = cc
+apart true true true false e f g h k = cc
+apart true true false d e f g h k = cc
+apart true false c d e f g h k = cc
+apart false b c d e f g h k = cc
 
-together : (a b c d e f g : Bool) → a ≡ true → b ≡ true → c ≡ true → d ≡ true → e ≡ true → f ≡ true → g ≡ true → (a && b && c && d && e && f && g) ≡ true
-together a b c d e f g p q r s t u v = rw (p, q, r, s, t, u, v) refl
+together : (a b c d e f g h : Bool) → a ≡ true → b ≡ true → c ≡ true → d ≡ true → e ≡ true → f ≡ true → g ≡ true → h ≡ true → (a && b && c && d && e && f && g && h) ≡ true
+together a b c d e f g h p q r s t u v w = rw (p, q, r, s, t, u, v, w) refl
 
 pub info_equal : (x y : Info) → same_info x y ≡ true → x ≡ y
 unfolding same_info
 info_equal x y h =
-    let all = apart (x.request == y.request) (same_option same_status x.overall y.overall) (same_list same_floor x.floors y.floors) (same_option same_who x.beneficiary y.beneficiary)
-    (same_option same_who x.requester y.requester) (same_option same_number x.priority y.priority) (same_option same_octets x.info y.info) h in
+    let all = apart (x.request == y.request) (same_option same_status x.overall y.overall) (same_option same_octets x.reason y.reason) (same_list same_floor x.floors y.floors)
+    (same_option same_who x.beneficiary y.beneficiary) (same_option same_who x.requester y.requester) (same_option same_number x.priority y.priority) (same_option same_octets x.info y.info) h in
     ap (λ (v : ℕ). record x { request = v }) (number_equal x.request y.request all.first)
     ∙ ap (λ (v : Option (ℕ × ℕ)). record x { request = y.request; overall = v }) ((options same_status statuses).equal x.overall y.overall all.second)
-    ∙ ap (λ (v : List (ℕ × Option (ℕ × ℕ))). record x { request = y.request; overall = y.overall; floors = v }) ((lists same_floor floors).equal x.floors y.floors all.third)
-    ∙ ap (λ (v : Option Who). record x { request = y.request; overall = y.overall; floors = y.floors; beneficiary = v }) ((options same_who users).equal x.beneficiary y.beneficiary all.fourth)
-    ∙ ap (λ (v : Option Who). record y { requester = v; priority = x.priority; info = x.info }) ((options same_who users).equal x.requester y.requester all.fifth)
-    ∙ ap (λ (v : Option ℕ). record y { priority = v; info = x.info }) ((options same_number numbers).equal x.priority y.priority all.sixth)
-    ∙ ap (λ (v : Option (List ℕ)). record y { info = v }) (texts.equal x.info y.info all.seventh)
+    ∙ ap (λ (v : Option (List ℕ)). record x { request = y.request; overall = y.overall; reason = v }) (texts.equal x.reason y.reason all.third)
+    ∙ ap (λ (v : List (ℕ × Option (ℕ × ℕ))). record x { request = y.request; overall = y.overall; reason = y.reason; floors = v }) ((lists same_floor floors).equal x.floors y.floors all.fourth)
+    ∙ ap (λ (v : Option Who). record y { beneficiary = v; requester = x.requester; priority = x.priority; info = x.info }) ((options same_who users).equal x.beneficiary y.beneficiary all.fifth)
+    ∙ ap (λ (v : Option Who). record y { requester = v; priority = x.priority; info = x.info }) ((options same_who users).equal x.requester y.requester all.sixth)
+    ∙ ap (λ (v : Option ℕ). record y { priority = v; info = x.info }) ((options same_number numbers).equal x.priority y.priority all.seventh)
+    ∙ ap (λ (v : Option (List ℕ)). record y { info = v }) (texts.equal x.info y.info all.eighth)
 
 pub info_own : (x : Info) → same_info x x ≡ true
 unfolding same_info
 info_own x =
-    together (x.request == x.request) (same_option same_status x.overall x.overall) (same_list same_floor x.floors x.floors) (same_option same_who x.beneficiary x.beneficiary)
-    (same_option same_who x.requester x.requester) (same_option same_number x.priority x.priority) (same_option same_octets x.info x.info)
-    (number_own x.request) ((options same_status statuses).own x.overall) ((lists same_floor floors).own x.floors) ((options same_who users).own x.beneficiary)
+    together (x.request == x.request) (same_option same_status x.overall x.overall) (same_option same_octets x.reason x.reason) (same_list same_floor x.floors x.floors)
+    (same_option same_who x.beneficiary x.beneficiary) (same_option same_who x.requester x.requester) (same_option same_number x.priority x.priority) (same_option same_octets x.info x.info)
+    (number_own x.request) ((options same_status statuses).own x.overall) (texts.own x.reason) ((lists same_floor floors).own x.floors) ((options same_who users).own x.beneficiary)
     ((options same_who users).own x.requester) ((options same_number numbers).own x.priority) (texts.own x.info)
 
 -- who answers exactly whether both are equal answers whether they are shown alike

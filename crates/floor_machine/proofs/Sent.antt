@@ -172,7 +172,7 @@ numbered-asked s n (FloorRelease request) h = h
 numbered-asked s n (FloorRequestQuery request) h = h
 numbered-asked s n (UserQuery beneficiary) h = h
 numbered-asked s n (FloorQuery floors) h = numbered-watching n floors 1 s.members h
-numbered-asked s n (ChairAction request verdicts) h = h
+numbered-asked s n (ChairAction request verdicts reason) h = h
 numbered-asked s n Hello h = h
 
 numbered-message : (s : Conference) (n : ℕ) (a : Answer) → is_numbered_from 1 s.members ≡ true → is_numbered_from 1 (message_change s n a).members ≡ true

@@ -33,7 +33,7 @@ use Rattle.floor_machine.specs.declared.event.Event.{Event}
 use Rattle.floor_machine.specs.declared.event.Event.TheVariants.{Message}
 use Rattle.floor_machine.specs.Shown.{Entry, entry_of, ongoing_of, settle_entries, info_of, described}
 use Rattle.floor_machine.specs.Checks.{refusal}
-use Rattle.floor_machine.specs.Change.{Change, asked_change, change, decided_at, dismissed, ending, ends_at, given_after, is_final, message_change, no_change, settled, shown}
+use Rattle.floor_machine.specs.Change.{Change, asked_change, change, decided_at, dismissed, ending, ends_at, given_after, is_final, message_change, no_change, reasoned, settled, shown}
 use Rattle.floor_machine.specs.Outgoing.{Outgoing}
 use Rattle.floor_machine.specs.Reply.{infos, infos_of_user, request_answer, answer_tells, reply_tells, headed, reply}
 use Rattle.floor_machine.specs.Told.{changed_of, changed_requests, changed_floors, is_changed, reply_to}
@@ -53,10 +53,13 @@ accepts s n (FloorRelease request) = refl
 accepts s n (FloorRequestQuery request) = refl
 accepts s n (UserQuery beneficiary) = refl
 accepts s n (FloorQuery floors) = refl
-accepts s n (ChairAction request verdicts) = by (list_any (λ v. is_final v.1) verdicts)
+accepts s n (ChairAction request verdicts reason) = by (list_any (λ v. is_final v.1) verdicts)
   where
-    by : (b : Bool) → record (no_change s) { entries = cond b (ending s (ends_at request dismissed)) (map (λ r. entry_of (decided_at request verdicts r)) s.ongoing) }
-        ≡ change_by s n (cond b (to.End request Chair) (to.Words request verdicts))
+    t : Conference
+    t = reasoned s request reason
+
+    by : (b : Bool) → record (no_change s) { entries = cond b (ending t (ends_at request dismissed)) (map (λ r. entry_of (decided_at request verdicts r)) t.ongoing) }
+        ≡ change_by s n (cond b (to.End request Chair reason) (to.Words request verdicts reason))
     by true = refl
     by false = refl
 accepts s n Hello = refl
@@ -160,7 +163,7 @@ tells-accepted s n bytes user (FloorRequestQuery request) ended same rising give
 tells-accepted s n bytes user (UserQuery beneficiary) ended same rising given =
     ap (λ (config : Configuration). UserStatus (option_map (described config) beneficiary) (infos_of_user (unwrap_or beneficiary user) (settled s (Message n bytes))) ∷ []) (sym (settled-config s (Message n bytes)))
 tells-accepted s n bytes user (FloorQuery floors) ended same rising given = refl
-tells-accepted s n bytes user (ChairAction request verdicts) ended same rising given = refl
+tells-accepted s n bytes user (ChairAction request verdicts reason) ended same rising given = refl
 tells-accepted s n bytes user Hello ended same rising given = refl
 
 -- the answer to a message, as the steps make it

@@ -10,7 +10,7 @@ use Rattle.floor_queue.specs.declared.requested_floor.FloorStatus.TheVariants.{A
 use Rattle.floor_queue.specs.declared.requested_floor.RequestedFloor.{RequestedFloor}
 use Rattle.floor_queue.specs.declared.requested_floor.Word.{Word}
 use Rattle.floor_queue.specs.declared.requested_floor.Word.TheVariants.{Accepted as AcceptedWord, Granted as GrantedWord}
-use Rattle.floor_queue.specs.Queue.{request_at, first_request}
+use Rattle.floor_queue.specs.Queue.{request_at, first_request, with_reason}
 use Rattle.floor_message.specs.Ask.{Answer, asks, refused, unanswered, ask}
 use Rattle.floor_message.specs.declared.ask.Ask.{Ask}
 use Rattle.floor_message.specs.declared.ask.Ask.TheVariants.{FloorRequest, FloorRelease, FloorRequestQuery, UserQuery, FloorQuery, ChairAction, Hello}
@@ -78,6 +78,22 @@ decided verdicts f =
 abbrev pub decided_at : ℕ → List (ℕ × Verdict) → Request → Request
 decided_at request verdicts r = if r.number == request then record r { floors = map (decided verdicts) r.floors } else r
 
+-- the requests after a ChairAction on the one with this number: a reason is that request's from then on, and without one it keeps its own
+abbrev pub reasoned_among : ℕ → Option (List ℕ) → List Request → List Request
+reasoned_among request None requests = requests
+reasoned_among request (Some reason) requests = map (with_reason request reason) requests
+
+-- the conference with its requests so
+abbrev pub reasoned : Conference → ℕ → Option (List ℕ) → Conference
+reasoned s request reason = record s { ongoing = reasoned_among request reason s.ongoing }
+
+-- the requests that verdicts on the one with this number leave
+abbrev pub entries_decided : Conference → ℕ → List (ℕ × Verdict) → List Entry
+entries_decided s request verdicts =
+    if list_any (λ v. is_final v.1) verdicts
+    then ending s (ends_at request dismissed)
+    else map (λ r. entry_of (decided_at request verdicts r)) s.ongoing
+
 -- the requests that an accepted message of this user leaves
 abbrev pub entries_after : Conference → ℕ → Ask → List Entry
 entries_after s user (FloorRequest beneficiary floors priority info) =
@@ -88,10 +104,7 @@ entries_after s user (FloorRelease request) = ending s (ends_at request released
 entries_after s user (FloorRequestQuery request) = map entry_of s.ongoing
 entries_after s user (UserQuery beneficiary) = map entry_of s.ongoing
 entries_after s user (FloorQuery floors) = map entry_of s.ongoing
-entries_after s user (ChairAction request verdicts) =
-    if list_any (λ v. is_final v.1) verdicts
-    then ending s (ends_at request dismissed)
-    else map (λ r. entry_of (decided_at request verdicts r)) s.ongoing
+entries_after s user (ChairAction request verdicts reason) = entries_decided (reasoned s request reason) request verdicts
 entries_after s user Hello = map entry_of s.ongoing
 
 -- how many requests were ever accepted, after an accepted message

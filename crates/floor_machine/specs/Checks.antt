@@ -80,5 +80,5 @@ refusal s user (FloorRequestQuery request) = on_request s request (λ r. [])
 refusal s user (UserQuery beneficiary) =
     first_of (when (not (option_map_or (is_user s.config) beneficiary true)) UserDoesNotExist ∷ [])
 refusal s user (FloorQuery floors) = first_of (when (not (list_all (is_floor s.config.floors) floors)) InvalidFloorId ∷ [])
-refusal s user (ChairAction request verdicts) = on_request s request (chair_checks s user verdicts)
+refusal s user (ChairAction request verdicts reason) = on_request s request (chair_checks s user verdicts)
 refusal s user Hello = None

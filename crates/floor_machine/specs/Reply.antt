@@ -63,7 +63,7 @@ answer_tells s e user (FloorRequestQuery request) = request_answer s.config (sho
 answer_tells s e user (UserQuery beneficiary) =
     UserStatus (option_map (described s.config) beneficiary) (infos_of_user (unwrap_or beneficiary user) (settled s e)) ∷ []
 answer_tells s e user (FloorQuery floors) = floor_answers (settled s e) floors
-answer_tells s e user (ChairAction request verdicts) = ChairActionAck ∷ []
+answer_tells s e user (ChairAction request verdicts reason) = ChairActionAck ∷ []
 answer_tells s e user Hello = HelloAck supported_primitives supported_attributes ∷ []
 
 -- what a message is answered by, as it is read: an Error where it is refused

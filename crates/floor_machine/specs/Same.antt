@@ -42,6 +42,7 @@ unfoldable pub same_info : Info → Info → Bool
 same_info x y =
     x.request == y.request
     && same_option same_status x.overall y.overall
+    && same_option same_octets x.reason y.reason
     && same_list same_floor x.floors y.floors
     && same_option same_who x.beneficiary y.beneficiary
     && same_option same_who x.requester y.requester

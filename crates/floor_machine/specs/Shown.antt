@@ -74,13 +74,14 @@ described config id =
 abbrev pub floor_shown : List Floor → List Request → Entry → RequestedFloor → ℕ × Option (ℕ × ℕ)
 floor_shown floors ongoing e f = (f.floor, Some (status_number (floor_status e f), position_in floors ongoing e f.floor))
 
--- What is shown of a request among the ongoing ones: its overall status with the greatest position, each floor's, the
--- beneficiary, the requester where it is another user, the priority, and what the requester said of it.
+-- What is shown of a request among the ongoing ones: its overall status with the greatest position, the reason that a chair gave,
+-- each floor's status, the beneficiary, the requester where it is another user, the priority, and what the requester said of it.
 unfoldable pub info_of : Configuration → List Request → Entry → Info
 info_of config ongoing e =
     record {
       request = e.request.number;
       overall = Some (status_number (overall_status e), overall_position config.floors ongoing e);
+      reason = e.request.reason;
       floors = map (floor_shown config.floors ongoing e) e.request.floors;
       beneficiary = Some (named config e.request.beneficiary);
       requester = if e.request.requester == e.request.beneficiary then None else Some (named config e.request.requester);

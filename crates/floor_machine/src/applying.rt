@@ -107,7 +107,7 @@ impl State {
         let alloc = self.members.allocator();
         // Each ongoing request is one that could be added, which bounds what is shown of it.
         let _ongoing = self.requests.ongoing();
-        let mut course = self.end_ongoing(alloc, request, EndedBy::Chair)?;
+        let mut course = self.end_ongoing(alloc, request, EndedBy::Chair, None)?;
         let changes = self.settle(alloc, &mut course)?;
         self.tell(alloc, &changes, &None, out)
     }

@@ -10,4 +10,5 @@ pub(crate) mod floor_request;
 pub(crate) mod membership;
 pub(crate) mod message;
 pub(crate) mod queries;
+pub(crate) mod reason;
 pub(crate) mod reply;

@@ -22,10 +22,11 @@ pub(crate) enum Change {
     Nothing,
     /// A floor request is added.
     Add(New),
-    /// The ongoing floor request with this number ends.
-    End(u16, EndedBy),
-    /// The verdicts leave their words on the floors of the ongoing request with this number.
-    Words(u16, Verdicts),
+    /// The ongoing floor request with this number ends, for this reason where a chair gives one.
+    End(u16, EndedBy, Option<Octets>),
+    /// The verdicts leave their words on the floors of the ongoing request with this number, for this
+    /// reason where the chair gives one.
+    Words(u16, Verdicts, Option<Octets>),
     /// The sender watches these floors.
     Watch(Numbers),
 }

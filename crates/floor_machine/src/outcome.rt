@@ -19,7 +19,7 @@ impl<'a> Model for Outcome<'a> {
 
     ghost Value = { Outcome };
 
-    ghost use Rattle.floor_machine.specs.steps.Fitting.{AreAddable};
+    ghost use Rattle.floor_machine.specs.steps.Fitting.{AreFit};
     ghost use Rattle.floor_machine.specs.steps.Serving.{IsAtRest, conference_of};
 
     ghost view = { λ o. record {
@@ -29,5 +29,5 @@ impl<'a> Model for Outcome<'a> {
     } };
 
     ghost invariant = { λ o. IsAtRest o.state.now
-        × AreAddable o.state.now.config.floors o.ended.now };
+        × AreFit o.state.now.config.floors o.ended.now };
 }

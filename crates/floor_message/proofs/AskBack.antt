@@ -13,27 +13,27 @@ use Rattle.floor_message.specs.Ask.{ask, asks, answer}
 use Rattle.floor_message.specs.steps.Answering.{by_header, by_primitive, by_attributes, by_mandatory, by_fields, header_refusal}
 use Rattle.floor_message.proofs.Checked.{answer_by_steps}
 use Rattle.floor_message.specs.Binding.{Binding}
-use Rattle.floor_message.specs.Fields.{fields, floor_request, priority_asked, judged, given, chair_asked, chair_action, floors_judged}
-use Rattle.floor_message.specs.Fits.{HeadFits, AskFits, AskPartsFit, FloorRequestFits, VerdictsFit}
+use Rattle.floor_message.specs.Fields.{fields, floor_request, priority_asked, judged, given, chair_asked, chair_action, floors_judged, status_info_in, overall_status, overall_reason, floor_reason, reason_for, reason_kept}
+use Rattle.floor_message.specs.Fits.{HeadFits, AskFits, AskPartsFit, FloorRequestFits, ChairActionFits}
 use Rattle.floor_message.specs.Room.{FitsRoom}
 use Rattle.floor_message.proofs.AskRooms.{ask_fits_room}
 use Rattle.floor_message.specs.Laws.{IsOwn}
 use Rattle.floor_message.specs.Picked.{first, numbers, pairs, octet_strings, groups, distinct, once_by, IsOnceBy, mandatory, if_kind, number_in, pair_in, group_in, octets_in}
 use Rattle.floor_message.specs.Primitive.{primitive_of, primitive_number}
-use Rattle.floor_message.specs.Text.{info_kept}
-use Rattle.floor_message.specs.Written.{ask_attrs, ask_bytes, ask_primitive, optional, number, octets, priority_attr, status_attr, status_of, verdict_attr}
+use Rattle.floor_message.specs.Text.{text_kept}
+use Rattle.floor_message.specs.Written.{ask_attrs, ask_bytes, ask_primitive, optional, number, octets, priority_attr, status_attr, status_of, overall_attrs, verdict_attr}
 use Rattle.floor_message.specs.declared.head.Head.{Head}
 use Rattle.floor_message.specs.declared.code.ErrorCode.TheVariants.{ConferenceDoesNotExist, UserDoesNotExist, UnauthorizedOperation, UnsupportedVersion}
 use Rattle.floor_message.specs.declared.verdicts.Verdict.{Verdict}
 use Rattle.floor_message.specs.declared.verdicts.Verdict.TheVariants.{Accepted, Granted, Denied, Revoked}
 use Rattle.floor_message.specs.declared.ask.Ask.{Ask}
 use Rattle.floor_message.specs.declared.ask.Ask.TheVariants.{FloorRequest, FloorRelease, FloorRequestQuery, UserQuery, FloorQuery, ChairAction, Hello}
-use Rattle.floor_message.proofs.Cutting.{info_kept_none}
+use Rattle.floor_message.proofs.Cutting.{text_kept_same}
 use Rattle.floor_message.proofs.Heads.{headed, conference_back, user_back, primitive_back}
 use Rattle.floor_message.proofs.Items.{items-attributes_of}
 use Rattle.floor_message.proofs.Once.{once_by_once}
 use Rattle.floor_message.proofs.Plain.{cleared_same, mandatory_none, plain_ask}
-use Rattle.floor_message.proofs.RoundTrip.{picked_append, none_picked, all_picked, one_none, one_some, first_of_option}
+use Rattle.floor_message.proofs.RoundTrip.{picked_append, none_picked, all_picked, one_none, one_some, first_of_option, overall_groups, overall_picked, overall_passed}
 use Rattle.floor_message.proofs.TellBack.{read_back}
 
 same_list : (xs : List ℕ) → map (λ x. x) xs ≡ xs
@@ -91,13 +91,13 @@ module _ (b : Option ℕ) (floors : List ℕ) (priority : ℕ) (info : Option (L
 
   floor_request_back : FloorRequestFits floors priority info → fields (ask_primitive (FloorRequest b floors priority info)) asked ≡ Some (FloorRequest b floors priority info)
   floor_request_back fits =
-      ap (λ l. floor_request (distinct l) (first (numbers 1 asked)) (priority_asked (first (pairs 4 asked))) (info_kept (first (octet_strings 8 asked)))) floors_picked
-      ∙ ap (λ l. floor_request l (first (numbers 1 asked)) (priority_asked (first (pairs 4 asked))) (info_kept (first (octet_strings 8 asked)))) (once_by_once (λ n. n) floors fits.floors_fit.once)
-      ∙ ap (λ o. floor_request floors o (priority_asked (first (pairs 4 asked))) (info_kept (first (octet_strings 8 asked)))) beneficiary_picked
-      ∙ ap (λ o. floor_request floors b (priority_asked o) (info_kept (first (octet_strings 8 asked)))) priority_picked
-      ∙ ap (λ n. floor_request floors b n (info_kept (first (octet_strings 8 asked)))) (let same : min (32 * priority / 32) 4 ≡ priority = omega (arith, fits.priority_fits) in same)
-      ∙ ap (λ o. floor_request floors b priority (info_kept o)) text_picked
-      ∙ ap (λ o. floor_request floors b priority o) (info_kept_none info fits.text)
+      ap (λ l. floor_request (distinct l) (first (numbers 1 asked)) (priority_asked (first (pairs 4 asked))) (text_kept 62 (first (octet_strings 8 asked)))) floors_picked
+      ∙ ap (λ l. floor_request l (first (numbers 1 asked)) (priority_asked (first (pairs 4 asked))) (text_kept 62 (first (octet_strings 8 asked)))) (once_by_once (λ n. n) floors fits.floors_fit.once)
+      ∙ ap (λ o. floor_request floors o (priority_asked (first (pairs 4 asked))) (text_kept 62 (first (octet_strings 8 asked)))) beneficiary_picked
+      ∙ ap (λ o. floor_request floors b (priority_asked o) (text_kept 62 (first (octet_strings 8 asked)))) priority_picked
+      ∙ ap (λ n. floor_request floors b n (text_kept 62 (first (octet_strings 8 asked)))) (let same : min (32 * priority / 32) 4 ≡ priority = omega (arith, fits.priority_fits) in same)
+      ∙ ap (λ o. floor_request floors b priority (text_kept 62 o)) text_picked
+      ∙ ap (λ o. floor_request floors b priority o) (text_kept_same 62 info fits.text)
       ∙ nonempty floors fits.some
 
 abbrev verdict_group : ℕ × Verdict → ℕ × List Attr
@@ -117,33 +117,87 @@ all_given : (vs : List (ℕ × Verdict)) → given (map (λ v. (v.0, Some v.1)) 
 all_given [] = refl
 all_given (v ∷ vs) = ap (λ o. option_map (λ ws. (v.0, v.1) ∷ ws) o) (all_given vs)
 
-any_key : (n : ℕ) (vs : List (ℕ × Verdict)) → list_any (λ (w : ℕ × Option Verdict). w.0 == n) (map (λ v. (v.0, Some v.1)) vs) ≡ list_any (λ v. v.0 == n) vs
-any_key n [] = refl
-any_key n (v ∷ vs) = ap (λ b. (v.0 == n) || b) (any_key n vs)
+any_key : {A B : Type 0} (key : B → ℕ) (f : A → B) (n : ℕ) (xs : List A) → list_any (λ y. key y == n) (map f xs) ≡ list_any (λ x. key (f x) == n) xs
+any_key key f n [] = refl
+any_key key f n (x ∷ xs) = ap (λ b. (key (f x) == n) || b) (any_key key f n xs)
 
-once_kept_by_key : (vs : List (ℕ × Verdict)) → IsOnceBy (λ v. v.0) vs → IsOnceBy (λ (w : ℕ × Option Verdict). w.0) (map (λ v. (v.0, Some v.1)) vs)
-once_kept_by_key [] h = tt
-once_kept_by_key (v ∷ vs) h = (any_key v.0 vs ∙ h.0, once_kept_by_key vs h.1)
+once_kept_by_key : {A B : Type 0} (key : B → ℕ) (f : A → B) (xs : List A) → IsOnceBy (λ x. key (f x)) xs → IsOnceBy key (map f xs)
+once_kept_by_key key f [] h = tt
+once_kept_by_key key f (x ∷ xs) h = (any_key key f (key (f x)) xs ∙ h.0, once_kept_by_key key f xs h.1)
 
-chair_nonempty : (request : ℕ) (vs : List (ℕ × Verdict)) → 0 < length vs → chair_action request vs ≡ Some (ChairAction request vs)
-chair_nonempty request [] h = absurd (omega arith)
-chair_nonempty request (v ∷ vs) h = refl
+chair_nonempty : (request : ℕ) (vs : List (ℕ × Verdict)) (reason : Option (List ℕ)) → 0 < length vs → chair_action request vs reason ≡ Some (ChairAction request vs reason)
+chair_nonempty request [] reason h = absurd (omega arith)
+chair_nonempty request (v ∷ vs) reason h = refl
 
-floors_judged_back : (vs : List (ℕ × Verdict)) → IsOnceBy (λ v. v.0) vs → floors_judged (map verdict_attr vs) ≡ map (λ v. (v.0, Some v.1)) vs
-floors_judged_back vs once =
-    let inside = map verdict_attr vs in
-    let no_overall : groups 18 inside ≡ [] = none_picked (if_kind group_in 18) verdict_attr (λ v. refl) vs in
-    ap (λ gs. once_by (λ v. v.0) (map (judged (option_and_then (λ g. option_map (λ s. s.0) (first (pairs 5 g.1))) (first gs))) (groups 17 inside))) no_overall
-    ∙ ap (λ gs. once_by (λ v. v.0) (map (judged None) gs)) (all_picked (if_kind group_in 17) verdict_attr verdict_group (λ v. refl) vs)
-    ∙ ap (λ l. once_by (λ v. v.0) l) (all_judged vs)
-    ∙ once_by_once (λ v. v.0) (map (λ v. (v.0, Some v.1)) vs) (once_kept_by_key vs once)
+-- what a ChairAction holds: its reason, and then its verdicts
+module _ (request : ℕ) (vs : List (ℕ × Verdict)) (reason : Option (List ℕ)) where
+  abbrev decided : List Attr
+  decided = overall_attrs request None reason ++ map verdict_attr vs
 
-chair_back : (request : ℕ) (vs : List (ℕ × Verdict)) → VerdictsFit vs → fields (ask_primitive (ChairAction request vs)) (ask_attrs (ChairAction request vs)) ≡ Some (ChairAction request vs)
-chair_back request vs fits =
-    ap (λ l. chair_asked (request, l)) (items-attributes_of (map verdict_attr vs))
-    ∙ ap (λ l. option_and_then (chair_action request) (given l)) (floors_judged_back vs fits.once)
-    ∙ ap (λ o. option_and_then (chair_action request) o) (all_given vs)
-    ∙ chair_nonempty request vs fits.some
+  overall_found : groups 18 decided ≡ overall_groups request None reason
+  overall_found =
+      let f = if_kind group_in 18 in
+      picked_append f (overall_attrs request None reason) (map verdict_attr vs)
+      ∙ ap (λ l. l ++ filter_map f (map verdict_attr vs)) (overall_picked request None reason)
+      ∙ ap (λ l. overall_groups request None reason ++ l) (none_picked f verdict_attr (λ v. refl) vs)
+      ∙ append-nil (overall_groups request None reason)
+
+  floors_found : groups 17 decided ≡ map verdict_group vs
+  floors_found =
+      let f = if_kind group_in 17 in
+      picked_append f (overall_attrs request None reason) (map verdict_attr vs)
+      ∙ ap (λ l. l ++ filter_map f (map verdict_attr vs)) (overall_passed f (λ n inside. refl) request None reason)
+      ∙ all_picked f verdict_attr verdict_group (λ v. refl) vs
+
+  no_overall : overall_status decided ≡ None
+  no_overall =
+      ap (λ gs. option_and_then (λ g. option_map (λ s. s.0) (first (pairs 5 g.1))) (first gs)) overall_found ∙ by_case reason where
+        by_case : (r : Option (List ℕ)) → option_and_then (λ g. option_map (λ s. s.0) (first (pairs 5 g.1))) (first (overall_groups request None r)) ≡ None
+        by_case None = refl
+        by_case (Some r) = refl
+
+  reason_found : overall_reason decided ≡ reason
+  reason_found =
+      ap (λ gs. option_and_then (λ g. status_info_in g.1) (first gs)) overall_found ∙ by_case reason where
+        by_case : (r : Option (List ℕ)) → option_and_then (λ g. status_info_in g.1) (first (overall_groups request None r)) ≡ r
+        by_case None = refl
+        by_case (Some r) = refl
+
+  floors_judged_back : IsOnceBy (λ v. v.0) vs → floors_judged decided ≡ map (λ v. (v.0, Some v.1)) vs
+  floors_judged_back once =
+      ap (λ o. once_by (λ v. v.0) (map (judged o) (groups 17 decided))) no_overall
+      ∙ ap (λ gs. once_by (λ v. v.0) (map (judged None) gs)) floors_found
+      ∙ ap (λ l. once_by (λ v. v.0) l) (all_judged vs)
+      ∙ once_by_once (λ v. v.0) (map (λ v. (v.0, Some v.1)) vs) (once_kept_by_key (λ w. w.0) (λ v. (v.0, Some v.1)) vs once)
+
+  -- no floor has a reason of its own
+  none_given : (ws : List (ℕ × Verdict)) → filter_map (λ g. status_info_in g.1) (map verdict_group ws) ≡ []
+  none_given [] = refl
+  none_given (w ∷ ws) = none_given ws
+
+  no_floor_reason : IsOnceBy (λ v. v.0) vs → floor_reason decided ≡ None
+  no_floor_reason once =
+      ap (λ gs. first (filter_map (λ g. status_info_in g.1) (once_by (λ g. g.0) gs))) floors_found
+      ∙ ap (λ gs. first (filter_map (λ g. status_info_in g.1) gs)) (once_by_once (λ g. g.0) (map verdict_group vs) (once_kept_by_key (λ g. g.0) verdict_group vs once))
+      ∙ ap first (none_given vs)
+
+  reason_kept_back : ChairActionFits vs reason → reason_kept decided ≡ Some reason
+  reason_kept_back fits =
+      ap (λ o. text_kept 30 (reason_for o (floor_reason decided))) reason_found
+      ∙ ap (λ o. text_kept 30 (reason_for reason o)) (no_floor_reason fits.verdicts_fit.once)
+      ∙ ap (λ o. text_kept 30 o) (by_case reason)
+      ∙ text_kept_same 30 reason fits.text where
+        by_case : (r : Option (List ℕ)) → reason_for r None ≡ r
+        by_case None = refl
+        by_case (Some r) = refl
+
+  chair_back : ChairActionFits vs reason → fields (ask_primitive (ChairAction request vs reason)) (ask_attrs (ChairAction request vs reason)) ≡ Some (ChairAction request vs reason)
+  chair_back fits =
+      ap (λ l. chair_asked (request, l)) (items-attributes_of decided)
+      ∙ ap (λ l. option_and_then (λ ws. option_and_then (chair_action request ws) (reason_kept decided)) (given l)) (floors_judged_back fits.verdicts_fit.once)
+      ∙ ap (λ o. option_and_then (λ ws. option_and_then (chair_action request ws) (reason_kept decided)) o) (all_given vs)
+      ∙ ap (λ o. option_and_then (chair_action request vs) o) (reason_kept_back fits)
+      ∙ chair_nonempty request vs reason fits.verdicts_fit.some
 
 floors_query_back : (floors : List ℕ) → IsOnceBy (λ n. n) floors → distinct (numbers 2 (map (number 2) floors)) ≡ floors
 floors_query_back floors once =
@@ -160,7 +214,7 @@ ask_back (FloorRelease r) h = refl
 ask_back (FloorRequestQuery r) h = refl
 ask_back (UserQuery b) h = ap (λ o. Some (UserQuery o)) (beneficiary_alone b)
 ask_back (FloorQuery floors) h = ap (λ l. Some (FloorQuery l)) (floors_query_back floors h.once)
-ask_back (ChairAction r vs) h = chair_back r vs h
+ask_back (ChairAction r vs reason) h = chair_back r vs reason h
 ask_back Hello h = refl
 
 primitive_asks : (a : Ask) (attrs : Option Attributes) → by_primitive (Some (ask_primitive a)) attrs ≡ by_attributes (ask_primitive a) attrs
@@ -169,7 +223,7 @@ primitive_asks (FloorRelease r) attrs = refl
 primitive_asks (FloorRequestQuery r) attrs = refl
 primitive_asks (UserQuery b) attrs = refl
 primitive_asks (FloorQuery floors) attrs = refl
-primitive_asks (ChairAction r vs) attrs = refl
+primitive_asks (ChairAction r vs reason) attrs = refl
 primitive_asks Hello attrs = refl
 
 passes : (h : CommonHeader) (b : Binding) → h.version ≡ 1 → (h.conference == b.conference) ≡ true → list_any (λ u. u == h.user) b.users ≡ true → (h.user == b.user) ≡ true

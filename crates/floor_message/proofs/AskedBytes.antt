@@ -3,10 +3,10 @@ use Rattle.std.proofs.Common.{ℕ, ◌≤◌, ◌<◌, List, [], ◌∷◌, ◌+
 use Rattle.std.specs.Prelude.{IfSome}
 use Rattle.floor_wire.specs.Bytes.{IsBytes, IsOfBytes}
 use Rattle.floor_wire.specs.View.{attributes_of}
-use Rattle.floor_message.specs.Written.{optional, number, octets, priority_attr, verdict_attr, status_of, ask_attrs}
+use Rattle.floor_message.specs.Written.{optional, number, octets, priority_attr, verdict_attr, status_of, overall_attrs, ask_attrs}
 use Rattle.floor_message.specs.declared.verdicts.Verdict.{Verdict}
 use Rattle.floor_message.specs.declared.verdicts.Verdict.TheVariants.{Accepted, Granted, Denied, Revoked}
-use Rattle.floor_message.specs.declared.ask.Ask.TheVariants.{FloorRequest}
+use Rattle.floor_message.specs.declared.ask.Ask.TheVariants.{FloorRequest, ChairAction}
 use Rattle.floor_message.proofs.Rooms.{bytes_append}
 
 pub number_bytes : (kind : ℕ) (o : Option ℕ) → IsOfBytes (attributes_of (optional (number kind) o))
@@ -27,9 +27,16 @@ status_small Granted = omega arith
 status_small Denied = omega arith
 status_small Revoked = omega arith
 
-pub verdicts_bytes : (vs : List (ℕ × Verdict)) → IsOfBytes (attributes_of (map verdict_attr vs))
+verdicts_bytes : (vs : List (ℕ × Verdict)) → IsOfBytes (attributes_of (map verdict_attr vs))
 verdicts_bytes [] = tt
 verdicts_bytes (v ∷ vs) = (((status_small v.1, omega arith), tt), verdicts_bytes vs)
+
+overall_bytes : (request : ℕ) (reason : Option (List ℕ)) → IfSome reason IsBytes → IsOfBytes (attributes_of (overall_attrs request None reason))
+overall_bytes request None h = tt
+overall_bytes request (Some reason) h = ((h, tt), tt)
+
+pub chair_action_bytes : (request : ℕ) (vs : List (ℕ × Verdict)) (reason : Option (List ℕ)) → IfSome reason IsBytes → IsOfBytes (attributes_of (ask_attrs (ChairAction request vs reason)))
+chair_action_bytes request vs reason h = (bytes_append (overall_attrs request None reason) (map verdict_attr vs) (overall_bytes request reason h) (verdicts_bytes vs), tt)
 
 pub request_bytes : (beneficiary : Option ℕ) (floors : List ℕ) (priority : ℕ) (info : Option (List ℕ)) → priority ≤ 4 → IfSome info IsBytes
     → IsOfBytes (attributes_of (ask_attrs (FloorRequest beneficiary floors priority info)))

@@ -13,10 +13,10 @@ use Rattle.floor_wire.specs.declared.attribute.Body.{Body}
 use Rattle.floor_wire.specs.declared.attribute.Body.TheVariants.{Num, Pair, Group, Octets}
 use Rattle.floor_message.specs.Ask.{ask, asks}
 use Rattle.floor_message.specs.Binding.{Binding}
-use Rattle.floor_message.specs.Fields.{is_ask, fields, floor_request, priority_asked, given, chair_action, chair_asked, floors_judged, judged, overall_status}
+use Rattle.floor_message.specs.Fields.{is_ask, fields, floor_request, priority_asked, given, chair_action, chair_asked, floors_judged, judged, overall_status, reason_kept}
 use Rattle.floor_message.specs.Fits.{AskNumbersFit}
 use Rattle.floor_message.specs.Picked.{first, numbers, pairs, octet_strings, groups, distinct, once_by, if_kind, number_in, group_in}
-use Rattle.floor_message.specs.Text.{info_kept}
+use Rattle.floor_message.specs.Text.{text_kept}
 use Rattle.floor_message.specs.declared.primitive.Primitive.{Primitive}
 use Rattle.floor_message.specs.declared.primitive.Primitive.TheVariants as primitive
 use Rattle.floor_message.specs.declared.verdicts.Verdict.{Verdict}
@@ -144,19 +144,24 @@ user_short b a h e = let same : UserQuery b ≡ a = cc in subst AskNumbersFit sa
 floors_short : (floors : List ℕ) (a : Ask) → AreShort (λ n. n) floors → Some (FloorQuery floors) ≡ Some a → AskNumbersFit a
 floors_short floors a h e = let same : FloorQuery floors ≡ a = cc in subst AskNumbersFit same (short_at (λ n. n) floors h)
 
-action_short : (request : ℕ) (vs : List (ℕ × Verdict)) (a : Ask) → Short request → AreShort (λ v. v.0) vs → chair_action request vs ≡ Some a → AskNumbersFit a
-action_short request [] a r h e = absurd (let no : ⊥ = cc in no)
-action_short request (v ∷ vs) a r h e = let same : ChairAction request (v ∷ vs) ≡ a = cc in subst AskNumbersFit same (r, short_at (λ v. v.0) (v ∷ vs) h)
+action_short : (request : ℕ) (vs : List (ℕ × Verdict)) (reason : Option (List ℕ)) (a : Ask) → Short request → AreShort (λ v. v.0) vs → chair_action request vs reason ≡ Some a → AskNumbersFit a
+action_short request [] reason a r h e = absurd (let no : ⊥ = cc in no)
+action_short request (v ∷ vs) reason a r h e = let same : ChairAction request (v ∷ vs) reason ≡ a = cc in subst AskNumbersFit same (r, short_at (λ v. v.0) (v ∷ vs) h)
 
-judged_asks : (request : ℕ) (xs : List (ℕ × Option Verdict)) (o : Option (List (ℕ × Verdict))) (a : Ask) → given xs ≡ o → Short request → AreShort (λ v. v.0) xs
-    → option_and_then (chair_action request) o ≡ Some a → AskNumbersFit a
-judged_asks request xs None a g r h e = absurd (let no : ⊥ = cc in no)
-judged_asks request xs (Some vs) a g r h e = action_short request vs a r (given_short xs vs g h) e
+kept_asks : (request : ℕ) (vs : List (ℕ × Verdict)) (kept : Option (Option (List ℕ))) (a : Ask) → Short request → AreShort (λ v. v.0) vs
+    → option_and_then (chair_action request vs) kept ≡ Some a → AskNumbersFit a
+kept_asks request vs None a r h e = absurd (let no : ⊥ = cc in no)
+kept_asks request vs (Some reason) a r h e = action_short request vs reason a r h e
+
+judged_asks : (request : ℕ) (xs : List (ℕ × Option Verdict)) (kept : Option (Option (List ℕ))) (o : Option (List (ℕ × Verdict))) (a : Ask) → given xs ≡ o → Short request → AreShort (λ v. v.0) xs
+    → option_and_then (λ vs. option_and_then (chair_action request vs) kept) o ≡ Some a → AskNumbersFit a
+judged_asks request xs kept None a g r h e = absurd (let no : ⊥ = cc in no)
+judged_asks request xs kept (Some vs) a g r h e = kept_asks request vs kept a r (given_short xs vs g h) e
 
 chair_short : (o : Option (ℕ × List Attr)) (a : Ask) → IfSome o IsFine → option_and_then chair_asked o ≡ Some a → AskNumbersFit a
 chair_short None a h e = absurd (let no : ⊥ = cc in no)
 chair_short (Some g) a h e =
-    judged_asks g.0 (floors_judged g.1) (given (floors_judged g.1)) a refl h.0
+    judged_asks g.0 (floors_judged g.1) (reason_kept g.1) (given (floors_judged g.1)) a refl h.0
     (short_once (λ v. v.0) (map (judged (overall_status g.1)) (groups 17 g.1)) (judged_short (overall_status g.1) (groups 17 g.1) (groups_fine 17 g.1 h.1))) e
 
 first_fine : (gs : List (ℕ × List Attr)) → AreFine gs → IfSome (first gs) IsFine
@@ -168,7 +173,7 @@ hello_short a e = let same : Hello ≡ a = cc in subst AskNumbersFit same tt
 
 fields_short : (p : Primitive) (attrs : List Attr) (a : Ask) → is_ask p ≡ true → AreWritable attrs → fields p attrs ≡ Some a → AskNumbersFit a
 fields_short primitive.FloorRequest attrs a t w e =
-    request_short (distinct (numbers 2 attrs)) (first (numbers 1 attrs)) (priority_asked (first (pairs 4 attrs))) (info_kept (first (octet_strings 8 attrs))) a
+    request_short (distinct (numbers 2 attrs)) (first (numbers 1 attrs)) (priority_asked (first (pairs 4 attrs))) (text_kept 62 (first (octet_strings 8 attrs))) a
     (short_once (λ n. n) (numbers 2 attrs) (numbers_short 2 attrs w)) (short_first (λ n. n) (numbers 1 attrs) (numbers_short 1 attrs w)) e
 fields_short primitive.FloorRelease attrs a t w e = release_short (first (numbers 3 attrs)) a (short_first (λ n. n) (numbers 3 attrs) (numbers_short 3 attrs w)) e
 fields_short primitive.FloorRequestQuery attrs a t w e = query_short (first (numbers 3 attrs)) a (short_first (λ n. n) (numbers 3 attrs) (numbers_short 3 attrs w)) e

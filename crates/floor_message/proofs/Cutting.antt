@@ -2,7 +2,7 @@
 use Rattle.std.proofs.Common.{◌≡◌, inl, inr, ℕ, zero, suc, ◌<◌, ◌≤◌, Bool, true, false, cond, List, [], ◌∷◌, ◌++◌, length, take, drop, Option, Some, None, refl, sym, ◌∙◌, ap, subst, arith, length-append}
 use Rattle.std.specs.Prelude.{IsCharBoundary, IfSome}
 use Rattle.std.proofs.lemmas.Bool.Decides.{leb_tells, nat_tests}
-use Rattle.floor_message.specs.Text.{is_whole_at, cut_at_most, shortened, unless_empty, info_kept, IsLongestFront}
+use Rattle.floor_message.specs.Text.{is_whole_at, cut_at_most, shortened, unless_empty, text_kept, IsLongestFront}
 use Rattle.floor_message.specs.Fits.{TextFits}
 use Rattle.std.specs.Str.{is_utf8, IsUtf8}
 use Rattle.std.proofs.lemmas.Str.{IsCharBoundary-start, IsCharBoundary-from_take, IsUtf8-take, IsUtf8-from_is_utf8, is_utf8-from_IsUtf8}
@@ -29,24 +29,24 @@ cut_is text (suc n) r h whole none = elim (leb_tells r n) [
       ap (λ b. cond b (suc n) (cut_at_most text n)) (ap (λ k. is_whole_at text k) same ∙ whole_true text r whole) ∙ same
 ]
 
--- a text of at most 62 bytes is kept whole
-pub shortened_whole : (text : List ℕ) → length text ≤ 62 → shortened text ≡ text
+-- a text of at most so many bytes is kept whole
+pub shortened_whole : (most : ℕ) (text : List ℕ) → length text ≤ most → shortened most text ≡ text
 unfolding shortened
-shortened_whole text h =
-    ap (λ n. take n text) (cut_is text 62 (length text) h (omega arith, λ a b. absurd (omega arith)) (λ i a b c. omega (arith, c.0))) ∙ take-length text
+shortened_whole most text h =
+    ap (λ n. take n text) (cut_is text most (length text) h (omega arith, λ a b. absurd (omega arith)) (λ i a b c. omega (arith, c.0))) ∙ take-length text
 
 -- a text that fits is kept as it is
-pub info_kept_whole : (text : List ℕ) → TextFits text → info_kept (Some text) ≡ Some (Some text)
-info_kept_whole text fits =
-    ap (λ b. cond b (Some (unless_empty (shortened text))) None) fits.utf8
-    ∙ ap (λ t. Some (unless_empty t)) (shortened_whole text fits.short) ∙ ap Some (not_empty text fits.some) where
+pub text_kept_whole : (most : ℕ) (text : List ℕ) → TextFits most text → text_kept most (Some text) ≡ Some (Some text)
+text_kept_whole most text fits =
+    ap (λ b. cond b (Some (unless_empty (shortened most text))) None) fits.utf8
+    ∙ ap (λ t. Some (unless_empty t)) (shortened_whole most text fits.short) ∙ ap Some (not_empty text fits.some) where
       not_empty : (t : List ℕ) → 0 < length t → unless_empty t ≡ Some t
       not_empty [] h = absurd (omega arith)
       not_empty (b ∷ bytes) h = refl
 
-pub info_kept_none : (info : Option (List ℕ)) → IfSome info TextFits → info_kept info ≡ Some info
-info_kept_none None h = refl
-info_kept_none (Some text) h = info_kept_whole text h
+pub text_kept_same : (most : ℕ) (text : Option (List ℕ)) → IfSome text (TextFits most) → text_kept most text ≡ Some text
+text_kept_same most None h = refl
+text_kept_same most (Some text) h = text_kept_whole most text h
 
 cut_bound : (text : List ℕ) (n : ℕ) → cut_at_most text n ≤ n
 cut_bound text zero = omega arith
@@ -60,31 +60,32 @@ cut_whole : (text : List ℕ) (n : ℕ) → IsUtf8 text → IsCharBoundary text 
 cut_whole text zero h = IsCharBoundary-start text h
 cut_whole text (suc n) h = cut_by text n (is_whole_at text (suc n)) refl (cut_whole text n h)
 
-shortened_is : (text : List ℕ) → shortened text ≡ take (cut_at_most text 62) text
+shortened_is : (most : ℕ) (text : List ℕ) → shortened most text ≡ take (cut_at_most text most) text
 unfolding shortened
-shortened_is text = refl
+shortened_is most text = refl
 
-kept_of : (text : List ℕ) (kept : Option (List ℕ)) → is_utf8 text ≡ true → length text ≤ 62 → unless_empty text ≡ kept → IfSome kept TextFits
-kept_of [] kept u h e = let P : Option (List ℕ) → Type 0 = λ k. IfSome k TextFits in subst P e tt
-kept_of (b ∷ bytes) kept u h e =
-    let P : Option (List ℕ) → Type 0 = λ k. IfSome k TextFits in subst P e (record { utf8 = u; some = omega arith; short = h })
+kept_of : (most : ℕ) (text : List ℕ) (kept : Option (List ℕ)) → is_utf8 text ≡ true → length text ≤ most → unless_empty text ≡ kept → IfSome kept (TextFits most)
+kept_of most [] kept u h e = let P : Option (List ℕ) → Type 0 = λ k. IfSome k (TextFits most) in subst P e tt
+kept_of most (b ∷ bytes) kept u h e =
+    let P : Option (List ℕ) → Type 0 = λ k. IfSome k (TextFits most) in subst P e (record { utf8 = u; some = omega arith; short = h })
 
-shortened_utf8 : (text : List ℕ) → is_utf8 text ≡ true → is_utf8 (shortened text) ≡ true
-shortened_utf8 text u =
+shortened_utf8 : (most : ℕ) (text : List ℕ) → is_utf8 text ≡ true → is_utf8 (shortened most text) ≡ true
+shortened_utf8 most text u =
     let whole = IsUtf8-from_is_utf8 text u in
-    ap is_utf8 (shortened_is text) ∙ is_utf8-from_IsUtf8 (take (cut_at_most text 62) text) (IsUtf8-take text (cut_at_most text 62) whole (cut_whole text 62 whole))
+    ap is_utf8 (shortened_is most text) ∙ is_utf8-from_IsUtf8 (take (cut_at_most text most) text) (IsUtf8-take text (cut_at_most text most) whole (cut_whole text most whole))
 
-shortened_short : (text : List ℕ) → length (shortened text) ≤ 62
-shortened_short text = omega (arith, ap length (shortened_is text), length-take (cut_at_most text 62) text, cut_bound text 62)
+shortened_short : (most : ℕ) (text : List ℕ) → length (shortened most text) ≤ most
+shortened_short most text = omega (arith, ap length (shortened_is most text), length-take (cut_at_most text most) text, cut_bound text most)
 
-kept_by : (text : List ℕ) (kept : Option (List ℕ)) (b : Bool) → is_utf8 text ≡ b → cond b (Some (unless_empty (shortened text))) None ≡ Some kept → IfSome kept TextFits
-kept_by text kept true u e = kept_of (shortened text) kept (shortened_utf8 text u) (shortened_short text) (let same : unless_empty (shortened text) ≡ kept = cc in same)
-kept_by text kept false u e = absurd (let no : ⊥ = cc in no)
+kept_by : (most : ℕ) (text : List ℕ) (kept : Option (List ℕ)) (b : Bool) → is_utf8 text ≡ b → cond b (Some (unless_empty (shortened most text))) None ≡ Some kept → IfSome kept (TextFits most)
+kept_by most text kept true u e =
+    kept_of most (shortened most text) kept (shortened_utf8 most text u) (shortened_short most text) (let same : unless_empty (shortened most text) ≡ kept = cc in same)
+kept_by most text kept false u e = absurd (let no : ⊥ = cc in no)
 
 -- what is kept of a text fits
-pub kept_fits : (info : Option (List ℕ)) (kept : Option (List ℕ)) → info_kept info ≡ Some kept → IfSome kept TextFits
-kept_fits None kept e = let P : Option (List ℕ) → Type 0 = λ k. IfSome k TextFits in let same : None ≡ kept = cc in subst P same tt
-kept_fits (Some text) kept e = kept_by text kept (is_utf8 text) refl e
+pub kept_fits : (most : ℕ) (text kept : Option (List ℕ)) → text_kept most text ≡ Some kept → IfSome kept (TextFits most)
+kept_fits most None kept e = let P : Option (List ℕ) → Type 0 = λ k. IfSome k (TextFits most) in let same : None ≡ kept = cc in subst P same tt
+kept_fits most (Some text) kept e = kept_by most text kept (is_utf8 text) refl e
 
 -- the cut is at the greatest place
 cut_step : (text : List ℕ) (n k : ℕ) (b : Bool) → is_whole_at text (suc n) ≡ b → k ≤ suc n → IsCharBoundary text k
@@ -110,18 +111,18 @@ front_ends text front more u e v =
     (subst IsUtf8 (sym same) (IsUtf8-from_is_utf8 front v))
 
 -- no longer front could be kept
-pub shortened_longest : (text : List ℕ) → is_utf8 text ≡ true → IsLongestFront text (shortened text)
-shortened_longest text u =
-    let whole = cut_whole text 62 (IsUtf8-from_is_utf8 text u) in
+pub shortened_longest : (most : ℕ) (text : List ℕ) → is_utf8 text ≡ true → IsLongestFront most text (shortened most text)
+shortened_longest most text u =
+    let whole = cut_whole text most (IsUtf8-from_is_utf8 text u) in
     record {
-      behind = drop (cut_at_most text 62) text;
-      whole = sym (take-append-drop (cut_at_most text 62) text) ∙ ap (λ x. x ++ drop (cut_at_most text 62) text) (sym (shortened_is text));
-      ends = shortened_utf8 text u;
-      short = shortened_short text;
+      behind = drop (cut_at_most text most) text;
+      whole = sym (take-append-drop (cut_at_most text most) text) ∙ ap (λ x. x ++ drop (cut_at_most text most) text) (sym (shortened_is most text));
+      ends = shortened_utf8 most text u;
+      short = shortened_short most text;
       longest = λ front more e v h. omega (
         arith,
-        cut_greatest text 62 (length front) h (front_ends text front more u e v),
-        ap length (shortened_is text),
-        length-take-le (cut_at_most text 62) text whole.0,
+        cut_greatest text most (length front) h (front_ends text front more u e v),
+        ap length (shortened_is most text),
+        length-take-le (cut_at_most text most) text whole.0,
       );
     }

@@ -10,6 +10,7 @@ pub mod Heads
 pub mod Items
 pub mod Once
 pub mod Picking
+pub mod Reasons
 pub mod Plain
 pub mod Rooms
 pub mod RoundTrip

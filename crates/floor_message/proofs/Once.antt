@@ -18,15 +18,15 @@ filter_step p q x xs true true e f h = rw e (rw f (ap (λ l. x ∷ l) h))
 filter_step p q x xs true false e f h = rw e (rw f h)
 filter_step p q x xs false c e f h = rw e h
 
-filter_both : {A : Type 0} (p q : A → Bool) (xs : List A) → filter p (filter q xs) ≡ filter (λ y. q y && p y) xs
+pub filter_both : {A : Type 0} (p q : A → Bool) (xs : List A) → filter p (filter q xs) ≡ filter (λ y. q y && p y) xs
 filter_both p q [] = refl
 filter_both p q (x ∷ xs) = filter_step p q x xs (q x) (p x) refl refl (filter_both p q xs)
 
-filter_same : {A : Type 0} (p q : A → Bool) → ((y : A) → p y ≡ q y) → (xs : List A) → filter p xs ≡ filter q xs
+pub filter_same : {A : Type 0} (p q : A → Bool) → ((y : A) → p y ≡ q y) → (xs : List A) → filter p xs ≡ filter q xs
 filter_same p q h [] = refl
 filter_same p q h (x ∷ xs) = rw (h x) (ap (λ l. cond (q x) (x ∷ l) l) (filter_same p q h xs))
 
-any_more : {A : Type 0} (p : A → Bool) (xs : List A) (x : A) → list_any p (xs ++ x ∷ []) ≡ (list_any p xs || p x)
+pub any_more : {A : Type 0} (p : A → Bool) (xs : List A) (x : A) → list_any p (xs ++ x ∷ []) ≡ (list_any p xs || p x)
 any_more p [] x = or_false (p x) where
   or_false : (b : Bool) → (b || false) ≡ b
   or_false true = refl
@@ -36,7 +36,7 @@ any_more p (y ∷ xs) x = rw (any_more p xs x) (or_assoc (p y) (list_any p xs) (
   or_assoc true b c = refl
   or_assoc false b c = refl
 
-flip : (b c : Bool) → (not b && not c) ≡ not (c || b)
+pub flip : (b c : Bool) → (not b && not c) ≡ not (c || b)
 flip true true = refl
 flip true false = refl
 flip false true = refl

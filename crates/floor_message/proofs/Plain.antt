@@ -6,7 +6,7 @@ use Rattle.floor_wire.specs.View.{attributes_of}
 use Rattle.floor_wire.specs.declared.attribute.Attr.{Attr}
 use Rattle.floor_message.specs.Picked.{mandatory, mandatory_inside, own_mandatory}
 use Rattle.floor_message.specs.Written as spec
-use Rattle.floor_message.specs.Written.{optional, tell_attrs, ask_attrs, verdict_attr, info_attrs, info_attr, who_attr, floor_attr, overall_attr, priority_attr, status_attr, number}
+use Rattle.floor_message.specs.Written.{optional, tell_attrs, ask_attrs, verdict_attr, info_attrs, info_attr, who_attr, floor_attr, overall_inside, overall_attrs, priority_attr, status_attr, number}
 use Rattle.floor_message.specs.declared.ask.Ask.{Ask}
 use Rattle.floor_message.specs.declared.ask.Ask.TheVariants as ask
 use Rattle.floor_message.specs.declared.tell.Tell.{Tell}
@@ -77,12 +77,21 @@ plain_who kind w = (
   tt,
 )
 
+plain_inside : (status : Option (ℕ × ℕ)) (reason : Option (List ℕ)) → Plain (attributes_of (overall_inside status reason))
+plain_inside status reason =
+    plain_append (optional status_attr status) (optional (spec.octets 9) reason) (plain_optional status_attr (λ a. (refl, tt, tt)) status) (plain_optional (spec.octets 9) (λ a. (refl, tt, tt)) reason)
+
+plain_overall : (request : ℕ) (status : Option (ℕ × ℕ)) (reason : Option (List ℕ)) → Plain (attributes_of (overall_attrs request status reason))
+plain_overall request None None = tt
+plain_overall request None (Some reason) = (refl, plain_inside None (Some reason), tt)
+plain_overall request (Some status) reason = (refl, plain_inside (Some status) reason, tt)
+
 plain_info : (i : Info) → Plain (attributes_of (info_attr i ∷ []))
 plain_info i = (
   refl,
   plain_append _ (optional (spec.octets 8) i.info) (plain_append _ (optional priority_attr i.priority) (plain_append _ (optional (who_attr 16) i.requester)
-      (plain_append _ (optional (who_attr 14) i.beneficiary) (plain_append (optional (overall_attr i.request) i.overall) (map floor_attr i.floors)
-      (plain_optional (overall_attr i.request) (λ a. (refl, (refl, tt, tt), tt)) i.overall)
+      (plain_append _ (optional (who_attr 14) i.beneficiary) (plain_append (overall_attrs i.request i.overall i.reason) (map floor_attr i.floors)
+      (plain_overall i.request i.overall i.reason)
       (plain_map floor_attr (λ f. (refl, plain_optional status_attr (λ a. (refl, tt, tt)) f.1, tt)) i.floors))
       (plain_optional (who_attr 14) (λ w. plain_who 14 w) i.beneficiary))
       (plain_optional (who_attr 16) (λ w. plain_who 16 w) i.requester))
@@ -110,5 +119,6 @@ plain_ask (ask.FloorRelease r) = (refl, tt, tt)
 plain_ask (ask.FloorRequestQuery r) = (refl, tt, tt)
 plain_ask (ask.UserQuery b) = plain_optional (number 1) (λ n. (refl, tt, tt)) b
 plain_ask (ask.FloorQuery floors) = plain_map (number 2) (λ f. (refl, tt, tt)) floors
-plain_ask (ask.ChairAction r vs) = (refl, plain_map verdict_attr (λ v. (refl, (refl, tt, tt), tt)) vs, tt)
+plain_ask (ask.ChairAction r vs reason) =
+    (refl, plain_append (overall_attrs r None reason) (map verdict_attr vs) (plain_overall r None reason) (plain_map verdict_attr (λ v. (refl, (refl, tt, tt), tt)) vs), tt)
 plain_ask ask.Hello = tt

@@ -7,9 +7,9 @@ use Rattle.floor_wire.specs.View.{attributes_of, items}
 use Rattle.floor_wire.specs.declared.attribute.Attr.{Attr}
 use Rattle.floor_message.proofs.Items.{items-attributes_of}
 use Rattle.floor_message.specs.Picked.{first, pairs, octet_strings, groups, if_kind, number_in, pair_in, group_in, octets_in}
-use Rattle.floor_message.specs.Written.{optional, octets, number, status_attr, who_attr, floor_attr, overall_attr, priority_attr, info_attrs, info_attr, tell_attrs, tell_primitive}
-use Rattle.floor_message.specs.Fields.{priority_of}
-use Rattle.floor_message.specs.Tell.{who_of, floor_of, info_of, tell_of}
+use Rattle.floor_message.specs.Written.{optional, octets, number, group, status_attr, who_attr, floor_attr, overall_inside, overall_attrs, priority_attr, info_attrs, info_attr, tell_attrs, tell_primitive}
+use Rattle.floor_message.specs.Fields.{priority_of, overall_reason}
+use Rattle.floor_message.specs.Tell.{who_of, floor_of, overall_of, info_of, tell_of}
 use Rattle.floor_message.specs.declared.primitive.Primitive.TheVariants as primitive
 use Rattle.floor_message.specs.Fits.{PriorityFits, NumbersFit}
 use Rattle.floor_message.specs.declared.tell.Tell.{Tell}
@@ -59,7 +59,7 @@ floors_back (f ∷ fs) = ap (λ x. x ∷ map floor_of (groups 17 (map floor_attr
 -- the six parts of FLOOR-REQUEST-INFORMATION, with the one that f picks from
 module _ (i : Info) where
   abbrev overall_part : List Attr
-  overall_part = optional (overall_attr i.request) i.overall
+  overall_part = overall_attrs i.request i.overall i.reason
 
   abbrev floors_part : List Attr
   floors_part = map floor_attr i.floors
@@ -108,8 +108,26 @@ pub first_of_option : {A : Type 0} (o : Option A) → first (option_to_list o) �
 first_of_option None = refl
 first_of_option (Some a) = refl
 
-abbrev overall_group : ℕ → ℕ × ℕ → ℕ × List Attr
-overall_group r s = (r, items (attributes_of (status_attr s ∷ [])))
+abbrev overall_group : ℕ → Option (ℕ × ℕ) → Option (List ℕ) → ℕ × List Attr
+overall_group r status reason = (r, items (attributes_of (overall_inside status reason)))
+
+-- the group of the overall status, where it holds anything
+abbrev pub overall_groups : ℕ → Option (ℕ × ℕ) → Option (List ℕ) → List (ℕ × List Attr)
+overall_groups r None None = []
+overall_groups r None (Some reason) = overall_group r None (Some reason) ∷ []
+overall_groups r (Some status) reason = overall_group r (Some status) reason ∷ []
+
+pub overall_picked : (r : ℕ) (status : Option (ℕ × ℕ)) (reason : Option (List ℕ)) → groups 18 (overall_attrs r status reason) ≡ overall_groups r status reason
+overall_picked r None None = refl
+overall_picked r None (Some reason) = refl
+overall_picked r (Some status) reason = refl
+
+-- nothing of another type is picked there
+pub overall_passed : {A : Type 0} (f : Attr → Option A) → ((n : ℕ) (inside : List Attr) → f (group 18 n inside) ≡ None) → (r : ℕ) (status : Option (ℕ × ℕ)) (reason : Option (List ℕ))
+    → filter_map f (overall_attrs r status reason) ≡ []
+overall_passed f h r None None = refl
+overall_passed f h r None (Some reason) = ap (λ x. cons_option x []) (h r (overall_inside None (Some reason)))
+overall_passed f h r (Some status) reason = ap (λ x. cons_option x []) (h r (overall_inside (Some status) reason))
 
 abbrev who_group : Who → ℕ × List Attr
 who_group w = (w.user, items (attributes_of (optional (octets 12) w.name ++ optional (octets 13) w.uri)))
@@ -117,25 +135,39 @@ who_group w = (w.user, items (attributes_of (optional (octets 12) w.name ++ opti
 abbrev floor_group : ℕ × Option (ℕ × ℕ) → ℕ × List Attr
 floor_group f = (f.0, items (attributes_of (optional status_attr f.1)))
 
-overall_back : (i : Info) → option_and_then (λ o. first (pairs 5 o.1)) (first (groups 18 (info_attrs i))) ≡ i.overall
-overall_back i =
+overall_read : (i : Info) → groups 18 (info_attrs i) ≡ overall_groups i.request i.overall i.reason
+overall_read i =
     let f = if_kind group_in 18 in
-    ap (λ l. option_and_then (λ o. first (pairs 5 o.1)) (first l))
-    (picks i f (option_to_list (option_map (overall_group i.request) i.overall)) [] [] [] [] []
-    (one_some f (overall_attr i.request) (overall_group i.request) (λ s. refl) i.overall) (none_picked f floor_attr (λ b. refl) i.floors)
+    picks i f (overall_groups i.request i.overall i.reason) [] [] [] [] []
+    (overall_picked i.request i.overall i.reason) (none_picked f floor_attr (λ b. refl) i.floors)
     (one_none f (who_attr 14) (λ b. refl) i.beneficiary) (one_none f (who_attr 16) (λ b. refl) i.requester) (one_none f priority_attr (λ b. refl) i.priority)
-    (one_none f (octets 8) (λ b. refl) i.info))
-    ∙ by_case i.request i.overall where
-      by_case : (r : ℕ) (o : Option (ℕ × ℕ)) → option_and_then (λ o. first (pairs 5 o.1)) (first (option_to_list (option_map (overall_group r) o) ++ [] ++ [] ++ [] ++ [] ++ [])) ≡ o
-      by_case r None = refl
-      by_case r (Some s) = refl
+    (one_none f (octets 8) (λ b. refl) i.info)
+    ∙ simp append-nil
+
+overall_back : (i : Info) → overall_of (info_attrs i) ≡ i.overall
+overall_back i =
+    ap (λ gs. option_and_then (λ o. first (pairs 5 o.1)) (first gs)) (overall_read i) ∙ by_case i.request i.overall i.reason where
+      by_case : (r : ℕ) (status : Option (ℕ × ℕ)) (reason : Option (List ℕ)) → option_and_then (λ o. first (pairs 5 o.1)) (first (overall_groups r status reason)) ≡ status
+      by_case r None None = refl
+      by_case r None (Some reason) = refl
+      by_case r (Some status) None = refl
+      by_case r (Some status) (Some reason) = refl
+
+reason_back : (i : Info) → overall_reason (info_attrs i) ≡ i.reason
+reason_back i =
+    ap (λ gs. option_and_then (λ o. first (octet_strings 9 o.1)) (first gs)) (overall_read i) ∙ by_case i.request i.overall i.reason where
+      by_case : (r : ℕ) (status : Option (ℕ × ℕ)) (reason : Option (List ℕ)) → option_and_then (λ o. first (octet_strings 9 o.1)) (first (overall_groups r status reason)) ≡ reason
+      by_case r None None = refl
+      by_case r None (Some reason) = refl
+      by_case r (Some status) None = refl
+      by_case r (Some status) (Some reason) = refl
 
 floors_read : (i : Info) → map floor_of (groups 17 (info_attrs i)) ≡ i.floors
 floors_read i =
     let f = if_kind group_in 17 in
     ap (λ l. map floor_of l)
     (picks i f [] (groups 17 (map floor_attr i.floors)) [] [] [] []
-    (one_none f (overall_attr i.request) (λ s. refl) i.overall) refl
+    (overall_passed f (λ n inside. refl) i.request i.overall i.reason) refl
     (one_none f (who_attr 14) (λ b. refl) i.beneficiary) (one_none f (who_attr 16) (λ b. refl) i.requester) (one_none f priority_attr (λ b. refl) i.priority)
     (one_none f (octets 8) (λ b. refl) i.info)
     ∙ simp append-nil)
@@ -150,7 +182,7 @@ beneficiary_back i =
     let f = if_kind group_in 14 in
     ap (λ l. option_map who_of (first l))
     (picks i f [] [] (option_to_list (option_map who_group i.beneficiary)) [] [] []
-    (one_none f (overall_attr i.request) (λ s. refl) i.overall) (none_picked f floor_attr (λ b. refl) i.floors)
+    (overall_passed f (λ n inside. refl) i.request i.overall i.reason) (none_picked f floor_attr (λ b. refl) i.floors)
     (one_some f (who_attr 14) who_group (λ b. refl) i.beneficiary) (one_none f (who_attr 16) (λ b. refl) i.requester) (one_none f priority_attr (λ b. refl) i.priority)
     (one_none f (octets 8) (λ b. refl) i.info)
     ∙ simp append-nil)
@@ -161,7 +193,7 @@ requester_back i =
     let f = if_kind group_in 16 in
     ap (λ l. option_map who_of (first l))
     (picks i f [] [] [] (option_to_list (option_map who_group i.requester)) [] []
-    (one_none f (overall_attr i.request) (λ s. refl) i.overall) (none_picked f floor_attr (λ b. refl) i.floors)
+    (overall_passed f (λ n inside. refl) i.request i.overall i.reason) (none_picked f floor_attr (λ b. refl) i.floors)
     (one_none f (who_attr 14) (λ b. refl) i.beneficiary) (one_some f (who_attr 16) who_group (λ b. refl) i.requester) (one_none f priority_attr (λ b. refl) i.priority)
     (one_none f (octets 8) (λ b. refl) i.info)
     ∙ simp append-nil)
@@ -172,7 +204,7 @@ priority_read i h =
     let f = if_kind pair_in 4 in
     ap (λ l. option_map priority_of (first l))
     (picks i f [] [] [] [] (option_to_list (option_map (λ n. (32 * n, 0)) i.priority)) []
-    (one_none f (overall_attr i.request) (λ s. refl) i.overall) (none_picked f floor_attr (λ b. refl) i.floors)
+    (overall_passed f (λ n inside. refl) i.request i.overall i.reason) (none_picked f floor_attr (λ b. refl) i.floors)
     (one_none f (who_attr 14) (λ b. refl) i.beneficiary) (one_none f (who_attr 16) (λ b. refl) i.requester) (one_some f priority_attr (λ n. (32 * n, 0)) (λ b. refl) i.priority)
     (one_none f (octets 8) (λ b. refl) i.info)
     ∙ simp append-nil)
@@ -184,7 +216,7 @@ info_read i =
     let f = if_kind octets_in 8 in
     ap (λ l. first l)
     (picks i f [] [] [] [] [] (option_to_list (option_map (λ b. b) i.info))
-    (one_none f (overall_attr i.request) (λ s. refl) i.overall) (none_picked f floor_attr (λ b. refl) i.floors)
+    (overall_passed f (λ n inside. refl) i.request i.overall i.reason) (none_picked f floor_attr (λ b. refl) i.floors)
     (one_none f (who_attr 14) (λ b. refl) i.beneficiary) (one_none f (who_attr 16) (λ b. refl) i.requester) (one_none f priority_attr (λ b. refl) i.priority)
     (one_some f (octets 8) (λ b. b) (λ b. refl) i.info))
     ∙ by_case i.info where
@@ -192,21 +224,26 @@ info_read i =
       by_case None = refl
       by_case (Some b) = refl
 
-abbrev made : ℕ → Option (ℕ × ℕ) → List (ℕ × Option (ℕ × ℕ)) → Option Who → Option Who → Option ℕ → Option (List ℕ) → Info
-made r o f b q p n = record { request = r; overall = o; floors = f; beneficiary = b; requester = q; priority = p; info = n }
+abbrev made : ℕ → Option (ℕ × ℕ) → Option (List ℕ) → List (ℕ × Option (ℕ × ℕ)) → Option Who → Option Who → Option ℕ → Option (List ℕ) → Info
+made r o w f b q p n = record { request = r; overall = o; reason = w; floors = f; beneficiary = b; requester = q; priority = p; info = n }
 
 -- a request's group is read as that request
 info_back : (i : Info) → PriorityFits i → info_of (i.request, items (attributes_of (info_attrs i))) ≡ i
 info_back i h =
     let a = info_attrs i in
-    let overall = λ (x : List Attr). option_and_then (λ o. first (pairs 5 o.1)) (first (groups 18 x)) in
+    let floors = map floor_of (groups 17 a) in
+    let beneficiary = option_map who_of (first (groups 14 a)) in
+    let requester = option_map who_of (first (groups 16 a)) in
+    let priority = option_map priority_of (first (pairs 4 a)) in
+    let text = first (octet_strings 8 a) in
     ap (λ x. info_of (i.request, x)) (items-attributes_of a)
-    ∙ ap (λ x. made i.request x (map floor_of (groups 17 a)) (option_map who_of (first (groups 14 a))) (option_map who_of (first (groups 16 a))) (option_map priority_of (first (pairs 4 a))) (first (octet_strings 8 a))) (overall_back i)
-    ∙ ap (λ x. made i.request i.overall x (option_map who_of (first (groups 14 a))) (option_map who_of (first (groups 16 a))) (option_map priority_of (first (pairs 4 a))) (first (octet_strings 8 a))) (floors_read i)
-    ∙ ap (λ x. made i.request i.overall i.floors x (option_map who_of (first (groups 16 a))) (option_map priority_of (first (pairs 4 a))) (first (octet_strings 8 a))) (beneficiary_back i)
-    ∙ ap (λ x. made i.request i.overall i.floors i.beneficiary x (option_map priority_of (first (pairs 4 a))) (first (octet_strings 8 a))) (requester_back i)
-    ∙ ap (λ x. made i.request i.overall i.floors i.beneficiary i.requester x (first (octet_strings 8 a))) (priority_read i h)
-    ∙ ap (λ x. made i.request i.overall i.floors i.beneficiary i.requester i.priority x) (info_read i)
+    ∙ ap (λ x. made i.request x (overall_reason a) floors beneficiary requester priority text) (overall_back i)
+    ∙ ap (λ x. made i.request i.overall x floors beneficiary requester priority text) (reason_back i)
+    ∙ ap (λ x. made i.request i.overall i.reason x beneficiary requester priority text) (floors_read i)
+    ∙ ap (λ x. made i.request i.overall i.reason i.floors x requester priority text) (beneficiary_back i)
+    ∙ ap (λ x. made i.request i.overall i.reason i.floors i.beneficiary x priority text) (requester_back i)
+    ∙ ap (λ x. made i.request i.overall i.reason i.floors i.beneficiary i.requester x text) (priority_read i h)
+    ∙ ap (λ x. made i.request i.overall i.reason i.floors i.beneficiary i.requester i.priority x) (info_read i)
 
 infos_back : (is : List Info) → All PriorityFits is → map info_of (groups 15 (map info_attr is)) ≡ is
 infos_back [] h = refl

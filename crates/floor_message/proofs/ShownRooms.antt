@@ -1,56 +1,37 @@
 -- What a conference shows fits a message.
-use Rattle.std.proofs.Common.{◌≡◌, ℕ, suc, ◌+◌, ◌*◌, ◌^◌, ◌<◌, ◌≤◌, false, List, [], ◌∷◌, ◌++◌, length, map, Option, Some, None, refl, sym, subst, arith, length-append}
+use Rattle.std.proofs.Common.{◌≡◌, ℕ, suc, ◌+◌, ◌*◌, ◌^◌, ◌<◌, ◌≤◌, false, List, [], ◌∷◌, ◌++◌, length, map, Option, Some, None, refl, sym, subst, arith}
 use Rattle.std.specs.Prelude.{All, IfSome}
-use Rattle.std.specs.Int.{w16, to_be_bytes}
 use Rattle.std.proofs.lemmas.List.{length-map}
 use Rattle.floor_wire.specs.Attributes as wire
-use Rattle.floor_wire.specs.Spelling.{canon, format_of}
-use Rattle.floor_wire.specs.View.{attributes_of}
-use Rattle.floor_wire.specs.declared.attribute.Attr.{Attr}
+use Rattle.floor_wire.specs.Spelling.{format_of}
 use Rattle.floor_wire.specs.declared.format.Format.TheVariants.{Grouped, OctetString}
 use Rattle.floor_message.specs.Fits.{NumbersFit, TellFits}
 use Rattle.floor_message.specs.Shown.{IsNamed, IsDescribed, IsShownInfo, IsShown}
-use Rattle.floor_message.specs.Written.{optional, number, octets, group, status_attr, priority_attr, who_attr, floor_attr, overall_attr, info_attrs, info_attr, tell_attrs}
+use Rattle.floor_message.specs.Written.{optional, number, octets, status_attr, priority_attr, who_attr, floor_attr, overall_attrs, info_attrs, info_attr, tell_attrs}
 use Rattle.floor_message.specs.declared.information.Info.{Info}
 use Rattle.floor_message.specs.declared.tell.Tell.{Tell}
 use Rattle.floor_message.specs.declared.tell.Tell.TheVariants.{FloorRequestStatus, UserStatus, FloorStatus, ChairActionAck, HelloAck, Error}
 use Rattle.floor_message.specs.declared.information.Who.{Who}
-use Rattle.floor_message.proofs.AskRooms.{Takes, takes_append}
-use Rattle.floor_message.proofs.Rooms.{length-one, length-group}
+use Rattle.floor_message.proofs.AskRooms.{Takes, takes_append, octets_take, group_takes, status_takes, overall_takes}
+use Rattle.floor_message.proofs.Rooms.{length-one}
 
 some_octets_take : (kind : ℕ) (bytes : List ℕ) (n : ℕ) → kind < 128 → format_of kind ≡ OctetString → n ≤ 253 → length bytes ≤ n → Takes (octets kind bytes ∷ []) (n + 5)
 some_octets_take kind bytes n k f h l = ((k, f, omega arith, tt, tt), omega (arith, length-one kind false (wire.octets bytes)))
 
-octets_take : (kind : ℕ) (o : Option (List ℕ)) (n : ℕ) → kind < 128 → format_of kind ≡ OctetString → n ≤ 253 → IfSome o (λ t. length t ≤ n) → Takes (optional (octets kind) o) (n + 5)
-octets_take kind None n k f h l = (tt, omega arith)
-octets_take kind (Some bytes) n k f h l = some_octets_take kind bytes n k f h l
-
-group_takes : (kind n : ℕ) (inside : List Attr) (m : ℕ) → kind < 128 → format_of kind ≡ Grouped → n < 2 ^ 16 → m ≤ 251 → Takes inside m → Takes (group kind n inside ∷ []) (4 + m)
-group_takes kind n inside m k f h l p =
-    ((k, f, omega (arith, p.1, length-append (to_be_bytes w16 n) (canon (attributes_of inside))), (h, p.0), tt), omega (arith, p.1, length-group kind n inside))
-
-named_takes : (kind : ℕ) (o : Option Who) → kind < 128 → format_of kind ≡ Grouped → IfSome o IsNamed → Takes (optional (who_attr kind) o) 39
+named_takes : (kind : ℕ) (o : Option Who) → kind < 128 → format_of kind ≡ Grouped → IfSome o IsNamed → Takes (optional (who_attr kind) o) 36
 named_takes kind None k f h = (tt, omega arith)
 named_takes kind (Some w) k f h =
     let P : Option (List ℕ) → Type 0 = λ o. Takes (optional (octets 13) o) 0 in
-    group_takes kind w.user (optional (octets 12) w.name ++ optional (octets 13) w.uri) 35 k f h.user (omega arith)
-    (takes_append (optional (octets 12) w.name) (optional (octets 13) w.uri) 35 0 (octets_take 12 w.name 30 (omega arith) refl (omega arith) h.name)
+    group_takes kind w.user (optional (octets 12) w.name ++ optional (octets 13) w.uri) 32 k f h.user (omega arith)
+    (takes_append (optional (octets 12) w.name) (optional (octets 13) w.uri) 32 0 (octets_take 12 w.name 30 (omega arith) refl (omega arith) refl h.name)
     (subst P (sym h.no_uri) (tt, omega arith)))
 
-described_takes : (o : Option Who) → IfSome o IsDescribed → Takes (optional (who_attr 14) o) 106
+described_takes : (o : Option Who) → IfSome o IsDescribed → Takes (optional (who_attr 14) o) 100
 described_takes None h = (tt, omega arith)
 described_takes (Some w) h =
-    group_takes 14 w.user (optional (octets 12) w.name ++ optional (octets 13) w.uri) 102 (omega arith) refl h.user (omega arith)
-    (takes_append (optional (octets 12) w.name) (optional (octets 13) w.uri) 35 67 (octets_take 12 w.name 30 (omega arith) refl (omega arith) h.name)
-    (octets_take 13 w.uri 62 (omega arith) refl (omega arith) h.uri))
-
-status_takes : (s : Option (ℕ × ℕ)) → Takes (optional status_attr s) 4
-status_takes None = (tt, omega arith)
-status_takes (Some s) = ((omega arith, refl, omega arith, tt, tt), omega arith)
-
-overall_takes : (request : ℕ) (s : Option (ℕ × ℕ)) → request < 2 ^ 16 → Takes (optional (overall_attr request) s) 8
-overall_takes request None h = (tt, omega arith)
-overall_takes request (Some s) h = group_takes 18 request (status_attr s ∷ []) 4 (omega arith) refl h (omega arith) (status_takes (Some s))
+    group_takes 14 w.user (optional (octets 12) w.name ++ optional (octets 13) w.uri) 96 (omega arith) refl h.user (omega arith)
+    (takes_append (optional (octets 12) w.name) (optional (octets 13) w.uri) 32 64 (octets_take 12 w.name 30 (omega arith) refl (omega arith) refl h.name)
+    (octets_take 13 w.uri 62 (omega arith) refl (omega arith) refl h.uri))
 
 floors_take : (fs : List (ℕ × Option (ℕ × ℕ))) → All (λ f. f.0 < 2 ^ 16) fs → Takes (map floor_attr fs) (8 * length fs)
 floors_take [] h = (tt, omega arith)
@@ -63,30 +44,30 @@ priority_takes : (p : Option ℕ) → Takes (optional priority_attr p) 4
 priority_takes None = (tt, omega arith)
 priority_takes (Some p) = ((omega arith, refl, omega arith, tt, tt), omega arith)
 
-info_takes : (i : Info) → IsShownInfo i → Takes (info_attr i ∷ []) 232
+info_takes : (i : Info) → IsShownInfo i → Takes (info_attr i ∷ []) 248
 info_takes i h =
-    let a = optional (overall_attr i.request) i.overall in
+    let a = overall_attrs i.request i.overall i.reason in
     let b = map floor_attr i.floors in
     let c = optional (who_attr 14) i.beneficiary in
     let d = optional (who_attr 16) i.requester in
     let e = optional priority_attr i.priority in
     let f = optional (octets 8) i.info in
     let n = 8 * length i.floors in
-    let all = takes_append (a ++ b ++ c ++ d ++ e) f (8 + n + 39 + 39 + 4) 67
-    (takes_append (a ++ b ++ c ++ d) e (8 + n + 39 + 39) 4
-    (takes_append (a ++ b ++ c) d (8 + n + 39) 39
-    (takes_append (a ++ b) c (8 + n) 39
-    (takes_append a b 8 n (overall_takes i.request i.overall h.request) (floors_take i.floors h.floors))
+    let all = takes_append (a ++ b ++ c ++ d ++ e) f (40 + n + 36 + 36 + 4) 64
+    (takes_append (a ++ b ++ c ++ d) e (40 + n + 36 + 36) 4
+    (takes_append (a ++ b ++ c) d (40 + n + 36) 36
+    (takes_append (a ++ b) c (40 + n) 36
+    (takes_append a b 40 n (overall_takes i.request i.overall i.reason h.request h.reason) (floors_take i.floors h.floors))
     (named_takes 14 i.beneficiary (omega arith) refl h.beneficiary))
     (named_takes 16 i.requester (omega arith) refl h.requester))
     (priority_takes i.priority))
-    (octets_take 8 i.info 62 (omega arith) refl (omega arith) h.text) in
-    group_takes 15 i.request (info_attrs i) 228 (omega arith) refl h.request (omega arith) (all.0, omega (arith, all.1, h.few))
+    (octets_take 8 i.info 62 (omega arith) refl (omega arith) refl h.text) in
+    group_takes 15 i.request (info_attrs i) 244 (omega arith) refl h.request (omega arith) (all.0, omega (arith, all.1, h.few))
 
-infos_take : (is : List Info) → All IsShownInfo is → Takes (map info_attr is) (232 * length is)
+infos_take : (is : List Info) → All IsShownInfo is → Takes (map info_attr is) (248 * length is)
 infos_take [] h = (tt, omega arith)
 infos_take (i ∷ is) h =
-    let both = takes_append (info_attr i ∷ []) (map info_attr is) 232 (232 * length is) (info_takes i (h 0 i (omega arith))) (infos_take is (λ k d l. h (suc k) d (omega arith))) in
+    let both = takes_append (info_attr i ∷ []) (map info_attr is) 248 (248 * length is) (info_takes i (h 0 i (omega arith))) (infos_take is (λ k d l. h (suc k) d (omega arith))) in
     (both.0, omega (arith, both.1))
 
 floor_takes : (f : Option ℕ) → IfSome f (λ n. n < 2 ^ 16) → Takes (optional (number 2) f) 4
@@ -96,10 +77,10 @@ floor_takes (Some n) h = ((omega arith, refl, omega arith, h, tt), omega arith)
 tell_takes : (t : Tell) → IsShown t → Takes (tell_attrs t) 262140
 tell_takes (FloorRequestStatus i) h = let p = info_takes i h in (p.0, omega (arith, p.1))
 tell_takes (UserStatus who infos) h =
-    let p = takes_append (optional (who_attr 14) who) (map info_attr infos) 106 (232 * length infos) (described_takes who h.0) (infos_take infos h.1.each) in
+    let p = takes_append (optional (who_attr 14) who) (map info_attr infos) 100 (248 * length infos) (described_takes who h.0) (infos_take infos h.1.each) in
     (p.0, omega (arith, p.1, h.1.few))
 tell_takes (FloorStatus floor infos) h =
-    let p = takes_append (optional (number 2) floor) (map info_attr infos) 4 (232 * length infos) (floor_takes floor h.0) (infos_take infos h.1.each) in
+    let p = takes_append (optional (number 2) floor) (map info_attr infos) 4 (248 * length infos) (floor_takes floor h.0) (infos_take infos h.1.each) in
     (p.0, omega (arith, p.1, h.1.few))
 tell_takes ChairActionAck h = (tt, omega arith)
 tell_takes (HelloAck primitives attributes) h =

@@ -1,9 +1,9 @@
 -- What the attributes of a message from a client ask (RFC 8855, section 5.3).
-use Rattle.std.specs.Prelude.{ℕ, ◌/◌, ◌==◌, min, Bool, true, false, List, [], ◌∷◌, map, Option, Some, None, option_map, option_and_then, if◌then◌else◌}
-use Rattle.floor_wire.specs.Types.{BENEFICIARY_ID, FLOOR_ID, FLOOR_REQUEST_ID, PRIORITY, REQUEST_STATUS, PARTICIPANT_PROVIDED_INFO, FLOOR_REQUEST_INFORMATION, FLOOR_REQUEST_STATUS, OVERALL_REQUEST_STATUS}
+use Rattle.std.specs.Prelude.{ℕ, ◌/◌, ◌==◌, min, Bool, true, false, List, [], ◌∷◌, map, filter_map, Option, Some, None, option_map, option_and_then, if◌then◌else◌}
+use Rattle.floor_wire.specs.Types.{BENEFICIARY_ID, FLOOR_ID, FLOOR_REQUEST_ID, PRIORITY, REQUEST_STATUS, PARTICIPANT_PROVIDED_INFO, STATUS_INFO, FLOOR_REQUEST_INFORMATION, FLOOR_REQUEST_STATUS, OVERALL_REQUEST_STATUS}
 use Rattle.floor_wire.specs.declared.attribute.Attr.{Attr}
 use Rattle.floor_message.specs.Picked.{first, numbers, pairs, octet_strings, groups, distinct, once_by}
-use Rattle.floor_message.specs.Text.{info_kept}
+use Rattle.floor_message.specs.Text.{text_kept}
 use Rattle.floor_message.specs.declared.primitive.Primitive.{Primitive}
 use Rattle.floor_message.specs.declared.primitive.Primitive.TheVariants as primitive
 use Rattle.floor_message.specs.declared.verdicts.Verdict.{Verdict}
@@ -60,14 +60,35 @@ abbrev pub given : List (ℕ × Option Verdict) → Option (List (ℕ × Verdict
 given [] = Some []
 given (v ∷ verdicts) = option_and_then (λ w. option_map (λ ws. (v.0, w) ∷ ws) (given verdicts)) v.1
 
--- a ChairAction, unless it names no floor
-abbrev pub chair_action : ℕ → List (ℕ × Verdict) → Option Ask
-chair_action request [] = None
-chair_action request (v ∷ verdicts) = Some (ChairAction request (v ∷ verdicts))
+-- the text in the first STATUS-INFO of a group (section 5.2.9)
+abbrev pub status_info_in : List Attr → Option (List ℕ)
+status_info_in inside = first (octet_strings STATUS_INFO inside)
 
--- what a FLOOR-REQUEST-INFORMATION from a chair asks
+-- the text in the first STATUS-INFO inside the first OVERALL-REQUEST-STATUS (section 5.2.18)
+abbrev pub overall_reason : List Attr → Option (List ℕ)
+overall_reason inside = option_and_then (λ g. status_info_in g.1) (first (groups OVERALL_REQUEST_STATUS inside))
+
+-- the text in the first STATUS-INFO inside the first FLOOR-REQUEST-STATUS that has one, where for a floor named twice the first counts
+abbrev pub floor_reason : List Attr → Option (List ℕ)
+floor_reason inside = first (filter_map (λ g. status_info_in g.1) (once_by (λ g. g.0) (groups FLOOR_REQUEST_STATUS inside)))
+
+-- the text of the overall status, else that of a floor
+abbrev pub reason_for : Option (List ℕ) → Option (List ℕ) → Option (List ℕ)
+reason_for (Some overall) own = Some overall
+reason_for None own = own
+
+-- the reason that a chair gives, of which at most 30 bytes are kept (section 11.1)
+abbrev pub reason_kept : List Attr → Option (Option (List ℕ))
+reason_kept inside = text_kept 30 (reason_for (overall_reason inside) (floor_reason inside))
+
+-- a ChairAction, unless it names no floor
+abbrev pub chair_action : ℕ → List (ℕ × Verdict) → Option (List ℕ) → Option Ask
+chair_action request [] reason = None
+chair_action request (v ∷ verdicts) reason = Some (ChairAction request (v ∷ verdicts) reason)
+
+-- what a FLOOR-REQUEST-INFORMATION from a chair asks, unless a floor has no verdict or the reason has no usable value
 abbrev pub chair_asked : ℕ × List Attr → Option Ask
-chair_asked g = option_and_then (chair_action g.0) (given (floors_judged g.1))
+chair_asked g = option_and_then (λ verdicts. option_and_then (chair_action g.0 verdicts) (reason_kept g.1)) (given (floors_judged g.1))
 
 -- the primitive is one that a client asks by
 abbrev pub is_ask : Primitive → Bool
@@ -84,7 +105,7 @@ is_ask _ = false
 abbrev pub fields : Primitive → List Attr → Option Ask
 fields primitive.FloorRequest attrs =
     floor_request (distinct (numbers FLOOR_ID attrs)) (first (numbers BENEFICIARY_ID attrs))
-    (priority_asked (first (pairs PRIORITY attrs))) (info_kept (first (octet_strings PARTICIPANT_PROVIDED_INFO attrs)))
+    (priority_asked (first (pairs PRIORITY attrs))) (text_kept 62 (first (octet_strings PARTICIPANT_PROVIDED_INFO attrs)))
 fields primitive.FloorRelease attrs = option_map FloorRelease (first (numbers FLOOR_REQUEST_ID attrs))
 fields primitive.FloorRequestQuery attrs = option_map FloorRequestQuery (first (numbers FLOOR_REQUEST_ID attrs))
 fields primitive.UserQuery attrs = Some (UserQuery (first (numbers BENEFICIARY_ID attrs)))

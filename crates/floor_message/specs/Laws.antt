@@ -7,7 +7,7 @@ use Rattle.floor_wire.specs.Spelling.{canon}
 use Rattle.floor_wire.specs.View.{attributes_of}
 use Rattle.floor_message.specs.Ask.{ask, asks}
 use Rattle.floor_message.specs.Binding.{Binding}
-use Rattle.floor_message.specs.Fits.{AskFits, AskNumbersFit, AskPartsFit, HeadFits, TellFits}
+use Rattle.floor_message.specs.Fits.{AskFits, AskNumbersFit, AskPartsFit, AskTextFits, HeadFits, TellFits, most_verdicts}
 use Rattle.floor_message.specs.Shown.{IsShown}
 use Rattle.floor_message.specs.Tell.{tell}
 use Rattle.floor_message.specs.Text.{IsLongestFront, shortened}
@@ -31,27 +31,32 @@ pub record IsOwn (head : Head) (binding : Binding) : Type 0 where
 abbrev pub WrittenAskIsRead : Type 0
 WrittenAskIsRead = (head : Head) (binding : Binding) (a : Ask) → HeadFits head → IsOwn head binding → AskFits a → ask (ask_bytes head a) binding ≡ asks a
 
--- at most 60,000 floors, and at most 31 verdicts
+-- at most 60,000 floors, and at most 31 verdicts, or 26 beside a reason
 abbrev pub CountsFit : Ask → Type 0
 CountsFit (FloorRequest beneficiary floors priority info) = length floors ≤ 60000
 CountsFit (FloorRelease request) = Unit {0}
 CountsFit (FloorRequestQuery request) = Unit {0}
 CountsFit (UserQuery beneficiary) = Unit {0}
 CountsFit (FloorQuery floors) = length floors ≤ 60000
-CountsFit (ChairAction request verdicts) = length verdicts ≤ 31
+CountsFit (ChairAction request verdicts reason) = length verdicts ≤ most_verdicts reason
 CountsFit Hello = Unit {0}
 
--- the parts of what a message asks can be written, where its floors and verdicts are not too many
+-- its text can be written, and so can all its parts where its floors and verdicts are not too many
+pub record FitsButForCounts (a : Ask) : Type 0 where
+  pub text : AskTextFits a
+  pub parts : CountsFit a → AskPartsFit a
+
+-- what a message asks can be written but for its numbers, where its floors and verdicts are not too many
 abbrev pub WhatIsAskedFits : Type 0
-WhatIsAskedFits = (bytes : List ℕ) (binding : Binding) (a : Ask) → ask bytes binding ≡ asks a → CountsFit a → AskPartsFit a
+WhatIsAskedFits = (bytes : List ℕ) (binding : Binding) (a : Ask) → ask bytes binding ≡ asks a → FitsButForCounts a
 
 -- the numbers of what a message of bytes asks are of 16 bits, so that with the law above it can be written
 abbrev pub WhatIsAskedIsOf16Bits : Type 0
 WhatIsAskedIsOf16Bits = (bytes : List ℕ) (binding : Binding) (a : Ask) → IsBytes bytes → ask bytes binding ≡ asks a → AskNumbersFit a
 
--- what is kept of a text is its longest front of at most 62 bytes that ends at a character
+-- what is kept of a text is its longest front of at most so many bytes that ends at a character
 abbrev pub ShortenedIsLongest : Type 0
-ShortenedIsLongest = (text : List ℕ) → is_utf8 text ≡ true → IsLongestFront text (shortened text)
+ShortenedIsLongest = (most : ℕ) (text : List ℕ) → is_utf8 text ≡ true → IsLongestFront most text (shortened most text)
 
 -- each group is written in at most 252 bytes, and each octet string has at most 253 octets, those inside groups too
 abbrev mutual

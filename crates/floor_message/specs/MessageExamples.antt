@@ -7,7 +7,7 @@ use Rattle.floor_message.specs.Tell.{tell}
 use Rattle.floor_message.specs.Written.{ask_bytes, tell_bytes}
 use Rattle.floor_message.specs.declared.head.Head.{Head}
 use Rattle.floor_message.specs.declared.code.ErrorCode.TheVariants.{ConferenceDoesNotExist, UserDoesNotExist, UnknownPrimitive, UnknownMandatoryAttribute, UnauthorizedOperation, UnableToParseMessage, UnsupportedVersion}
-use Rattle.floor_message.specs.declared.verdicts.Verdict.TheVariants.{Granted}
+use Rattle.floor_message.specs.declared.verdicts.Verdict.TheVariants.{Granted, Denied}
 use Rattle.floor_message.specs.declared.ask.Ask.TheVariants.{FloorRequest, ChairAction, Hello}
 use Rattle.floor_message.specs.declared.tell.Tell.{Tell}
 use Rattle.floor_message.specs.declared.tell.Tell.TheVariants.{FloorRequestStatus}
@@ -68,7 +68,7 @@ no_floor = refl
 
 -- the verdict in the overall status alone
 pub chair_overall : ask (0x20 ∷ 9 ∷ 0 ∷ 4 ∷ 0 ∷ 0 ∷ 0 ∷ 1 ∷ 0 ∷ 2 ∷ 0 ∷ 0x0a ∷ 0x1e ∷ 0x10 ∷ 0 ∷ 1 ∷ 0x24 ∷ 8 ∷ 0 ∷ 1 ∷ 0x0a ∷ 4 ∷ 3 ∷ 0 ∷ 0x22 ∷ 4 ∷ 0 ∷ 4 ∷ []) ann
-    ≡ asks (ChairAction 1 ((4, Granted) ∷ []))
+    ≡ asks (ChairAction 1 ((4, Granted) ∷ []) None)
 unfolding ask spelled spelled_within
 chair_overall = refl
 
@@ -80,6 +80,7 @@ abbrev pub granted : Tell
 granted = FloorRequestStatus (record {
   request = 1;
   overall = Some (3, 0);
+  reason = None;
   floors = (1, Some (3, 0)) ∷ [];
   beneficiary = Some (record { user = 10; name = None; uri = None });
   requester = None;
@@ -97,6 +98,62 @@ granted_written = refl
 pub granted_read : tell granted_bytes ≡ Some (second, granted)
 unfolding tell spelled spelled_within
 granted_read = refl
+
+-- the chair 12 says No
+abbrev pub chair : Head
+chair = record { conference = 1; transaction = 1; user = 12 }
+
+pub denial_written : ask_bytes chair (ChairAction 1 ((4, Denied) ∷ []) (Some (0x4e ∷ 0x6f ∷ [])))
+    ≡ 0x20 ∷ 9 ∷ 0 ∷ 5 ∷ 0 ∷ 0 ∷ 0 ∷ 1 ∷ 0 ∷ 1 ∷ 0 ∷ 0x0c ∷ 0x1e ∷ 0x14 ∷ 0 ∷ 1 ∷ 0x24 ∷ 8 ∷ 0 ∷ 1 ∷ 0x12 ∷ 4 ∷ 0x4e ∷ 0x6f
+    ∷ 0x22 ∷ 8 ∷ 0 ∷ 4 ∷ 0x0a ∷ 4 ∷ 4 ∷ 0 ∷ []
+denial_written = refl
+
+-- request 1 of user 10, for floor 4, is denied with that reason
+abbrev pub denied : Tell
+denied = FloorRequestStatus (record {
+  request = 1;
+  overall = Some (4, 0);
+  reason = Some (0x4e ∷ 0x6f ∷ []);
+  floors = (4, Some (4, 0)) ∷ [];
+  beneficiary = Some (record { user = 10; name = None; uri = None });
+  requester = None;
+  priority = Some 2;
+  info = None;
+})
+
+abbrev pub denied_bytes : List ℕ
+denied_bytes = 0x20 ∷ 4 ∷ 0 ∷ 8 ∷ 0 ∷ 0 ∷ 0 ∷ 1 ∷ 0 ∷ 2 ∷ 0 ∷ 0x0a ∷ 0x1e ∷ 0x20 ∷ 0 ∷ 1 ∷ 0x24 ∷ 0x0c ∷ 0 ∷ 1 ∷ 0x0a ∷ 4 ∷ 4 ∷ 0 ∷ 0x12 ∷ 4 ∷ 0x4e ∷ 0x6f
+    ∷ 0x22 ∷ 8 ∷ 0 ∷ 4 ∷ 0x0a ∷ 4 ∷ 4 ∷ 0 ∷ 0x1c ∷ 4 ∷ 0 ∷ 0x0a ∷ 8 ∷ 4 ∷ 0x40 ∷ 0 ∷ []
+
+pub denied_written : tell_bytes second denied ≡ denied_bytes
+denied_written = refl
+
+pub denied_read : tell denied_bytes ≡ Some (second, denied)
+unfolding tell spelled spelled_within
+denied_read = refl
+
+-- request 1 has that reason, and nothing else is shown
+abbrev pub reason_alone : Tell
+reason_alone = FloorRequestStatus (record {
+  request = 1;
+  overall = None;
+  reason = Some (0x4e ∷ 0x6f ∷ []);
+  floors = [];
+  beneficiary = None;
+  requester = None;
+  priority = None;
+  info = None;
+})
+
+abbrev pub reason_alone_bytes : List ℕ
+reason_alone_bytes = 0x20 ∷ 4 ∷ 0 ∷ 3 ∷ 0 ∷ 0 ∷ 0 ∷ 1 ∷ 0 ∷ 2 ∷ 0 ∷ 0x0a ∷ 0x1e ∷ 0x0c ∷ 0 ∷ 1 ∷ 0x24 ∷ 8 ∷ 0 ∷ 1 ∷ 0x12 ∷ 4 ∷ 0x4e ∷ 0x6f ∷ []
+
+pub reason_alone_written : tell_bytes second reason_alone ≡ reason_alone_bytes
+reason_alone_written = refl
+
+pub reason_alone_read : tell reason_alone_bytes ≡ Some (second, reason_alone)
+unfolding tell spelled spelled_within
+reason_alone_read = refl
 
 pub error_without_code : tell (0x20 ∷ 0x0d ∷ 0 ∷ 1 ∷ 0 ∷ 0 ∷ 0 ∷ 1 ∷ 0 ∷ 3 ∷ 0 ∷ 0x0a ∷ 0x0c ∷ 2 ∷ 0 ∷ 0 ∷ []) ≡ None
 unfolding tell spelled spelled_within

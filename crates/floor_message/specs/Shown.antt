@@ -18,9 +18,10 @@ pub record IsDescribed (who : Who) : Type 0 where
   pub name : IfSome who.name (λ name. length name ≤ 30)
   pub uri : IfSome who.uri (λ uri. length uri ≤ 62)
 
--- a floor request for at most 8 floors, with a text of at most 62 bytes
+-- a floor request for at most 8 floors, with a text of at most 62 bytes and a chair's reason of at most 30
 pub record IsShownInfo (info : Info) : Type 0 where
   pub request : info.request < 2 ^ 16
+  pub reason : IfSome info.reason (λ reason. length reason ≤ 30)
   pub floors : All (λ f. f.0 < 2 ^ 16) info.floors
   pub few : length info.floors ≤ 8
   pub beneficiary : IfSome info.beneficiary IsNamed

@@ -7,7 +7,7 @@ use Rattle.floor_wire.specs.Spelled.{spelled}
 use Rattle.floor_wire.specs.View.{items}
 use Rattle.floor_wire.specs.declared.attribute.Attr.{Attr}
 use Rattle.floor_message.specs.Picked.{first, numbers, pairs, octet_strings, groups, mandatory}
-use Rattle.floor_message.specs.Fields.{priority_of}
+use Rattle.floor_message.specs.Fields.{priority_of, overall_reason}
 use Rattle.floor_message.specs.Primitive.{primitive_of}
 use Rattle.floor_message.specs.declared.primitive.Primitive.{Primitive}
 use Rattle.floor_message.specs.declared.primitive.Primitive.TheVariants as primitive
@@ -34,6 +34,7 @@ abbrev pub info_of : ℕ × List Attr → Info
 info_of g = record {
   request = g.0;
   overall = overall_of g.1;
+  reason = overall_reason g.1;
   floors = map floor_of (groups FLOOR_REQUEST_STATUS g.1);
   beneficiary = option_map who_of (first (groups BENEFICIARY_INFORMATION g.1));
   requester = option_map who_of (first (groups REQUESTED_BY_INFORMATION g.1));

@@ -1,6 +1,6 @@
 -- The attributes of each message, in the order in which they are written, and its bytes (RFC 8855, sections 5.2 and 5.3).
-use Rattle.std.specs.Prelude.{ℕ, ◌*◌, ◌/◌, false, List, [], ◌∷◌, ◌++◌, length, map, Option, option_map, option_to_list}
-use Rattle.floor_wire.specs.Types.{BENEFICIARY_ID, FLOOR_ID, FLOOR_REQUEST_ID, PRIORITY, REQUEST_STATUS, ERROR_CODE, PARTICIPANT_PROVIDED_INFO, SUPPORTED_ATTRIBUTES, SUPPORTED_PRIMITIVES, USER_DISPLAY_NAME, USER_URI, BENEFICIARY_INFORMATION, FLOOR_REQUEST_INFORMATION, REQUESTED_BY_INFORMATION, FLOOR_REQUEST_STATUS, OVERALL_REQUEST_STATUS}
+use Rattle.std.specs.Prelude.{ℕ, ◌*◌, ◌/◌, false, List, [], ◌∷◌, ◌++◌, length, map, Option, Some, None, option_map, option_to_list}
+use Rattle.floor_wire.specs.Types.{BENEFICIARY_ID, FLOOR_ID, FLOOR_REQUEST_ID, PRIORITY, REQUEST_STATUS, ERROR_CODE, PARTICIPANT_PROVIDED_INFO, STATUS_INFO, SUPPORTED_ATTRIBUTES, SUPPORTED_PRIMITIVES, USER_DISPLAY_NAME, USER_URI, BENEFICIARY_INFORMATION, FLOOR_REQUEST_INFORMATION, REQUESTED_BY_INFORMATION, FLOOR_REQUEST_STATUS, OVERALL_REQUEST_STATUS}
 use Rattle.floor_wire.specs.Header.{header_bytes}
 use Rattle.floor_wire.specs.Spelling.{canon}
 use Rattle.floor_wire.specs.View.{attributes_of}
@@ -56,14 +56,20 @@ who_attr kind w = group kind w.user (optional (octets USER_DISPLAY_NAME) w.name 
 abbrev pub floor_attr : ℕ × Option (ℕ × ℕ) → Attr
 floor_attr f = group FLOOR_REQUEST_STATUS f.0 (optional status_attr f.1)
 
--- OVERALL-REQUEST-STATUS: the status of the whole floor request (section 5.2.18)
-abbrev pub overall_attr : ℕ → ℕ × ℕ → Attr
-overall_attr request s = group OVERALL_REQUEST_STATUS request (status_attr s ∷ [])
+-- what OVERALL-REQUEST-STATUS holds: the status of the whole floor request, and then a reason, each where it is there (section 5.2.18)
+abbrev pub overall_inside : Option (ℕ × ℕ) → Option (List ℕ) → List Attr
+overall_inside status reason = optional status_attr status ++ optional (octets STATUS_INFO) reason
+
+-- OVERALL-REQUEST-STATUS, where it holds anything
+abbrev pub overall_attrs : ℕ → Option (ℕ × ℕ) → Option (List ℕ) → List Attr
+overall_attrs request None None = []
+overall_attrs request None (Some reason) = group OVERALL_REQUEST_STATUS request (overall_inside None (Some reason)) ∷ []
+overall_attrs request (Some status) reason = group OVERALL_REQUEST_STATUS request (overall_inside (Some status) reason) ∷ []
 
 -- what FLOOR-REQUEST-INFORMATION holds (section 5.2.15)
 abbrev pub info_attrs : Info → List Attr
 info_attrs i =
-    optional (overall_attr i.request) i.overall
+    overall_attrs i.request i.overall i.reason
     ++ map floor_attr i.floors
     ++ optional (who_attr BENEFICIARY_INFORMATION) i.beneficiary
     ++ optional (who_attr REQUESTED_BY_INFORMATION) i.requester
@@ -112,7 +118,7 @@ ask_attrs (FloorRelease request) = number FLOOR_REQUEST_ID request ∷ []
 ask_attrs (FloorRequestQuery request) = number FLOOR_REQUEST_ID request ∷ []
 ask_attrs (UserQuery beneficiary) = optional (number BENEFICIARY_ID) beneficiary
 ask_attrs (FloorQuery floors) = map (number FLOOR_ID) floors
-ask_attrs (ChairAction request verdicts) = group FLOOR_REQUEST_INFORMATION request (map verdict_attr verdicts) ∷ []
+ask_attrs (ChairAction request verdicts reason) = group FLOOR_REQUEST_INFORMATION request (overall_attrs request None reason ++ map verdict_attr verdicts) ∷ []
 ask_attrs Hello = []
 
 -- the primitive of a message from a client
@@ -122,7 +128,7 @@ ask_primitive (FloorRelease request) = primitive.FloorRelease
 ask_primitive (FloorRequestQuery request) = primitive.FloorRequestQuery
 ask_primitive (UserQuery beneficiary) = primitive.UserQuery
 ask_primitive (FloorQuery floors) = primitive.FloorQuery
-ask_primitive (ChairAction request verdicts) = primitive.ChairAction
+ask_primitive (ChairAction request verdicts reason) = primitive.ChairAction
 ask_primitive Hello = primitive.Hello
 
 -- a message of this primitive with these attributes

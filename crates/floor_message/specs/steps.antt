@@ -2,3 +2,4 @@
 pub mod Adding
 pub mod Leaves
 pub mod Answering
+pub mod Reasons

@@ -86,6 +86,8 @@ pub enum Ask {
         request: u16,
         /// The floors, each once, in order of first appearance, with the verdict on each.
         verdicts: Verdicts,
+        /// Why the chair decides so, where it says: UTF-8 of 1 to 30 bytes (section 11.1).
+        reason: Option<Octets>,
     },
     /// Asks what the server supports (section 5.3.11).
     Hello,

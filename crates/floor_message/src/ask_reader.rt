@@ -19,7 +19,7 @@ use crate::format::number::first_number;
 use crate::format::octets::first_octets;
 use crate::format::pair::first_pair;
 use crate::format::priority::priority_asked;
-use crate::format::text::info_kept;
+use crate::format::text::{LONGEST_INFO, text_kept};
 use crate::format::verdicts::chair_action;
 use crate::kind::{BENEFICIARY_ID, FLOOR_REQUEST_ID, PARTICIPANT_PROVIDED_INFO, PRIORITY};
 use crate::primitive::Primitive;
@@ -28,7 +28,8 @@ use std::alloc::{AllocError, Global};
 
 /// What the message asks of the server; None for an Error, which is left unanswered.
 ///
-/// The text of a FloorRequest is cut to at most 62 bytes, and its priority is at most 4.
+/// The text of a FloorRequest is cut to at most 62 bytes, the reason of a ChairAction to at most 30,
+/// and a priority is at most 4.
 pub fn read_ask(alloc: Global, frame: &Frame, binding: &Binding) -> Result<Option<Ask>, AskFault>
     ensures value { IsAnswer (ask frame.now (binding_of binding.now)) result }
     ensures details { IfErr result HasShortDetails }
@@ -168,7 +169,8 @@ fn floor_request(alloc: Global, attrs: &[Attr]) -> Result<Option<Ask>, AllocErro
     if floors.is_empty() {
         return Ok(None);
     }
-    let Some(info) = info_kept(alloc, first_octets(attrs, PARTICIPANT_PROVIDED_INFO))? else {
+    let text = first_octets(attrs, PARTICIPANT_PROVIDED_INFO);
+    let Some(info) = text_kept(alloc, text, LONGEST_INFO)? else {
         return Ok(None);
     };
     Ok(Some(Ask::FloorRequest {

@@ -68,9 +68,11 @@ fn ask_attrs(alloc: Global, ask: &Ask) -> Result<Vec<Attr>, AllocError>
         }
         Ask::UserQuery { beneficiary } => number_attrs(alloc, BENEFICIARY_ID, *beneficiary),
         Ask::FloorQuery { floors } => floor_query_attrs(alloc, floors.as_slice()),
-        Ask::ChairAction { request, verdicts } => {
-            chair_action_attrs(alloc, *request, verdicts.as_slice())
-        }
+        Ask::ChairAction {
+            request,
+            verdicts,
+            reason,
+        } => chair_action_attrs(alloc, *request, verdicts.as_slice(), reason),
         Ask::Hello => Ok(Vec::new(alloc)),
     }
 }

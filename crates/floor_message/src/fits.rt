@@ -16,9 +16,9 @@ use crate::format::floor_request_information::{
 };
 use crate::format::floors::{after_floor, floors_fit};
 use crate::format::supported::after_supported;
-use crate::format::text::info_fits;
+use crate::format::text::{LONGEST_INFO, optional_text_fits};
 use crate::format::user_information::after_who;
-use crate::format::verdicts::verdicts_fit;
+use crate::format::verdicts::chair_action_fits;
 use crate::tell::Tell;
 use crate::verdicts::Verdict;
 use floor_wire::Octets;
@@ -27,9 +27,9 @@ use floor_wire::Octets;
 const LONGEST_PAYLOAD: usize = 4 * 65535;
 
 /// Whether the message can be written: a FloorRequest names a floor, floors and verdicts name each
-/// floor once, a priority is at most 4, a text is UTF-8 of 1 to 62 bytes, there are 1 to 31
-/// verdicts and at most 60,000 floors. Takes no memory, so its time grows with the square of the
-/// floors.
+/// floor once, a priority is at most 4, a text is UTF-8 of 1 to 62 bytes, a reason of 1 to 30, there
+/// are 1 to 31 verdicts, or to 26 beside a reason, and at most 60,000 floors. Takes no memory, so
+/// its time grows with the square of the floors.
 pub fn ask_fits(ask: &Ask) -> bool
     ensures value { IsTrue result ↔ AskFits ask.now }
     ensures bytes { IsTrue result → IsOfBytes (attributes_of (ask_attrs ask.now)) }
@@ -56,7 +56,11 @@ fn its_numbers_fit(ask: &Ask)
         }
         Ask::UserQuery { beneficiary } => is_of_16_bits(*beneficiary),
         Ask::FloorQuery { floors } => numbers_are_of_16_bits(floors.as_slice()),
-        Ask::ChairAction { request, verdicts } => {
+        Ask::ChairAction {
+            request,
+            verdicts,
+            ..
+        } => {
             let _request = *request;
             floors_are_of_16_bits(verdicts.as_slice());
         }
@@ -95,7 +99,11 @@ fn parts_fit(ask: &Ask) -> bool
         Ask::FloorRequestQuery { .. } => true,
         Ask::UserQuery { .. } => true,
         Ask::FloorQuery { floors } => floors_fit(floors.as_slice()),
-        Ask::ChairAction { verdicts, .. } => verdicts_fit(verdicts.as_slice()),
+        Ask::ChairAction {
+            verdicts,
+            reason,
+            ..
+        } => chair_action_fits(verdicts.as_slice(), reason),
         Ask::Hello => true,
     }
 }
@@ -104,7 +112,10 @@ fn floor_request_fits(floors: &[u16], priority: u8, info: &Option<Octets>) -> bo
     ensures value { IsTrue result ↔ FloorRequestFits floors.now priority info.now }
     ensures bytes { IsTrue result → IfSome info.now IsBytes }
 {
-    !floors.is_empty() && priority <= 4 && floors_fit(floors) && info_fits(info)
+    !floors.is_empty()
+        && priority <= 4
+        && floors_fit(floors)
+        && optional_text_fits(info, LONGEST_INFO)
 }
 
 /// Whether the message can be written: each priority is at most 4, each type of attribute below

@@ -15,6 +15,7 @@ pub(crate) mod overall_request_status;
 pub(crate) mod pair;
 pub(crate) mod priority;
 pub(crate) mod request_status;
+pub(crate) mod status_info;
 pub(crate) mod supported;
 pub(crate) mod text;
 pub(crate) mod user_information;

@@ -49,6 +49,8 @@ pub struct Info {
     pub request: u16,
     /// The status and the queue position of the whole request.
     pub overall: Option<(u8, u8)>,
+    /// Why a chair decided so, in its own words (section 5.2.9).
+    pub reason: Option<Octets>,
     /// The floors, in the request's order, each with its status and queue position.
     pub floors: FloorStatuses,
     /// Whom the request is for.
@@ -66,6 +68,7 @@ impl Info {
     pub fn copy(&self, alloc: Global) -> Result<Info, AllocError>
         ensures value { IfOk result (λ copy. copy ≡ self.now) }
     {
+        let reason = copied_octets(alloc, &self.reason)?;
         let floors = Vec::from_slice(alloc, self.floors.as_slice())?;
         let beneficiary = copied_who(alloc, &self.beneficiary)?;
         let requester = copied_who(alloc, &self.requester)?;
@@ -73,6 +76,7 @@ impl Info {
         Ok(Info {
             request: self.request,
             overall: self.overall,
+            reason,
             floors: FloorStatuses::from_vec(floors),
             beneficiary,
             requester,
@@ -87,6 +91,7 @@ impl Info {
     {
         self.request == other.request
             && is_same_status(self.overall, other.overall)
+            && is_same_text(&self.reason, &other.reason)
             && is_same_floors(self.floors.as_slice(), other.floors.as_slice())
             && is_same_who(&self.beneficiary, &other.beneficiary)
             && is_same_who(&self.requester, &other.requester)

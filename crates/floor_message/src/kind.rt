@@ -15,6 +15,8 @@ pub(crate) const ERROR_CODE: u8 = 6;
 
 pub(crate) const PARTICIPANT_PROVIDED_INFO: u8 = 8;
 
+pub(crate) const STATUS_INFO: u8 = 9;
+
 pub(crate) const SUPPORTED_ATTRIBUTES: u8 = 10;
 
 pub(crate) const SUPPORTED_PRIMITIVES: u8 = 11;

@@ -24,7 +24,7 @@ pub fn a_written_ask_is_read()
 }
 
 /// What a message asks can be written, its numbers aside, where it names at most 60,000 floors and
-/// 31 verdicts.
+/// 31 verdicts, or 26 beside a reason; its text can be written however many it names.
 pub fn what_is_asked_fits()
     ensures { WhatIsAskedFits }
 {}
@@ -37,13 +37,13 @@ pub fn what_is_asked_is_of_16_bits()
     what_is_spelled_is_writable();
 }
 
-/// What shows no more than a conference has can be written: names of at most 30 bytes, texts of at
-/// most 62, at most 8 floors of a floor request and 256 floor requests.
+/// What shows no more than a conference has can be written: names and reasons of at most 30 bytes,
+/// texts of at most 62, at most 8 floors of a floor request and 256 floor requests.
 pub fn what_is_shown_fits()
     ensures { WhatIsShownFits }
 {}
 
-/// A text is kept as its longest front of at most 62 bytes that ends at a character.
+/// A text is kept as its longest front of at most so many bytes that ends at a character.
 pub fn a_text_is_cut_at_its_longest()
     ensures { ShortenedIsLongest }
 {}

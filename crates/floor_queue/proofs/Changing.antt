@@ -16,7 +16,7 @@ use Rattle.floor_queue.specs.steps.Lines.{FloorLine, IsLine, AreLines, moved, ra
 use Rattle.floor_queue.proofs.Counts.{and_left, and_right}
 use Rattle.floor_queue.proofs.Lining.{changed_at, unchanged, AreLines-changed, found_line, holders-line, place-line}
 
-set-place : (k : ℕ) (g : Request → Request) (rs : List Request) (d : Request) → is_ascending rs ≡ true → position_or_len (λ r. r.number == k) rs < length rs →
+pub set-place : (k : ℕ) (g : Request → Request) (rs : List Request) (d : Request) → is_ascending rs ≡ true → position_or_len (λ r. r.number == k) rs < length rs →
     set rs (position_or_len (λ r. r.number == k) rs) (g (get_or rs (position_or_len (λ r. r.number == k) rs) d)) ≡ map (changed_at k g) rs
 set-place k g [] d h within = absurd (omega (arith, within))
 set-place k g (x ∷ xs) d h within = by (x.number == k) refl (set-place k g xs d (and_right _ _ h)) within

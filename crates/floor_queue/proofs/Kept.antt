@@ -1,6 +1,6 @@
 -- What each change of the queue keeps.
 use Rattle.std.proofs.Common.{◌≡◌, ℕ, ◌+◌, ◌<◌, ◌≤◌, Bool, true, false, cond, List, [], ◌∷◌, ◌++◌, length, refl, sym, ◌∙◌, ap, subst, add-zero, arith, length-append, map}
-use Rattle.std.specs.Prelude.{not, ◌&&◌, nat_lt, ◌==◌, filter, if◌then◌else◌, Option, Some, None, IsSomeAnd, IsTrue, All}
+use Rattle.std.specs.Prelude.{not, ◌&&◌, nat_lt, ◌==◌, filter, if◌then◌else◌, Option, Some, None, IfSome, IsSomeAnd, IsTrue, All}
 use Rattle.std.specs.List.{list_any, list_all}
 use Rattle.std.specs.Option.{option_map}
 use Rattle.std.proofs.lemmas.Bool.{lt-ltb}
@@ -16,14 +16,15 @@ use Rattle.floor_queue.specs.declared.requested_floor.RequestedFloor.{RequestedF
 use Rattle.floor_queue.specs.declared.requested_floor.Word.{Word}
 use Rattle.floor_queue.specs.Requested.{floor_with_word}
 use Rattle.floor_queue.specs.Order.{room_of, names, holders, is_due, granted_if}
-use Rattle.floor_queue.specs.Queue.{Queue, IsQueue, IsAddable, MaySetFloor, is_ascending, new_of, first_floor, first_request, request_at, with_word, after_add, after_set_floor, after_settle, after_end, after_clear, empty_queue, involves}
+use Rattle.floor_queue.specs.Queue.{Queue, IsQueue, IsAddable, IsReason, MaySetFloor, is_ascending, new_of, first_floor, first_request, request_at, with_word, after_add, after_set_floor, after_settle, after_end, after_clear, empty_queue, involves}
 use Rattle.floor_queue.proofs.Counts.{and_left, and_right, and_both, count_by-map, count_by-filter}
 use Rattle.floor_queue.proofs.Settling.{room-settle}
 
--- a change of a request that keeps its number and what it was added with
+-- a change of a request that keeps its number and what it was added with, and leaves it with a reason or none
 pub record KeepsRequest (f : Request → Request) : Type 0 where
   pub number : (r : Request) → (f r).number ≡ r.number
   pub new : (r : Request) → new_of (f r) ≡ new_of r
+  pub reason : (r : Request) → IfSome r.reason IsReason → IfSome (f r).reason IsReason
 
 list_all-map_number : (p : ℕ → Bool) (f : Request → Request) → ((r : Request) → (f r).number ≡ r.number) → (rs : List Request) →
     list_all (λ (r : Request). p r.number) (map f rs) ≡ list_all (λ (r : Request). p r.number) rs
@@ -34,7 +35,7 @@ pub is_ascending-map : (f : Request → Request) → ((r : Request) → (f r).nu
 is_ascending-map f h [] = refl
 is_ascending-map f h (r ∷ rs) = rw (h r, list_all-map_number (nat_lt r.number) f h rs, is_ascending-map f h rs) refl
 
-IsQueue-map : (q : Queue) (f : Request → Request) → KeepsRequest f → ((floor : ℕ) → holders (map f q.ongoing) floor ≤ room_of q.floors floor) → IsQueue q →
+pub IsQueue-map : (q : Queue) (f : Request → Request) → KeepsRequest f → ((floor : ℕ) → holders (map f q.ongoing) floor ≤ room_of q.floors floor) → IsQueue q →
     IsQueue (record q { ongoing = map f q.ongoing })
 IsQueue-map q f keeps fits h =
     record {
@@ -47,13 +48,15 @@ IsQueue-map q f keeps fits h =
       addable = All-map (λ (r : Request). IsAddable q.floors (new_of r)) f q.ongoing
           (All-weaker (λ (r : Request). IsAddable q.floors (new_of r)) (λ (r : Request). IsAddable q.floors (new_of (f r)))
           (λ r k. subst (IsAddable q.floors) (sym (keeps.new r)) k) q.ongoing h.addable);
+      reasons = All-map (λ (r : Request). IfSome r.reason IsReason) f q.ongoing
+          (All-weaker (λ (r : Request). IfSome r.reason IsReason) (λ (r : Request). IfSome (f r).reason IsReason) keeps.reason q.ongoing h.reasons);
       holders_fit = fits;
     }
 
 -- settling ------------------------------------------------------------------------------------
 
 pub keeps_granted_if : (b : Request → Bool) → KeepsRequest (λ r. granted_if (b r) r)
-keeps_granted_if b = record { number = λ r. number (b r) r; new = λ r. new (b r) r }
+keeps_granted_if b = record { number = λ r. number (b r) r; new = λ r. new (b r) r; reason = λ r. reason (b r) r }
   where
     number : (b : Bool) (r : Request) → (granted_if b r).number ≡ r.number
     number true r = refl
@@ -62,6 +65,10 @@ keeps_granted_if b = record { number = λ r. number (b r) r; new = λ r. new (b 
     new : (b : Bool) (r : Request) → new_of (granted_if b r) ≡ new_of r
     new true r = refl
     new false r = refl
+
+    reason : (b : Bool) (r : Request) → IfSome r.reason IsReason → IfSome (granted_if b r).reason IsReason
+    reason true r h = h
+    reason false r h = h
 
 pub IsQueue-settle : (q : Queue) → IsQueue q → IsQueue (after_settle q)
 IsQueue-settle q h =
@@ -99,6 +106,13 @@ new_of-with_word request floor word r = by (r.number == request)
     by true = rw (map-map_key (λ (f : RequestedFloor). f.floor) (floor_with_word floor word) (floor-floor_with_word floor word) r.floors) refl
     by false = refl
 
+reason-with_word : (request floor : ℕ) (word : Word) (r : Request) → IfSome r.reason IsReason → IfSome (with_word request floor word r).reason IsReason
+reason-with_word request floor word r h = by (r.number == request)
+  where
+    by : (b : Bool) → IfSome (if b then record r { floors = map (floor_with_word floor word) r.floors } else r).reason IsReason
+    by true = h
+    by false = h
+
 pub names-with_word : (request floor : ℕ) (word : Word) (id : ℕ) (r : Request) → names (with_word request floor word r) id ≡ names r id
 names-with_word request floor word id r = by (r.number == request)
   where
@@ -121,10 +135,10 @@ holders-with_word request floor word rs id =
 pub IsQueue-set_floor : (q : Queue) (request floor : ℕ) (word : Word) → IsQueue q → IsQueue (after_set_floor q request floor word)
 IsQueue-set_floor q request floor word h =
     IsQueue-map q (with_word request floor word)
-    (record { number = number-with_word request floor word; new = new_of-with_word request floor word })
+    (record { number = number-with_word request floor word; new = new_of-with_word request floor word; reason = reason-with_word request floor word })
     (λ id. rw (holders-with_word request floor word q.ongoing id) (h.holders_fit id)) h
 
-request_at-map : (g : Request → Request) → ((r : Request) → (g r).number ≡ r.number) → (rs : List Request) (k : ℕ) → request_at (map g rs) k ≡ option_map g (request_at rs k)
+pub request_at-map : (g : Request → Request) → ((r : Request) → (g r).number ≡ r.number) → (rs : List Request) (k : ℕ) → request_at (map g rs) k ≡ option_map g (request_at rs k)
 request_at-map g h [] k = refl
 request_at-map g h (r ∷ rs) k =
     let P : ℕ → Type 0 = λ n. cond (n == k) (Some (g r)) (request_at (map g rs) k) ≡ option_map g (cond (r.number == k) (Some r) (request_at rs k)) in
@@ -134,7 +148,7 @@ request_at-map g h (r ∷ rs) k =
     by true e = refl
     by false e = e
 
-IsSomeAnd-map : {X : Type 0} (P : X → Type 0) (g : X → X) → ((x : X) → P x → P (g x)) → (o : Option X) → IsSomeAnd o P → IsSomeAnd (option_map g o) P
+pub IsSomeAnd-map : {X : Type 0} (P : X → Type 0) (g : X → X) → ((x : X) → P x → P (g x)) → (o : Option X) → IsSomeAnd o P → IsSomeAnd (option_map g o) P
 IsSomeAnd-map P g h None k = k
 IsSomeAnd-map P g h (Some x) k = h x k
 
@@ -177,6 +191,7 @@ IsQueue-add q new h few addable =
       few = omega (arith, length-append q.ongoing (first_request q.floors (q.given + 1) new ∷ []));
       addable = All-push (λ (r : Request). IsAddable q.floors (new_of r)) q.ongoing (first_request q.floors (q.given + 1) new) h.addable
           (subst (IsAddable q.floors) (sym (new_of-first_request q.floors (q.given + 1) new)) addable);
+      reasons = All-push (λ (r : Request). IfSome r.reason IsReason) q.ongoing (first_request q.floors (q.given + 1) new) h.reasons tt;
       holders_fit = λ id. rw (sum_by_push (λ (r : Request). cond (r.is_granted && names r id) 1 0) q.ongoing (first_request q.floors (q.given + 1) new), add-zero (holders q.ongoing id)) (h.holders_fit id);
     }
 
@@ -207,6 +222,7 @@ IsQueue-filter q t h =
       numbers = All-filter t (λ (r : Request). (1 ≤ r.number) × (r.number ≤ q.given)) q.ongoing h.numbers;
       few = omega (arith, length-filter t q.ongoing, count_by-le-length t q.ongoing, h.few);
       addable = All-filter t (λ (r : Request). IsAddable q.floors (new_of r)) q.ongoing h.addable;
+      reasons = All-filter t (λ (r : Request). IfSome r.reason IsReason) q.ongoing h.reasons;
       holders_fit = λ id. omega (arith, count_by-filter (λ (r : Request). r.is_granted && names r id) t q.ongoing, h.holders_fit id);
     }
 
@@ -223,6 +239,7 @@ IsQueue-clear q h =
       numbers = All-nil (λ (r : Request). (1 ≤ r.number) × (r.number ≤ q.given));
       few = omega arith;
       addable = All-nil (λ (r : Request). IsAddable q.floors (new_of r));
+      reasons = All-nil (λ (r : Request). IfSome r.reason IsReason);
       holders_fit = λ id. omega arith;
     }
 
@@ -234,6 +251,7 @@ IsQueue-empty floors rooms =
       numbers = All-nil (λ (r : Request). (1 ≤ r.number) × (r.number ≤ 0));
       few = omega arith;
       addable = All-nil (λ (r : Request). IsAddable floors (new_of r));
+      reasons = All-nil (λ (r : Request). IfSome r.reason IsReason);
       holders_fit = λ id. omega arith;
     }
 

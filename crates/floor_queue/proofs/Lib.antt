@@ -15,3 +15,4 @@ pub mod Holding
 pub mod Marking
 pub mod Numbering
 pub mod Parting
+pub mod Reasons

@@ -346,7 +346,7 @@ has_place-line floors rs lines r floor h w = by (find (λ l. l.floor == floor) l
         let found : IsLine floors rs l × (l.floor ≡ floor) = found_line floor (IsLine floors rs) lines l h.each e in
         ap (λ n. nat_lt n (room_of floors floor)) (place-line floors rs l r found.0 w ∙ ap (λ id. holders rs id + ahead floors rs r id) found.1)
 
-list_all_same : (p q : RequestedFloor → Bool) → ((f : RequestedFloor) → p f ≡ q f) → (fs : List RequestedFloor) → list_all p fs ≡ list_all q fs
+pub list_all_same : (p q : RequestedFloor → Bool) → ((f : RequestedFloor) → p f ≡ q f) → (fs : List RequestedFloor) → list_all p fs ≡ list_all q fs
 list_all_same p q h [] = refl
 list_all_same p q h (f ∷ fs) = rw (h f, list_all_same p q h fs) refl
 

@@ -49,7 +49,7 @@ partitioned-rank x (y ∷ ys) h zero (suc j) d l within e = by (before y x) refl
 -- a request, for places beyond the list
 pub nobody : Request
 nobody =
-    record { number = 0; requester = 0; beneficiary = 0; priority = 0; info = None; floors = []; is_granted = false }
+    record { number = 0; requester = 0; beneficiary = 0; priority = 0; info = None; reason = None; floors = []; is_granted = false }
 
 -- those with lower numbers come first
 pub partitioned-number : (k : ℕ) (rs : List Request) → is_ascending rs ≡ true → IsPartitionedBy (λ r. nat_lt r.number k) rs

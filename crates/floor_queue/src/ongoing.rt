@@ -5,7 +5,7 @@ ghost use Rattle.std.specs.Prelude.{◌≡◌, ◌==◌, ◌<◌, ◌↔◌, ◌
 ghost use Rattle.std.specs.List.{list_all, position_or_len, slice_get};
 ghost use Rattle.std.specs.Option.{option_copied};
 ghost use Rattle.floor_queue.specs.Order.{granted_if};
-ghost use Rattle.floor_queue.specs.Queue.{is_ascending, request_at, with_word, without};
+ghost use Rattle.floor_queue.specs.Queue.{is_ascending, request_at, with_reason, with_word, without};
 ghost use Rattle.floor_queue.specs.Requested.{floor_with_word};
 ghost use Rattle.floor_queue.specs.steps.Lines.{AreLines, AreMarked, added, marked, rank_of};
 ghost use Rattle.floor_queue.specs.steps.Parties.{with_parties};
@@ -16,6 +16,7 @@ use crate::index::rank::{Rank, rank_of};
 use crate::request::Request;
 use crate::requested_floor::Word;
 use floor_config::Floor;
+use floor_wire::Octets;
 use std::alloc::{AllocError, Global};
 use std::marker::Model;
 
@@ -23,7 +24,8 @@ use std::marker::Model;
 /// the last.
 ///
 /// `add`, `store_word` and `grant` put what they change into the lines of its floors as well; whoever
-/// calls `end` or `clear` does so itself. All other calls read.
+/// calls `end` or `clear` does so itself. `set_reason` changes nothing that a line goes by. All other
+/// calls read.
 #[derive(Debug, Drop)]
 pub(crate) struct Ongoing {
     requests: Vec<Request>,
@@ -140,6 +142,15 @@ impl Ongoing {
         }
     }
 
+    /// Stores why a chair decided so on the request with this number.
+    pub(crate) fn set_reason(&mut self, number: u16, reason: Octets)
+        requires { IsSome (request_at self.old number) }
+        ensures { self.new ≡ map (with_reason number reason) self.old }
+    {
+        let place = self.place_of(number);
+        set_reason(&mut self.requests[place], reason);
+    }
+
     /// Grants the request with this number.
     pub(crate) fn grant(&mut self, floors: &[Floor], lines: &mut Lines, number: u16)
         requires lines { AreLines floors.now self.old lines.old }
@@ -245,6 +256,12 @@ fn set_word(request: &mut Request, floor: u16, word: Word)
         ≡ record request.old { floors = map (floor_with_word floor word) request.old.floors } }
 {
     request.floors.set_word(floor, word);
+}
+
+fn set_reason(request: &mut Request, reason: Octets)
+    ensures { request.new ≡ record request.old { reason = Some reason } }
+{
+    request.reason = Some(reason);
 }
 
 fn grant(request: &mut Request)

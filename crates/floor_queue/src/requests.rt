@@ -4,7 +4,7 @@ ghost use Rattle.std.specs.Prelude.{◌≡◌, ◌<◌, ◌+◌, ◌↔◌, ◌=
 ghost use Rattle.std.specs.List.{list_any};
 ghost use Rattle.std.specs.Option.{option_copied};
 ghost use Rattle.floor_queue.specs.Order.{settle, due_numbers, holders, names, granted_if};
-ghost use Rattle.floor_queue.specs.Queue.{HasFloor, IsAddable, IsQueue, IsSettled, MaySetFloor, after_add, after_clear, after_end, after_set_floor, after_settle, empty_queue, first_floor, involves, numbers_of, position_of, request_at};
+ghost use Rattle.floor_queue.specs.Queue.{HasFloor, IsAddable, IsQueue, IsReason, IsSettled, MaySetFloor, after_add, after_clear, after_end, after_set_floor, after_set_reason, after_settle, empty_queue, first_floor, involves, numbers_of, position_of, request_at};
 ghost use Rattle.floor_queue.specs.steps.Lines.{AreLines};
 ghost use Rattle.floor_queue.specs.steps.Parties.{numbers_with};
 
@@ -16,7 +16,7 @@ use crate::request::{New, Request};
 use crate::requested_floor::{FloorStatus, RequestedFloor, RequestedFloors, Word};
 use crate::{addable, due, order};
 use floor_config::{Config, Floor};
-use floor_wire::Numbers;
+use floor_wire::{Numbers, Octets};
 use std::alloc::{AllocError, AllocFailed, Global};
 use std::marker::Model;
 
@@ -38,8 +38,8 @@ pub enum AddRefusal {
 /// The ongoing floor requests of one conference, by ascending number. Contracts see them with the
 /// floors of the configuration and the last number that was given.
 ///
-/// `add`, `set_floor`, `end` and `clear` change the requests, and `settle` grants those that are
-/// due: whoever changes settles before it asks for a `position`. All other calls read.
+/// `add`, `set_floor`, `set_reason`, `end` and `clear` change the requests, and `settle` grants those
+/// that are due: whoever changes settles before it asks for a `position`. All other calls read.
 #[derive(Debug, Drop)]
 pub struct Requests {
     floors: Vec<Floor>,
@@ -243,6 +243,7 @@ impl Requests {
             beneficiary: new.beneficiary,
             priority: new.priority,
             info: new.info,
+            reason: None,
             floors: RequestedFloors::from_vec(floors),
             is_granted: false,
         };
@@ -261,6 +262,20 @@ impl Requests {
     {
         self.ongoing
             .store_word(&self.floors, &mut self.lines, request, floor, word);
+    }
+
+    /// Stores why a chair decided so, in place of what one said before: `end` gives the request with
+    /// it. The request may be granted already. Takes no memory.
+    pub fn set_reason(&mut self, request: u16, reason: Octets)
+        requires ongoing { IsSome (request_at self.old.ongoing request) }
+        requires text { IsReason reason }
+        ensures next { self.new ≡ after_set_reason self.old request reason }
+        ensures still_ongoing { (other : ℕ) → IsSome (request_at self.old.ongoing other)
+            → IsSome (request_at self.new.ongoing other) }
+        ensures still { (other id : ℕ) →
+            MaySetFloor self.old other id → MaySetFloor self.new other id }
+    {
+        self.ongoing.set_reason(request, reason);
     }
 
     /// Takes a request out: it was cancelled, denied, released or revoked. Takes no memory.

@@ -2,3 +2,4 @@
 
 mod conversing;
 mod lines;
+mod reasons;

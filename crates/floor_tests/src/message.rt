@@ -4,6 +4,7 @@ mod asks;
 mod greatest;
 mod limits;
 mod payloads;
+mod reasons;
 mod shown;
 mod tells;
 mod written;

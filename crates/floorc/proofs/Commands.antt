@@ -12,7 +12,7 @@ use Rattle.floorc.specs.declared.command.LineFault.TheVariants.{BadLine, Memory}
 use Rattle.floor_message.specs.declared.ask.Ask.{Ask}
 use Rattle.floor_words.specs.Words.{words}
 use Rattle.floorc.specs.declared.command.Command.{Command}
-use Rattle.floorc.specs.Commands.{CommandFits, IsCommand, IsFitted, IsParted, Reads, Says, floor_request, is_option, numbers_of, options_of, or_bad, requested, said}
+use Rattle.floorc.specs.Commands.{CommandFits, IsCommand, IsFitted, IsParted, Reads, Says, before_text, floor_request, is_option, numbers_of, options_of, or_bad, requested, said}
 
 -- the place of the first element that passes, and the length where none does
 pub at_or_end : {X : Type 0} (p : X → Bool) (xs : List X) → unwrap_or (position p xs) (length xs) ≡ position_or_len p xs
@@ -83,20 +83,25 @@ nothing (Some y) r = elim r [ inl h ↦ cc | inr h ↦ cc ]
 nothing None r = refl
 
 -- a line that its words make bad
-pub bad_line : (line head : List ℕ) (info : Option (List ℕ)) (ws : List (List ℕ)) (fault : LineFault)
-    → IsParted line head info → ws ≡ words head → Reads (said ws info) (Err fault) → IsCommand line (Err fault)
-bad_line line head info ws Memory p e r = tt
-bad_line line head info ws BadLine p e r =
-    (None, record { head = head; info = info; parted = p; meant_is = sym (nothing (said ws info) r) ∙ ap (λ l. said l info) e }, tt)
+pub bad_line : (line head : List ℕ) (text : Option (List ℕ)) (ws : List (List ℕ)) (fault : LineFault)
+    → IsParted (before_text (words line)) line head text → ws ≡ words head → Reads (said ws text) (Err fault) → IsCommand line (Err fault)
+bad_line line head text ws Memory p e r = tt
+bad_line line head text ws BadLine p e r =
+    (None, record { head = head; text = text; parted = p; meant_is = sym (nothing (said ws text) r) ∙ ap (λ l. said l text) e }, tt)
 
 -- a line whose command fits or not
-pub fitted_line : (line head : List ℕ) (info : Option (List ℕ)) (ws : List (List ℕ)) (command : Command) (result : Result Command LineFault)
-    → IsParted line head info → ws ≡ words head → Reads (said ws info) (Ok command) → IsFitted command result → IsCommand line result
-fitted_line line head info ws command result p e r fits =
-    let says : Says line (Some command) = record { head = head; info = info; parted = p; meant_is = sym (goes (said ws info) command r) ∙ ap (λ l. said l info) e } in
+pub fitted_line : (line head : List ℕ) (text : Option (List ℕ)) (ws : List (List ℕ)) (command : Command) (result : Result Command LineFault)
+    → IsParted (before_text (words line)) line head text → ws ≡ words head → Reads (said ws text) (Ok command) → IsFitted command result → IsCommand line result
+fitted_line line head text ws command result p e r fits =
+    let says : Says line (Some command) = record { head = head; text = text; parted = p; meant_is = sym (goes (said ws text) command r) ∙ ap (λ l. said l text) e } in
     by result fits says
   where
     by : (result : Result Command LineFault) → IsFitted command result → Says line (Some command) → IsCommand line result
     by (Ok fitted) f says = let P : Command → Type 0 = λ k. Says line (Some k) × CommandFits k in subst P (sym f.0) (says, f.1)
     by (Err BadLine) f says = (Some command, says, f.1)
     by (Err Memory) f says = tt
+
+-- a line that is parted by what its first word says
+pub parted_so : (line between head : List ℕ) (text : Option (List ℕ)) (ws : List (List ℕ)) → ws ≡ words line → between ≡ before_text ws → IsParted between line head text
+    → IsParted (before_text (words line)) line head text
+parted_so line between head text ws is so p = let P : List ℕ → Type 0 = λ b. IsParted b line head text in subst P (so ∙ ap before_text is) p

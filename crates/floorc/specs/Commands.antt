@@ -61,20 +61,20 @@ user_of [] = Some None
 user_of (word ∷ []) = option_map (λ user. Some user) (number_of word)
 user_of (_ ∷ _ ∷ _) = None
 
--- a chair's word on one floor of a floor request
-abbrev pub decided : Option ℕ → Option ℕ → Option Verdict → Option Ask
-decided (Some request) (Some floor) (Some verdict) = Some (ChairAction request ((floor, verdict) ∷ []))
-decided (Some request) (Some floor) None = None
-decided (Some request) None verdict = None
-decided None floor verdict = None
+-- a chair's word on one floor of a floor request, with a reason or none
+abbrev pub decided : Option ℕ → Option ℕ → Option Verdict → Option (List ℕ) → Option Ask
+decided (Some request) (Some floor) (Some verdict) reason = Some (ChairAction request ((floor, verdict) ∷ []) reason)
+decided (Some request) (Some floor) None reason = None
+decided (Some request) None verdict reason = None
+decided None floor verdict reason = None
 
--- `chair <request> <floor> <verdict>`
-abbrev pub chair_action : List (List ℕ) → Option Ask
-chair_action [] = None
-chair_action (_ ∷ []) = None
-chair_action (_ ∷ _ ∷ []) = None
-chair_action (request ∷ floor ∷ verdict ∷ []) = decided (number_of request) (number_of floor) (verdict_of verdict)
-chair_action (_ ∷ _ ∷ _ ∷ _ ∷ _) = None
+-- `chair <request> <floor> <verdict> [reason <text>]`
+abbrev pub chair_action : List (List ℕ) → Option (List ℕ) → Option Ask
+chair_action [] reason = None
+chair_action (_ ∷ []) reason = None
+chair_action (_ ∷ _ ∷ []) reason = None
+chair_action (request ∷ floor ∷ verdict ∷ []) reason = decided (number_of request) (number_of floor) (verdict_of verdict) reason
+chair_action (_ ∷ _ ∷ _ ∷ _ ∷ _) reason = None
 
 -- one word that is a number of ten digits at most
 abbrev pub count_of : List (List ℕ) → Option ℕ
@@ -125,7 +125,6 @@ plain name ws =
     else if bytes_eq name (codes "query") then option_map (λ request. Send (FloorRequestQuery request)) (one_number ws)
     else if bytes_eq name (codes "user") then option_map (λ user. Send (UserQuery user)) (user_of ws)
     else if bytes_eq name (codes "watch") then option_map (λ floors. Send (FloorQuery floors)) (numbers_of ws)
-    else if bytes_eq name (codes "chair") then option_map Send (chair_action ws)
     else if bytes_eq name (codes "listen") then option_map Listen (count_of ws)
     else if bytes_eq name (codes "quit") then alone Quit ws
     else None
@@ -135,25 +134,31 @@ abbrev pub textless : Option (List ℕ) → Option Command → Option Command
 textless None command = command
 textless (Some text) command = None
 
--- what words and the text behind them say: a FloorRequest alone has a text
+-- what words and the text behind them say: a FloorRequest and a ChairAction alone have a text
 abbrev pub said : List (List ℕ) → Option (List ℕ) → Option Command
-said [] info = None
-said (name ∷ ws) info =
-    if bytes_eq name (codes "request") then option_map Send (floor_request ws info)
-    else textless info (plain name ws)
+said [] text = None
+said (name ∷ ws) text =
+    if bytes_eq name (codes "request") then option_map Send (floor_request ws text)
+    else if bytes_eq name (codes "chair") then option_map Send (chair_action ws text)
+    else textless text (plain name ws)
 
--- the line is what stands before its first ` info ` and the text behind that, or has none
-abbrev pub IsParted : List ℕ → List ℕ → Option (List ℕ) → Type 0
-IsParted line head None = (head ≡ line) × ((xs ys : List ℕ) → line ≢ xs ++ (codes " info " ++ ys))
-IsParted line head (Some text) = (line ≡ head ++ (codes " info " ++ text))
-    × ((xs ys : List ℕ) → line ≡ xs ++ (codes " info " ++ ys) → length head ≤ length xs)
+-- what stands before the text of a line, by its first word: ` reason ` in a chair's line, ` info ` in any other
+abbrev pub before_text : List (List ℕ) → List ℕ
+before_text [] = codes " info "
+before_text (name ∷ ws) = if bytes_eq name (codes "chair") then codes " reason " else codes " info "
+
+-- the line is what stands before the first of these bytes, and the text behind them, or has none
+abbrev pub IsParted : List ℕ → List ℕ → List ℕ → Option (List ℕ) → Type 0
+IsParted between line head None = (head ≡ line) × ((xs ys : List ℕ) → line ≢ xs ++ (between ++ ys))
+IsParted between line head (Some text) = (line ≡ head ++ (between ++ text))
+    × ((xs ys : List ℕ) → line ≡ xs ++ (between ++ ys) → length head ≤ length xs)
 
 -- the line says this, or, with None, nothing
 pub record Says (line : List ℕ) (meant : Option Command) : Type 0 where
   pub head : List ℕ
-  pub info : Option (List ℕ)
-  pub parted : IsParted line head info
-  pub meant_is : meant ≡ said (words head) info
+  pub text : Option (List ℕ)
+  pub parted : IsParted (before_text (words line)) line head text
+  pub meant_is : meant ≡ said (words head) text
 
 -- the command is what the line says, and fits a message; a bad line says nothing that does
 abbrev pub IsCommand : List ℕ → Result Command LineFault → Type 0

@@ -21,8 +21,10 @@ Lines of standard input, each with an example:
       user 11
   watch [<floor>..]                            how floors stand, and what changes
       watch 1 2
-  chair <request> <floor> <verdict>            accept, grant, deny or revoke
+  chair <request> <floor> <verdict> [reason <text>]
+                                               accept, grant, deny or revoke, and why
       chair 1 2 grant
+      chair 1 2 deny reason the agenda is full
   listen <count>                               prints so many further messages
       listen 3
   quit                                         ends

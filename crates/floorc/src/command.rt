@@ -4,7 +4,7 @@ ghost use Rattle.std.specs.Prelude.{◌≡◌, ◌^◌, ◌≤◌, [], ◌∷◌
 ghost use Rattle.std.specs.List.{position, position_or_len};
 ghost use Rattle.std.specs.Option.{option_map};
 ghost use Rattle.floor_words.specs.Words.{number};
-ghost use Rattle.floorc.specs.Commands.{CommandFits, IsCommand, IsFitted, IsParted, Reads, alone, chair_action, count_of, decided, floor_request, is_option, number_of, numbers_of, one_number, options_of, or_bad, plain, requested, said, user_of, verdict_of};
+ghost use Rattle.floorc.specs.Commands.{CommandFits, IsCommand, IsFitted, IsParted, Reads, alone, before_text, chair_action, count_of, decided, floor_request, is_option, number_of, numbers_of, one_number, options_of, or_bad, plain, requested, said, user_of, verdict_of};
 
 use floor_client::{Ask, Numbers, Octets, Verdict, Verdicts, ask_fits};
 use floor_words::{read_u16, read_u64, words};
@@ -60,20 +60,38 @@ pub fn parse_line(alloc: Global, line: &str) -> Result<Command, LineFault>
     ensures fits { IfOk result CommandFits }
     ensures value { IsCommand line.now result }
 {
-    let (head, info) = parted(line);
+    let all = words(alloc, line)?;
+    let (head, text) = parted(line, before_text(&all));
     let words = words(alloc, head)?;
-    match said(alloc, &words, info) {
+    match said(alloc, &words, text) {
         Ok(command) => fitting(command),
         Err(fault) => Err(fault),
     }
 }
 
-/// What stands before the first ` info ` of a line, and the text behind it, whose spaces part no
-/// words.
-fn parted(line: &str) -> (&str, Option<&str>)
-    ensures { IsParted line.now result.0.now (option_map (λ text. text.now) result.1) }
+/// What stands before the text of a line, by its first word.
+fn before_text(words: &[&str]) -> &'static str
+    ensures { result.now ≡ before_text (map (λ w. w.now) words.now) }
 {
-    match line.split_once(" info ") {
+    match words {
+        [name, ..] => {
+            if *name == "chair" {
+                " reason "
+            } else {
+                " info "
+            }
+        }
+        [] => " info ",
+    }
+}
+
+/// What stands before the first of these bytes in a line, and the text behind them, whose spaces
+/// part no words.
+fn parted<'a>(line: &'a str, between: &str) -> (&'a str, Option<&'a str>)
+    ensures { IsParted between.now line.now result.0.now
+        (option_map (λ text. text.now) result.1) }
+{
+    match line.split_once(between) {
         Some((head, text)) => (head, Some(text)),
         None => (line, None),
     }
@@ -89,17 +107,22 @@ fn fitting(command: Command) -> Result<Command, LineFault>
     }
 }
 
-fn said(alloc: Global, words: &[&str], info: Option<&str>) -> Result<Command, LineFault>
-    ensures { Reads (said (map (λ w. w.now) words.now) (option_map (λ text. text.now) info.entry)) result }
+fn said(alloc: Global, words: &[&str], text: Option<&str>) -> Result<Command, LineFault>
+    ensures { Reads (said (map (λ w. w.now) words.now)
+        (option_map (λ text. text.now) text.entry)) result }
 {
     let [name, words @ ..] = words else {
         return Err(LineFault::BadLine);
     };
     if *name == "request" {
-        let ask = floor_request(alloc, words, info)?;
+        let ask = floor_request(alloc, words, text)?;
         return Ok(Command::Send(ask));
     }
-    match info {
+    if *name == "chair" {
+        let ask = chair_action(alloc, words, text)?;
+        return Ok(Command::Send(ask));
+    }
+    match text {
         Some(_) => Err(LineFault::BadLine),
         None => plain(alloc, name, words),
     }
@@ -127,10 +150,6 @@ fn plain(alloc: Global, name: &str, words: &[&str]) -> Result<Command, LineFault
     if name == "watch" {
         let floors = numbers_of(alloc, words)?;
         return Ok(Command::Send(Ask::FloorQuery { floors }));
-    }
-    if name == "chair" {
-        let ask = chair_action(alloc, words)?;
-        return Ok(Command::Send(ask));
     }
     if name == "listen" {
         let count = count_of(words)?;
@@ -189,25 +208,37 @@ fn count_of(words: &[&str]) -> Result<u64, LineFault>
     }
 }
 
-/// A chair's word on one floor of a floor request.
-fn chair_action(alloc: Global, words: &[&str]) -> Result<Ask, LineFault>
-    ensures { Reads (chair_action (map (λ w. w.now) words.now)) result }
+/// A chair's word on one floor of a floor request, and the reason for it where there is one.
+fn chair_action(alloc: Global, words: &[&str], reason: Option<&str>) -> Result<Ask, LineFault>
+    ensures { Reads (chair_action (map (λ w. w.now) words.now)
+        (option_map (λ text. text.now) reason.entry)) result }
 {
     match words {
-        [request, floor, verdict] => decided(alloc, request, floor, verdict),
+        [request, floor, verdict] => decided(alloc, request, floor, verdict, reason),
         _ => Err(LineFault::BadLine),
     }
 }
 
-fn decided(alloc: Global, request: &str, floor: &str, verdict: &str) -> Result<Ask, LineFault>
+fn decided(
+    alloc: Global,
+    request: &str,
+    floor: &str,
+    verdict: &str,
+    reason: Option<&str>,
+) -> Result<Ask, LineFault>
     ensures { Reads (decided (number_of request.now) (number_of floor.now)
-        (verdict_of verdict.now)) result }
+        (verdict_of verdict.now) (option_map (λ text. text.now) reason.entry)) result }
 {
     let request = number_of(request)?;
     let floor = number_of(floor)?;
     let verdict = verdict_of(verdict)?;
     let verdicts = verdict_on(alloc, floor, verdict)?;
-    Ok(Ask::ChairAction { request, verdicts })
+    let reason = octets_of(alloc, reason)?;
+    Ok(Ask::ChairAction {
+        request,
+        verdicts,
+        reason,
+    })
 }
 
 /// A verdict on one floor.

@@ -1,11 +1,11 @@
 -- What a message comes to once it is checked, what that changes, and what it answers.
-use Rattle.std.specs.Prelude.{◌≡◌, ◌≢◌, ◌<◌, ℕ, ◌+◌, Bool, true, false, List, [], ◌∷◌, ◌++◌, length, map, Option, IsSome, IsSomeAnd, if◌then◌else◌}
+use Rattle.std.specs.Prelude.{◌≡◌, ◌≢◌, ◌<◌, ℕ, ◌+◌, Bool, true, false, List, [], ◌∷◌, ◌++◌, length, map, Option, None, IfSome, IsSome, IsSomeAnd, if◌then◌else◌}
 use Rattle.std.specs.List.{list_any, list_all}
 use Rattle.std.specs.Option.{option_map_or}
 use Rattle.floor_queue.specs.declared.request.New.{New}
 use Rattle.floor_queue.specs.declared.request.Request.{Request}
 use Rattle.floor_queue.specs.Order.{names}
-use Rattle.floor_queue.specs.Queue.{IsAddable, first_request, request_at}
+use Rattle.floor_queue.specs.Queue.{IsAddable, IsReason, first_request, request_at}
 use Rattle.floor_message.specs.declared.verdicts.Verdict.{Verdict}
 use Rattle.floor_message.specs.Ask.{Answer, ask, asks, refused, unanswered}
 use Rattle.floor_message.specs.declared.ask.Ask.{Ask}
@@ -21,7 +21,7 @@ use Rattle.floor_machine.specs.declared.member.Member.{Member}
 use Rattle.floor_machine.specs.Conference.{Conference, binding, user_of}
 use Rattle.floor_machine.specs.Shown.{entry_of}
 use Rattle.floor_machine.specs.Checks.{refusal, beneficiary_of, is_allowed}
-use Rattle.floor_machine.specs.Change.{Change, no_change, is_final, decided_at, watching}
+use Rattle.floor_machine.specs.Change.{Change, no_change, is_final, decided_at, reasoned, watching}
 use Rattle.floor_machine.specs.steps.Ending.{change_ending}
 
 -- the request that a FloorRequest of this user asks for
@@ -33,19 +33,20 @@ new_of_ask user beneficiary floors priority info =
 abbrev pub refused_by : ErrorCode → Decision
 refused_by code = record { change = to.Nothing; reply = say.Error code [] }
 
--- what verdicts on a request change: one that ends it ends it, and all others leave their words
-abbrev pub verdicts_change : ℕ → List (ℕ × Verdict) → Decided
-verdicts_change request verdicts = if list_any (λ v. is_final v.1) verdicts then to.End request Chair else to.Words request verdicts
+-- what verdicts on a request change: one that ends it ends it, and all others leave their words, each with the reason
+abbrev pub verdicts_change : ℕ → List (ℕ × Verdict) → Option (List ℕ) → Decided
+verdicts_change request verdicts reason =
+    if list_any (λ v. is_final v.1) verdicts then to.End request Chair reason else to.Words request verdicts reason
 
 -- what is asked by this user comes to this, where no check refuses it
 abbrev pub accepted : ℕ → Ask → Decision
 accepted user (FloorRequest beneficiary floors priority info) =
     record { change = to.Add (new_of_ask user beneficiary floors priority info); reply = say.Added }
-accepted user (FloorRelease request) = record { change = to.End request Participant; reply = say.Status request }
+accepted user (FloorRelease request) = record { change = to.End request Participant None; reply = say.Status request }
 accepted user (FloorRequestQuery request) = record { change = to.Nothing; reply = say.Status request }
 accepted user (UserQuery beneficiary) = record { change = to.Nothing; reply = say.User beneficiary }
 accepted user (FloorQuery floors) = record { change = to.Watch floors; reply = say.Floors floors }
-accepted user (ChairAction request verdicts) = record { change = verdicts_change request verdicts; reply = say.Ack }
+accepted user (ChairAction request verdicts reason) = record { change = verdicts_change request verdicts reason; reply = say.Ack }
 accepted user Hello = record { change = to.Nothing; reply = say.Hello }
 
 -- what is asked by this user comes to this, by the checks of its own
@@ -78,24 +79,24 @@ change_words s request verdicts = record (no_change s) { entries = map (λ r. en
 abbrev pub change_by : Conference → ℕ → Decided → Change
 change_by s n to.Nothing = no_change s
 change_by s n (to.Add new) = change_adding s new
-change_by s n (to.End request by) = change_ending s request by
-change_by s n (to.Words request verdicts) = change_words s request verdicts
+change_by s n (to.End request by reason) = change_ending (reasoned s request reason) request by
+change_by s n (to.Words request verdicts reason) = change_words (reasoned s request reason) request verdicts
 change_by s n (to.Watch floors) = record (no_change s) { members = map (watching n floors) s.members }
 
 -- it may change requests: what doesn't is told to its sender alone
 abbrev pub changes_requests : Decided → Bool
 changes_requests to.Nothing = false
 changes_requests (to.Add new) = true
-changes_requests (to.End request by) = true
-changes_requests (to.Words request verdicts) = true
+changes_requests (to.End request by reason) = true
+changes_requests (to.Words request verdicts reason) = true
 changes_requests (to.Watch floors) = false
 
 -- the members after it
 abbrev pub members_by : List Member → ℕ → Decided → List Member
 members_by members n to.Nothing = members
 members_by members n (to.Add new) = members
-members_by members n (to.End request by) = members
-members_by members n (to.Words request verdicts) = members
+members_by members n (to.End request by reason) = members
+members_by members n (to.Words request verdicts reason) = members
 members_by members n (to.Watch floors) = map (watching n floors) members
 
 -- the verdicts may be done: the request is ongoing, names each of their floors, and its state allows each
@@ -110,12 +111,13 @@ pub record HasRoom (ongoing : List Request) (given : ℕ) : Type 0 where
   pub left : given ≢ 65535
 
 -- It may be done: a request that is added may be, and there is room for it, one that ends is ongoing, and verdicts that leave words
--- may be done, and none of them ends the request.
+-- may be done, and none of them ends the request; and a reason is one.
 abbrev pub MayChange : Conference → Decided → Type 0
 MayChange s to.Nothing = Unit {0}
 MayChange s (to.Add new) = IsAddable s.config.floors new × HasRoom s.ongoing s.given
-MayChange s (to.End request by) = IsSome (request_at s.ongoing request)
-MayChange s (to.Words request verdicts) = MayDecide s.ongoing request verdicts × (list_any (λ v. is_final v.1) verdicts ≡ false)
+MayChange s (to.End request by reason) = IsSome (request_at s.ongoing request) × IfSome reason IsReason
+MayChange s (to.Words request verdicts reason) =
+    MayDecide s.ongoing request verdicts × (list_any (λ v. is_final v.1) verdicts ≡ false) × IfSome reason IsReason
 MayChange s (to.Watch floors) = Unit {0}
 
 -- an act of the administrator may be done: a request that it revokes is ongoing
@@ -131,5 +133,5 @@ MayServe s user (FloorRelease request) = IsSome (request_at s.ongoing request)
 MayServe s user (FloorRequestQuery request) = Unit {0}
 MayServe s user (UserQuery beneficiary) = Unit {0}
 MayServe s user (FloorQuery floors) = Unit {0}
-MayServe s user (ChairAction request verdicts) = MayDecide s.ongoing request verdicts
+MayServe s user (ChairAction request verdicts reason) = MayDecide s.ongoing request verdicts × IfSome reason IsReason
 MayServe s user Hello = Unit {0}

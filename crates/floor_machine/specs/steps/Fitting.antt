@@ -2,7 +2,7 @@
 use Rattle.std.specs.Prelude.{ℕ, ◌^◌, ◌<◌, ◌≤◌, List, length, All, Option, IfSome}
 use Rattle.floor_config.specs.declared.floors.Floor.{Floor}
 use Rattle.floor_queue.specs.declared.request.Request.{Request}
-use Rattle.floor_queue.specs.Queue.{IsAddable, new_of}
+use Rattle.floor_queue.specs.Queue.{IsAddable, IsReason, new_of}
 use Rattle.floor_message.specs.Shown.{IsShown}
 use Rattle.floor_machine.specs.declared.course.Ended.{Ended}
 use Rattle.floor_machine.specs.declared.decision.Reply.{Reply as Replying}
@@ -21,9 +21,15 @@ pub record HasNumbers (r : Request) : Type 0 where
   pub requester : r.requester < 2 ^ 16
   pub beneficiary : r.beneficiary < 2 ^ 16
 
--- each request that ended is one that could be added: at most 8 floors, a priority of at most 4, a text of at most 62 bytes
-abbrev pub AreAddable : List Floor → List Ended → Type 0
-AreAddable floors ended = All (λ d. IsAddable floors (new_of d.request)) ended
+-- the request is one that could be added: at most 8 floors, a priority of at most 4, a text of at most 62 bytes; and its reason,
+-- where it has one, has at most 30 bytes
+pub record IsFit (floors : List Floor) (r : Request) : Type 0 where
+  pub addable : IsAddable floors (new_of r)
+  pub reason : IfSome r.reason IsReason
+
+-- each request that ended is so
+abbrev pub AreFit : List Floor → List Ended → Type 0
+AreFit floors ended = All (λ d. IsFit floors d.request) ended
 
 -- the details of an Error are at most 252 bytes
 abbrev pub DetailsFit : Replying → Type 0

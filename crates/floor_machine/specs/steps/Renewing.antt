@@ -13,7 +13,7 @@ use Rattle.floor_machine.specs.declared.tell.renewing.Changes.{Changes}
 use Rattle.floor_machine.specs.declared.tell.changed.Update.{Update}
 use Rattle.floor_machine.specs.Shown.{info}
 use Rattle.floor_machine.specs.Same.{same_info}
-use Rattle.floor_machine.specs.steps.Fitting.{AreAddable}
+use Rattle.floor_machine.specs.steps.Fitting.{AreFit}
 use Rattle.floor_machine.specs.steps.Marks.{AreNoted}
 use Rattle.floor_machine.specs.steps.Serving.{is_rising}
 use Rattle.floor_machine.specs.steps.Telling.{infos_of, listed, update_of}
@@ -78,7 +78,7 @@ pub record IsCourse (config : Configuration) (ongoing : List Request) (shown : L
   pub rising : is_rising course.numbers.items ≡ true
   pub old : flat_map (λ n. listed (request_at requests n)) course.numbers.items ≡ requests
   pub left : flat_map (λ n. listed (left_at course.ended.items ongoing n)) course.numbers.items ≡ ongoing
-  pub addable : AreAddable config.floors course.ended.items
+  pub addable : AreFit config.floors course.ended.items
 
 -- the floors that the requests with these numbers named or name, of each that is shown otherwise than before, or no more
 abbrev pub moved : Configuration → List Request → List Ended → List Info → List ℕ → List ℕ

@@ -54,6 +54,7 @@ info_with config r status shown =
     record {
       request = r.number;
       overall = Some (status, fold max 0 (map position_shown shown));
+      reason = r.reason;
       floors = shown;
       beneficiary = Some (named config r.beneficiary);
       requester = if r.requester == r.beneficiary then None else Some (named config r.requester);

@@ -2,12 +2,13 @@
 //! (RFC 8855, sections 11.1 and 13.6).
 
 ghost use Rattle.std.specs.List.{list_all, list_any};
-ghost use Rattle.std.specs.Prelude.{◌≡◌, All, IfOk, OnOk, false, map};
+ghost use Rattle.std.specs.Prelude.{◌≡◌, All, IfOk, IfSome, OnOk, false, map};
 ghost use Rattle.floor_config.specs.Lookup.{chair_is};
 ghost use Rattle.floor_queue.specs.Order.{names};
-ghost use Rattle.floor_queue.specs.Queue.{MaySetFloor};
+ghost use Rattle.floor_queue.specs.Queue.{IsReason, MaySetFloor};
 ghost use Rattle.floor_message.specs.declared.ask.Ask.TheVariants.{ChairAction};
 ghost use Rattle.floor_machine.specs.Change as change;
+ghost use Rattle.floor_machine.specs.Change.{reasoned};
 ghost use Rattle.floor_machine.specs.Checks as checks;
 ghost use Rattle.floor_machine.specs.Checks.{chair_checks, first_of, on_request};
 ghost use Rattle.floor_machine.specs.steps.Deciding as deciding;
@@ -15,6 +16,7 @@ ghost use Rattle.floor_machine.specs.steps.Deciding.{MayDecide, asked, change_wo
 ghost use Rattle.floor_machine.specs.steps.Marks.{KeepsNoted};
 ghost use Rattle.floor_machine.specs.steps.Serving.{IsChanged, conference_of};
 
+use crate::change::reason::give_reason;
 use crate::conference::State;
 use crate::course::{Course, begin};
 use crate::decision::{Change, Decision, EndedBy, Reply};
@@ -22,11 +24,12 @@ use crate::marks::{Mark, mark_ongoing};
 use floor_config::Config;
 use floor_message::{ErrorCode, Verdict, Verdicts};
 use floor_queue::{Request, Requests, Word};
+use floor_wire::Octets;
 use std::alloc::{AllocError, Global};
 
 impl State {
     /// What a ChairAction of this user comes to: a verdict that ends the request ends it, and else
-    /// each of their floors is Accepted.
+    /// each of their floors is Accepted. Whichever it is, a reason is the request's from then on.
     #[tactic(auto, unfolding(crate::specs::Checks::refusal))]
     pub(crate) fn decide_action(
         &self,
@@ -34,13 +37,15 @@ impl State {
         user: u16,
         request: u16,
         verdicts: Verdicts,
+        reason: Option<Octets>,
     ) -> Decision
-        ensures value { result ≡ asked (conference_of self.now) user (ChairAction request verdicts) }
+        ensures value { result
+            ≡ asked (conference_of self.now) user (ChairAction request verdicts reason) }
     {
         match self.chair_refusal(user, request, verdicts.as_slice()) {
             Some(code) => Decision::refused(alloc, code),
             None => Decision {
-                change: verdicts_change(request, verdicts),
+                change: verdicts_change(request, verdicts, reason),
                 reply: Reply::Ack,
             },
         }
@@ -84,21 +89,25 @@ impl State {
         None
     }
 
-    /// The verdicts leave their words on the floors of a request, before the requests are settled.
+    /// The verdicts leave their words on the floors of a request, and their reason where the chair
+    /// gives one, before the requests are settled.
     pub(crate) fn leave_words(
         &mut self,
         alloc: Global,
         request: u16,
         verdicts: &[(u16, Verdict)],
+        reason: Option<Octets>,
     ) -> Result<Course, AllocError>
         requires decide { MayDecide self.old.requests.ongoing request verdicts.now }
         requires words { list_any (λ v. change.is_final v.1) verdicts.now ≡ false }
+        requires text { IfSome reason IsReason }
         ensures changed { IfOk result (λ course. IsChanged (conference_of self.old)
-            (change_words (conference_of self.old) request verdicts.now)
+            (change_words (reasoned (conference_of self.old) request reason) request verdicts.now)
             (conference_of self.new) course) }
         ensures before { IfOk result (λ course. course.before.items ≡ self.old.shown.items) }
     {
         let mut course = begin(alloc, &self.requests, &mut self.shown)?;
+        give_reason(&mut self.requests, &mut course.marks, request, reason)?;
         leave_words(&mut self.requests, &mut course.marks, request, verdicts)?;
         Ok(course)
     }
@@ -136,14 +145,14 @@ fn are_allowed(is_granted: bool, verdicts: &[(u16, Verdict)]) -> bool
     verdicts.iter().all(|v| is_allowed(is_granted, v.1))
 }
 
-/// What verdicts on a request change.
-fn verdicts_change(request: u16, verdicts: Verdicts) -> Change
-    ensures { result ≡ deciding.verdicts_change request verdicts }
+/// What verdicts on a request change, and the reason for them.
+fn verdicts_change(request: u16, verdicts: Verdicts, reason: Option<Octets>) -> Change
+    ensures { result ≡ deciding.verdicts_change request verdicts reason }
 {
     if has_final(verdicts.as_slice()) {
-        Change::End(request, EndedBy::Chair)
+        Change::End(request, EndedBy::Chair, reason)
     } else {
-        Change::Words(request, verdicts)
+        Change::Words(request, verdicts, reason)
     }
 }
 

@@ -1,18 +1,21 @@
 //! How a floor request ends, before the others are settled (RFC 8855, sections 10.2 and 11.1).
 
 ghost use Rattle.std.specs.Prelude.{◌≡◌, ◌++◌, ◌∷◌, [], IfOk, IfSome, IsSome, OnOk};
-ghost use Rattle.floor_queue.specs.Queue.{after_end, request_at};
+ghost use Rattle.floor_queue.specs.Queue.{IsReason, after_end, request_at};
 ghost use Rattle.floor_machine.specs.Change as change;
+ghost use Rattle.floor_machine.specs.Change.{reasoned};
 ghost use Rattle.floor_machine.specs.steps.Ending.{change_ending, ending_by};
 ghost use Rattle.floor_machine.specs.steps.Marks.{KeepsNoted};
 ghost use Rattle.floor_machine.specs.steps.Serving.{IsChanged, conference_of};
 
+use crate::change::reason::give_reason;
 use crate::conference::State;
 use crate::course::{Course, Ended, begin};
 use crate::decision::EndedBy;
 use crate::marks::{Mark, mark_request};
 use floor_message::RequestStatus;
 use floor_queue::{Request, Requests};
+use floor_wire::Octets;
 use std::alloc::{AllocError, Global};
 
 /// How a request ends that is given back.
@@ -48,20 +51,24 @@ fn ending_by(by: EndedBy, request: &Request) -> RequestStatus
 }
 
 impl State {
-    /// Begins the course of an event, and ends an ongoing request, before the others are settled.
+    /// Begins the course of an event, and ends an ongoing request, for a chair's reason where it gives
+    /// one, before the others are settled.
     pub(crate) fn end_ongoing(
         &mut self,
         alloc: Global,
         request: u16,
         by: EndedBy,
+        reason: Option<Octets>,
     ) -> Result<Course, AllocError>
-        requires { IsSome (request_at self.old.requests.ongoing request) }
+        requires ongoing { IsSome (request_at self.old.requests.ongoing request) }
+        requires text { IfSome reason IsReason }
         ensures changed { IfOk result (λ course. IsChanged (conference_of self.old)
-            (change_ending (conference_of self.old) request by)
+            (change_ending (reasoned (conference_of self.old) request reason) request by)
             (conference_of self.new) course) }
         ensures before { IfOk result (λ course. course.before.items ≡ self.old.shown.items) }
     {
         let mut course = begin(alloc, &self.requests, &mut self.shown)?;
+        give_reason(&mut self.requests, &mut course.marks, request, reason)?;
         end_request(
             &mut self.requests,
             &mut course.ended,

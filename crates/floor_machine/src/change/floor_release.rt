@@ -20,7 +20,7 @@ impl State {
         match self.release_refusal(user, request) {
             Some(code) => Decision::refused(alloc, code),
             None => Decision {
-                change: Change::End(request, EndedBy::Participant),
+                change: Change::End(request, EndedBy::Participant, None),
                 reply: Reply::Status(request),
             },
         }

@@ -3,9 +3,8 @@
 ghost use Rattle.std.specs.Prelude.{◌≡◌, All, IfOk};
 ghost use Rattle.floor_config.specs.Configuration.{user_ids};
 ghost use Rattle.floor_message.specs.Ask.{Answer, ask};
-ghost use Rattle.floor_message.specs.Fits.{AskPartsFit};
 ghost use Rattle.floor_message.specs.Head.{response_head};
-ghost use Rattle.floor_message.specs.Laws.{CountsFit};
+ghost use Rattle.floor_message.specs.Laws.{FitsButForCounts};
 ghost use Rattle.floor_message.specs.Shown.{IsShown};
 ghost use Rattle.floor_machine.specs.steps.Deciding.{MayChange, asked, decision_of};
 ghost use Rattle.floor_machine.specs.steps.Fitting.{DetailsFit};
@@ -62,7 +61,7 @@ impl State {
 
     /// What a user asks comes to.
     fn decide_ask(&self, alloc: Global, user: u16, ask: Ask) -> Result<Decision, AllocError>
-        requires { CountsFit ask → AskPartsFit ask }
+        requires { FitsButForCounts ask }
         ensures value { IfOk result (λ decision. decision
             ≡ asked (conference_of self.now) user ask) }
         ensures may { IfOk result (λ decision. MayChange (conference_of self.now) decision.change) }
@@ -87,9 +86,11 @@ impl State {
             Ask::FloorRequestQuery { request } => Ok(self.decide_query(alloc, request)),
             Ask::UserQuery { beneficiary } => Ok(self.decide_user(alloc, beneficiary)),
             Ask::FloorQuery { floors } => self.decide_floors(alloc, floors),
-            Ask::ChairAction { request, verdicts } => {
-                Ok(self.decide_action(alloc, user, request, verdicts))
-            }
+            Ask::ChairAction {
+                request,
+                verdicts,
+                reason,
+            } => Ok(self.decide_action(alloc, user, request, verdicts, reason)),
             Ask::Hello => Ok(self.decide_hello()),
         }
     }
@@ -111,12 +112,12 @@ impl State {
                 let course = self.add_request(alloc, new)?;
                 Ok(Some(course))
             }
-            Change::End(request, by) => {
-                let course = self.end_ongoing(alloc, request, by)?;
+            Change::End(request, by, reason) => {
+                let course = self.end_ongoing(alloc, request, by, reason)?;
                 Ok(Some(course))
             }
-            Change::Words(request, verdicts) => {
-                let course = self.leave_words(alloc, request, verdicts.as_slice())?;
+            Change::Words(request, verdicts, reason) => {
+                let course = self.leave_words(alloc, request, verdicts.as_slice(), reason)?;
                 Ok(Some(course))
             }
             Change::Watch(floors) => {

@@ -3,11 +3,10 @@
 ghost use Rattle.std.specs.Prelude.{◌≡◌, ◌<◌, ◌==◌, ◌^◌, [], IfOk, None, OnOk, Some, fold, if◌then◌else◌, map, max, true};
 ghost use Rattle.floor_config.specs.Configuration.{IsConfiguration};
 ghost use Rattle.floor_queue.specs.Order.{names};
-ghost use Rattle.floor_queue.specs.Queue.{IsAddable, new_of};
 ghost use Rattle.floor_message.specs.Shown.{IsShownInfo};
 ghost use Rattle.floor_machine.specs.Shown as spec;
 ghost use Rattle.floor_machine.specs.Shown.{entry_of, info, info_of, overall_status};
-ghost use Rattle.floor_machine.specs.steps.Fitting.{HasNumbers};
+ghost use Rattle.floor_machine.specs.steps.Fitting.{HasNumbers, IsFit};
 ghost use Rattle.floor_machine.specs.steps.Telling.{ended_floor_shown, entry_of_ended, info_with, position_shown};
 
 use crate::course::Ended;
@@ -239,11 +238,13 @@ fn info_with(
 {
     let beneficiary = named(alloc, config, request.beneficiary)?;
     let requester = requester_of(alloc, config, request)?;
+    let reason = copied(alloc, &request.reason)?;
     let text = copied(alloc, &request.info)?;
     let position = greatest_position(&shown);
     Ok(Info {
         request: request.number,
         overall: Some((status, position)),
+        reason,
         floors: FloorStatuses::from_vec(shown),
         beneficiary: Some(beneficiary),
         requester,
@@ -254,7 +255,7 @@ fn info_with(
 
 /// What is shown of a request that ended.
 pub(crate) fn ended_info(alloc: Global, config: &Config, ended: &Ended) -> Result<Info, AllocError>
-    requires { IsAddable config.now.floors (new_of ended.now.request) }
+    requires { IsFit config.now.floors ended.now.request }
     ensures value { IfOk result (λ shown. shown
         ≡ info_of config.now [] (entry_of_ended ended.now)) }
     ensures shown { IfOk result IsShownInfo }

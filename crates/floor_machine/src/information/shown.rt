@@ -1,10 +1,10 @@
 //! A floor request as it is shown, and whom it concerns (RFC 8855, section 12.1).
 
 ghost use Rattle.std.specs.Prelude.{◌≡◌, [], IfOk, IfSome, Some, option_map};
-ghost use Rattle.floor_queue.specs.Queue.{IsAddable, new_of, request_at};
+ghost use Rattle.floor_queue.specs.Queue.{request_at};
 ghost use Rattle.floor_message.specs.Shown.{IsShownInfo};
 ghost use Rattle.floor_machine.specs.Shown.{entry_of};
-ghost use Rattle.floor_machine.specs.steps.Fitting.{AreAddable};
+ghost use Rattle.floor_machine.specs.steps.Fitting.{AreFit, IsFit};
 ghost use Rattle.floor_machine.specs.steps.Telling as telling;
 ghost use Rattle.floor_machine.specs.steps.Telling.{entry_of_ended, shown_of};
 
@@ -36,7 +36,7 @@ impl Settled<'_> {
         ended: &[Ended],
         number: u16,
     ) -> Result<Option<Shown>, AllocError>
-        requires { AreAddable self.now.config.now.floors ended.now }
+        requires { AreFit self.now.config.now.floors ended.now }
         ensures value { IfOk result (λ shown. shown ≡ telling.shown_at self.now.config.now
             self.now.requests.now.ongoing ended.now number) }
         ensures shown { IfOk result (λ shown. IfSome shown (λ s. IsShownInfo s.info)) }
@@ -91,7 +91,7 @@ pub(crate) fn shown_ended(
     config: &Config,
     ended: &Ended,
 ) -> Result<Shown, AllocError>
-    requires { IsAddable config.now.floors (new_of ended.now.request) }
+    requires { IsFit config.now.floors ended.now.request }
     ensures value { IfOk result (λ shown. shown
         ≡ shown_of config.now [] (entry_of_ended ended.now)) }
     ensures shown { IfOk result (λ shown. IsShownInfo shown.info) }

@@ -3,11 +3,11 @@
 
 ghost use Rattle.std.specs.Prelude.{◌≡◌, ◌==◌, ◌+◌, ◌++◌, ◌∷◌, ◌≤◌, [], false, All, drop, find, length, take, IfOk, OnOk, Some, None};
 ghost use Rattle.std.specs.Option.{option_copied};
-ghost use Rattle.floor_queue.specs.Queue.{IsAddable, new_of, request_at};
+ghost use Rattle.floor_queue.specs.Queue.{request_at};
 ghost use Rattle.floor_message.specs.Shown.{IsShownInfo};
 ghost use Rattle.floor_machine.specs.Same.{same_info};
 ghost use Rattle.floor_machine.specs.Shown.{entry_of, info};
-ghost use Rattle.floor_machine.specs.steps.Fitting.{AreAddable, AreUpdatesShown};
+ghost use Rattle.floor_machine.specs.steps.Fitting.{AreFit, AreUpdatesShown, IsFit};
 ghost use Rattle.floor_machine.specs.steps.Marks.{is_marked};
 ghost use Rattle.floor_machine.specs.steps.Renewing as spec;
 ghost use Rattle.floor_machine.specs.steps.Renewing.{IsCourse, IsRenewed, info_here, left_at, now_at, request_here};
@@ -205,7 +205,7 @@ fn renew_ended(
     infos: &mut Vec<Info>,
     changes: &mut Changes,
 ) -> Result<(), AllocError>
-    requires { IsAddable config.now.floors (new_of ended.now.request) }
+    requires { IsFit config.now.floors ended.now.request }
     ensures renewed { OnOk result (IsRenewed place
         (info_here infos.old.items place ended.now.request.number) None
         (Some (shown_of config.now [] (entry_of_ended ended.now)))
@@ -230,7 +230,7 @@ fn renew_at(
     infos: &mut Vec<Info>,
     changes: &mut Changes,
 ) -> Result<usize, AllocError>
-    requires ended { AreAddable settled.now.config.now.floors course.now.ended.items }
+    requires ended { AreFit settled.now.config.now.floors course.now.ended.items }
     requires place { place ≤ length infos.old.items }
     requires here { find (λ d. d.request.number == number) course.now.ended.items ≡ None
         → request_here settled.now.requests.now.ongoing place number

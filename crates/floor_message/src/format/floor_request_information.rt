@@ -10,8 +10,10 @@ use crate::format::floor_request_status::{
     after_floor_statuses, floor_statuses_of, put_floor_statuses,
 };
 use crate::format::group::{GROUP_HEAD, LONGEST_GROUP, group, group_of};
-use crate::format::octets::{after_optional_octets, first_copied, put_octets};
-use crate::format::overall_request_status::{after_overall, overall_of, put_overall};
+use crate::format::octets::{after_optional_octets, copied, first_copied, put_octets};
+use crate::format::overall_request_status::{
+    after_overall, overall_of, overall_reason, put_overall,
+};
 use crate::format::priority::{after_priority, priority_in, put_priority};
 use crate::format::user_information::{after_who, first_who, put_who};
 use crate::information::Info;
@@ -43,6 +45,7 @@ pub(crate) fn info_of(alloc: Global, request: u16, inside: &[Attr]) -> Result<In
     Ok(Info {
         request,
         overall: overall_of(inside),
+        reason: copied(alloc, overall_reason(inside))?,
         floors: floor_statuses_of(alloc, inside)?,
         beneficiary: first_who(alloc, inside, BENEFICIARY_INFORMATION)?,
         requester: first_who(alloc, inside, REQUESTED_BY_INFORMATION)?,
@@ -72,7 +75,7 @@ pub(crate) fn info_attr(alloc: Global, info: &Info) -> Result<Attr, AllocError>
     ensures { IfOk result (λ attr. attr ≡ spec.info_attr info.now) }
 {
     let mut inside = Vec::new(alloc);
-    put_overall(alloc, &mut inside, info.request, info.overall)?;
+    put_overall(alloc, &mut inside, info.request, info.overall, &info.reason)?;
     put_floor_statuses(alloc, &mut inside, &info.floors)?;
     put_who(
         alloc,
@@ -141,7 +144,7 @@ fn after_info_parts(room: usize, info: &Info) -> Option<usize>
     requires { PriorityFits info.now }
     ensures { Leaves (spec.info_attrs info.now) room result }
 {
-    let room = after_overall(room, info.request, info.overall)?;
+    let room = after_overall(room, info.request, info.overall, &info.reason)?;
     let room = after_floor_statuses(room, info.floors.as_slice())?;
     let room = after_who(room, &info.beneficiary)?;
     let room = after_who(room, &info.requester)?;

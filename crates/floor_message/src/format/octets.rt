@@ -45,7 +45,14 @@ pub(crate) fn first_copied(
 ) -> Result<Option<Octets>, AllocError>
     ensures { IfOk result (λ octets. octets ≡ first (octet_strings kind attrs.now)) }
 {
-    match first_octets(attrs, kind) {
+    copied(alloc, first_octets(attrs, kind))
+}
+
+/// The octets, where there are any, copied.
+pub(crate) fn copied(alloc: Global, octets: Option<&[u8]>) -> Result<Option<Octets>, AllocError>
+    ensures { IfOk result (λ copy. copy ≡ option_copied octets.entry) }
+{
+    match octets {
         Some(octets) => Ok(Some(Octets::from_vec(Vec::from_slice(alloc, octets)?))),
         None => Ok(None),
     }

@@ -1,4 +1,5 @@
-//! PARTICIPANT-PROVIDED-INFO (RFC 8855, section 5.2.8).
+//! A text, kept up to a greatest length in bytes: PARTICIPANT-PROVIDED-INFO and STATUS-INFO (RFC 8855,
+//! sections 5.2.8 and 5.2.9).
 
 ghost use Rattle.std.specs.Prelude.{◌≡◌, IfOk, MatchOption, ◌↔◌, IfSome, IsTrue, option_copied, false, true};
 ghost use Rattle.std.specs.Str.{is_utf8};
@@ -9,9 +10,13 @@ ghost use Rattle.floor_wire.specs.Bytes.{IsBytes};
 use floor_wire::{Octets, a_slice_is_of_bytes};
 use std::alloc::{AllocError, Global};
 
-/// The most bytes of a text that are kept. Our choice: with it a FLOOR-REQUEST-INFORMATION of eight
-/// floors fits its Length.
-const LONGEST_TEXT: usize = 62;
+/// The most bytes of a PARTICIPANT-PROVIDED-INFO that are kept. Our choice: with it and the longest
+/// reason a FLOOR-REQUEST-INFORMATION of eight floors fits its Length.
+pub(crate) const LONGEST_INFO: usize = 62;
+
+/// The most bytes of a reason that are kept. Our choice: with it and the longest
+/// PARTICIPANT-PROVIDED-INFO a FLOOR-REQUEST-INFORMATION of eight floors fits its Length.
+pub(crate) const LONGEST_REASON: usize = 30;
 
 /// The text, where the bytes are UTF-8.
 fn text_of(bytes: &[u8]) -> Option<&str>
@@ -24,19 +29,20 @@ fn text_of(bytes: &[u8]) -> Option<&str>
     }
 }
 
-fn shortened(text: &str) -> &[u8]
-    ensures { result.now ≡ spec.shortened text.now }
+fn shortened(text: &str, most: usize) -> &[u8]
+    ensures { result.now ≡ spec.shortened most text.now }
 {
-    let end = text.floor_char_boundary(LONGEST_TEXT);
+    let end = text.floor_char_boundary(most);
     &text.as_bytes()[..end]
 }
 
-/// The text as it is kept, where there is one; None where it isn't UTF-8.
-pub(crate) fn info_kept(
+/// The text as it is kept, at most so many bytes, where there is one; None where it isn't UTF-8.
+pub(crate) fn text_kept(
     alloc: Global,
     octets: Option<&[u8]>,
+    most: usize,
 ) -> Result<Option<Option<Octets>>, AllocError>
-    ensures { IfOk result (λ kept. kept ≡ spec.info_kept (option_copied octets.entry)) }
+    ensures { IfOk result (λ kept. kept ≡ spec.text_kept most (option_copied octets.entry)) }
 {
     let Some(bytes) = octets else {
         return Ok(Some(None));
@@ -44,7 +50,7 @@ pub(crate) fn info_kept(
     let Some(text) = text_of(bytes) else {
         return Ok(None);
     };
-    let kept = shortened(text);
+    let kept = shortened(text, most);
     if kept.is_empty() {
         return Ok(Some(None));
     }
@@ -52,23 +58,23 @@ pub(crate) fn info_kept(
     Ok(Some(Some(Octets::from_vec(kept))))
 }
 
-/// Whether the text, where there is one, is UTF-8 of 1 to 62 bytes.
-pub(crate) fn info_fits(info: &Option<Octets>) -> bool
-    ensures value { IsTrue result ↔ IfSome info.now TextFits }
-    ensures bytes { IsTrue result → IfSome info.now IsBytes }
+/// Whether the text, where there is one, is UTF-8 of at least one byte, and at most so many.
+pub(crate) fn optional_text_fits(text: &Option<Octets>, most: usize) -> bool
+    ensures value { IsTrue result ↔ IfSome text.now (TextFits most) }
+    ensures bytes { IsTrue result → IfSome text.now IsBytes }
 {
-    match info {
-        Some(text) => text_fits(text.as_slice()),
+    match text {
+        Some(text) => text_fits(text.as_slice(), most),
         None => true,
     }
 }
 
-fn text_fits(text: &[u8]) -> bool
-    ensures value { IsTrue result ↔ TextFits text.now }
+fn text_fits(text: &[u8], most: usize) -> bool
+    ensures value { IsTrue result ↔ TextFits most text.now }
     ensures bytes { IsBytes text.now }
 {
     a_slice_is_of_bytes(text);
-    !text.is_empty() && text.len() <= LONGEST_TEXT && is_utf8(text)
+    !text.is_empty() && text.len() <= most && is_utf8(text)
 }
 
 fn is_utf8(bytes: &[u8]) -> bool

@@ -1,27 +1,34 @@
 //! The verdicts of a ChairAction: a FLOOR-REQUEST-INFORMATION with a FLOOR-REQUEST-STATUS for each
-//! floor (RFC 8855, sections 5.2.15, 5.2.17 and 5.3.9).
+//! floor, behind the reason for them (RFC 8855, sections 5.2.15, 5.2.17 and 5.3.9).
 
-ghost use Rattle.std.specs.Prelude.{◌≡◌, ◌<◌, ◌*◌, ◌^◌, ◌==◌, ◌↔◌, option_and_then, option_map, map, IfOk, IsTrue, OnOk};
+ghost use Rattle.std.specs.Prelude.{◌≡◌, ◌<◌, ◌*◌, ◌^◌, ◌==◌, ◌↔◌, option_and_then, option_map, map, IfOk, IfSome, IsTrue, OnOk};
 ghost use Rattle.std.specs.List.{list_any};
 ghost use Rattle.floor_message.specs.Fields.{fields, floors_judged, given, status_for, verdict_of};
-ghost use Rattle.floor_message.specs.Fits.{VerdictsFit};
+ghost use Rattle.floor_message.specs.Fits.{ChairActionFits, VerdictsFit, most_verdicts};
 ghost use Rattle.floor_message.specs.Picked.{IsOnceBy};
 ghost use Rattle.floor_message.specs.Room.{FitsRoom};
 ghost use Rattle.floor_message.specs.Written as spec;
 ghost use Rattle.floor_message.specs.declared.primitive.Primitive.TheVariants as primitive;
 ghost use Rattle.floor_message.specs.steps.Adding.{add_new};
+ghost use Rattle.floor_wire.specs.Bytes.{IsBytes};
 
 use crate::ask::Ask;
 use crate::format::group::{first_group, group, group_of};
-use crate::format::overall_request_status::overall_status;
+use crate::format::overall_request_status::{overall_status, put_overall};
 use crate::format::request_status::{status_attr, status_in};
+use crate::format::status_info::reason_kept;
+use crate::format::text::{LONGEST_REASON, optional_text_fits};
 use crate::kind::{FLOOR_REQUEST_INFORMATION, FLOOR_REQUEST_STATUS};
 use crate::verdicts::{Verdict, Verdicts};
-use floor_wire::Attr;
+use floor_wire::{Attr, Octets};
 use std::alloc::{AllocError, Global};
 
-/// The most verdicts of a ChairAction: with them its group fits its Length.
+/// The most verdicts of a ChairAction without a reason: with them its group fits its Length.
 const MOST_VERDICTS: usize = 31;
+
+/// The most verdicts of a ChairAction with a reason: with them and the longest its group fits its
+/// Length.
+const MOST_VERDICTS_BESIDE_A_REASON: usize = 26;
 
 /// What a ChairAction asks.
 pub(crate) fn chair_action(alloc: Global, attrs: &[Attr]) -> Result<Option<Ask>, AllocError>
@@ -37,9 +44,13 @@ pub(crate) fn chair_action(alloc: Global, attrs: &[Attr]) -> Result<Option<Ask>,
     if verdicts.is_empty() {
         return Ok(None);
     }
+    let Some(reason) = reason_kept(alloc, inside)? else {
+        return Ok(None);
+    };
     Ok(Some(Ask::ChairAction {
         request,
         verdicts: Verdicts::from_vec(verdicts),
+        reason,
     }))
 }
 
@@ -120,14 +131,16 @@ pub(crate) fn chair_action_attrs(
     alloc: Global,
     request: u16,
     verdicts: &[(u16, Verdict)],
+    reason: &Option<Octets>,
 ) -> Result<Vec<Attr>, AllocError>
-    requires { VerdictsFit verdicts.now }
+    requires { ChairActionFits verdicts.now reason.now }
     ensures value { IfOk result (λ attrs. attrs.items
-        ≡ spec.ask_attrs (Ask.ChairAction request verdicts.now)) }
+        ≡ spec.ask_attrs (Ask.ChairAction request verdicts.now reason.now)) }
     ensures fits { IfOk result (λ _. FitsRoom
-        (spec.ask_attrs (Ask.ChairAction request verdicts.now)) (4 * 65535)) }
+        (spec.ask_attrs (Ask.ChairAction request verdicts.now reason.now)) (4 * 65535)) }
 {
     let mut inside = Vec::new(alloc);
+    put_overall(alloc, &mut inside, request, None, reason)?;
     for (floor, verdict) in verdicts {
         inside.push(verdict_attr(alloc, *floor, *verdict)?)?;
     }
@@ -156,11 +169,29 @@ fn status_of(verdict: Verdict) -> u8
     }
 }
 
-/// Whether there are 1 to 31 verdicts, each on a floor of its own.
-pub(crate) fn verdicts_fit(verdicts: &[(u16, Verdict)]) -> bool
-    ensures { IsTrue result ↔ VerdictsFit verdicts.now }
+/// Whether the verdicts and the reason can be written: 1 to 31 verdicts, or to 26 beside a reason,
+/// each on a floor of its own, and a reason, where there is one, that is UTF-8 of 1 to 30 bytes.
+pub(crate) fn chair_action_fits(verdicts: &[(u16, Verdict)], reason: &Option<Octets>) -> bool
+    ensures value { IsTrue result ↔ ChairActionFits verdicts.now reason.now }
+    ensures bytes { IsTrue result → IfSome reason.now IsBytes }
 {
-    !verdicts.is_empty() && verdicts.len() <= MOST_VERDICTS && is_each_judged_once(verdicts)
+    verdicts_fit(verdicts, most_verdicts(reason)) && optional_text_fits(reason, LONGEST_REASON)
+}
+
+fn most_verdicts(reason: &Option<Octets>) -> usize
+    ensures { result ≡ most_verdicts reason.now }
+{
+    match reason {
+        Some(_) => MOST_VERDICTS_BESIDE_A_REASON,
+        None => MOST_VERDICTS,
+    }
+}
+
+/// Whether there is a verdict, and at most so many, each on a floor of its own.
+fn verdicts_fit(verdicts: &[(u16, Verdict)], most: usize) -> bool
+    ensures { IsTrue result ↔ VerdictsFit most verdicts.now }
+{
+    !verdicts.is_empty() && verdicts.len() <= most && is_each_judged_once(verdicts)
 }
 
 /// Whether no floor stands twice.

@@ -70,12 +70,13 @@ const LINES: &str =
 
 #[test]
 fn a_message_is_a_line(rt: HostRuntime) {
-    assert_told(&rt, told_of_lines(rt.alloc()), "57 cases");
+    assert_told(&rt, told_of_lines(rt.alloc(), LINES), "57 cases");
 }
 
-fn told_of_lines(alloc: Global) -> Result<String, AllocError> {
+/// Which of the notices are other lines than these.
+pub fn told_of_lines(alloc: Global, lines: &str) -> Result<String, AllocError> {
     let mut client = Client::new(alloc, 1, 10);
-    differing(alloc, LINES, "\n", "=", |alloc, case| {
+    differing(alloc, lines, "\n", "=", |alloc, case| {
         line_of(alloc, &mut client, case)
     })
 }

@@ -273,23 +273,23 @@ fn attributes_are_read_as_fields(rt: HostRuntime) {
 const VERDICTS: &str = "\
 a verdict on one floor
 > 20090003 00000001 0001 000a 1e0c0001 22080004 0a040300
-< ChairAction { request: 1, verdicts: Verdicts { items: [(4, Granted)] } }
+< ChairAction { request: 1, verdicts: Verdicts { items: [(4, Granted)] }, reason: None }
 
 the verdict in the overall status alone
 > 20090004 00000001 0002 000a 1e100001 24080001 0a040300 22040004
-< ChairAction { request: 1, verdicts: Verdicts { items: [(4, Granted)] } }
+< ChairAction { request: 1, verdicts: Verdicts { items: [(4, Granted)] }, reason: None }
 
 a floor's own status before the overall one, with queue positions
 > 20090006 00000001 0002 000a 1e180001 22080004 0a0402ff 24080001 0a040409 22040005
-< ChairAction { request: 1, verdicts: Verdicts { items: [(4, Accepted), (5, Denied)] } }
+< ChairAction { request: 1, verdicts: Verdicts { items: [(4, Accepted), (5, Denied)] }, reason: None }
 
 a floor twice, the second with no status that tells a verdict
 > 20090005 00000001 0002 000a 1e140001 22080004 0a040700 22080004 0a040100
-< ChairAction { request: 1, verdicts: Verdicts { items: [(4, Revoked)] } }
+< ChairAction { request: 1, verdicts: Verdicts { items: [(4, Revoked)] }, reason: None }
 
 an overall status that no floor needs and that tells no verdict
 > 20090005 00000001 0002 000a 1e140001 24080001 0a040600 22080004 0a040400
-< ChairAction { request: 1, verdicts: Verdicts { items: [(4, Denied)] } }
+< ChairAction { request: 1, verdicts: Verdicts { items: [(4, Denied)] }, reason: None }
 
 a first overall status without a status in front of another
 > 20090005 00000001 0002 000a 1e140001 24040001 24080001 0a040300 22040004
@@ -355,10 +355,11 @@ fn each_primitive_is_served_unknown_or_left_unanswered(rt: HostRuntime) {
 #[test]
 fn four_statuses_are_verdicts(rt: HostRuntime) {
     let text = "20090003 00000001 0001 000a 1e0c0001 22080004 0a040000";
-    let wanted = "2 ChairAction { request: 1, verdicts: Verdicts { items: [(4, Accepted)] } }; \
-        3 ChairAction { request: 1, verdicts: Verdicts { items: [(4, Granted)] } }; \
-        4 ChairAction { request: 1, verdicts: Verdicts { items: [(4, Denied)] } }; \
-        7 ChairAction { request: 1, verdicts: Verdicts { items: [(4, Revoked)] } }; 252 others";
+    let wanted =
+        "2 ChairAction { request: 1, verdicts: Verdicts { items: [(4, Accepted)] }, reason: None }; \
+        3 ChairAction { request: 1, verdicts: Verdicts { items: [(4, Granted)] }, reason: None }; \
+        4 ChairAction { request: 1, verdicts: Verdicts { items: [(4, Denied)] }, reason: None }; \
+        7 ChairAction { request: 1, verdicts: Verdicts { items: [(4, Revoked)] }, reason: None }; 252 others";
     let told = answers_at(rt.alloc(), text, 22, "UnableToParseMessage []");
     assert_told(&rt, told, wanted);
 }

@@ -62,10 +62,15 @@ fn ask_text(alloc: Global, ask: &Ask) -> Result<String, AllocError> {
             let (count, last) = (floors.len(), floors.last());
             format!(in alloc; "FloorQuery {count} {last:?}")
         }
-        Ask::ChairAction { request, verdicts } => {
+        Ask::ChairAction {
+            request,
+            verdicts,
+            reason,
+        } => {
             let verdicts = verdicts.as_slice();
             let (count, last) = (verdicts.len(), verdicts.last());
-            format!(in alloc; "ChairAction {request} {count} {last:?}")
+            let text = len_of(reason);
+            format!(in alloc; "ChairAction {request} {count} {last:?} {text}")
         }
         ask => format!(in alloc; "{ask:?}"),
     }
@@ -122,15 +127,23 @@ the longest text, behind all other attributes
 
 a group that ends with the message, and judges as many floors as it holds
 > 9: 65472 x 28040000, 1 x 1efc0007 24080007 0a040200, 60 x 2204#
-< ChairAction 7 60 Some((59, Accepted))
+< ChairAction 7 60 Some((59, Accepted)) 0
 
 the most verdicts that are written, behind byte 65,535
 > 9: 16384 x 28040000, 1 x 1efc0007, 31 x 2208#0a040700
-< ChairAction 7 31 Some((30, Revoked)); written in 63 units
+< ChairAction 7 31 Some((30, Revoked)) 0; written in 63 units
 
 the most verdicts
 > 9: 1 x 1efc0007, 31 x 2208#0a040700
-< ChairAction 7 31 Some((30, Revoked)); written in 63 units, the same
+< ChairAction 7 31 Some((30, Revoked)) 0; written in 63 units, the same
+
+the most verdicts with a reason, and the longest reason
+> 9: 1 x 1ef80007 24240007 1220, 30 x 61, 26 x 2208#0a040700
+< ChairAction 7 26 Some((25, Revoked)) 30; written in 62 units, the same
+
+a verdict more with a reason
+> 9: 1 x 1ee40007 24080007 1203 6100, 27 x 2208#0a040700
+< ChairAction 7 27 Some((26, Revoked)) 1
 
 62 floors without a verdict
 > 9: 1 x 1efc0007, 62 x 2204#

@@ -11,7 +11,7 @@ use std::alloc::{AllocError, Global};
 
 /// Each line: its name and the ask: a FloorRequest for the floors below a number, with a priority and
 /// a text in pieces; a FloorQuery for floors; a ChairAction with a verdict on each floor below a
-/// number, and on another. Behind `=>` whether it fits.
+/// number, and on another, and a reason in pieces. Behind `=>` whether it fits.
 const ASKS: &str = "\
 no floor | FloorRequest | 0 | 2 => false
 priority 4 | FloorRequest | 1 | 4 => true
@@ -27,12 +27,18 @@ three floors | FloorQuery | 2 1 3 => true
 no verdict | ChairAction | 0 | - => false
 31 verdicts | ChairAction | 30 | 99 => true
 32 verdicts | ChairAction | 31 | 99 => false
-a verdict on a floor twice | ChairAction | 2 | 0 => false";
+a verdict on a floor twice | ChairAction | 2 | 0 => false
+26 verdicts and a reason | ChairAction | 26 | - | 30 x 61 => true
+27 verdicts and a reason | ChairAction | 27 | - | 1 x 61 => false
+an empty reason | ChairAction | 1 | - | 0 x 61 => false
+a reason of 30 bytes | ChairAction | 1 | - | 28 x 61, c3a9 => true
+a reason of 31 bytes | ChairAction | 1 | - | 29 x 61, c3a9 => false
+half a character as a reason | ChairAction | 1 | - | 61 c3 => false";
 
 #[test]
 fn an_ask_fits_up_to_its_limits(rt: HostRuntime) {
     let told = differing(rt.alloc(), ASKS, "\n", " => ", does_ask_fit);
-    assert_told(&rt, told, "15 cases");
+    assert_told(&rt, told, "21 cases");
 }
 
 fn does_ask_fit(alloc: Global, case: &str) -> Result<String, AllocError> {
@@ -49,16 +55,20 @@ fn floor_request(alloc: Global, case: &str) -> Result<Ask, AllocError> {
     for floor in 0..number(part(case, 2)) {
         floors.push(floor)?;
     }
-    let info = match part(case, 4) {
-        "" => None,
-        pieces => Some(Octets::from_vec(payload(alloc, pieces)?)),
-    };
     Ok(Ask::FloorRequest {
         beneficiary: None,
         floors: Numbers::from_vec(floors),
         priority: byte(part(case, 3)),
-        info,
+        info: text(alloc, part(case, 4))?,
     })
+}
+
+/// The text in pieces, where there are any.
+fn text(alloc: Global, pieces: &str) -> Result<Option<Octets>, AllocError> {
+    match pieces {
+        "" => Ok(None),
+        pieces => Ok(Some(Octets::from_vec(payload(alloc, pieces)?))),
+    }
 }
 
 /// The number of at most 255 that a word writes.
@@ -87,6 +97,7 @@ fn chair_action(alloc: Global, case: &str) -> Result<Ask, AllocError> {
     Ok(Ask::ChairAction {
         request: 1,
         verdicts: Verdicts::from_vec(verdicts),
+        reason: text(alloc, part(case, 4))?,
     })
 }
 
@@ -160,6 +171,7 @@ fn info(alloc: Global, priority: Option<u8>, floors: u16) -> Result<Info, AllocE
     Ok(Info {
         request: 1,
         overall: None,
+        reason: None,
         floors: FloorStatuses::from_vec(named),
         beneficiary: None,
         requester: None,

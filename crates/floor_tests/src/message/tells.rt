@@ -142,6 +142,7 @@ fn push_granted(alloc: Global, told: &mut String) -> Result<(), AllocError> {
     let info = Info {
         request: 1,
         overall: Some((3, 0)),
+        reason: None,
         floors: FloorStatuses::from_vec(floors),
         beneficiary: Some(Who {
             user: 10,
@@ -181,7 +182,7 @@ const FIELDS: &str = "\
 attributes in any order, the first of each, and some that don't belong
 > 2004000c 00000001 0000 000b 04040007 1e240001 0804a000 08040000 1c04000b 1c04000c \
     22040002 24040001 24080001 0a040300 1e040002 28040000
-< FloorRequestStatus { info: Info { request: 1, overall: None, floors: FloorStatuses { \
+< FloorRequestStatus { info: Info { request: 1, overall: None, reason: None, floors: FloorStatuses { \
     items: [(2, None)] }, beneficiary: Some(Who { user: 11, name: None, uri: None }), \
     requester: None, priority: Some(4), info: None } }
 

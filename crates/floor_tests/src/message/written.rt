@@ -100,6 +100,7 @@ fn chair_action(alloc: Global) -> Result<String, AllocError> {
     let ask = Ask::ChairAction {
         request: 1,
         verdicts: Verdicts::from_vec(Vec::from_slice(alloc, &verdicts)?),
+        reason: None,
     };
     let mut told = String::new(alloc);
     push_written(alloc, &mut told, &ask)?;

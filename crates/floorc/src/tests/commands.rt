@@ -105,6 +105,20 @@ chair 65536 1 grant|error
 chair 1 65536 grant|error
 chair 0 65535 accept|20090003 1e0c0000 2208ffff 0a040200
 chair 1 2 GRANT|error
+chair 1 4 deny reason No|20090005 1e140001 24080001 1204 4e6f 22080004 0a040400
+chair 1 4 deny reason see info x|20090007 1e1c0001 24100001 120c 7365 6520696e 666f2078 22080004 0a040400
+chair 1 4 deny reason see reason x|20090008 1e200001 24140001 120e 7365652072 6561736f 6e2078 0000 22080004 0a040400
+chair 1 4 deny reason 123456789012345678901234567890|2009000c 1e300001 24240001 1220 313233343536373839303132333435363738393031323334353637383930 22080004 0a040400
+chair 1 4 deny reason 1234567890123456789012345678901|error
+chair 1 4 deny reason|error
+chair 1 4 deny reason |error
+chair 1 4 reason x|error
+chair reason x|error
+chair 1 4 deny reasons x|error
+chair 1 4 deny info x|error
+request 4 info the reason is x|20010007 04040004 1011 746865 20726561 736f6e20 69732078 000000 08044000
+request 4 reason x|error
+release 1 reason x|error
 listen 0|listen 0
 listen 9999999999|listen 9999999999
 listen 0000000001|listen 1
@@ -137,7 +151,7 @@ fn a_line_sends_its_message(rt: HostRuntime) -> Result<(), Fail> {
         assert_eq!(rt; found.as_str(), wanted.as_str(), "{line}");
         rows = rows.saturating_add(1);
     }
-    assert_eq!(rt; rows, 107);
+    assert_eq!(rt; rows, 121);
     Ok(())
 }
 

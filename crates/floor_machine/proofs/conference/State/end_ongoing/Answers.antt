@@ -1,22 +1,40 @@
-use Rattle.std.proofs.Common.{refl, sym, subst}
-use Rattle.floor_queue.specs.Queue.{Queue}
+use Rattle.std.proofs.Common.{◌∙◌, refl, sym, subst, ap}
+use Rattle.std.specs.Prelude.{◌≡◌, ◌++◌, ◌∷◌, [], IfSome, IsSome}
+use Rattle.floor_queue.specs.Queue.{Queue, after_end, request_at}
 use Rattle.floor_machine.specs.declared.course.Course.{Course}
 use Rattle.floor_machine.specs.declared.conference.State.{State}
-use Rattle.floor_machine.specs.Change.{no_change}
+use Rattle.floor_machine.specs.Conference.{Conference}
+use Rattle.floor_machine.specs.Change.{no_change, reasoned, reasoned_among}
 use Rattle.floor_machine.specs.steps.Ending.{change_ending, ending_by}
 use Rattle.floor_machine.specs.steps.Marks.{AreNoted}
 use Rattle.floor_machine.specs.steps.Serving.{IsChanged, conference_of, with_requests}
-use Rattle.floor_machine.proofs.Asked.{begun, changed-end}
+use Rattle.floor_machine.proofs.Asked.{begun, begun-reasoned, changed-end}
+use Rattle.floor_machine.proofs.Reasoned.{ascending-reasoned}
 use Rattle.floor_machine.proofs.conference.State.end_ongoing.Goals as goal
 
 pub returns-clause-changed : goal.returns-clause-changed
 returns-clause-changed c =
     let s : State = c.args.self.now in
+    let S : Conference = conference_of s in
+    let request = c.args.request in
+    let reason = c.args.reason in
+    let q : Queue = record s.requests { ongoing = reasoned_among request reason s.requests.ongoing } in
     let course = c.in_ok-course.course in
-    let begins : IsChanged (conference_of s) (no_change (conference_of s)) (conference_of s) course = begun (conference_of s) c.in_ok-course.course c.in_ok-course.ensures.queue.ascending c.in_ok-course.ensures.numbers c.in_ok-course.ensures.ended in
+    let begins : IsChanged S (no_change S) S course = begun S course c.in_ok-course.ensures.queue.ascending c.in_ok-course.ensures.numbers c.in_ok-course.ensures.ended in
+    let given = c.in_ok-give_reason.ensures in
+    let reasons : Course = record course { marks = c.give_reason.new.marks } in
+    let G : Queue → Type 0 = λ x. AreNoted s.config.floors s.requests.ongoing x.ongoing c.give_reason.new.marks.items in
+    let noted = subst G given.next (given.noted s.config.floors s.requests.ongoing begins.noted) in
+    let told : IsChanged S (no_change (reasoned S request reason)) (reasoned S request reason) reasons =
+    begun-reasoned S course reasons request reason c.in_ok-course.ensures.queue.ascending begins refl refl noted in
     let done = c.in_ok-end_request.ensures in
     let after : Course = record course { ended = c.end_request.new.ended; marks = c.end_request.new.marks } in
-    let Q : Queue → Type 0 = λ q. IsChanged (conference_of s) (change_ending (conference_of s) c.args.request c.args.by) (with_requests (conference_of s) q) after in
-    let N : Queue → Type 0 = λ q. AreNoted s.config.floors s.requests.ongoing q.ongoing c.end_request.new.marks.items in
-    subst Q (sym done.next)
-    (changed-end s (ending_by c.args.by) course after c.args.request c.in_ok-course.ensures.queue begins c.requires done.ended refl (subst N done.next (done.noted s.config.floors s.requests.ongoing begins.noted)))
+    let left : c.end_request.new.requests ≡ after_end q request = done.next ∙ ap (λ (x : Queue). after_end x request) given.next in
+    let Q : Queue → Type 0 = λ x. IsChanged S (change_ending (reasoned S request reason) request c.args.by) (with_requests S x) after in
+    let N : Queue → Type 0 = λ x. AreNoted s.config.floors s.requests.ongoing x.ongoing c.end_request.new.marks.items in
+    let E : Queue → Type 0 = λ x. IfSome (request_at x.ongoing request) (λ r. c.end_request.new.ended.items ≡ course.ended.items ++ record { request = r; ending = ending_by c.args.by r } ∷ []) in
+    let I : Queue → Type 0 = λ x. IsSome (request_at x.ongoing request) in
+    subst Q (sym left)
+    (changed-end S (reasoned S request reason) (ending_by c.args.by) reasons after request
+    (ascending-reasoned request reason s.requests.ongoing ∙ c.in_ok-course.ensures.queue.ascending) told (subst I given.next given.still_ongoing) (subst E given.next done.ended) refl
+    (subst N left (done.noted s.config.floors s.requests.ongoing (given.noted s.config.floors s.requests.ongoing begins.noted))))

@@ -15,7 +15,7 @@ use Rattle.floor_machine.specs.Parcel.{Parcel}
 use Rattle.floor_machine.specs.Conference.{Conference, binding, user_of}
 use Rattle.floor_machine.specs.Change.{change, settled}
 use Rattle.floor_machine.specs.Told.{reply_to}
-use Rattle.floor_machine.specs.steps.Fitting.{AreAddable, AreUpdatesShown}
+use Rattle.floor_machine.specs.steps.Fitting.{AreFit, AreUpdatesShown}
 use Rattle.floor_machine.specs.steps.Deciding.{change_by, decision_of}
 use Rattle.floor_machine.specs.steps.Serving.{IsChanged, IsTaken, conference_of, is_rising, tells_by, with_requests}
 use Rattle.floor_machine.specs.steps.Telling.{answered_to, floors_changed, parcels_to_all}
@@ -42,7 +42,7 @@ settle-requires-clause-course c =
     let taken : IsTaken S n j.change before (Some course) = subst T c.in-Some.is c.in_ok-course.ensures.taken in
     let changed : IsChanged s (change_by s n j.change) (conference_of before) course = taken.0 in
     course-changed s (conference_of before) (change_by s n j.change) course changed (taken.1 ∙ c.requires.rest.shows.infos)
-    (decided_addable s (conference_of before) n j.change course (queue_addable S c.ongoing-ongoing.ensures.kept) changed)
+    (decided_addable s (conference_of before) n j.change course c.in_ok-decision.ensures.may (queue_addable S c.ongoing-ongoing.ensures.kept) changed)
 
 pub invariant_of-outcome : goal.invariant_of-outcome
 invariant_of-outcome c =
@@ -54,12 +54,12 @@ invariant_of-outcome c =
     let before : State = c.change.new.self in
     let T : Option Course → Type 0 = λ o. IsTaken S n j.change before o in
     let taken : IsTaken S n j.change before (Some course) = subst T c.in-Some.is c.in_ok-course.ensures.taken in
-    let P : List Ended → Type 0 = λ ended. AreAddable before.config.floors ended in
-    let F : List Floor → Type 0 = λ fs. AreAddable fs c.deref.result.now in (
+    let P : List Ended → Type 0 = λ ended. AreFit before.config.floors ended in
+    let F : List Floor → Type 0 = λ fs. AreFit fs c.deref.result.now in (
       c.in_ok-changes-in-Some.ensures.rest,
       subst F (sym (ap (λ (x : Conference). x.config.floors) c.in_ok-changes-in-Some.ensures.next))
           (subst P (sym (c.deref.ensures.value ∙ ap (λ x. x.items) c.settle.ensures.ended))
-          (decided_addable s (conference_of before) n j.change course (queue_addable S c.ongoing-ongoing.ensures.kept) taken.0)),
+          (decided_addable s (conference_of before) n j.change course c.in_ok-decision.ensures.may (queue_addable S c.ongoing-ongoing.ensures.kept) taken.0)),
     )
 
 pub returns-in_ok-reply-in-Some-clause-next : goal.returns-in_ok-reply-in-Some-clause-next

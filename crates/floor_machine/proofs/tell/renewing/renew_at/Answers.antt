@@ -1,9 +1,9 @@
 use Rattle.std.proofs.Common.{◌+◌, List, length, sym, ap, ◌∙◌}
 use Rattle.std.specs.Prelude.{◌==◌, find}
-use Rattle.floor_queue.specs.Queue.{IsAddable, new_of}
 use Rattle.floor_machine.specs.declared.course.Ended.{Ended}
 use Rattle.floor_machine.specs.steps.Renewing.{info_here}
 use Rattle.floor_machine.specs.steps.Telling.{listed}
+use Rattle.floor_machine.specs.steps.Fitting.{IsFit}
 use Rattle.floor_machine.proofs.Fitting.{found_all}
 use Rattle.floor_machine.proofs.Renewed.{fit-taken, renewed-ended}
 use Rattle.floor_machine.proofs.tell.renewing.renew_at.Goals as goal
@@ -11,7 +11,7 @@ use Rattle.floor_machine.proofs.tell.renewing.renew_at.Goals as goal
 pub renew_ended-requires : goal.renew_ended-requires
 renew_ended-requires c =
     let ended = c.args.course.now.ended.items in
-    found_all (λ (d : Ended). IsAddable c.args.settled.now.config.now.floors (new_of d.request)) (λ d. d.request.number == c.args.number) ended c.in-Some.ended.now c.requires.ended
+    found_all (λ (d : Ended). IsFit c.args.settled.now.config.now.floors d.request) (λ d. d.request.number == c.args.number) ended c.in-Some.ended.now c.requires.ended
     (ap (λ (ds : List Ended). find (λ d. d.request.number == c.args.number) ds) (sym c.deref.ensures.value) ∙ sym c.in-Some.ensures)
 
 pub returns-in_ok-renew_ended-in-Some-clause-renewed : goal.returns-in_ok-renew_ended-in-Some-clause-renewed

@@ -1,12 +1,12 @@
 use Rattle.std.proofs.Common.{arith, refl, map, List}
 use Rattle.floor_wire.specs.declared.attribute.Attr.{Attr}
-use Rattle.floor_message.specs.Written.{optional, overall_attr, floor_attr, who_attr, priority_attr, octets, info_attrs}
+use Rattle.floor_message.specs.Written.{optional, overall_attrs, floor_attr, who_attr, priority_attr, octets, info_attrs}
 use Rattle.floor_message.proofs.Rooms.{leaves_told, stopped_2, stopped_3, stopped_4, stopped_5, six_leave}
 use Rattle.floor_message.specs.declared.information.Info.{Info}
 use Rattle.floor_message.proofs.format.floor_request_information.after_info_parts.Goals as goal
 
 abbrev overall : Info → List Attr
-overall i = optional (overall_attr i.request) i.overall
+overall i = overall_attrs i.request i.overall i.reason
 
 abbrev floors : Info → List Attr
 floors i = map floor_attr i.floors

@@ -8,4 +8,4 @@ unfolding shortened
 returns c =
     let e = c.floor_char_boundary-end.ensures in
     ap (λ l. take c.floor_char_boundary-end.result l) c.as_bytes.ensures.value
-    ∙ ap (λ n. take n c.args.text.now) (sym (cut_is c.args.text.now 62 c.floor_char_boundary-end.result e.bound e.boundary e.nearest))
+    ∙ ap (λ n. take n c.args.text.now) (sym (cut_is c.args.text.now c.args.most c.floor_char_boundary-end.result e.bound e.boundary e.nearest))

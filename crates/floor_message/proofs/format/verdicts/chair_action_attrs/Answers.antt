@@ -11,4 +11,4 @@ loop-floor-preserved c = record {
 }
 
 pub returns-clause-fits : goal.returns-clause-fits
-returns-clause-fits c = chair_action_fits c.args.request c.args.verdicts.now c.requires (omega arith) (λ k h. c.loop-floor.invariant.range k (omega arith))
+returns-clause-fits c = chair_action_fits c.args.request c.args.verdicts.now c.args.reason.now c.requires (omega arith) (λ k h. c.loop-floor.invariant.range k (omega arith))

@@ -1,4 +1,4 @@
-use Rattle.std.proofs.Common.{◌≡◌, ◌<◌, ◌++◌, ◌∷◌, ◌+◌, [], length, map, ap, arith, rules, subst, sym, true, false}
+use Rattle.std.proofs.Common.{◌≡◌, ◌<◌, ◌++◌, ◌∷◌, ◌+◌, [], length, map, ap, arith, rules, subst, sym, true, false, None}
 use Rattle.std.specs.Prelude.{nat_lt}
 use Rattle.std.proofs.lemmas.Bool.{lt-ltb}
 use Rattle.std.proofs.lemmas.List.{length-map}
@@ -29,6 +29,7 @@ invariant_of-self-2 c =
       beneficiary = c.args.new.beneficiary;
       priority = c.args.new.priority;
       info = c.args.new.info;
+      reason = None;
       floors = c.from_vec.result;
       is_granted = false;
     } in
