@@ -10,7 +10,7 @@ FLOOR_REQUEST, FLOOR_RELEASE, FLOOR_REQUEST_QUERY, FLOOR_REQUEST_STATUS = 1, 2, 
 USER_QUERY, USER_STATUS, FLOOR_QUERY, FLOOR_STATUS = 5, 6, 7, 8
 CHAIR_ACTION, CHAIR_ACTION_ACK, HELLO, HELLO_ACK, ERROR = 9, 10, 11, 12, 13
 BENEFICIARY_ID, FLOOR_ID, FLOOR_REQUEST_ID, PRIORITY, REQUEST_STATUS, ERROR_CODE = 1, 2, 3, 4, 5, 6
-INFO, USER_DISPLAY_NAME, USER_URI = 8, 12, 13
+INFO, STATUS_INFO, USER_DISPLAY_NAME, USER_URI = 8, 9, 12, 13
 BENEFICIARY_INFORMATION, FLOOR_REQUEST_INFORMATION, REQUESTED_BY_INFORMATION = 14, 15, 16
 FLOOR_REQUEST_STATUS_GROUP, OVERALL_REQUEST_STATUS = 17, 18
 PENDING, ACCEPTED, GRANTED, DENIED, CANCELLED, RELEASED, REVOKED = range(1, 8)
@@ -42,10 +42,13 @@ def floors(*numbers):
     return b''.join(number(FLOOR_ID, floor) for floor in numbers)
 
 
-def verdict(request, floor, status):
-    """The attribute of a ChairAction."""
-    return group(FLOOR_REQUEST_INFORMATION, request, group(
-        FLOOR_REQUEST_STATUS_GROUP, floor, attribute(REQUEST_STATUS, bytes([status, 0]))))
+def verdict(request, floor, status, reason=None, own=None):
+    """The attribute of a ChairAction. A reason stands in the overall status, or in the floor's own."""
+    def said(text):
+        return b'' if text is None else attribute(STATUS_INFO, text)
+    overall = b'' if reason is None else group(OVERALL_REQUEST_STATUS, request, said(reason))
+    return group(FLOOR_REQUEST_INFORMATION, request, overall, group(
+        FLOOR_REQUEST_STATUS_GROUP, floor, attribute(REQUEST_STATUS, bytes([status, 0])), said(own)))
 
 
 def hello_ack(conference, transaction, user):
@@ -129,6 +132,26 @@ def verdicts(attributes):
         status and status[0] in (ACCEPTED, GRANTED, DENIED, REVOKED) for status in named.values())
 
 
+def reason_of(attributes):
+    """The STATUS-INFO in the FLOOR-REQUEST-INFORMATION of a ChairAction that is its reason."""
+    overall = first(attributes, OVERALL_REQUEST_STATUS)
+    chosen = first(overall[1], STATUS_INFO) if overall else None
+    named = set()
+    for kind, _, contents in attributes:
+        if kind == FLOOR_REQUEST_STATUS_GROUP and contents[0] not in named:
+            named.add(contents[0])
+            chosen = first(contents[1], STATUS_INFO) if chosen is None else chosen
+    return chosen
+
+
+def is_text(octets):
+    try:
+        (octets or b'').decode()
+    except UnicodeDecodeError:
+        return False
+    return True
+
+
 class Conference:
     """A conference without floor requests. `users` maps a user's number to (name, URI, proxy)."""
 
@@ -170,18 +193,14 @@ class Conference:
             return error(*ids, 10 if first(attributes, FLOOR_REQUEST_ID) is None else 7)
         if primitive == CHAIR_ACTION:
             information = first(attributes, FLOOR_REQUEST_INFORMATION)
-            return error(*ids, 7 if information and verdicts(information[1]) else 10)
+            is_read = information and verdicts(information[1]) and is_text(reason_of(information[1]))
+            return error(*ids, 7 if is_read else 10)
         if primitive == USER_QUERY:
             return self.user_query(ids, first(attributes, BENEFICIARY_ID))
         return self.floor_query(ids, named)
 
     def floor_request(self, ids, attributes, named):
-        text = first(attributes, INFO)
-        try:
-            (text or b'').decode()
-        except UnicodeDecodeError:
-            return error(*ids, 10)
-        if not named:
+        if not is_text(first(attributes, INFO)) or not named:
             return error(*ids, 10)
         beneficiary = first(attributes, BENEFICIARY_ID)
         if beneficiary is not None and beneficiary != ids[2]:
@@ -232,11 +251,16 @@ def hostile(chance, conference, user):
     asks = (FLOOR_REQUEST, FLOOR_RELEASE, FLOOR_REQUEST_QUERY, USER_QUERY, FLOOR_QUERY,
             CHAIR_ACTION, HELLO)
 
+    def text():
+        """A text that may be none."""
+        return 'x'.encode() * word(0, 40) + chance.choice((b'', '\u00e4'.encode(), b'\xff'))
+
     def fine():
         """A payload that some message may have."""
         return chance.choice((
             b'', floors(word(1, 3)), number(FLOOR_REQUEST_ID, word()),
             number(BENEFICIARY_ID, word(9, 15)), verdict(word(), word(1, 3), word(0, 9)),
+            verdict(word(), word(1, 3), word(0, 9), chance.choice((None, text())), text()),
             floors(1, 2, 1), floors(*range(1, 10)),
             floors(1) + attribute(INFO, chance.randbytes(word(0, 9))),
             floors(1) + attribute(PRIORITY, bytes([word(0, 255), word(0, 255)]))))
@@ -286,6 +310,8 @@ def hostile(chance, conference, user):
         ('missing attribute', lambda: send(chance.choice((1, 2, 3, 9)))),
         ('no UTF-8', lambda: send(FLOOR_REQUEST, floors(1) + attribute(
             INFO, b'a' * word(0, 70) + bytes([word(128, 255)])))),
+        ('a reason', lambda: send(CHAIR_ACTION, verdict(
+            word(), 1, word(2, 4), *chance.choice(((None, text()), (text(), b'\xff')))))),
         ('no verdict', lambda: send(CHAIR_ACTION, verdict(
             word(), 1, chance.choice((0, 1, 5, 6, word(8, 255)))))),
         ('no request', lambda: send(chance.choice((2, 3)), number(FLOOR_REQUEST_ID, word()))),
@@ -332,6 +358,9 @@ ANSWERED = '''
 20070000 00000001 0002 000a = 20080000 00000001 0002 000a
 20090003 00000001 0001 000a 1e0c0001 22080004 0a040100 = 200d0001 00000001 0001 000a 0c030a00
 20090003 00000001 0001 000a 1e0c0001 22080004 0a040700 = 200d0001 00000001 0001 000a 0c030700
+20090004 00000001 0002 000a 1e100001 220c0004 0a040400 12046e6f = 200d0001 00000001 0002 000a 0c030700
+20090004 00000001 0002 000a 1e100001 220c0004 0a040400 1203ff00 = 200d0001 00000001 0002 000a 0c030a00
+20090007 00000001 0002 000a 1e1c0001 240c0001 1205616c 6c000000 220c0004 0a040400 1203ff00 = 200d0001 00000001 0002 000a 0c030700
 20010009 00000001 0001 000a 04040001 04040002 04040003 04040004 04040005 04040006 04040007 04040008 04040009 = 200d0001 00000001 0001 000a 0c030e00
 '''
 TOLD = (

@@ -3,11 +3,13 @@
 
 Random clients with a seed (1) play against floord: they ask, chair, watch, send nonsense, cut their
 messages anywhere, read late or never, leave, are cut off, while an administrator revokes and
-closes. Then the console prints each conference's journal. The journal has to hold what each
+closes. In each conference some greet without ever reading, until they are more than 1,024 messages
+behind and the server cuts them. Then the console prints each conference's journal. The journal has to hold what each
 connection sent, in its order; and floorsim, which runs it as a script, has to print for each
 connection the bytes that it heard: all of them where it ended in order, else a beginning of them.
 An acknowledgement is no line of a script, which acknowledges all that it prints: so there nobody is
-cut, and who is cut by the server has heard a beginning of what is printed.
+cut, and who is cut by the server has heard a beginning of what is printed. Of the latter there has to
+be one in each round: the journal has more than 1,024 messages for it that it never acknowledged.
 So many rounds (3), each with the next seed. A difference is printed with its seed, conference,
 connection and place, and the script is kept; then the status is 1.
 """
@@ -37,6 +39,10 @@ DRIVERS = 3
 PEERS = 5
 STEPS = 6000
 DEADLINE = 60
+# A greeter sends so many Hellos at each of so many steps. Of their answers its sockets hold some 2,000.
+BURST, BURSTS = 200, 40
+# Who comes to be so many messages behind is cut.
+BEHIND = 1025
 
 
 def port_of(conference, user):
@@ -76,7 +82,7 @@ def whole(stream):
 class Peer:
     """One connection. Its first message is a Hello with its mark, by which the journal has it."""
 
-    def __init__(self, chance, conference, user, mark):
+    def __init__(self, chance, conference, user, mark, narrow=False):
         self.chance = chance
         self.conference = conference
         self.user = user
@@ -91,7 +97,7 @@ class Peer:
         self.is_deaf = chance.random() < 0.15
         self.goes_on = True
         self.how = 'in order'
-        self.socket = connect(port_of(conference, user))
+        self.socket = connect(port_of(conference, user), narrow)
         self.socket.setblocking(False)
         self.nonsense = messages.hostile(chance, conference, user)
 
@@ -146,6 +152,10 @@ class Peer:
         return floors(*(self.chance.choice(FLOORS)
                         for _ in range(self.chance.randint(1, most))))
 
+    def reason(self):
+        """Why a chair decides so, up to some bytes more than are kept."""
+        return ('\u00e4' * self.chance.randint(0, 20)).encode()
+
     def ask(self):
         """A message of some kind."""
         chance = self.chance
@@ -166,7 +176,8 @@ class Peer:
         elif kind in (FLOOR_RELEASE, FLOOR_REQUEST_QUERY):
             payload = number(FLOOR_REQUEST_ID, self.request())
         elif kind == CHAIR_ACTION:
-            payload = verdict(*chance.choice(self.named), chance.choice((2, 3, 3, 3, 4, 7)))
+            payload = verdict(*chance.choice(self.named), chance.choice((2, 3, 3, 3, 4, 7)),
+                              *chance.choice(((), (), (self.reason(),), (None, self.reason()))))
         elif kind == FLOOR_QUERY and chance.random() < 0.9:
             payload = self.some(6)
         elif kind == USER_QUERY and chance.random() < 0.5:
@@ -219,6 +230,21 @@ class Peer:
                 bytes(self.heard), self.how)
 
 
+class Greeter(Peer):
+    """A connection that greets, and reads nothing before the end."""
+
+    def __init__(self, chance, conference, user, mark):
+        super().__init__(chance, conference, user, mark, narrow=True)
+        self.is_deaf = True
+        self.bursts = 0
+
+    def step(self):
+        if self.bursts < BURSTS:
+            self.bursts += 1
+            self.stream += message(HELLO, self.conference, 2, self.user) * BURST
+        self.send(len(self.stream) - self.flushed)
+
+
 def read_all(peers, seconds, deaf):
     """Reads what there is, of those that don't read too where that is said."""
     reading = {peer.socket: peer for peer in peers if peer.socket and (deaf or not peer.is_deaf)}
@@ -231,9 +257,13 @@ def drive(seed, driver, closing, done, results):
     chance = random.Random('%d %d' % (seed, driver))
     peers = []
     count = 0
+    for conference in range(1, CONFERENCES + 1):
+        count += 1
+        peers.append(Greeter(chance, conference, chance.choice(USERS),
+                             struct.pack('>HHI', seed & 0xffff, driver, count)))
     for step in range(STEPS):
         live = [peer for peer in peers if peer.socket and peer.goes_on]
-        if len(live) < PEERS * CONFERENCES:
+        if len(live) < (PEERS + 1) * CONFERENCES:
             count += 1
             conference = chance.randint(1, CONFERENCES)
             if not (conference == CONFERENCES and closing.is_set()):
@@ -262,10 +292,11 @@ class Difference(Exception):
 
 
 def script_of(conference, lines):
-    """The journal as a script, and each member's user and messages."""
+    """The journal as a script, each member's user and messages, and how many it acknowledged."""
     script = []
     users = []
     sent = collections.defaultdict(list)
+    taken = collections.Counter()
     for place, line in enumerate(lines[:-1], 1):
         words = line.split()
         if words[0] != str(place):
@@ -277,7 +308,7 @@ def script_of(conference, lines):
             sent[int(words[2])].append(bytes.fromhex(words[3]))
             script.append('send %s %s' % (words[2], words[3]))
         elif words[1] == 'took':
-            continue
+            taken[int(words[2])] += int(words[3])
         elif words[1] == 'leave':
             script.append('leave %s' % words[2])
         elif words[1] == 'revoke':
@@ -286,7 +317,7 @@ def script_of(conference, lines):
             script.append('close %d' % conference)
     if lines[-1] != 'end %d' % (len(lines) - 1):
         raise Difference('%d events end by "%s"' % (len(lines) - 1, lines[-1]))
-    return script, users, sent
+    return script, users, sent, taken
 
 
 def printed_for(floorsim, text, members):
@@ -312,7 +343,7 @@ def printed_for(floorsim, text, members):
     return told
 
 
-def compare(conference, users, sent, told, peers, counts):
+def compare(conference, users, sent, taken, told, peers, counts):
     """Compares the journal and what it calls for with what each connection sent and heard."""
     by_mark = {peer[2]: peer for peer in peers}
     silent = []
@@ -342,7 +373,11 @@ def compare(conference, users, sent, told, peers, counts):
                       min(len(heard), len(wanted)))
             raise Difference('member %d, byte %d of %d: %s is heard, %s is called for' % (
                 n, at, len(wanted), heard[at:at + 32].hex(), wanted[at:at + 32].hex()))
-        counts[how] += 1
+        is_cut = len(told[n]) - taken[n] >= BEHIND
+        if is_cut and how == 'in order':
+            raise Difference('member %d has %d messages, of which it acknowledged %d, and is not cut' % (
+                n, len(told[n]), taken[n]))
+        counts['by the server' if is_cut else how] += 1
         counts['bytes'] += len(heard)
         for text in told[n]:
             counts['primitive %d' % text[1]] += 1
@@ -397,17 +432,19 @@ def round_of(floord, floorsim, seed):
         for conference in range(1, CONFERENCES + 1):
             where = 'seed %d, conference %d' % (seed, conference)
             journal = server.journal(conference)
-            script, users, sent = script_of(conference, journal)
+            script, users, sent, taken = script_of(conference, journal)
             events += len(journal) - 1
             script = texts[conference - 1] + '---\n' + '\n'.join(script) + '\n'
             told = printed_for(floorsim, script, len(users))
-            compare(conference, users, sent, told,
+            compare(conference, users, sent, taken, told,
                     [peer for peer in peers if peer[0] == conference], counts)
         where = 'seed %d' % seed
         report = server.stop()
         wanted = ('ok stopped seats %d events %d' % (counts['members'], events), 0)
         if report != wanted:
             raise Difference('the report is %s, not %s' % (report, wanted))
+        if not counts['by the server']:
+            raise Difference('nobody was cut')
         return events, counts
     except (Difference, SystemExit) as fault:
         server.process.kill()
@@ -427,10 +464,10 @@ def main():
     for seed in range(first, first + rounds):
         began = time.monotonic()
         events, counts = round_of(sys.argv[1], sys.argv[2], seed)
-        print('seed %d: %d events, %d members; %d streams heard whole, %d in part, %d bytes, all '
-              'as the journal calls for (%.1f s)' % (
+        print('seed %d: %d events, %d members; %d streams heard whole, %d in part, %d of members that '
+              'the server cut, %d bytes, all as the journal calls for (%.1f s)' % (
                   seed, events, counts['members'], counts['in order'], counts['cut off'],
-                  counts['bytes'], time.monotonic() - began))
+                  counts['by the server'], counts['bytes'], time.monotonic() - began))
         print('    %s' % ', '.join('%s: %d' % pair for pair in sorted(counts.items())
                                    if pair[0].startswith('primitive')), flush=True)
 

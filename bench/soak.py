@@ -4,7 +4,9 @@
 At least so many events (5,000,000) beside acknowledgements, over 100 conferences. Each has 64 live
 connections for a while, then 8; it has 256 ongoing requests, the last in position 255, and is
 refused one more of each. Then it is served Hellos, queries, malformed messages and pairs of a
-request and its release, while connections leave and others join. Conference 1 goes on to its
+request and its release, while connections leave and others join, and one now and then never reads
+what it asks for: it has to be shut down, and what it got to be a beginning of its answers. Conference
+1 goes on to its
 65,535th floor request, conference 2 to its 2,000,000th event. Every byte is compared with what RFC
 8855 and docs/PROTOCOL.md call for. Prints the server's memory each so many seconds (5); at the end
 threads and descriptors have to be what they were at the start. Each conference has at least the
@@ -26,17 +28,20 @@ from server import Server, connect, hear
 
 CONFERENCES = 100
 FIRST_PORT = 10_000
-# User 10 asks for floors for all; users 10 and 11 connect.
-PROXY, OTHER = 10, 11
+# User 10 asks for floors for all; users 10, 11 and 12 connect, the last to read nothing.
+PROXY, OTHER, SILENT = 10, 11, 12
 USERS = range(10, 26)
 LIVE = 8
 DEADLINE = 60
 DRIVERS = 2
 MAX_EVENTS = 2_000_000
+# Of so many Hellos of a peer that reads nothing not all are answered, and within so many seconds it is
+# gone.
+SILENT_HELLOS, UNREAD = 8_000, 12
 
 
 def port_of(conference, user):
-    return FIRST_PORT + 2 * (conference - 1) + user - PROXY
+    return FIRST_PORT + 3 * (conference - 1) + user - PROXY
 
 
 def configuration():
@@ -46,7 +51,7 @@ def configuration():
         for user in USERS:
             rows.append('[[conference.user]]\nid = %d\nproxy = %s\n' % (
                 user, str(user == PROXY).lower()))
-            if user in (PROXY, OTHER):
+            if user in (PROXY, OTHER, SILENT):
                 rows.append('port = %d\n' % port_of(conference, user))
         rows.append('[[conference.floor]]\nid = 1\n[[conference.floor]]\nid = 2\n')
     return ''.join(rows)
@@ -66,6 +71,7 @@ class Conference:
         self.seats = 0
         self.requests = 0
         self.turn = 0
+        self.silent = None
 
     def join(self, user):
         client = connect(port_of(self.conference, user))
@@ -205,7 +211,47 @@ class Conference:
         if user == OTHER and self.turn % 10 == 9:
             self.leave(place)
             self.join(OTHER)
+        if self.silent and time.monotonic() > self.silent[1]:
+            self.is_gone()
+        elif not self.silent and self.turn % 100 == self.conference:
+            self.fall_behind()
         self.turn += 1
+
+    def fall_behind(self):
+        """A connection that asks for more answers than the sockets hold and 1,024 messages, and reads
+        none."""
+        client = connect(port_of(self.conference, SILENT), narrow=True)
+        client.setblocking(False)
+        asked = self.hello(SILENT) * SILENT_HELLOS
+        sent = 0
+        end = time.monotonic() + UNREAD
+        while sent < len(asked) and time.monotonic() < end:
+            try:
+                sent += client.send(asked[sent:])
+            except BlockingIOError:
+                time.sleep(0.01)
+            except OSError:
+                break  # it is gone already
+        self.silent = client, time.monotonic() + UNREAD
+        self.seats += 1
+
+    def is_gone(self):
+        """Reads what the connection got that fell behind, which has to end before all answers."""
+        client, _ = self.silent
+        self.silent = None
+        client.settimeout(DEADLINE)
+        heard = bytearray()
+        try:
+            while piece := client.recv(65_536):
+                heard += piece
+        except ConnectionResetError:
+            pass  # Hellos that nobody read any more
+        client.close()
+        wanted = hello_ack(self.conference, 1, SILENT) * SILENT_HELLOS
+        if not wanted.startswith(heard) or len(heard) == len(wanted):
+            raise Wrong('conference %d: who reads nothing gets %d bytes' % (
+                self.conference, len(heard)))
+        self.events += 2 + len(heard) // 48
 
     def all_numbers(self):
         """Pairs up to the 65,535th request; the next is refused."""
@@ -238,6 +284,9 @@ class Conference:
         self.clients = []
 
     def end(self):
+        if self.silent:
+            time.sleep(max(0, self.silent[1] - time.monotonic()))
+            self.is_gone()
         while self.clients:
             self.leave(len(self.clients) - 1)
 
