@@ -1,14 +1,14 @@
 -- Lines are obeyed one after another.
-use Rattle.std.proofs.Common.{◌≡◌, ◌≢◌, inl, inr, ℕ, zero, suc, ◌+◌, Bool, true, false, List, [], ◌∷◌, ◌++◌, length, length-append, Option, None, Some, refl, sym, ap, subst, ◌∙◌, arith, append_assoc, append-nil, true≢false}
-use Rattle.std.specs.Prelude.{Result, Ok, Err, IfOk, OnErr, OnOk, MatchResult, option_to_list}
+use Rattle.std.proofs.Common.{◌≡◌, ◌≢◌, ℕ, zero, suc, ◌+◌, Bool, true, false, List, [], ◌∷◌, ◌++◌, length, length-append, Option, None, Some, refl, sym, ap, subst, ◌∙◌, append_assoc, append-nil, true≢false}
+use Rattle.std.specs.Prelude.{Result, Ok, Err, IfOk, OnErr, OnOk, MatchResult}
 use Rattle.floor_client.specs.declared.heard.Heard.{Heard}
 use Rattle.floorc.specs.declared.command.Command.{Command}
 use Rattle.floorc.specs.declared.command.Command.TheVariants.{Send, Listen, Quit}
 use Rattle.floorc.specs.declared.command.LineFault.{LineFault}
 use Rattle.floorc.specs.declared.command.LineFault.TheVariants.{BadLine, Memory}
-use Rattle.floorc.specs.Input.{Gives, IsOver}
+use Rattle.floorc.specs.Input.{Gives}
 use Rattle.floorc.specs.Session.{Step, asked, heard, refused, AreHeard, AreObeyed, AreUnanswered, Begins, Conversed, Ends, IsBegun, IsObeyed, Left, Obeys, Served, State, Stopped, ended_by}
-use Rattle.floorc.proofs.Steps.{onward, onward-broke}
+use Rattle.floorc.proofs.Steps.{onward}
 
 -- one more message was heard
 pub heard-more : (count : ℕ) (steps : List Step) (message : List ℕ) (what : Heard) → AreHeard count steps → AreHeard (suc count) (steps ++ heard message what ∷ [])

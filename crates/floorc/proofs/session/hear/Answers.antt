@@ -1,4 +1,4 @@
-use Rattle.std.proofs.Common.{ℕ, [], Option, refl}
+use Rattle.std.proofs.Common.{refl}
 use Rattle.std.proofs.KnownBytes.{Keeps-refl}
 use Rattle.floorc.proofs.Receiving.{received-untaken}
 use Rattle.floorc.proofs.Steps.{broke-left, heard-in_part, heard-one, received-alone}
