@@ -44,6 +44,38 @@ fn acknowledged_by(line: &str) -> u32 {
     }
 }
 
+/// How many parcels a journal acknowledges for member 1.
+fn acknowledged_in(journal: &str) -> u32 {
+    let mut acknowledged = 0u32;
+    for line in journal.lines() {
+        acknowledged = acknowledged.saturating_add(acknowledged_by(line));
+    }
+    acknowledged
+}
+
+#[test]
+fn of_a_write_that_fails_nothing_is_acknowledged(rt: HostRuntime) -> Result<(), Fail> {
+    let alloc = rt.alloc();
+    let (desk, _seat, mut taker) = greeted(&rt, alloc, 100)?;
+    let mut short = Short {
+        room: HELLO_ACK_LEN,
+        failed: false,
+    };
+    let written = write_loop(&rt, alloc, &mut short, &desk, 1, &mut taker);
+    assert!(rt; written.is_err());
+    assert!(rt; acknowledged_in(&desk.journal_text(&rt)?) <= 1);
+    Ok(())
+}
+
+#[test]
+fn the_event_that_cuts_closes(rt: HostRuntime) -> Result<(), Fail> {
+    let (_desk, _seat, before) = greeted(&rt, rt.alloc(), 1024)?;
+    assert!(rt; !before.closed());
+    let (_desk, _seat, behind) = greeted(&rt, rt.alloc(), 1025)?;
+    assert!(rt; behind.closed());
+    Ok(())
+}
+
 #[test]
 fn took_counts(rt: HostRuntime) -> Result<(), Fail> {
     let alloc = rt.alloc();
@@ -56,12 +88,7 @@ fn took_counts(rt: HostRuntime) -> Result<(), Fail> {
         write_loop(&rt, alloc, &mut short, &desk, 1, &mut taker),
         Err(WriteFault { bytes: 53 })
     );
-    let journal = desk.journal_text(&rt)?;
-    let mut acknowledged = 0u32;
-    for line in journal.lines() {
-        acknowledged = acknowledged.saturating_add(acknowledged_by(line));
-    }
-    assert!(rt; acknowledged <= 1);
+    assert!(rt; acknowledged_in(&desk.journal_text(&rt)?) <= 1);
     let (desk, mut seat, mut taker) = greeted(&rt, alloc, 1025)?;
     assert_eq!(rt;
         answer_of(&rt, &desk, &mut seat, frame(alloc, &HELLO)?, &FreePass),

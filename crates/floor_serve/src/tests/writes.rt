@@ -182,7 +182,8 @@ const LENS: [usize; 5] = [12, 65_536, 12, 65_540, 12];
 
 const BEFORE: [u64; 5] = [0, 12, 65_548, 65_560, 131_100];
 
-/// What writing the parcels gives, and the sink that they are written to.
+/// What writing the parcels gives, and the sink that they are written to. They are acknowledged for a
+/// member that is four behind.
 fn write_long<R: Wait>(
     rt: &R,
     alloc: Global,
@@ -195,10 +196,12 @@ fn write_long<R: Wait>(
         };
     }
     sender.close();
-    let (_registry, desk) = opened(rt, alloc)?;
+    let (desk, _seat, _waiting) = greeted(rt, alloc, 4)?;
     let mut sink = Narrow::new(alloc, usize::MAX, writes);
-    // Of the conference this is no member, and what it acknowledges is refused.
     let outcome = write_loop(rt, alloc, &mut sink, &desk, 1, &mut taker);
+    if desk.journal_text(rt)?.contains(" took ") == outcome.is_err() {
+        return Err(Fail::from("acknowledged, and not written"));
+    }
     Ok((outcome, sink))
 }
 

@@ -5,8 +5,8 @@ use super::shown::answer;
 use crate::cases::{assert_told, differing};
 use crate::hexadecimal::{bytes, spelled};
 use floor_message::{
-    Ask, FloorStatuses, Frame, Head, Info, Octets, Tell, Verdict, Verdicts, read_tell, write_ask,
-    write_tell,
+    Ask, FloorStatuses, Frame, Head, Info, Octets, Tell, Verdict, Verdicts, ask_fits, read_tell,
+    write_ask, write_tell,
 };
 use std::alloc::{AllocError, Global};
 
@@ -90,6 +90,9 @@ fn denial(alloc: Global) -> Result<String, AllocError> {
         transaction: 1,
         user: 12,
     };
+    if !ask_fits(&ask) {
+        return String::from_str(alloc, "it doesn't fit");
+    }
     let written = write_ask(alloc, &head, &ask)?;
     spelled(alloc, written.bytes())
 }
