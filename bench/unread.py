@@ -2,17 +2,17 @@
 """What do peers that never read cost a server? ./unread.py FLOORD [SECONDS [MOST]]
 
 A conference with the longest answers that there are: 256 requests, each for the same eight floors, with
-names of 30 bytes and a text of 62, so that one FloorQuery is answered by eight messages of 57 kB. It
-has 64 connections, which ask once and read nothing. Then, each over a server of its own,
+names of 30 bytes and a text of 62, so that one FloorQuery is answered by eight messages of some 56 kB.
+It has 64 connections: one asked for all that and reads, the others ask once and read nothing. Then, each
+over a server of its own,
 
-- one of them asks on, as fast as its socket takes it;
+- one of those asks on, as fast as its socket takes it;
 - all of them ask on.
 
 Prints the most memory that the server had, and how many connections it shut down. A run ends when all
 that asked on are gone, after so many seconds (60), or beyond so many MB (8,000).
 """
 import select
-import socket
 import sys
 import time
 

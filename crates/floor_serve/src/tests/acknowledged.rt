@@ -2,8 +2,10 @@
 
 ghost use Rattle.std.specs.Prelude.{None};
 
-use super::{HELLO, answer_of, frame, greeted};
+use super::{HELLO, answer_of, frame, greeted, joined, leaves, opened, submits};
 use crate::*;
+use std::alloc::Global;
+use std::sync::Wait;
 use std::test::*;
 
 /// How many bytes the answer to a Hello has.
@@ -112,5 +114,48 @@ fn took_counts(rt: HostRuntime) -> Result<(), Fail> {
     }
     assert_eq!(rt; tooks, 16);
     assert!(rt; journal.as_str().ends_with("\nend 1042\n"));
+    Ok(())
+}
+
+/// User 10 asks for floor 1; user 11 asks what happens on it, and sends a Hello.
+const REQUEST: [u8; 16] = [0x20, 1, 0, 1, 0, 0, 0, 1, 0, 1, 0, 10, 4, 4, 0, 1];
+
+const QUERY: [u8; 16] = [0x20, 7, 0, 1, 0, 0, 0, 1, 0, 1, 0, 11, 4, 4, 0, 1];
+
+const OTHER_HELLO: [u8; 12] = [0x20, 11, 0, 0, 0, 0, 0, 1, 0, 2, 0, 11];
+
+/// A desk at which user 10 has floor 1, its seat, and what takes the parcels of user 11, who watches
+/// the floor and is 1,024 parcels behind.
+fn watched<R: Wait>(rt: &R, alloc: Global) -> Result<(Desk, Seat, Taker), Fail> {
+    let (_registry, desk) = opened(rt, alloc)?;
+    let (mut ten, _first) = joined(rt, &desk, 10)?;
+    let (mut eleven, second) = joined(rt, &desk, 11)?;
+    let mut taken = submits(rt, &desk, &mut ten, frame(alloc, &REQUEST)?);
+    taken = submits(rt, &desk, &mut eleven, frame(alloc, &QUERY)?) && taken;
+    let hello = frame(alloc, &OTHER_HELLO)?;
+    for _ in 0..1023 {
+        taken = submits(rt, &desk, &mut eleven, hello.share()?) && taken;
+    }
+    if taken {
+        Ok((desk, ten, second))
+    } else {
+        Err(Fail::from("a message is refused"))
+    }
+}
+
+#[test]
+fn a_leave_closes_whom_it_cuts(rt: HostRuntime) -> Result<(), Fail> {
+    let (desk, mut seat, taker) = watched(&rt, rt.alloc())?;
+    assert!(rt; !taker.closed());
+    assert!(rt; leaves(&rt, &desk, &mut seat));
+    assert!(rt; taker.closed());
+    Ok(())
+}
+
+#[test]
+fn a_revoke_closes_whom_it_cuts(rt: HostRuntime) -> Result<(), Fail> {
+    let (desk, _seat, taker) = watched(&rt, rt.alloc())?;
+    assert!(rt; desk.admin(&rt, Act::Revoke(1)).is_ok());
+    assert!(rt; taker.closed());
     Ok(())
 }
