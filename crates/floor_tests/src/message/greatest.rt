@@ -176,7 +176,7 @@ an Error
 #[test]
 fn the_greatest_messages_are_asked(rt: HostRuntime) {
     let told = differing(rt.alloc(), ASKS, "\n\n", "\n< ", ask_answer);
-    assert_told(&rt, told, "16 cases");
+    assert_told(&rt, told, "18 cases");
 }
 
 /// How long a user's name and URI are.
