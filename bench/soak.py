@@ -72,6 +72,7 @@ class Conference:
         self.requests = 0
         self.turn = 0
         self.silent = None
+        self.shut = 0
 
     def join(self, user):
         client = connect(port_of(self.conference, user))
@@ -213,7 +214,7 @@ class Conference:
             self.join(OTHER)
         if self.silent and time.monotonic() > self.silent[1]:
             self.is_gone()
-        elif not self.silent and self.turn % 100 == self.conference:
+        elif not self.silent and self.turn % 20 == self.conference % 20:
             self.fall_behind()
         self.turn += 1
 
@@ -252,6 +253,7 @@ class Conference:
             raise Wrong('conference %d: who reads nothing gets %d bytes' % (
                 self.conference, len(heard)))
         self.events += 2 + len(heard) // 48
+        self.shut += 1
 
     def all_numbers(self):
         """Pairs up to the 65,535th request; the next is refused."""
@@ -311,7 +313,7 @@ def drive(numbers, events, start, results):
                     conference.go_on()
         for conference in conferences:
             conference.end()
-        results.put((None, [(c.conference, c.seats, c.events) for c in conferences]))
+        results.put((None, [(c.conference, c.seats, c.events, c.shut) for c in conferences]))
     except Exception as fault:
         results.put((repr(fault), []))
 
@@ -363,16 +365,17 @@ def main():
             raise SystemExit('FAILED: threads and descriptors stay: %s' % after)
         time.sleep(0.1)
     tell(server, began, ' at the end')
-    seats = total = 0
-    for conference, some_seats, least in made:
+    seats = total = shut = 0
+    for conference, some_seats, least, some_shut in made:
         events = int(server.ask('status %d' % conference).split()[7])
         if not least <= events <= MAX_EVENTS:
             raise SystemExit('FAILED: %d events of conference %d, and at least %d were made' % (
                 events, conference, least))
         seats += some_seats
         total += events
-    print('%d events in %.0f s, %.0f bytes of memory for each' % (
-        total, took, 1024 * (after['VmRSS'] - before['VmRSS']) / total))
+        shut += some_shut
+    print('%d events in %.0f s, %.0f bytes of memory for each; %d peers that read nothing are gone' % (
+        total, took, 1024 * (after['VmRSS'] - before['VmRSS']) / total, shut))
     began = time.monotonic()
     report = server.stop()
     print('%s, status %d, after %.1f s' % (*report, time.monotonic() - began))
