@@ -5,3 +5,4 @@ pub mod Plain
 pub mod Shown
 pub mod Kept
 pub mod Agreeing
+pub mod KeptAfter

@@ -16,7 +16,7 @@ user_found (u ∷ users) chair h =
     (λ (later : list_any (λ v. v.id == chair) users ≡ true). let p = user_found users chair later in (suc p.0, omega (arith, p.1), p.2))
     (or_cases (u.id == chair) (list_any (λ v. v.id == chair) users) h)
 
-chair_known : (users : List User) (chair : Option ℕ) → is_known users chair ≡ true → IfSome chair (Contains (user_ids users))
+pub chair_known : (users : List User) (chair : Option ℕ) → is_known users chair ≡ true → IfSome chair (Contains (user_ids users))
 chair_known users None h = tt
 chair_known users (Some chair) h = user_found users chair h
 

@@ -9,3 +9,4 @@ pub mod Reading
 pub mod Building
 pub mod Parts
 pub mod Demonstration
+pub mod Changed

@@ -9,9 +9,9 @@ ghost use Rattle.floor_config.specs.Building.{built, text_fits, users_fit, user_
 
 use crate::config::Config;
 use crate::fault::ConfigFault;
-use crate::floors::{Floor, Floors};
+use crate::floors::{Floor, Floors, MAX_FLOORS};
 use crate::text::Text;
-use crate::users::{User, Users};
+use crate::users::{MAX_USERS, User, Users};
 use crate::{chairs, doubles};
 use std::alloc::Global;
 
@@ -54,7 +54,7 @@ fn users_fit(users: &[User]) -> bool
     ensures few { result ≡ true → length users.now ≤ 256 }
     ensures fits { result ≡ true → All (λ u. IsUser (without_empty_texts u)) users.now }
 {
-    users.len() <= 256 && all_users_fit(users)
+    users.len() <= MAX_USERS && all_users_fit(users)
 }
 
 /// Whether each user is within its ranges.
@@ -81,7 +81,7 @@ fn user_fits(user: &User) -> bool
 }
 
 /// Whether there is no text, or one of at most `most` bytes.
-fn text_fits(text: &Option<Text>, most: usize) -> bool
+pub(crate) fn text_fits(text: &Option<Text>, most: usize) -> bool
     ensures value { result ≡ text_fits most text.now }
     ensures fits { result ≡ true
         → IfSome (option_and_then unless_empty text.now) (λ t. (1 ≤ length t) × (length t ≤ most)) }
@@ -109,7 +109,7 @@ fn floors_fit(floors: &[Floor]) -> bool
     ensures few { result ≡ true → length floors.now ≤ 32 }
     ensures fits { result ≡ true → All IsFloor floors.now }
 {
-    floors.len() <= 32 && all_floors_fit(floors)
+    floors.len() <= MAX_FLOORS && all_floors_fit(floors)
 }
 
 /// Whether each floor is within its ranges.
@@ -126,7 +126,7 @@ fn all_floors_fit(floors: &[Floor]) -> bool
 }
 
 /// Whether the floor's room is within its range.
-fn floor_fits(floor: &Floor) -> bool
+pub(crate) fn floor_fits(floor: &Floor) -> bool
     ensures value { result ≡ floor_fits floor.now }
     ensures fits { result ≡ true → IsFloor floor.now }
 {
@@ -147,7 +147,7 @@ fn without_empty_texts(users: Users) -> Users
 }
 
 /// An empty text counts as absent.
-fn drop_empty_texts(user: &mut User)
+pub(crate) fn drop_empty_texts(user: &mut User)
     ensures { user.new ≡ without_empty_texts user.old }
 {
     drop_if_empty(&mut user.name);

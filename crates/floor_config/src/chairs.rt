@@ -15,7 +15,7 @@ pub fn are_known(users: &[User], floors: &[Floor]) -> bool
 }
 
 /// Whether there is no chair, or one of these users.
-fn is_known(users: &[User], chair: Option<u16>) -> bool
+pub(crate) fn is_known(users: &[User], chair: Option<u16>) -> bool
     ensures { result ≡ is_known users.now chair }
 {
     match chair {

@@ -1,7 +1,8 @@
 //! The configuration of one conference: its users, its floors and their chairs (RFC 8855, section
 //! 2).
 
-ghost use Rattle.std.specs.Prelude.{◌≡◌, IfOk};
+ghost use Rattle.std.specs.Prelude.{◌≡◌, ◌++◌, [], ◌∷◌, IfOk, OnOk, OnErr};
+ghost use Rattle.floor_config.specs.Changed.{with_chair, with_floor};
 
 use crate::floors::{Floor, Floors};
 use crate::users::{User, Users};
@@ -78,6 +79,33 @@ impl Config {
         ensures kept { IsConfiguration self.now }
     {
         self.floors.as_slice()
+    }
+
+    /// Puts a user behind the others. Where memory is refused nothing has changed.
+    pub(crate) fn push_user(&mut self, user: User) -> Result<(), AllocError>
+        requires { IsConfiguration (record self.old { users = self.old.users ++ user ∷ [] }) }
+        ensures took { OnOk result
+            (self.new ≡ record self.old { users = self.old.users ++ user ∷ [] }) }
+        ensures left { OnErr result (self.new ≡ self.old) }
+    {
+        self.users.push(user)
+    }
+
+    /// Puts a floor behind the others. Where memory is refused nothing has changed.
+    pub(crate) fn push_floor(&mut self, floor: Floor) -> Result<(), AllocError>
+        requires { IsConfiguration (with_floor self.old floor) }
+        ensures took { OnOk result (self.new ≡ with_floor self.old floor) }
+        ensures left { OnErr result (self.new ≡ self.old) }
+    {
+        self.floors.push(floor)
+    }
+
+    /// Gives a floor this chair, or none. Takes no memory.
+    pub(crate) fn put_chair(&mut self, floor: u16, chair: Option<u16>)
+        requires { IsConfiguration (with_chair self.old floor chair) }
+        ensures { self.new ≡ with_chair self.old floor chair }
+    {
+        self.floors.put_chair(floor, chair);
     }
 
     /// An equal configuration.

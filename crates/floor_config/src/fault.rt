@@ -21,6 +21,8 @@ pub enum ConfigFault {
     DoubleUser,
     /// Two floors of one conference have one id.
     DoubleFloor,
+    /// No floor of the conference has the id. Neither a reading nor `Config::build` answers it.
+    NoFloor,
     /// A floor's chair is no user of its conference.
     UnknownChair,
     /// Two conferences have one id.
@@ -45,6 +47,7 @@ impl ConfigFault {
             ConfigFault::OutOfRange => "OutOfRange",
             ConfigFault::DoubleUser => "DoubleUser",
             ConfigFault::DoubleFloor => "DoubleFloor",
+            ConfigFault::NoFloor => "NoFloor",
             ConfigFault::UnknownChair => "UnknownChair",
             ConfigFault::DoubleConference => "DoubleConference",
             ConfigFault::DoublePort => "DoublePort",

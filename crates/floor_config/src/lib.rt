@@ -8,6 +8,7 @@
 
 mod building;
 mod chairs;
+mod changing;
 mod config;
 mod demonstration;
 mod doubles;

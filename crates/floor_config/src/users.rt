@@ -1,10 +1,13 @@
 //! The users of a conference (RFC 8855, section 2).
 
-ghost use Rattle.std.specs.Prelude.{◌≡◌, IfOk};
+ghost use Rattle.std.specs.Prelude.{◌≡◌, ◌++◌, [], ◌∷◌, IfOk, OnOk, OnErr};
 
 use crate::text::Text;
 use std::alloc::{AllocError, Global};
 use std::marker::Model;
+
+/// How many users a conference has at most, those among them that were added while it runs.
+pub(crate) const MAX_USERS: usize = 256;
 
 /// A user of a conference.
 #[derive(Debug, Drop)]
@@ -83,6 +86,15 @@ impl Users {
         ensures { result.items ≡ self }
     {
         self.items
+    }
+
+    /// Puts a user behind the others. Where memory is refused nothing has changed.
+    pub(crate) fn push(&mut self, user: User) -> Result<(), AllocError>
+        ensures took { OnOk result (self.new ≡ self.old ++ user ∷ []) }
+        ensures left { OnErr result (self.new ≡ self.old) }
+    {
+        self.items.push(user)?;
+        Ok(())
     }
 
     /// Equal users.

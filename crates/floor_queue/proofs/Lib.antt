@@ -16,3 +16,5 @@ pub mod Marking
 pub mod Numbering
 pub mod Parting
 pub mod Reasons
+pub mod Added
+pub mod Chairs

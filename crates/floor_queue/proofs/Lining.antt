@@ -14,7 +14,7 @@ use Rattle.floor_queue.specs.declared.requested_floor.RequestedFloor.{RequestedF
 use Rattle.floor_queue.specs.Requested.{is_accepted}
 use Rattle.floor_queue.specs.Order.{names, waits, earlier, holders, ahead, is_due, room_of}
 use Rattle.floor_queue.specs.Queue.{Queue, IsQueue, is_ascending, request_at, without}
-use Rattle.floor_queue.specs.steps.Lines.{FloorLine, IsLine, AreLines, added, taken, marked, moved, emptied, empty_line, unmarked, rank_of, before, is_in_order, moved_rank, with_rank, without_rank, place_in, has_place, is_due_in}
+use Rattle.floor_queue.specs.steps.Lines.{FloorLine, IsLine, AreLines, added, taken, marked, moved, emptied, empty_line, unmarked, with_mark, rank_of, before, is_in_order, moved_rank, with_rank, without_rank, place_in, has_place, is_due_in}
 use Rattle.floor_queue.proofs.Counts.{one, count-cons, and_left, and_right, and_both, list_all_at_named, list_all_mono, count_none}
 use Rattle.floor_queue.proofs.Earlier.{IsAmong}
 use Rattle.floor_queue.proofs.Kept.{map-map_key}
@@ -226,6 +226,9 @@ AreLines-marked floors rs r lines h = AreLines-map floors rs rs lines (marked r)
 
 pub AreLines-unmarked : (floors : List Floor) (rs : List Request) (lines : List FloorLine) → AreLines floors rs lines → AreLines floors rs (map unmarked lines)
 AreLines-unmarked floors rs lines h = AreLines-map floors rs rs lines unmarked (λ l. refl) (λ l i. record { in_order = i.in_order; counts = i.counts }) h
+
+pub AreLines-with_mark : (floors : List Floor) (rs : List Request) (lines : List FloorLine) → AreLines floors rs lines → AreLines floors rs (map with_mark lines)
+AreLines-with_mark floors rs lines h = AreLines-map floors rs rs lines with_mark (λ l. refl) (λ l i. record { in_order = i.in_order; counts = i.counts }) h
 
 -- what was added is taken out again
 pub taken-added : (r : Request) (x : Rank) (l : FloorLine) → taken r x (added r x l) ≡ l

@@ -1,3 +1,4 @@
+pub use Rattle.floor_config.specs.Changed
 pub use Rattle.floor_config.specs.Configuration
 pub use Rattle.floor_config.specs.Doubles
 pub mod Requested

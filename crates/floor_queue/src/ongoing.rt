@@ -4,10 +4,11 @@
 ghost use Rattle.std.specs.Prelude.{◌≡◌, ◌==◌, ◌<◌, ◌↔◌, ◌++◌, ◌∷◌, [], OnOk, OnErr, IsSome, IsTrue, Some, true, length, map, nat_lt, not, remove, slice_index_or};
 ghost use Rattle.std.specs.List.{list_all, position_or_len, slice_get};
 ghost use Rattle.std.specs.Option.{option_copied};
+ghost use Rattle.floor_config.specs.Configuration.{floor_ids};
 ghost use Rattle.floor_queue.specs.Order.{granted_if};
 ghost use Rattle.floor_queue.specs.Queue.{is_ascending, request_at, with_reason, with_word, without};
 ghost use Rattle.floor_queue.specs.Requested.{floor_with_word};
-ghost use Rattle.floor_queue.specs.steps.Lines.{AreLines, AreMarked, added, marked, rank_of};
+ghost use Rattle.floor_queue.specs.steps.Lines.{AreLines, AreMarked, added, marked, moved, rank_of, without_lost};
 ghost use Rattle.floor_queue.specs.steps.Parties.{with_parties};
 
 use crate::index::lines::Lines;
@@ -23,9 +24,9 @@ use std::marker::Model;
 /// The ongoing requests, by ascending number. They take memory with the first, and give it back with
 /// the last.
 ///
-/// `add`, `store_word` and `grant` put what they change into the lines of its floors as well; whoever
-/// calls `end` or `clear` does so itself. `set_reason` changes nothing that a line goes by. All other
-/// calls read.
+/// `add`, `store_word`, `grant` and `change_chairs` put what they change into the lines of its floors
+/// as well; whoever calls `end` or `clear` does so itself. `set_reason` changes nothing that a line
+/// goes by. All other calls read.
 #[derive(Debug, Drop)]
 pub(crate) struct Ongoing {
     requests: Vec<Request>,
@@ -166,6 +167,25 @@ impl Ongoing {
         }
     }
 
+    /// Puts each request where it stands by the floors, which have other chairs than those of before;
+    /// a floor that lost its chair is Accepted in it, without a word.
+    pub(crate) fn change_chairs(
+        &mut self,
+        before: &[Floor],
+        floors: &[Floor],
+        lines: &mut Lines,
+        lost: Option<u16>,
+    )
+        requires lines { AreLines before.now self.old lines.old }
+        requires floors { floor_ids floors.now ≡ floor_ids before.now }
+        ensures next { self.new ≡ map (without_lost lost) self.old }
+        ensures lines { AreLines floors.now self.new lines.new }
+    {
+        for request in self.requests.iter_mut() {
+            change_chair(request, before, floors, lines, lost);
+        }
+    }
+
     /// Takes a request out.
     pub(crate) fn end(&mut self, number: u16) -> Request
         requires { IsSome (request_at self.old number) }
@@ -249,6 +269,34 @@ fn take_out(requests: &mut Vec<Request>, place: usize) -> Request
         requests.shrink_to_fit();
     }
     request
+}
+
+/// Puts the request where it stands by the floors.
+fn change_chair(
+    request: &mut Request,
+    before: &[Floor],
+    floors: &[Floor],
+    lines: &mut Lines,
+    lost: Option<u16>,
+)
+    ensures next { request.new ≡ without_lost lost request.old }
+    ensures lines { lines.new
+        ≡ map (moved request.new (rank_of before.now request.old) (rank_of floors.now request.new))
+        lines.old }
+{
+    let old = rank_of(before, request);
+    take_chair(request, lost);
+    lines.change(request, old, rank_of(floors, request));
+}
+
+/// The floor that lost its chair, if one did, is Accepted without a word.
+fn take_chair(request: &mut Request, lost: Option<u16>)
+    ensures { request.new ≡ without_lost lost request.old }
+{
+    match lost {
+        Some(floor) => request.floors.take_chair(floor),
+        None => {}
+    }
 }
 
 fn set_word(request: &mut Request, floor: u16, word: Word)

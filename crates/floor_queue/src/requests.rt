@@ -1,10 +1,12 @@
 //! The ongoing floor requests of one conference (RFC 8855, sections 10, 11 and 13).
 
-ghost use Rattle.std.specs.Prelude.{◌≡◌, ◌<◌, ◌+◌, ◌↔◌, ◌==◌, ℕ, IfOk, OnOk, OnErr, Some, IsSome, IsTrue, length, map, filter};
+ghost use Rattle.std.specs.Prelude.{◌≡◌, ◌<◌, ◌≤◌, ◌+◌, ◌↔◌, ◌==◌, ℕ, IfOk, OnOk, OnErr, Some, None, IsSome, IsTrue, false, if◌then◌else◌, length, map, filter};
 ghost use Rattle.std.specs.List.{list_any};
 ghost use Rattle.std.specs.Option.{option_copied};
+ghost use Rattle.floor_config.specs.Changed.{chaired};
+ghost use Rattle.floor_config.specs.Lookup.{is_floor};
 ghost use Rattle.floor_queue.specs.Order.{settle, due_numbers, holders, names, granted_if};
-ghost use Rattle.floor_queue.specs.Queue.{HasFloor, IsAddable, IsQueue, IsReason, IsSettled, MaySetFloor, after_add, after_clear, after_end, after_set_floor, after_set_reason, after_settle, empty_queue, first_floor, involves, numbers_of, position_of, request_at};
+ghost use Rattle.floor_queue.specs.Queue.{HasFloor, IsAddable, IsQueue, IsReason, IsSettled, MaySetFloor, after_add, after_add_floor, after_clear, after_end, after_set_chair, after_set_floor, after_set_reason, after_settle, empty_queue, first_floor, involves, loses_chair, numbers_of, position_of, request_at};
 ghost use Rattle.floor_queue.specs.steps.Lines.{AreLines};
 ghost use Rattle.floor_queue.specs.steps.Parties.{numbers_with};
 
@@ -38,8 +40,9 @@ pub enum AddRefusal {
 /// The ongoing floor requests of one conference, by ascending number. Contracts see them with the
 /// floors of the configuration and the last number that was given.
 ///
-/// `add`, `set_floor`, `set_reason`, `end` and `clear` change the requests, and `settle` grants those
-/// that are due: whoever changes settles before it asks for a `position`. All other calls read.
+/// `add`, `set_floor`, `set_reason`, `end` and `clear` change the requests, `add_floor` and `set_chair`
+/// the floors, and `settle` grants the requests that are due: whoever changes settles before it asks
+/// for a `position`. All other calls read.
 #[derive(Debug, Drop)]
 pub struct Requests {
     floors: Vec<Floor>,
@@ -302,6 +305,39 @@ impl Requests {
         self.parties.clear();
     }
 
+    /// Adds a floor behind the others. All requests stay, and none of them names it yet. After an
+    /// error nothing has changed.
+    pub fn add_floor(&mut self, floor: Floor) -> Result<(), AllocError>
+        requires differs { is_floor self.old.floors floor.id ≡ false }
+        requires room { 1 ≤ floor.room }
+        ensures next { OnOk result (self.new ≡ after_add_floor self.old floor) }
+
+        ensures left { OnErr result (self.new ≡ self.old) }
+    {
+        self.floors.reserve(1)?;
+        self.lines.add_floor(floor)?;
+        let _pushed = self.floors.push(floor);
+        Ok(())
+    }
+
+    /// Gives a floor another chair, or none. The order of all requests goes by it from then on, and a
+    /// floor that loses its chair is Accepted in each request that names it, without a word. After an
+    /// error nothing has changed.
+    pub fn set_chair(&mut self, floor: u16, chair: Option<u16>) -> Result<(), AllocError>
+        ensures next { OnOk result (self.new ≡ after_set_chair self.old floor chair) }
+
+        ensures left { OnErr result (self.new ≡ self.old) }
+    {
+        let before = Vec::from_slice(self.ongoing.allocator(), &self.floors)?;
+        let lost = lost_chair(&before, floor, chair);
+        put_chair(&mut self.floors, floor, chair);
+        self.ongoing
+            .change_chairs(&before, &self.floors, &mut self.lines, lost);
+        // The order may be another one in each line.
+        self.lines.mark_all();
+        Ok(())
+    }
+
     /// Grants each request that is due, and gives their numbers, ascending. After an error nothing
     /// has changed.
     pub fn settle(&mut self) -> Result<Numbers, AllocError>
@@ -364,6 +400,34 @@ fn first_floor(floors: &[Floor], floor: u16) -> RequestedFloor
         floor,
         status,
         word: None,
+    }
+}
+
+/// The floor, if it loses its chair where it gets this one, or none.
+fn lost_chair(floors: &[Floor], floor: u16, chair: Option<u16>) -> Option<u16>
+    ensures { result ≡ (if loses_chair floors.now floor chair then Some floor else None) }
+{
+    if order::is_chaired(floors, floor) && chair.is_none() {
+        Some(floor)
+    } else {
+        None
+    }
+}
+
+fn put_chair(floors: &mut Vec<Floor>, floor: u16, chair: Option<u16>)
+    ensures { floors.new.items ≡ map (chaired floor chair) floors.old.items }
+{
+    for known in floors.iter_mut() {
+        give_chair(known, floor, chair);
+    }
+}
+
+/// Gives a floor this chair, or none, if it is the one with this id.
+fn give_chair(known: &mut Floor, floor: u16, chair: Option<u16>)
+    ensures { known.new ≡ chaired floor chair known.old }
+{
+    if known.id == floor {
+        known.chair = chair;
     }
 }
 

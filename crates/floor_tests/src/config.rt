@@ -271,7 +271,8 @@ fn demonstration_fields(alloc: Global) -> Result<String, AllocError> {
 
 #[test]
 fn a_fault_is_printed_by_its_name(rt: HostRuntime) {
-    let wanted = " Syntax MissingKey WrongType OutOfRange DoubleUser DoubleFloor UnknownChair \
+    let wanted =
+        " Syntax MissingKey WrongType OutOfRange DoubleUser DoubleFloor NoFloor UnknownChair \
         DoubleConference DoublePort Memory";
     assert_told(&rt, faults_printed(rt.alloc()), wanted);
 }
@@ -286,6 +287,7 @@ fn faults_printed(alloc: Global) -> Result<String, AllocError> {
         ConfigFault::OutOfRange,
         ConfigFault::DoubleUser,
         ConfigFault::DoubleFloor,
+        ConfigFault::NoFloor,
         ConfigFault::UnknownChair,
         ConfigFault::DoubleConference,
         ConfigFault::DoublePort,

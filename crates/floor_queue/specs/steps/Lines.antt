@@ -1,12 +1,12 @@
 -- The ongoing requests of each floor in one line: those that hold it, then those that wait in their order, then the rest.
-use Rattle.std.specs.Prelude.{◌≡◌, ℕ, ◌==◌, nat_lt, Bool, true, false, not, ◌&&◌, if◌then◌else◌, List, [], ◌∷◌, map, count_by, find, take, length, All}
+use Rattle.std.specs.Prelude.{◌≡◌, ℕ, ◌==◌, nat_lt, Bool, true, false, not, ◌&&◌, if◌then◌else◌, List, [], ◌∷◌, map, count_by, find, take, length, All, Option, Some, None, ◌+◌}
 use Rattle.std.specs.List.{list_all, list_any, position_or_len}
 use Rattle.std.specs.Option.{option_map_or}
 use Rattle.floor_config.specs.declared.floors.Floor.{Floor}
 use Rattle.floor_queue.specs.declared.index.rank.Rank.{Rank}
 use Rattle.floor_queue.specs.declared.request.Request.{Request}
 use Rattle.floor_queue.specs.Order.{names, waits, is_due, is_express, room_of}
-use Rattle.floor_queue.specs.Queue.{is_ascending, request_at}
+use Rattle.floor_queue.specs.Queue.{is_ascending, request_at, without_chair}
 
 -- what the place of a request in its lines goes by
 unfoldable pub rank_of : List Floor → Request → Rank
@@ -78,6 +78,10 @@ moved r x y l = if names r l.floor then record l { ranks = moved_rank x y l.rank
 abbrev pub marked : Request → FloorLine → FloorLine
 marked r l = if names r l.floor then record l { is_marked = true } else l
 
+-- the line of which each request may be due
+abbrev pub with_mark : FloorLine → FloorLine
+with_mark l = record l { is_marked = true }
+
 -- the line after the requests were settled
 abbrev pub unmarked : FloorLine → FloorLine
 unmarked l = record l { is_marked = false }
@@ -103,6 +107,22 @@ pub record IsLine (floors : List Floor) (rs : List Request) (l : FloorLine) : Ty
 pub record AreLines (floors : List Floor) (rs : List Request) (lines : List FloorLine) : Type 0 where
   pub floors_same : map (λ (l : FloorLine). l.floor) lines ≡ map (λ (f : Floor). f.id) floors
   pub each : All (IsLine floors rs) lines
+
+-- r after this floor lost its chair, if one did
+abbrev pub without_lost : Option ℕ → Request → Request
+without_lost None r = r
+without_lost (Some floor) r = without_chair floor r
+
+-- A line while a floor's chair changes: the first of the requests have their ranks by the floors of now, and the rest by those of before.
+pub record IsChangingLine (before_floors floors : List Floor) (first rest : List Request) (l : FloorLine) : Type 0 where
+  pub in_order : is_in_order l.ranks ≡ true
+  pub counts : (p : Rank → Bool) → count_by p l.ranks
+      ≡ count_by (λ r. names r l.floor && p (rank_of floors r)) first + count_by (λ r. names r l.floor && p (rank_of before_floors r)) rest
+
+-- each floor has its line, while a floor's chair changes
+pub record AreChangingLines (before_floors floors : List Floor) (first rest : List Request) (lines : List FloorLine) : Type 0 where
+  pub floors_same : map (λ (l : FloorLine). l.floor) lines ≡ map (λ (f : Floor). f.id) before_floors
+  pub each : All (IsChangingLine before_floors floors first rest) lines
 
 -- the floor has a place for the rank within its room: never, where it has no line
 abbrev pub has_place : List Floor → List FloorLine → Rank → ℕ → Bool

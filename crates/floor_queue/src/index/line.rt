@@ -2,7 +2,7 @@
 //! order, then the rest.
 
 ghost use Rattle.std.specs.Prelude.{◌≡◌, OnOk, OnErr, [], count_by, false, take};
-ghost use Rattle.floor_queue.specs.steps.Lines.{added, emptied, marked, moved, place_in, taken, unmarked};
+ghost use Rattle.floor_queue.specs.steps.Lines.{added, emptied, marked, moved, place_in, taken, unmarked, with_mark};
 
 use crate::index::rank::Rank;
 use crate::index::ranks::Ranks;
@@ -111,6 +111,13 @@ impl Line {
         if request.names(self.floor) {
             self.is_marked = true;
         }
+    }
+
+    /// Marks the floor.
+    pub(crate) fn set_mark(&mut self)
+        ensures { self.new ≡ with_mark self.old }
+    {
+        self.is_marked = true;
     }
 
     /// Takes the mark off.

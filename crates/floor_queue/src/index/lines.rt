@@ -1,8 +1,8 @@
 //! The lines of all floors of a conference.
 
-ghost use Rattle.std.specs.Prelude.{◌≡◌, ◌≤◌, ◌==◌, ◌++◌, IfOk, OnOk, OnErr, find, length, map, take, drop};
+ghost use Rattle.std.specs.Prelude.{◌≡◌, ◌≤◌, ◌==◌, ◌++◌, [], ◌∷◌, IfOk, OnOk, OnErr, find, length, map, take, drop};
 ghost use Rattle.std.specs.Option.{option_copied};
-ghost use Rattle.floor_queue.specs.steps.Lines.{added, emptied, empty_line, marked, moved, taken, unmarked};
+ghost use Rattle.floor_queue.specs.steps.Lines.{added, emptied, empty_line, marked, moved, taken, unmarked, with_mark};
 
 use crate::index::line::Line;
 use crate::index::rank::Rank;
@@ -90,6 +90,25 @@ impl Lines {
     {
         for line in self.lines.iter_mut() {
             line.mark(request);
+        }
+    }
+
+    /// Adds an empty line behind the others. After an error nothing has changed.
+    pub(crate) fn add_floor(&mut self, floor: Floor) -> Result<(), AllocError>
+        ensures next { OnOk result (self.new ≡ self.old ++ empty_line floor ∷ []) }
+        ensures left { OnErr result (self.new ≡ self.old) }
+    {
+        let line = Line::new(*self.lines.allocator(), floor.id);
+        self.lines.push(line)?;
+        Ok(())
+    }
+
+    /// Marks all floors.
+    pub(crate) fn mark_all(&mut self)
+        ensures { self.new ≡ map with_mark self.old }
+    {
+        for line in self.lines.iter_mut() {
+            line.set_mark();
         }
     }
 
