@@ -1,6 +1,6 @@
 //! What happened in a conference, event by event.
 
-ghost use Rattle.std.specs.Prelude.{◌≡◌, ◌+◌, ◌++◌, ◌<◌, ◌≤◌, IfOk, OnOk, length, string_bytes, take};
+ghost use Rattle.std.specs.Prelude.{◌≡◌, ◌+◌, ◌-◌, ◌++◌, ◌<◌, ◌≤◌, IfOk, OnOk, drop, length, string_bytes, take};
 ghost use Rattle.floor_room.specs.Text.{end_line, journal_text, line, lines};
 
 use floor_machine::Event;
@@ -24,39 +24,39 @@ pub fn journal_text(alloc: Global, events: &[Event]) -> Result<String, AllocErro
     let mut text = String::new(alloc);
     let mut done = 0;
     while done < events.len() {
-        done = add_lines(alloc, &mut text, events, done)?;
+        done += add_lines(alloc, &mut text, events, done)?;
     }
     add_end(alloc, &mut text, done)?;
     Ok(text)
 }
 
-/// Adds to a text the lines of the events behind the first `done`, and gives how many have theirs
-/// then: at least one more where there is one, at most 4,096 more, and no further one behind 256 KiB of
-/// lines. So whoever holds a journal that others wait for can let go of it between the pieces; as a
-/// journal only grows, they are one text. With want of memory the text may have some lines more.
+/// Adds to a text the lines of the events behind the first `done`, and gives how many it added: at least
+/// one where there is one, at most 4,096, and no further one behind 256 KiB of lines. So whoever holds a
+/// journal that others wait for can let go of it between the pieces; as a journal only grows, they are
+/// one text. With want of memory the text may have some lines more.
 pub fn add_lines(
     alloc: Global,
     text: &mut String,
     events: &[Event],
     done: usize,
 ) -> Result<usize, AllocError>
-    ensures lines { IfOk result (λ now. string_bytes text.old ≡ lines 1 (take done events.now)
-        → string_bytes text.new ≡ lines 1 (take now events.now)) }
-    ensures one { IfOk result (λ now. done < length events.now → done < now) }
-    ensures most { IfOk result (λ now. now ≤ done + 4096) }
-    ensures within { IfOk result (λ now. done ≤ length events.now → now ≤ length events.now) }
+    ensures lines { IfOk result (λ added. string_bytes text.new
+        ≡ string_bytes text.old ++ lines (done + 1) (take added (drop done events.now))) }
+    ensures one { IfOk result (λ added. done < length events.now → 1 ≤ added) }
+    ensures most { IfOk result (λ added. added ≤ 4096) }
+    ensures within { IfOk result (λ added. added ≤ length events.now - done) }
 {
     let enough = text.len() + ENOUGH_AT_ONCE;
     if done >= events.len() {
-        return Ok(done);
+        return Ok(0);
     }
     add_line(alloc, text, done + 1, &events[done])?;
-    let mut now = done + 1;
-    while now < events.len() && now - done < MOST_AT_ONCE && text.len() < enough {
-        add_line(alloc, text, now + 1, &events[now])?;
-        now += 1;
+    let mut added = 1;
+    while added < events.len() - done && added < MOST_AT_ONCE && text.len() < enough {
+        add_line(alloc, text, done + added + 1, &events[done + added])?;
+        added += 1;
     }
-    Ok(now)
+    Ok(added)
 }
 
 /// Adds to a text the last line of a journal of so many events. With want of memory the text may have a

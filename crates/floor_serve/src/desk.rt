@@ -149,11 +149,11 @@ impl Desk {
         let count = self.booth.lock(rt).journal().len();
         let mut done = 0;
         while done < count {
-            let before = done;
-            done = add_lines(self.alloc, &mut text, self.booth.lock(rt).journal(), before)?;
-            if done <= before {
+            let added = add_lines(self.alloc, &mut text, self.booth.lock(rt).journal(), done)?;
+            if added == 0 {
                 break; // never: a journal only grows
             }
+            done += added;
         }
         add_end(self.alloc, &mut text, done)?;
         Ok(text)

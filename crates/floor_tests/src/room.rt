@@ -345,12 +345,12 @@ fn an_acknowledgement_has_a_line_in_the_journal(rt: HostRuntime) {
 
 #[test]
 fn a_piece_of_a_journal_has_4096_events_or_256_kib(rt: HostRuntime) {
-    assert_told(&rt, pieces(rt.alloc(), 10, 40_000), "4 8 10 10");
-    assert_told(&rt, pieces(rt.alloc(), 5_000, 0), "4096 5000 5000 5000");
+    assert_told(&rt, pieces(rt.alloc(), 10, 40_000), "4 4 2 0");
+    assert_told(&rt, pieces(rt.alloc(), 5_000, 0), "4096 904 0 0");
 }
 
-/// How many events of a journal have their lines behind each of four pieces. The journal has so many
-/// messages with a payload of so many bytes.
+/// How many lines each of four pieces of a journal has. The journal has so many messages with a payload
+/// of so many bytes.
 fn pieces(alloc: Global, count: usize, len: usize) -> Result<String, AllocError> {
     let bytes = message(alloc, 11, 1, &vec![in alloc; 0u8; len]?)?;
     let Some(frame) = Frame::of(alloc, &bytes)? else {
@@ -366,8 +366,8 @@ fn pieces(alloc: Global, count: usize, len: usize) -> Result<String, AllocError>
     let mut text = String::new(alloc);
     let one = add_lines(alloc, &mut text, &events, 0)?;
     let two = add_lines(alloc, &mut text, &events, one)?;
-    let three = add_lines(alloc, &mut text, &events, two)?;
-    let four = add_lines(alloc, &mut text, &events, three)?;
+    let three = add_lines(alloc, &mut text, &events, one + two)?;
+    let four = add_lines(alloc, &mut text, &events, one + two + three)?;
     format!(in alloc; "{one} {two} {three} {four}")
 }
 
