@@ -3,9 +3,9 @@ use Rattle.std.proofs.Common.{◌≡◌, ℕ, Bool, true, false, not, cond, ◌&
 use Rattle.std.specs.Prelude.{filter_map, ◌==◌}
 use Rattle.std.specs.List.{list_any, cons_option}
 use Rattle.floor_wire.specs.declared.attribute.Attr.{Attr}
-use Rattle.floor_message.specs.Fields.{status_info_in, floor_reason}
+use Rattle.floor_message.specs.Fields.{status_info_in, floor_reason, reason_for}
 use Rattle.floor_message.specs.Picked.{first, groups, once_by}
-use Rattle.floor_message.specs.steps.Reasons.{reason_unless_named, reason_or, reason_behind}
+use Rattle.floor_message.specs.steps.Reasons.{reason_unless_named, reason_behind}
 use Rattle.floor_message.proofs.Once.{filter_both, filter_same, any_more, flip}
 
 -- the floor of the group isn't named already
@@ -26,20 +26,20 @@ named_more named n xs =
     filter_both (is_unnamed named) (λ y. not (y.0 == n)) xs
     ∙ filter_same (λ y. not (y.0 == n) && is_unnamed named y) (is_unnamed (named ++ n ∷ [])) (λ y. rw (any_more (λ floor. y.0 == floor) named n) (flip (y.0 == n) (list_any (λ floor. y.0 == floor) named))) xs
 
-reason_in_front : (o : Option (List ℕ)) (rest : List (List ℕ)) → first (cons_option o rest) ≡ reason_or o (first rest)
+reason_in_front : (o : Option (List ℕ)) (rest : List (List ℕ)) → first (cons_option o rest) ≡ reason_for o (first rest)
 reason_in_front None rest = refl
 reason_in_front (Some reason) rest = refl
 
 step : (g : ℕ × List Attr) (rest : List (ℕ × List Attr)) (b : Bool)
-    → reason_or (cond b None (status_info_in g.1)) (reason_among rest) ≡ reason_among (cond (not b) (g ∷ rest) rest)
+    → reason_for (cond b None (status_info_in g.1)) (reason_among rest) ≡ reason_among (cond (not b) (g ∷ rest) rest)
 step g rest true = refl
 step g rest false = sym (reason_in_front (status_info_in g.1) (filter_map (λ g. status_info_in g.1) rest))
 
 pub reason_behind-is : (named : List ℕ) (gs : List (ℕ × List Attr)) → reason_behind named gs ≡ reason_among (unnamed named gs)
 reason_behind-is named [] = refl
 reason_behind-is named (g ∷ gs) =
-    ap (λ r. reason_or (reason_unless_named named g) r) (reason_behind-is (named ++ g.0 ∷ []) gs)
-    ∙ ap (λ l. reason_or (reason_unless_named named g) (reason_among l)) (sym (named_more named g.0 (once_by (λ x. x.0) gs)))
+    ap (λ r. reason_for (reason_unless_named named g) r) (reason_behind-is (named ++ g.0 ∷ []) gs)
+    ∙ ap (λ l. reason_for (reason_unless_named named g) (reason_among l)) (sym (named_more named g.0 (once_by (λ x. x.0) gs)))
     ∙ step g (filter (is_unnamed named) (filter (λ y. not (y.0 == g.0)) (once_by (λ x. x.0) gs))) (list_any (λ floor. g.0 == floor) named)
 
 all_kept : {A : Type 0} (xs : List A) → filter (λ y. true) xs ≡ xs
