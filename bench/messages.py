@@ -253,7 +253,7 @@ def hostile(chance, conference, user):
 
     def text():
         """A text that may be none."""
-        return 'x'.encode() * word(0, 40) + chance.choice((b'', '\u00e4'.encode(), b'\xff'))
+        return b'x' * word(0, 40) + chance.choice((b'', '\u00e4'.encode(), b'\xff'))
 
     def fine():
         """A payload that some message may have."""
