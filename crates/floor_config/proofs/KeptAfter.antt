@@ -1,7 +1,9 @@
 -- A configuration that is changed keeps the limits.
-use Rattle.std.proofs.Common.{◌≡◌, ℕ, ◌<◌, ◌==◌, ◌||◌, ◌++◌, Bool, true, false, cond, List, [], ◌∷◌, length, map, find, Option, Some, None, IfSome, All, Contains, is_some, refl, sym, ap, subst, ◌∙◌, arith, length-append}
+use Rattle.std.proofs.Common.{◌≡◌, ℕ, ◌<◌, ◌≤◌, ◌==◌, ◌||◌, ◌&&◌, ◌++◌, Bool, true, false, cond, List, [], ◌∷◌, length, map, find, Option, Some, None, IfSome, All, Contains, is_some, refl, sym, ap, subst, ◌∙◌, arith, length-append}
 use Rattle.std.specs.List.{list_any}
-use Rattle.std.proofs.lemmas.Bool.{or_from, or_parts, false≢true}
+use Rattle.std.specs.Prelude.{nat_le, nat_lt, option_and_then}
+use Rattle.std.proofs.lemmas.Bool.{and_parts, or_from, or_parts, false≢true}
+use Rattle.std.proofs.lemmas.Bool.Decides.{nat_tests}
 use Rattle.std.proofs.lemmas.List.{map-append, length-map}
 use Rattle.std.proofs.lemmas.List.Folds.{list_any-append}
 use Rattle.std.proofs.lemmas.List.Elements.{All-append, All-from_recursion, All-map, Contains-append_left}
@@ -10,8 +12,10 @@ use Rattle.floor_config.specs.declared.floors.Floor.{Floor}
 use Rattle.floor_config.specs.Configuration.{Configuration, IsConfiguration, IsUser, IsFloor, user_ids, floor_ids}
 use Rattle.floor_config.specs.Doubles.{AllDiffer, has_double}
 use Rattle.floor_config.specs.Lookup.{is_floor, is_user}
-use Rattle.floor_config.specs.Limits.{is_known}
-use Rattle.floor_config.specs.Changed.{added_user, with_user, with_floor, with_chair, chaired}
+use Rattle.floor_config.specs.declared.fault.ConfigFault.TheVariants.{OutOfRange, DoubleUser, DoubleFloor, NoFloor, UnknownChair}
+use Rattle.floor_config.specs.Building.{floor_fits, text_fits}
+use Rattle.floor_config.specs.Limits.{is_known, unless_empty}
+use Rattle.floor_config.specs.Changed.{added_user, chair_fault, chaired, floor_fault, floor_is_within, unknown_chair, user_fault, user_is_within, with_chair, with_floor, with_user}
 use Rattle.floor_config.proofs.StandingTwice.{AllDiffer_none, none_AllDiffer}
 use Rattle.floor_config.proofs.Limits.{chair_known}
 
@@ -117,3 +121,77 @@ kept_chair c id chair is known =
       chairs = let P : Floor → Type 0 = λ g. IfSome g.chair (Contains (user_ids c.users)) in
           All-map P (chaired id chair) c.floors (λ k d within. chair-set c.users id chair _ (chair_known c.users chair known) (is.chairs k d within));
     }
+
+text-kept : (most : ℕ) (o : Option (List ℕ)) → text_fits most o ≡ true → IfSome (option_and_then unless_empty o) (λ text. (1 ≤ length text) × (length text ≤ most))
+text-kept most None h = tt
+text-kept most (Some text) h = by (length text == 0) refl
+  where
+    some : (n : ℕ) → (n == 0) ≡ false → 1 ≤ n
+    some n e = grind (arith, nat_tests)
+
+    short : (n m : ℕ) → nat_le n m ≡ true → n ≤ m
+    short n m e = grind (arith, nat_tests)
+
+    by : (b : Bool) → (length text == 0) ≡ b → IfSome (cond b None (Some text)) (λ text. (1 ≤ length text) × (length text ≤ most))
+    by true e = tt
+    by false e = (some (length text) e, short (length text) most h)
+
+user-within : (u : User) → user_is_within u ≡ true → IsUser (added_user u)
+user-within u h =
+    let p = and_parts (nat_le u.id 65535) (text_fits 30 u.name && text_fits 62 u.uri) h in
+    let q = and_parts (text_fits 30 u.name) (text_fits 62 u.uri) p.1 in
+    record { id = small u.id p.0; name = text-kept 30 u.name q.0; uri = text-kept 62 u.uri q.1; port = tt }
+  where
+    small : (n : ℕ) → nat_le n 65535 ≡ true → n ≤ 65535
+    small n e = grind (arith, nat_tests)
+
+floor-within : (f : Floor) → floor_is_within f ≡ true → IsFloor f
+floor-within f h =
+    let p = and_parts (nat_le f.id 65535) (floor_fits f) h in
+    let q = and_parts (nat_le 1 f.room) (nat_le f.room 255) p.1 in
+    record { id = small f.id 65535 p.0; room_least = small 1 f.room q.0; room_most = small f.room 255 q.1 }
+  where
+    small : (n m : ℕ) → nat_le n m ≡ true → n ≤ m
+    small n m e = grind (arith, nat_tests)
+
+below : (n m : ℕ) → nat_lt n m ≡ true → n < m
+below n m e = grind (arith, nat_tests)
+
+-- a change that no fault stands against leaves a configuration
+pub user_kept : (c : Configuration) (u : User) → IsConfiguration c → user_fault c u ≡ None → IsConfiguration (with_user c u)
+user_kept c u is h = by (nat_lt (length c.users) 256) (user_is_within u) (is_user c u.id) refl refl refl h
+  where
+    by : (a b d : Bool) → nat_lt (length c.users) 256 ≡ a → user_is_within u ≡ b → is_user c u.id ≡ d → cond (a && b) (cond d (Some DoubleUser) None) (Some OutOfRange) ≡ None → IsConfiguration (with_user c u)
+    by true true true e f g h = cc
+    by true true false e f g h = kept_user c u is (user-within u f) (below (length c.users) 256 e) g
+    by true false d e f g h = cc
+    by false b d e f g h = cc
+
+pub floor_kept : (c : Configuration) (floor : Floor) → IsConfiguration c → floor_fault c floor ≡ None → IsConfiguration (with_floor c floor)
+floor_kept c floor is h = by (nat_lt (length c.floors) 32) (floor_is_within floor) (is_floor c.floors floor.id) (is_known c.users floor.chair) refl refl refl refl h
+  where
+    by : (a b d k : Bool) → nat_lt (length c.floors) 32 ≡ a → floor_is_within floor ≡ b → is_floor c.floors floor.id ≡ d → is_known c.users floor.chair ≡ k →
+        cond (a && b) (cond d (Some DoubleFloor) (cond k None (Some UnknownChair))) (Some OutOfRange) ≡ None → IsConfiguration (with_floor c floor)
+    by true true true k e f g i h = cc
+    by true true false true e f g i h = kept_floor c floor is (floor-within floor f) (below (length c.floors) 32 e) g i
+    by true true false false e f g i h = cc
+    by true false d k e f g i h = cc
+    by false b d k e f g i h = cc
+
+pub chair_kept : (c : Configuration) (id : ℕ) (chair : Option ℕ) → IsConfiguration c → chair_fault c id chair ≡ None → IsConfiguration (with_chair c id chair)
+chair_kept c id chair is h = by (is_floor c.floors id) (is_known c.users chair) refl h
+  where
+    by : (a k : Bool) → is_known c.users chair ≡ k → cond a (cond k None (Some UnknownChair)) (Some NoFloor) ≡ None → IsConfiguration (with_chair c id chair)
+    by true true e h = kept_chair c id chair is e
+    by true false e h = cc
+    by false k e h = cc
+
+-- a floor that may be added has another id than all others, and room
+pub floor_free : (c : Configuration) (floor : Floor) → floor_fault c floor ≡ None → (is_floor c.floors floor.id ≡ false) × (1 ≤ floor.room)
+floor_free c floor h = by (nat_lt (length c.floors) 32) (floor_is_within floor) (is_floor c.floors floor.id) refl h
+  where
+    by : (a b d : Bool) → floor_is_within floor ≡ b → cond (a && b) (cond d (Some DoubleFloor) (unknown_chair c floor.chair)) (Some OutOfRange) ≡ None → (d ≡ false) × (1 ≤ floor.room)
+    by true true true e h = cc
+    by true true false e h = (refl, IsFloor.room_least (floor-within floor e))
+    by true false d e h = cc
+    by false b d e h = cc

@@ -1,5 +1,5 @@
 -- A configuration that is changed while its conference runs: a user more, a floor more, a floor with another chair or none.
-use Rattle.std.specs.Prelude.{◌≡◌, ℕ, ◌==◌, ◌&&◌, ◌++◌, Bool, nat_lt, [], ◌∷◌, length, map, Option, Some, None, Result, Ok, Err, if◌then◌else◌}
+use Rattle.std.specs.Prelude.{◌≡◌, ℕ, ◌==◌, ◌&&◌, ◌++◌, Bool, nat_le, nat_lt, [], ◌∷◌, length, map, Option, Some, None, Result, Ok, Err, if◌then◌else◌}
 use Rattle.floor_config.specs.declared.fault.ConfigFault.{ConfigFault}
 use Rattle.floor_config.specs.declared.fault.ConfigFault.TheVariants.{OutOfRange, DoubleUser, DoubleFloor, NoFloor, UnknownChair, Memory}
 use Rattle.floor_config.specs.declared.users.User.{User}
@@ -29,14 +29,18 @@ chaired id chair floor = if floor.id == id then record floor { chair = chair } e
 abbrev pub with_chair : Configuration → ℕ → Option ℕ → Configuration
 with_chair config id chair = record config { floors = map (chaired id chair) config.floors }
 
--- the user's name has at most 30 bytes, and its URI at most 62, where it has them
-abbrev pub texts_fit : User → Bool
-texts_fit user = text_fits 30 user.name && text_fits 62 user.uri
+-- the user has an id of 16 bits, and a name of at most 30 bytes and a URI of at most 62, where it has them
+abbrev pub user_is_within : User → Bool
+user_is_within user = nat_le user.id 65535 && (text_fits 30 user.name && text_fits 62 user.uri)
+
+-- the floor has an id of 16 bits and room for 1 to 255 floor requests
+abbrev pub floor_is_within : Floor → Bool
+floor_is_within floor = nat_le floor.id 65535 && floor_fits floor
 
 -- why the user may not be added, unless it may
 abbrev pub user_fault : Configuration → User → Option ConfigFault
 user_fault config user =
-    if nat_lt (length config.users) 256 && texts_fit user then (if is_user config user.id then Some DoubleUser else None) else Some OutOfRange
+    if nat_lt (length config.users) 256 && user_is_within user then (if is_user config user.id then Some DoubleUser else None) else Some OutOfRange
 
 -- why the chair may not be had by a floor of the configuration, unless it may
 abbrev pub unknown_chair : Configuration → Option ℕ → Option ConfigFault
@@ -45,7 +49,7 @@ unknown_chair config chair = if is_known config.users chair then None else Some 
 -- why the floor may not be added, unless it may
 abbrev pub floor_fault : Configuration → Floor → Option ConfigFault
 floor_fault config floor =
-    if nat_lt (length config.floors) 32 && floor_fits floor then (if is_floor config.floors floor.id then Some DoubleFloor else unknown_chair config floor.chair) else Some OutOfRange
+    if nat_lt (length config.floors) 32 && floor_is_within floor then (if is_floor config.floors floor.id then Some DoubleFloor else unknown_chair config floor.chair) else Some OutOfRange
 
 -- why the chair may not be set, unless it may
 abbrev pub chair_fault : Configuration → ℕ → Option ℕ → Option ConfigFault

@@ -3,8 +3,8 @@
 //! server comes to know of them).
 
 ghost use Rattle.std.specs.Prelude.{◌≡◌, true, None, OnOk, OnErr};
-ghost use Rattle.floor_config.specs.Configuration.{IsConfiguration, IsUser};
-ghost use Rattle.floor_config.specs.Changed.{IsRefusedBy, added_user, chair_fault, floor_fault, texts_fit, unless_refused, user_fault, with_chair, with_floor, with_user};
+ghost use Rattle.floor_config.specs.Configuration.{IsConfiguration, IsFloor, IsUser};
+ghost use Rattle.floor_config.specs.Changed.{IsRefusedBy, added_user, chair_fault, floor_fault, floor_is_within, unless_refused, user_fault, user_is_within, with_chair, with_floor, with_user};
 
 use crate::building::{drop_empty_texts, floor_fits, text_fits};
 use crate::chairs;
@@ -68,13 +68,14 @@ impl Config {
         Ok(())
     }
 
-    /// Why the user may not be added.
+    /// Why the user may not be added, unless it may: what `add_user` is refused by but for want of
+    /// memory. Takes no memory.
     #[tactic(auto, using(crate::proofs::KeptAfter::kept_user))]
-    fn user_fault(&self, user: &User) -> Option<ConfigFault>
+    pub fn user_fault(&self, user: &User) -> Option<ConfigFault>
         ensures value { result ≡ user_fault self.now user.now }
         ensures kept { result ≡ None → IsConfiguration (with_user self.now user.now) }
     {
-        if MAX_USERS <= self.users().len() || !texts_fit(user) {
+        if MAX_USERS <= self.users().len() || !user_is_within(user) {
             return Some(ConfigFault::OutOfRange);
         }
         if self.is_user(user.id) {
@@ -83,13 +84,14 @@ impl Config {
         None
     }
 
-    /// Why the floor may not be added.
+    /// Why the floor may not be added, unless it may: what `add_floor` is refused by but for want of
+    /// memory. Takes no memory.
     #[tactic(auto, using(crate::proofs::KeptAfter::kept_floor))]
-    fn floor_fault(&self, floor: &Floor) -> Option<ConfigFault>
+    pub fn floor_fault(&self, floor: &Floor) -> Option<ConfigFault>
         ensures value { result ≡ floor_fault self.now floor.now }
         ensures kept { result ≡ None → IsConfiguration (with_floor self.now floor.now) }
     {
-        if MAX_FLOORS <= self.floors().len() || !floor_fits(floor) {
+        if MAX_FLOORS <= self.floors().len() || !floor_is_within(floor) {
             return Some(ConfigFault::OutOfRange);
         }
         if is_floor(self.floors(), floor.id) {
@@ -101,9 +103,10 @@ impl Config {
         None
     }
 
-    /// Why the floor may not have the chair.
+    /// Why the floor may not have the chair, unless it may: what `set_chair` is refused by. Takes no
+    /// memory.
     #[tactic(auto, using(crate::proofs::KeptAfter::kept_chair))]
-    fn chair_fault(&self, floor: u16, chair: Option<u16>) -> Option<ConfigFault>
+    pub fn chair_fault(&self, floor: u16, chair: Option<u16>) -> Option<ConfigFault>
         ensures value { result ≡ chair_fault self.now floor chair }
         ensures kept { result ≡ None → IsConfiguration (with_chair self.now floor chair) }
     {
@@ -127,12 +130,22 @@ fn added_user(user: User) -> User
     user
 }
 
-/// Whether the user's texts are within their ranges.
-fn texts_fit(user: &User) -> bool
-    ensures value { result ≡ texts_fit user.now }
+/// Whether the user's id and texts are within their ranges.
+fn user_is_within(user: &User) -> bool
+    ensures value { result ≡ user_is_within user.now }
     ensures fits { result ≡ true → IsUser (added_user user.now) }
 {
     // A number has the range of its type once it is read.
     let _id = user.id;
     text_fits(&user.name, 30) && text_fits(&user.uri, 62)
+}
+
+/// Whether the floor's id and room are within their ranges.
+fn floor_is_within(floor: &Floor) -> bool
+    ensures value { result ≡ floor_is_within floor.now }
+    ensures fits { result ≡ true → IsFloor floor.now }
+{
+    // A number has the range of its type once it is read.
+    let _id = floor.id;
+    floor_fits(floor)
 }

@@ -1,5 +1,5 @@
 -- A floor that is added behind the others: the requests, their order and their lines stay, since none of them names it.
-use Rattle.std.proofs.Common.{◌≡◌, ℕ, ◌≤◌, ◌+◌, Bool, true, false, cond, List, [], ◌∷◌, ◌++◌, refl, sym, ◌∙◌, ap, arith}
+use Rattle.std.proofs.Common.{◌≡◌, ℕ, ◌≤◌, ◌+◌, Bool, true, false, cond, List, [], ◌∷◌, ◌++◌, map, refl, sym, ◌∙◌, ap, arith}
 use Rattle.std.specs.Prelude.{not, ◌&&◌, ◌||◌, ◌==◌, nat_lt, count_by, find, Some, IsTrue, is_some}
 use Rattle.std.specs.List.{list_any, list_all}
 use Rattle.std.specs.Option.{option_map_or}
@@ -13,12 +13,12 @@ use Rattle.floor_queue.specs.declared.index.rank.Rank.{Rank}
 use Rattle.floor_queue.specs.declared.request.Request.{Request}
 use Rattle.floor_queue.specs.declared.requested_floor.RequestedFloor.{RequestedFloor}
 use Rattle.floor_queue.specs.Requested.{is_granting}
-use Rattle.floor_queue.specs.Order.{room_of, is_chaired, names, waits, is_express, earlier, earlier_by_priority, holders, ahead, is_due}
+use Rattle.floor_queue.specs.Order.{room_of, is_chaired, names, waits, is_express, earlier, earlier_by_priority, holders, ahead, is_due, granted_if, position, settle}
 use Rattle.floor_queue.specs.Queue.{Queue, IsQueue, IsAddable, new_of, after_add_floor}
 use Rattle.floor_queue.specs.steps.Lines.{FloorLine, IsLine, AreLines, AreMarked, empty_line, rank_of, has_mark, names_marked}
 use Rattle.floor_queue.proofs.Counts.{one, count-cons, count_none, list_all_at_named, list_all_mono, and_left, and_right}
 use Rattle.floor_queue.proofs.Earlier.{chosen}
-use Rattle.floor_queue.proofs.Places.{have_rooms}
+use Rattle.floor_queue.proofs.Places.{have_rooms, queue_has_rooms}
 
 -- lists of which each element passes t -----------------------------------------------------------
 
@@ -199,3 +199,20 @@ IsQueue-add_floor q new differs room h =
       reasons = h.reasons;
       holders_fit = λ id. omega (arith, h.holders_fit id, room_le q.floors new differs id);
     }
+
+among_more : {X : Type 0} (p : X → Bool) (f g : X → X) → ((x : X) → p x ≡ true → f x ≡ g x) → (xs : List X) → list_all p xs ≡ true → map f xs ≡ map g xs
+among_more p f g same [] h = refl
+among_more {X = X} p f g same (x ∷ xs) h =
+    ap (λ (y : X). y ∷ map f xs) (same x (and_left (p x) (list_all p xs) h)) ∙ ap (λ (ys : List X). g x ∷ ys) (among_more p f g same xs (and_right (p x) (list_all p xs) h))
+
+-- a floor more changes neither who is due nor any position
+pub settle-more : (q : Queue) (new : Floor) → is_floor q.floors new.id ≡ false → IsQueue q → settle (q.floors ++ new ∷ []) q.ongoing ≡ settle q.floors q.ongoing
+settle-more q new differs h =
+    let roomy = queue_has_rooms q h in
+    among_more (have_rooms q.floors) (λ r. granted_if (is_due (q.floors ++ new ∷ []) q.ongoing r) r) (λ r. granted_if (is_due q.floors q.ongoing r) r)
+    (λ r k. ap (λ b. granted_if b r) (due_same q.floors new differs q.ongoing roomy r k)) q.ongoing roomy
+
+pub position-more : (q : Queue) (new : Floor) → is_floor q.floors new.id ≡ false → IsQueue q → (r : Request) → have_rooms q.floors r ≡ true → (floor : ℕ) →
+    position (q.floors ++ new ∷ []) q.ongoing r floor ≡ position q.floors q.ongoing r floor
+position-more q new differs h r roomy floor =
+    ap (λ (n : ℕ). cond (waits r) (1 + n) 0) (ahead_same q.floors new differs q.ongoing (queue_has_rooms q h) r roomy floor)

@@ -7,4 +7,4 @@ pub returns-clause-kept : goal.returns-clause-kept
 returns-clause-kept c =
     let room : length c.args.self.now.users < 256 = rw c.users.ensures.value at c.if-users-ge-MAX_USERS.false in
     let free : is_user c.args.self.now c.args.user.now.id ≡ false = rw c.is_user.ensures.value at c.if-is_user.false in
-    λ none. kept_user c.args.self.now c.args.user.now c.users.ensures.kept (c.texts_fit.ensures.fits c.if-not-texts_fit.false) room free
+    λ none. kept_user c.args.self.now c.args.user.now c.users.ensures.kept (c.user_is_within.ensures.fits c.if-not-user_is_within.false) room free
