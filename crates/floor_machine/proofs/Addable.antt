@@ -93,7 +93,7 @@ pub changed_addable : (s t : Conference) (c : Change) (ends : Request → Option
 changed_addable s t c ends course h changed same =
     let Q : List Floor → Type 0 = λ fs. AreFit fs course.ended.items in
     subst Q (sym (ap (λ (k : Configuration). k.floors) changed.config))
-    (ending_addable s ends course.ended.items h (changed.ended ∙ ap (λ (es : List Entry). ended_of es) same))
+    (ending_addable s ends course.ended.items h (changed.made.ended ∙ ap (λ (es : List Entry). ended_of es) same))
 
 -- those that a leave ended
 pub left_addable : (s t : Conference) (n : ℕ) (course : Course) → All (λ r. IsFit s.config.floors r) s.ongoing →
@@ -114,4 +114,4 @@ pub decided_addable : (s t : Conference) (n : ℕ) (c : Decided) (course : Cours
 decided_addable s t n c course may h changed =
     let Q : List Floor → Type 0 = λ fs. AreFit fs course.ended.items in
     subst Q (sym (ap (λ (k : Configuration). k.floors) changed.config))
-    (noted_addable s.config.floors course.ended.items (ended_of (change_by s n c).entries) changed.ended (decided_all s n c may h))
+    (noted_addable s.config.floors course.ended.items (ended_of (change_by s n c).entries) changed.made.ended (decided_all s n c may h))

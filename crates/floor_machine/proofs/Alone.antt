@@ -27,7 +27,7 @@ use Rattle.floor_machine.specs.steps.Deciding.{accepted, changes_requests, decis
 use Rattle.floor_machine.specs.Told.{Changed, changed_floors, changed_requests, is_told, reply_to, due, due_to}
 use Rattle.floor_machine.proofs.Found.{and_left}
 use Rattle.floor_machine.proofs.Kept.{IsKept, event-kept, settled-message}
-use Rattle.floor_machine.proofs.Quiet.{floors-kept, requests-kept}
+use Rattle.floor_machine.proofs.Quiet.{floors-kept, requests-kept, still}
 use Rattle.floor_machine.proofs.Counted.{counted-quiet}
 use Rattle.floor_machine.proofs.Sent.{sent_is_told, told-nothing}
 use Rattle.floor_machine.specs.Next.{counted, next}
@@ -103,7 +103,7 @@ leaves_alone s n bytes is_settled ascending refused_is =
     let k : IsKept s (members_by s.members n j.change) (change s e) = event-kept s n bytes j refl nothing.requests in
     let unmoved : settled s e ≡ s = sym (settled-message s n bytes j refl nothing.requests is_settled) ∙ ap (λ (ms : List Member). record s { members = ms }) nothing.members_kept in
     let silent : (i : ℕ) → i ≢ n → due s e i ≡ [] = λ i other. due-member s e i refl
-    ∙ due-found s n bytes i (member_with (settled s e).members i) refl other (requests-kept s e k.entries is_settled ascending) (floors-kept s e k.entries is_settled) in
+    ∙ due-found s n bytes i (member_with (settled s e).members i) refl other (requests-kept s e (still s e refl k.entries is_settled) ascending) (floors-kept s e (still s e refl k.entries is_settled)) in
     record {
       next = but-for-counted s e n silent ∙ ap (but_for n) unmoved;
       told = λ i other. told-nothing s e i (silent i other);

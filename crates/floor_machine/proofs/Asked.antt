@@ -44,7 +44,7 @@ on_ok_all (Ok x) p = p
 on_ok_all (Err e) p = tt
 
 -- requests that are found by their numbers stand by them
-old-numbers : (at : ℕ → Option Request) (rs : List Request) → All (λ q. at q.number ≡ Some q) rs → flat_map (λ n. listed (at n)) (numbers_of rs) ≡ rs
+pub old-numbers : (at : ℕ → Option Request) (rs : List Request) → All (λ q. at q.number ≡ Some q) rs → flat_map (λ n. listed (at n)) (numbers_of rs) ≡ rs
 old-numbers at [] h = refl
 old-numbers at (r ∷ rs) h =
     ap (λ (o : Option Request). listed o ++ flat_map (λ n. listed (at n)) (numbers_of rs)) (All-head (λ q. at q.number ≡ Some q) r rs h)
@@ -64,15 +64,18 @@ none-next given (r ∷ rs) h =
 pub begun : (s : Conference) (course : Course) → is_ascending s.ongoing ≡ true →
     course.numbers.items ≡ numbers_of s.ongoing → course.ended.items ≡ [] → IsChanged s (no_change s) s course
 begun s course h numbers ended = record {
+  made = record {
+    config = refl;
+    given = refl;
+    members = refl;
+    is_open = refl;
+    ongoing = sym (ongoing_of-entries s.ongoing);
+    ended = ap (map entry_of_ended) ended ∙ sym (ended_of-entries s.ongoing);
+    numbers = numbers ∙ sym (numbers_in-entries s.ongoing);
+    rising = ap is_rising numbers ∙ rising-numbers s.ongoing ∙ h;
+    old = ap (flat_map (λ n. listed (request_at s.ongoing n))) numbers ∙ old-numbers (request_at s.ongoing) s.ongoing (λ i d within. request_at_place s.ongoing i d h within);
+  };
   config = refl;
-  given = refl;
-  members = refl;
-  is_open = refl;
-  ongoing = sym (ongoing_of-entries s.ongoing);
-  ended = ap (map entry_of_ended) ended ∙ sym (ended_of-entries s.ongoing);
-  numbers = numbers ∙ sym (numbers_in-entries s.ongoing);
-  rising = ap is_rising numbers ∙ rising-numbers s.ongoing ∙ h;
-  old = ap (flat_map (λ n. listed (request_at s.ongoing n))) numbers ∙ old-numbers (request_at s.ongoing) s.ongoing (λ i d within. request_at_place s.ongoing i d h within);
   noted = noted-none s.config.floors s.ongoing course.marks.items;
 }
 
@@ -88,26 +91,29 @@ changed-add s course course' new queue begun numbers ended noted =
     let spec : Request = first_request s.config.floors (s.requests.given + 1) new in
     let same : mine ≡ spec = ap (λ (fs : List Floor). first_request fs (s.requests.given + 1) new) s.same_floors in
     record {
+      made = record {
+        config = refl;
+        given = refl;
+        members = refl;
+        is_open = refl;
+        ongoing = ap (λ (r : Request). rs ++ r ∷ []) same ∙ sym (entries-added rs spec);
+        ended = ap (λ (es : List Ended). map entry_of_ended es) (ap (λ x. x.items) ended) ∙ begun.made.ended ∙ ended_of-entries rs ∙ sym (none-ended-added rs spec);
+        numbers = numbers ∙ ap (λ (ns : List ℕ). ns ++ (s.requests.given + 1) ∷ []) (begun.made.numbers ∙ numbers_in-entries rs) ∙ sym (numbers-added rs spec);
+        rising = ap is_rising (numbers ∙ ap (λ (ns : List ℕ). ns ++ (s.requests.given + 1) ∷ []) (begun.made.numbers ∙ numbers_in-entries rs)) ∙ rising-next rs s.requests.given queue.ascending queue.numbers;
+        old =
+            ap (flat_map (λ n. listed (request_at rs n))) numbers
+            ∙ flat_map-append (λ n. listed (request_at rs n)) course.numbers.items ((s.requests.given + 1) ∷ [])
+            ∙ ap (λ (qs : List Request). qs ++ (listed (request_at rs (s.requests.given + 1)) ++ [])) begun.made.old
+            ∙ ap (λ (o : Option Request). rs ++ (listed o ++ [])) (none-next s.requests.given rs queue.numbers)
+            ∙ append-nil rs;
+      };
       config = refl;
-      given = refl;
-      members = refl;
-      is_open = refl;
-      ongoing = ap (λ (r : Request). rs ++ r ∷ []) same ∙ sym (entries-added rs spec);
-      ended = ap (λ (es : List Ended). map entry_of_ended es) (ap (λ x. x.items) ended) ∙ begun.ended ∙ ended_of-entries rs ∙ sym (none-ended-added rs spec);
-      numbers = numbers ∙ ap (λ (ns : List ℕ). ns ++ (s.requests.given + 1) ∷ []) (begun.numbers ∙ numbers_in-entries rs) ∙ sym (numbers-added rs spec);
-      rising = ap is_rising (numbers ∙ ap (λ (ns : List ℕ). ns ++ (s.requests.given + 1) ∷ []) (begun.numbers ∙ numbers_in-entries rs)) ∙ rising-next rs s.requests.given queue.ascending queue.numbers;
-      old =
-          ap (flat_map (λ n. listed (request_at rs n))) numbers
-          ∙ flat_map-append (λ n. listed (request_at rs n)) course.numbers.items ((s.requests.given + 1) ∷ [])
-          ∙ ap (λ (qs : List Request). qs ++ (listed (request_at rs (s.requests.given + 1)) ++ [])) begun.old
-          ∙ ap (λ (o : Option Request). rs ++ (listed o ++ [])) (none-next s.requests.given rs queue.numbers)
-          ∙ append-nil rs;
       noted = noted;
     }
 
 -- nothing has ended as an event begins
 pub none-ended : (s : Conference) (course : Course) → IsChanged s (no_change s) s course → course.ended.items ≡ []
-none-ended s course begun = empty course.ended.items (begun.ended ∙ ended_of-entries s.ongoing)
+none-ended s course begun = empty course.ended.items (begun.made.ended ∙ ended_of-entries s.ongoing)
   where
     empty : (es : List Ended) → map entry_of_ended es ≡ [] → es ≡ []
     empty [] h = refl
@@ -120,23 +126,26 @@ pub begun-reasoned : (s : Conference) (course course' : Course) (request : ℕ) 
 begun-reasoned s course course' request reason h begun ended numbers noted =
     let rs = s.ongoing in
     let qs = reasoned_among request reason rs in
-    let same : course'.numbers.items ≡ numbers_of rs = ap (λ x. x.items) numbers ∙ begun.numbers ∙ numbers_in-entries rs in
+    let same : course'.numbers.items ≡ numbers_of rs = ap (λ x. x.items) numbers ∙ begun.made.numbers ∙ numbers_in-entries rs in
     record {
+      made = record {
+        config = refl;
+        given = refl;
+        members = refl;
+        is_open = refl;
+        ongoing = sym (ongoing_of-entries qs);
+        ended = ap (map entry_of_ended) (ap (λ x. x.items) ended ∙ none-ended s course begun) ∙ sym (ended_of-entries qs);
+        numbers = same ∙ sym (numbers-reasoned request reason rs) ∙ sym (numbers_in-entries qs);
+        rising = ap is_rising same ∙ rising-numbers rs ∙ h;
+        old = ap (λ (ns : List ℕ). flat_map (λ n. listed (request_at rs n)) ns) (ap (λ x. x.items) numbers) ∙ begun.made.old;
+      };
       config = refl;
-      given = refl;
-      members = refl;
-      is_open = refl;
-      ongoing = sym (ongoing_of-entries qs);
-      ended = ap (map entry_of_ended) (ap (λ x. x.items) ended ∙ none-ended s course begun) ∙ sym (ended_of-entries qs);
-      numbers = same ∙ sym (numbers-reasoned request reason rs) ∙ sym (numbers_in-entries qs);
-      rising = ap is_rising same ∙ rising-numbers rs ∙ h;
-      old = ap (λ (ns : List ℕ). flat_map (λ n. listed (request_at rs n)) ns) (ap (λ x. x.items) numbers) ∙ begun.old;
       noted = noted;
     }
 
 -- nothing has ended where nothing but a reason is stored
 none-ended-reasoned : (s t : Conference) (course : Course) → IsChanged s (no_change t) t course → course.ended.items ≡ []
-none-ended-reasoned s t course begun = empty course.ended.items (begun.ended ∙ ended_of-entries t.ongoing)
+none-ended-reasoned s t course begun = empty course.ended.items (begun.made.ended ∙ ended_of-entries t.ongoing)
   where
     empty : (es : List Ended) → map entry_of_ended es ≡ [] → es ≡ []
     empty [] h = refl
@@ -152,17 +161,20 @@ pub changed-end : (s t : Conference) (how : Request → RequestStatus) (course c
     IsChanged s (record (no_change t) { entries = ending t (ends_at request how) }) (record t { ongoing = without request t.ongoing }) course'
 changed-end s t how course course' request h begun ongoing told numbers noted =
     let rs = t.ongoing in
-    let same : course'.numbers.items ≡ numbers_of rs = ap (λ x. x.items) numbers ∙ begun.numbers ∙ numbers_in-entries rs in
+    let same : course'.numbers.items ≡ numbers_of rs = ap (λ x. x.items) numbers ∙ begun.made.numbers ∙ numbers_in-entries rs in
     record {
+      made = record {
+        config = refl;
+        given = refl;
+        members = refl;
+        is_open = refl;
+        ongoing = sym (ongoing_of-ending request how rs);
+        ended = by (request_at rs request) ongoing told ∙ sym (ended_of-ending request how rs h);
+        numbers = same ∙ sym (numbers_in-ending request how rs);
+        rising = ap is_rising same ∙ rising-numbers rs ∙ h;
+        old = ap (λ (ns : List ℕ). flat_map (λ n. listed (request_at s.ongoing n)) ns) (ap (λ x. x.items) numbers) ∙ begun.made.old;
+      };
       config = begun.config;
-      given = refl;
-      members = refl;
-      is_open = refl;
-      ongoing = sym (ongoing_of-ending request how rs);
-      ended = by (request_at rs request) ongoing told ∙ sym (ended_of-ending request how rs h);
-      numbers = same ∙ sym (numbers_in-ending request how rs);
-      rising = ap is_rising same ∙ rising-numbers rs ∙ h;
-      old = ap (λ (ns : List ℕ). flat_map (λ n. listed (request_at s.ongoing n)) ns) (ap (λ x. x.items) numbers) ∙ begun.old;
       noted = noted;
     }
   where
@@ -179,16 +191,19 @@ pub changed-words : (s t : Conference) (course course' : Course) (request : ℕ)
     IsChanged s (change_words t request verdicts) (record t { ongoing = map (decided_at request verdicts) t.ongoing }) course'
 changed-words s t course course' request verdicts h begun ended numbers noted =
     let rs = t.ongoing in
-    let same : course'.numbers.items ≡ numbers_of rs = ap (λ x. x.items) numbers ∙ begun.numbers ∙ numbers_in-entries rs in
+    let same : course'.numbers.items ≡ numbers_of rs = ap (λ x. x.items) numbers ∙ begun.made.numbers ∙ numbers_in-entries rs in
     record {
+      made = record {
+        config = refl;
+        given = refl;
+        members = refl;
+        is_open = refl;
+        ongoing = sym (ongoing_of-decided request verdicts rs);
+        ended = ap (map entry_of_ended) (ap (λ x. x.items) ended ∙ none-ended-reasoned s t course begun) ∙ sym (ended_of-decided request verdicts rs);
+        numbers = same ∙ sym (numbers_in-decided request verdicts rs);
+        rising = ap is_rising same ∙ rising-numbers rs ∙ h;
+        old = ap (λ (ns : List ℕ). flat_map (λ n. listed (request_at s.ongoing n)) ns) (ap (λ x. x.items) numbers) ∙ begun.made.old;
+      };
       config = begun.config;
-      given = refl;
-      members = refl;
-      is_open = refl;
-      ongoing = sym (ongoing_of-decided request verdicts rs);
-      ended = ap (map entry_of_ended) (ap (λ x. x.items) ended ∙ none-ended-reasoned s t course begun) ∙ sym (ended_of-decided request verdicts rs);
-      numbers = same ∙ sym (numbers_in-decided request verdicts rs);
-      rising = ap is_rising same ∙ rising-numbers rs ∙ h;
-      old = ap (λ (ns : List ℕ). flat_map (λ n. listed (request_at s.ongoing n)) ns) (ap (λ x. x.items) numbers) ∙ begun.old;
       noted = noted;
     }

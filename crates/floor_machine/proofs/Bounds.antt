@@ -4,7 +4,6 @@ use Rattle.std.specs.Prelude.{◌==◌, All, filter}
 use Rattle.std.specs.List.{list_any}
 use Rattle.std.specs.Option.{option_map_or}
 use Rattle.std.proofs.lemmas.List.Elements.{All-nil, All-cons, All-head, All-tail, All-append}
-use Rattle.floor_config.specs.Configuration.{Configuration}
 use Rattle.floor_queue.specs.Queue.{Queue, after_settle}
 use Rattle.floor_message.specs.declared.head.Head.{Head}
 use Rattle.floor_message.specs.declared.tell.Tell.{Tell}
@@ -21,7 +20,7 @@ use Rattle.floor_machine.specs.declared.tell.changed.Update.{Update}
 use Rattle.floor_machine.specs.declared.conference.State.{State}
 use Rattle.floor_machine.specs.Conference.{Conference, member_with}
 use Rattle.floor_machine.specs.Change.{change, settled, shown}
-use Rattle.floor_machine.specs.steps.Serving.{IsChanged, conference_of, ended_of, is_rising, numbers_in, with_requests}
+use Rattle.floor_machine.specs.steps.Serving.{is_telling, IsMade, conference_of, ended_of, is_rising, numbers_in, with_requests}
 use Rattle.floor_machine.specs.Fitting.{ToldFits}
 use Rattle.floor_machine.specs.Next.{keeps_up, told}
 use Rattle.floor_message.specs.Fits.{TellFits}
@@ -31,8 +30,8 @@ use Rattle.floor_machine.specs.Reply.{infos, floor_status_tell}
 use Rattle.floor_machine.specs.steps.Telling.{answered, answered_to, entry_of_ended, floor_update, floor_updates, infos_of, is_to, is_watched_by, updates}
 use Rattle.floor_machine.specs.Told.{Changed, changed_floors, changed_requests, floor_notices, request_notices, is_told, reply_to, due, due_to}
 use Rattle.floor_machine.proofs.Watched.{picked_through, watched-found}
-use Rattle.floor_machine.proofs.Telling.{is_telling, due-member, update_for}
-use Rattle.floor_machine.proofs.Served.{ended-shown, floors-message, settled-config, numbers-shown, settled-state, updates-message}
+use Rattle.floor_machine.proofs.Telling.{due-member, update_for}
+use Rattle.floor_machine.proofs.Served.{ended-shown, floors-message, numbers-shown, settled-state, updates-message}
 
 -- what holds of all items, made into what follows from it, holds of those that are picked
 picked_all : {A B : Type 0} (P : A → Type 0) (Q : B → Type 0) (f : A → B) (p : A → Bool) (xs : List A) → ((x : A) → P x → Q (f x)) → All P xs → All Q (map f (filter p xs))
@@ -96,16 +95,14 @@ pub served-shown : (s : Conference) (e : Event) (t : Conference) (course : Cours
     AreFloorsShown (filter (is_watched_by t.members) (floor_updates course.before.items (infos_of t.config t.ongoing) t.config.floors)) → IsToldShown s e
 served-shown s e t course o telling is same numbers rising before replied reply requests floors =
     let us = ap (λ (x : Conference). updates x.config x.ongoing course.ended.items course.before.items course.numbers.items) is
-    ∙ ap (λ (config : Configuration). updates config (settled s e).ongoing course.ended.items course.before.items course.numbers.items) (settled-config s e)
     ∙ updates-message s e course same numbers rising before in
     let fs = ap (λ (x : Conference). filter (is_watched_by x.members) (floor_updates course.before.items (infos_of x.config x.ongoing) x.config.floors)) is
-    ∙ ap (λ (config : Configuration). filter (is_watched_by (settled s e).members) (floor_updates course.before.items (infos_of config (settled s e).ongoing) config.floors)) (settled-config s e)
-    ∙ ap (filter (is_watched_by (settled s e).members)) (floors-message s e course.before.items (infos_of s.config (settled s e).ongoing) before (ap (λ (config : Configuration). infos_of config (settled s e).ongoing) (sym (settled-config s e)))) in
+    ∙ ap (filter (is_watched_by (settled s e).members)) (floors-message s e course.before.items before) in
     due-shown s e o telling replied reply (subst AreUpdatesShown us requests) (subst AreFloorsShown fs floors)
 
 -- the same for an event without a reply
 pub changed-shown : (s : Conference) (e : Event) (t : State) (course : Course) (q : Queue) → is_telling e ≡ true → ((k : ℕ) → reply_to s e k ≡ []) →
-    IsChanged s (change s e) (conference_of t) course → course.before.items ≡ infos s → q ≡ after_settle t.requests →
+    IsMade s (change s e) (conference_of t) course → course.before.items ≡ infos s → q ≡ after_settle t.requests →
     AreUpdatesShown (updates t.config q.ongoing course.ended.items course.before.items course.numbers.items) →
     AreFloorsShown (filter (is_watched_by t.members) (floor_updates course.before.items (infos_of t.config q.ongoing) t.config.floors)) → IsToldShown s e
 changed-shown s e t course q telling unsent changed before is_settled =

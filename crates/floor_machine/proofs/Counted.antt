@@ -14,7 +14,7 @@ use Rattle.floor_message.specs.Ask.{Answer, asks, refused, unanswered, ask}
 use Rattle.floor_message.specs.declared.ask.Ask.{Ask}
 use Rattle.floor_message.specs.declared.ask.Ask.TheVariants.{FloorRequest, FloorRelease, FloorRequestQuery, UserQuery, FloorQuery, ChairAction, Hello}
 use Rattle.floor_machine.specs.declared.event.Event.{Event}
-use Rattle.floor_machine.specs.declared.event.Event.TheVariants.{Join, Message, Took, Leave, Revoke, Close}
+use Rattle.floor_machine.specs.declared.event.Event.TheVariants.{Join, Message, Took, Leave, Revoke, Close, AddUser, AddFloor, SetChair}
 use Rattle.floor_machine.specs.declared.member.Member.{Member}
 use Rattle.floor_machine.specs.Parcel.{Parcel}
 use Rattle.floor_machine.specs.Outgoing.{Outgoing, outgoing_bytes}
@@ -26,6 +26,7 @@ use Rattle.floor_machine.specs.Told.{due}
 use Rattle.floor_machine.specs.Next.{counted, is_nothing, next, told}
 use Rattle.floor_machine.specs.Journal.{IsLawfulFrom, after_from, parcel, parcels_of, sent_to, told_from}
 use Rattle.floor_machine.specs.Reachable.{Counted, Silent}
+use Rattle.floor_machine.specs.steps.Serving.{is_untaking}
 use Rattle.floor_machine.specs.steps.Counting.{counted_all, counted_of, due_parcels, is_told, taken_on, told_of, told_of_all}
 use Rattle.floor_machine.proofs.Counting.{each-own, map-flat}
 use Rattle.floor_machine.proofs.Quiet.{due_of-took}
@@ -114,15 +115,6 @@ n-leaving n m = by (m.n == n)
     by true = refl
     by false = refl
 
--- the event acknowledges nothing
-abbrev pub is_untaking : Event → Bool
-is_untaking (Join user) = true
-is_untaking (Message n bytes) = true
-is_untaking (Took n k) = false
-is_untaking (Leave n) = true
-is_untaking (Revoke request) = true
-is_untaking Close = true
-
 said-asked : {B : Type 0} (g : Member → B) (d : B) → IsSteady g d → (s : Conference) (k n : ℕ) (a : Ask) → said_of g d n (members_after s k a) ≡ said_of g d n s.members
 said-asked g d steady s k n (FloorRequest beneficiary floors priority info) = refl
 said-asked g d steady s k n (FloorRelease request) = refl
@@ -149,6 +141,9 @@ said-change g d steady s (Took k many) n h = cc
 said-change g d steady s (Leave k) n h = said-map g d (leaving k) (n-leaving k) (steady.leave k) n s.members
 said-change g d steady s (Revoke request) n h = refl
 said-change g d steady s Close n h = refl
+said-change g d steady s (AddUser user) n h = refl
+said-change g d steady s (AddFloor floor) n h = refl
+said-change g d steady s (SetChair floor chair) n h = refl
 
 said-settled : {B : Type 0} (g : Member → B) (d : B) → IsSteady g d → (s : Conference) (e : Event) (n : ℕ) → is_untaking e ≡ true → said_of g d n (settled s e).members ≡ said_of g d n s.members
 unfolding settled
@@ -338,6 +333,9 @@ within-change s (Took n k) h = within-map (acknowledging n k) (within-acknowledg
 within-change s (Leave n) h = within-map (leaving n) (within-leaving n) s.members h
 within-change s (Revoke request) h = h
 within-change s Close h = h
+within-change s (AddUser user) h = h
+within-change s (AddFloor floor) h = h
+within-change s (SetChair floor chair) h = h
 
 within-settled : (s : Conference) (e : Event) → AreWithin s.members → AreWithin (settled s e).members
 unfolding settled
@@ -358,6 +356,9 @@ within-next s (Took n k) is_settled ascending numbered h =
 within-next s (Leave n) is_settled ascending numbered h = within-untaking s (Leave n) refl numbered h
 within-next s (Revoke request) is_settled ascending numbered h = within-untaking s (Revoke request) refl numbered h
 within-next s Close is_settled ascending numbered h = within-untaking s Close refl numbered h
+within-next s (AddUser user) is_settled ascending numbered h = within-untaking s (AddUser user) refl numbered h
+within-next s (AddFloor floor) is_settled ascending numbered h = within-untaking s (AddFloor floor) refl numbered h
+within-next s (SetChair floor chair) is_settled ascending numbered h = within-untaking s (SetChair floor chair) refl numbered h
 
 -- what is told to n is added to its backlog, where it is a member
 said-counted : (s : Conference) (e : Event) (n : ℕ) (ms : List Member) →
@@ -432,6 +433,9 @@ backlog-settled s (Took j k) n lawful =
 backlog-settled s (Leave k) n lawful = omega (arith, said-settled backlog_of 0 backlog-steady s (Leave k) n refl)
 backlog-settled s (Revoke request) n lawful = omega (arith, said-settled backlog_of 0 backlog-steady s (Revoke request) n refl)
 backlog-settled s Close n lawful = omega (arith, said-settled backlog_of 0 backlog-steady s Close n refl)
+backlog-settled s (AddUser user) n lawful = omega (arith, said-settled backlog_of 0 backlog-steady s (AddUser user) n refl)
+backlog-settled s (AddFloor floor) n lawful = omega (arith, said-settled backlog_of 0 backlog-steady s (AddFloor floor) n refl)
+backlog-settled s (SetChair floor chair) n lawful = omega (arith, said-settled backlog_of 0 backlog-steady s (SetChair floor chair) n refl)
 
 -- what lawful events tell n is what they acknowledge, and what is added to its backlog
 counted-run : (s : Conference) (es : List Event) (n : ℕ) → IsLawfulFrom s es →
@@ -488,6 +492,9 @@ cut-settled s (Took j k) n =
 cut-settled s (Leave k) n = said-settled cut_of false cut-steady s (Leave k) n refl
 cut-settled s (Revoke request) n = said-settled cut_of false cut-steady s (Revoke request) n refl
 cut-settled s Close n = said-settled cut_of false cut-steady s Close n refl
+cut-settled s (AddUser user) n = said-settled cut_of false cut-steady s (AddUser user) n refl
+cut-settled s (AddFloor floor) n = said-settled cut_of false cut-steady s (AddFloor floor) n refl
+cut-settled s (SetChair floor chair) n = said-settled cut_of false cut-steady s (SetChair floor chair) n refl
 
 cut-next : (s : Conference) (e : Event) (n : ℕ) → is_cut s n ≡ true → is_cut (next s e) n ≡ true
 unfolding next

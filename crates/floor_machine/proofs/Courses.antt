@@ -1,30 +1,34 @@
 -- What the course of an event knows, before the requests are settled and after.
-use Rattle.std.proofs.Common.{◌≡◌, ℕ, true, cond, List, [], ◌∷◌, ◌++◌, map, Option, Some, None, refl, sym, ap, subst, ◌∙◌}
-use Rattle.std.specs.Prelude.{◌==◌, find, is_none, option_map}
+use Rattle.std.proofs.Common.{◌≡◌, ℕ, Bool, true, false, cond, List, [], ◌∷◌, ◌++◌, map, Option, Some, None, refl, sym, ap, subst, ◌∙◌, arith}
+use Rattle.std.specs.Prelude.{◌==◌, ◌||◌, find, is_none, option_map}
 use Rattle.std.specs.List.{flat_map}
+use Rattle.std.proofs.lemmas.Bool.Decides.{nat_tests}
+use Rattle.std.proofs.lemmas.List.Elements.{All-nil}
 use Rattle.std.specs.Option.{option_map_or}
 use Rattle.floor_config.specs.Configuration.{Configuration}
 use Rattle.floor_config.specs.declared.floors.Floor.{Floor}
 use Rattle.floor_queue.specs.declared.request.Request.{Request}
 use Rattle.floor_queue.specs.Order.{due_numbers, settle}
-use Rattle.floor_queue.specs.Queue.{is_ascending, request_at}
+use Rattle.floor_queue.specs.Queue.{is_ascending, numbers_of, request_at}
 use Rattle.floor_message.specs.declared.information.Info.{Info}
 use Rattle.floor_message.specs.declared.status.RequestStatus.{RequestStatus}
 use Rattle.floor_machine.specs.declared.course.Course.{Course}
 use Rattle.floor_machine.specs.declared.course.Ended.{Ended}
+use Rattle.floor_machine.specs.declared.marks.Mark.{Mark}
 use Rattle.floor_machine.specs.Change.{Change}
 use Rattle.floor_machine.specs.Conference.{Conference}
 use Rattle.floor_machine.specs.Reply.{infos}
-use Rattle.floor_machine.specs.Shown.{Entry, entry_of, ongoing_of}
-use Rattle.floor_machine.specs.steps.Fitting.{AreFit}
-use Rattle.floor_machine.specs.steps.Marks.{AreNoted, marks_waiting}
-use Rattle.floor_machine.specs.steps.Renewing.{IsCourse, left_at}
-use Rattle.floor_machine.specs.steps.Serving.{IsChanged, ended_of, is_rising, numbers_in}
-use Rattle.floor_machine.specs.steps.Telling.{entry_at, entry_of_ended, listed}
+use Rattle.floor_machine.specs.Shown.{Entry, entry_of, info, ongoing_of}
+use Rattle.floor_machine.specs.steps.Fitting.{AreFit, IsFit}
+use Rattle.floor_machine.specs.steps.Marks.{AreNoted, concerns, is_marked, mark_of, marks_waiting}
+use Rattle.floor_machine.specs.steps.Renewing.{IsCourse, info_with, left_at}
+use Rattle.floor_machine.specs.steps.Serving.{IsChanged, IsMade, ended_of, is_rising, numbers_in}
+use Rattle.floor_machine.specs.steps.Telling.{entry_at, entry_of_ended, infos_of, listed}
 use Rattle.floor_machine.proofs.Entries.{by_number}
-use Rattle.floor_machine.proofs.Noting.{at-settled, noted-settled, settle_one}
+use Rattle.floor_machine.proofs.Moved.{any-append}
+use Rattle.floor_machine.proofs.Noting.{at-settled, found-unmarked, info-unmarked, noted-none, noted-settled, settle_one}
 use Rattle.floor_machine.proofs.Telling.{finds}
-use Rattle.floor_machine.proofs.Walk.{flat_map-alike, listed-map}
+use Rattle.floor_machine.proofs.Walk.{flat_map-alike, info_with-infos, listed-map}
 
 -- the request of an entry, if it is ongoing
 abbrev left_of : Entry → List Request
@@ -59,20 +63,74 @@ left-numbers ended es ongoing ns left gone numbered rising =
     ∙ left-entries es
     ∙ sym left
 
+-- whatever the marks have not noted is shown as it was
+unmarked-noted : (config : Configuration) (requests ongoing : List Request) (before : List Info) (marks : List Mark) → before ≡ infos_of config requests → AreNoted config.floors requests ongoing marks →
+    (n : ℕ) (r : Request) → request_at ongoing n ≡ Some r → is_marked marks r ≡ false → info_with before n ≡ Some (info config ongoing r)
+unmarked-noted config requests ongoing before marks shows noted n r found free =
+    ap (λ (is : List Info). info_with is n) shows
+    ∙ info_with-infos config requests requests n
+    ∙ ap (option_map (info config requests)) (found-unmarked config.floors requests ongoing marks r n noted free found)
+    ∙ ap (λ (i : Info). Some i) (sym (info-unmarked config requests ongoing marks r noted free))
+
 -- what the course of a changed event knows
 pub course-changed : (s t : Conference) (c : Change) (course : Course) → IsChanged s c t course → course.before.items ≡ infos s → AreFit t.config.floors course.ended.items →
     IsCourse t.config t.ongoing course.before.items course
 course-changed s t c course changed before addable =
     let C : Configuration → Type 0 = λ config. IsCourse config t.ongoing course.before.items course in
     let A : Configuration → Type 0 = λ config. AreFit config.floors course.ended.items in
+    let made : IsMade s c t course = changed.made in
     subst C (sym changed.config) record {
+      was = s.config;
       requests = s.ongoing;
       before = before;
-      noted = changed.noted;
-      rising = changed.rising;
-      old = changed.old;
-      left = left-numbers course.ended.items c.entries t.ongoing course.numbers.items changed.ongoing changed.ended changed.numbers changed.rising;
+      unmarked = unmarked-noted s.config s.ongoing t.ongoing course.before.items course.marks.items before changed.noted;
+      rising = made.rising;
+      old = made.old;
+      left = left-numbers course.ended.items c.entries t.ongoing course.numbers.items made.ongoing made.ended made.numbers made.rising;
       addable = subst A changed.config addable;
+    }
+
+-- among the marks of all requests is that of one of the same numbers
+marked-own : (qs rs : List Request) (n : ℕ) (r : Request) → numbers_of rs ≡ numbers_of qs → request_at rs n ≡ Some r → is_marked (map mark_of qs) r ≡ true
+marked-own qs [] n r same found = cc
+marked-own [] (x ∷ rs) n r same found = cc
+marked-own (q ∷ qs) (x ∷ rs) n r same found = by (x.number == n) found (marked-own qs rs n r rest)
+  where
+    one : x.number ≡ q.number
+    one = cc
+
+    rest : numbers_of rs ≡ numbers_of qs
+    rest = cc
+
+    own : (a b : ℕ) → a ≡ b → (b == a) ≡ true
+    own a b e = grind (arith, nat_tests)
+
+    or_true : (b : Bool) → (b || true) ≡ true
+    or_true true = refl
+    or_true false = refl
+
+    by : (b : Bool) → cond b (Some x) (request_at rs n) ≡ Some r → (request_at rs n ≡ Some r → is_marked (map mark_of qs) r ≡ true) → is_marked (map mark_of (q ∷ qs)) r ≡ true
+    by true h behind =
+        let is : x ≡ r = cc in
+        let mine : (q.number == r.number) ≡ true = own r.number q.number (ap (λ (y : Request). y.number) (sym is) ∙ one) in
+        rw mine refl
+    by false h behind = ap (λ (b : Bool). concerns r (mark_of q) || b) (behind h) ∙ or_true (concerns r (mark_of q))
+
+-- what the course of an event knows that has marked all requests, and ends none of them
+pub course-marked : (s t : Conference) (c : Change) (course : Course) → IsMade s c t course → course.before.items ≡ infos s → course.ended.items ≡ [] → course.marks.items ≡ map mark_of s.ongoing →
+    numbers_of t.ongoing ≡ numbers_of s.ongoing → IsCourse t.config t.ongoing course.before.items course
+course-marked s t c course made before none marks numbers =
+    let A : List Ended → Type 0 = λ ds. AreFit t.config.floors ds in
+    record {
+      was = s.config;
+      requests = s.ongoing;
+      before = before;
+      unmarked = λ n r found free.
+          absurd (let no : true ≡ false = sym (marked-own s.ongoing t.ongoing n r numbers found) ∙ ap (λ (ms : List Mark). is_marked ms r) (sym marks) ∙ free in cc);
+      rising = made.rising;
+      old = made.old;
+      left = left-numbers course.ended.items c.entries t.ongoing course.numbers.items made.ongoing made.ended made.numbers made.rising;
+      addable = subst A (sym none) (All-nil (λ d. IsFit t.config.floors d.request));
     }
 
 left-settled : (floors : List Floor) (ended : List Ended) (ongoing : List Request) (n : ℕ) → left_at ended (settle floors ongoing) n ≡ option_map (settle_one floors ongoing) (left_at ended ongoing n)
@@ -92,12 +150,21 @@ course-settled config floors ongoing shown course course' same ascending known n
     let numbered : course'.numbers.items ≡ ns = ap (λ x. x.items) numbers in
     let gone : course'.ended.items ≡ course.ended.items = ap (λ x. x.items) ended in
     let A : List Ended → Type 0 = λ ds. AreFit config.floors ds in
-    let F : List Floor → Type 0 = λ fs. AreNoted fs known.requests ongoing course.marks.items in
-    let G : List Floor → Type 0 = λ fs. AreNoted fs known.requests (settle floors ongoing) course'.marks.items in
+    let granted : List Mark = flat_map (marks_waiting (settle floors ongoing)) (due_numbers floors ongoing) in
+    let F : List Floor → Type 0 = λ fs. AreNoted fs ongoing (settle floors ongoing) granted in
+    let noted : AreNoted config.floors ongoing (settle floors ongoing) granted =
+    subst F same (noted-settled floors ongoing [] granted ascending refl ongoing (noted-none floors ongoing [])) in
     record {
+      was = known.was;
       requests = known.requests;
       before = known.before;
-      noted = subst G same (noted-settled floors ongoing course.marks.items course'.marks.items ascending marked known.requests (subst F (sym same) known.noted));
+      unmarked = λ n r found free.
+          let apart : (is_marked course.marks.items r || is_marked granted r) ≡ false =
+          sym (any-append (concerns r) course.marks.items granted) ∙ ap (λ (ms : List Mark). is_marked ms r) (sym marked) ∙ free in
+          let first : is_marked course.marks.items r ≡ false = or_left (is_marked course.marks.items r) (is_marked granted r) apart in
+          let second : is_marked granted r ≡ false = or_right (is_marked course.marks.items r) (is_marked granted r) apart in
+          known.unmarked n r (found-unmarked config.floors ongoing (settle floors ongoing) granted r n noted second found) first
+          ∙ ap (λ (i : Info). Some i) (sym (info-unmarked config ongoing (settle floors ongoing) granted r noted second));
       rising = ap is_rising numbered ∙ known.rising;
       old = ap (flat_map (λ n. listed (request_at known.requests n))) numbered ∙ known.old;
       left =
@@ -109,3 +176,11 @@ course-settled config floors ongoing shown course course' same ascending known n
           ∙ ap (map (settle_one floors ongoing)) known.left;
       addable = subst A (sym gone) known.addable;
     }
+  where
+    or_left : (a b : Bool) → (a || b) ≡ false → a ≡ false
+    or_left true b h = h
+    or_left false b h = refl
+
+    or_right : (a b : Bool) → (a || b) ≡ false → b ≡ false
+    or_right true b h = cc
+    or_right false b h = h

@@ -12,7 +12,7 @@ use Rattle.std.proofs.lemmas.Map.Made.{length-le_from_is_member}
 use Rattle.floor_config.specs.Configuration.{Configuration, IsConfiguration}
 use Rattle.floor_config.specs.declared.floors.Floor.{Floor}
 use Rattle.floor_queue.specs.declared.request.Request.{Request}
-use Rattle.floor_queue.specs.Queue.{numbers_of}
+use Rattle.floor_queue.specs.Queue.{after_set_chair, numbers_of}
 use Rattle.floor_message.specs.Ask.{Answer, asks, refused, unanswered, ask}
 use Rattle.floor_wire.specs.Header.{header_bytes}
 use Rattle.floor_wire.specs.Spelling.{canon}
@@ -35,33 +35,35 @@ use Rattle.floor_message.specs.declared.tell.Tell.TheVariants.{FloorRequestStatu
 use Rattle.floor_message.specs.declared.status.RequestStatus.{RequestStatus}
 use Rattle.floor_message.specs.Head.{response_head}
 use Rattle.floor_machine.specs.declared.event.Event.{Event}
-use Rattle.floor_machine.specs.declared.event.Event.TheVariants.{Join, Message, Took, Leave, Revoke, Close}
+use Rattle.floor_machine.specs.declared.event.Event.TheVariants.{Join, Message, Took, Leave, Revoke, Close, AddUser, AddFloor, SetChair}
 use Rattle.floor_machine.specs.declared.decision.Decision.{Decision}
 use Rattle.floor_machine.specs.declared.member.Member.{Member}
 use Rattle.floor_machine.specs.Amount.{MessageIsShort}
 use Rattle.floor_machine.specs.Conference.{Conference, binding, member_with, opening, user_of}
 use Rattle.floor_machine.specs.Shown.{Entry, entry_of, info_of, ongoing_of}
 use Rattle.floor_machine.specs.Checks.{first_of, refusal, when}
-use Rattle.floor_machine.specs.Change.{asked_change, change, decided_at, dismissed, ending, ends_at, ends_without, entries_after, is_final, leaving, message_change, settled, no_change, reasoned, reasoned_among, released, shown}
+use Rattle.floor_machine.specs.Change.{asked_change, change, decided_at, dismissed, ending, ends_at, ends_without, entries_after, is_final, leaving, IsLawful, message_change, queue_of, settled, no_change, reasoned, reasoned_among, released, shown}
 use Rattle.floor_machine.specs.Same.{same_infos}
 use Rattle.floor_machine.specs.Reply.{answer_tells, floor_answers, floor_status_tell, headed, infos, infos_on, reply, reply_tells, request_answer}
 use Rattle.floor_machine.specs.Outgoing.{Outgoing, notice, outgoing_bytes}
 use Rattle.floor_machine.specs.Told.{Changed, changed_floors, changed_of, changed_requests, floor_notices, is_changed, is_sender, is_told, reply_to, request_notices, due, due_to}
 use Rattle.floor_machine.specs.Journal.{after_from, told_from, IsLawfulFrom}
 use Rattle.floor_machine.specs.steps.Deciding.{MayServe, accepted, decision_of, members_by, refused_by}
-use Rattle.floor_machine.specs.steps.Serving.{is_rising, numbers_in}
+use Rattle.floor_machine.specs.steps.Serving.{is_telling, is_rising, numbers_in}
 use Rattle.floor_machine.specs.Next.{keeps_up, next, told}
+use Rattle.floor_machine.proofs.Acts.{numbers-chaired}
+use Rattle.floor_machine.proofs.Configs.{config-change, keeps_config}
+use Rattle.floor_machine.proofs.Grows.{limits-change}
 use Rattle.floor_machine.proofs.Allowed.{may_serve, once_differ}
 use Rattle.floor_machine.proofs.AskedOnce.{asked_once}
 use Rattle.floor_machine.proofs.Changing.{numbers-added, numbers_in-decided, rising-next, rising-numbers}
 use Rattle.floor_machine.proofs.Entries.{entry_with, filter-number, numbers_in-entries, numbers_in-settled}
 use Rattle.floor_machine.proofs.Found.{and_left, and_right}
 use Rattle.floor_machine.proofs.Kept.{IsKept, event-kept}
-use Rattle.floor_machine.proofs.Quiet.{floors-kept, requests-kept}
+use Rattle.floor_machine.proofs.Quiet.{floors-kept, requests-kept, still}
 use Rattle.floor_machine.proofs.Reachable.{Keeps, SettlesOnce, keeps-after, keeps-next, keeps-opening}
 use Rattle.floor_machine.proofs.Reasoned.{numbers-reasoned}
-use Rattle.floor_machine.proofs.Served.{settled-config}
-use Rattle.floor_machine.proofs.Telling.{is_telling, due-member}
+use Rattle.floor_machine.proofs.Telling.{due-member}
 
 filter-few : {A : Type 0} (p : A → Bool) (xs : List A) → length (filter p xs) ≤ length xs
 filter-few p xs = omega (arith, length-filter p xs, count_by-le-length p xs)
@@ -133,6 +135,10 @@ few-change s (Took n j) law k = of_ongoing s _ k (numbers_in-entries s.ongoing)
 few-change s (Leave n) law k = of_ongoing s _ k (numbers_in-ends (ends_without (map (leaving n) s.members) (user_of s n)) s.ongoing)
 few-change s (Revoke request) law k = of_ongoing s _ k (numbers_in-ends (ends_at request dismissed) s.ongoing)
 few-change s Close law k = record { few = omega arith; rising = refl }
+few-change s (AddUser user) law k = of_ongoing s _ k (numbers_in-entries s.ongoing)
+few-change s (AddFloor floor) law k = of_ongoing s _ k (numbers_in-entries s.ongoing)
+few-change s (SetChair floor chair) law k =
+    of_ongoing s _ k (numbers_in-entries (after_set_chair (queue_of s) floor chair).ongoing ∙ numbers-chaired (queue_of s) floor chair)
 
 -- the requests that an event leaves, the ended ones among them
 few-shown : (s : Conference) (e : Event) → WhatIsAskedFits → Keeps s → AreFew (shown s e)
@@ -153,14 +159,17 @@ requests-few s e law k =
       (few-shown s e law k).few,
     )
 
-floors-few : (s : Conference) (e : Event) → length (changed_floors s e) ≤ length s.config.floors
-unfolding changed_floors
-floors-few s e =
-    omega (
-      arith,
-      filter-few (λ f. not (same_infos (infos_on f.id (infos s)) (infos_on f.id (infos (settled s e))))) (settled s e).config.floors,
-      ap (λ (config : Configuration). length config.floors) (settled-config s e),
-    )
+-- and the floors whose requests are
+floors-changed-few : (s : Conference) (e : Event) → length (changed_floors s e) ≤ length (change s e).config.floors
+unfolding changed_floors settled
+floors-changed-few s e = filter-few (λ f. not (same_infos (infos_on f.id (infos s)) (infos_on f.id (infos (settled s e))))) (settled s e).config.floors
+
+floors-few : (s : Conference) (e : Event) → keeps_config e ≡ true → length (changed_floors s e) ≤ length s.config.floors
+floors-few s e keeps = omega (arith, floors-changed-few s e, ap (λ (config : Configuration). length config.floors) (config-change s e keeps))
+
+-- the configuration that an event leaves has at most 32
+floors-bound : (s : Conference) (e : Event) → IsLawful s e → Keeps s → length (changed_floors s e) ≤ 32
+floors-bound s e lawful k = omega (arith, floors-changed-few s e, (limits-change s e lawful k.limits).floors_count)
 
 -- at most one request has a number
 status-few : (config : Configuration) (es : List Entry) (k : ℕ) → AreFew es → length (request_answer config es k) ≤ 1
@@ -241,8 +250,8 @@ sum-queried s n bytes floors is none k most =
     let heard : j ≡ decision_of s (user_of s n) (ask bytes (binding s n)) =
     ap (λ (o : Option ErrorCode). option_map_or refused_by o j) none ∙ ap (decision_of s (user_of s n)) (sym is) in
     let kept : IsKept s (members_by s.members n j.change) (change s e) = event-kept s n bytes j heard refl in
-    let no_requests : length (changed_requests s e) ≡ 0 = ap (λ (cs : List Changed). length cs) (requests-kept s e kept.entries k.settled k.queue.ascending) in
-    let no_floors : length (changed_floors s e) ≡ 0 = ap (λ (fs : List Floor). length fs) (floors-kept s e kept.entries k.settled) in
+    let no_requests : length (changed_requests s e) ≡ 0 = ap (λ (cs : List Changed). length cs) (requests-kept s e (still s e refl kept.entries k.settled) k.queue.ascending) in
+    let no_floors : length (changed_floors s e) ≡ 0 = ap (λ (fs : List Floor). length fs) (floors-kept s e (still s e refl kept.entries k.settled)) in
     let known : list_all (is_floor s.config.floors) floors ≡ true = queried-floors s (user_of s n) floors none in
     omega (
       arith,
@@ -257,44 +266,47 @@ sum-asked : (s : Conference) (n : ℕ) (bytes : List ℕ) (a : Ask) → ask byte
     Sum s (Message n bytes) (length (answer_tells s (Message n bytes) (user_of s n) a))
 sum-asked s n bytes (FloorRequest beneficiary floors priority info) is none law k most =
     let e : Event = Message n bytes in
-    omega (arith, status-few s.config (shown s e) (s.given + 1) (few-shown s e law k), requests-few s e law k, floors-few s e, most)
+    omega (arith, status-few s.config (shown s e) (s.given + 1) (few-shown s e law k), requests-few s e law k, floors-few s e refl, most)
 sum-asked s n bytes (FloorRelease request) is none law k most =
     let e : Event = Message n bytes in
-    omega (arith, status-few s.config (shown s e) request (few-shown s e law k), requests-few s e law k, floors-few s e, most)
+    omega (arith, status-few s.config (shown s e) request (few-shown s e law k), requests-few s e law k, floors-few s e refl, most)
 sum-asked s n bytes (FloorRequestQuery request) is none law k most =
     let e : Event = Message n bytes in
-    omega (arith, status-few s.config (shown s e) request (few-shown s e law k), requests-few s e law k, floors-few s e, most)
-sum-asked s n bytes (UserQuery beneficiary) is none law k most = let e : Event = Message n bytes in omega (arith, requests-few s e law k, floors-few s e, most)
+    omega (arith, status-few s.config (shown s e) request (few-shown s e law k), requests-few s e law k, floors-few s e refl, most)
+sum-asked s n bytes (UserQuery beneficiary) is none law k most = let e : Event = Message n bytes in omega (arith, requests-few s e law k, floors-few s e refl, most)
 sum-asked s n bytes (FloorQuery floors) is none law k most = sum-queried s n bytes floors is none k most
-sum-asked s n bytes (ChairAction request verdicts reason) is none law k most = let e : Event = Message n bytes in omega (arith, requests-few s e law k, floors-few s e, most)
-sum-asked s n bytes Hello is none law k most = let e : Event = Message n bytes in omega (arith, requests-few s e law k, floors-few s e, most)
+sum-asked s n bytes (ChairAction request verdicts reason) is none law k most = let e : Event = Message n bytes in omega (arith, requests-few s e law k, floors-few s e refl, most)
+sum-asked s n bytes Hello is none law k most = let e : Event = Message n bytes in omega (arith, requests-few s e law k, floors-few s e refl, most)
 
 sum-answered : (s : Conference) (n : ℕ) (bytes : List ℕ) (a : Answer) → ask bytes (binding s n) ≡ a → WhatIsAskedFits → Keeps s → length s.config.floors ≤ 32 →
     Sum s (Message n bytes) (length (reply_tells s (Message n bytes) (user_of s n) a))
-sum-answered s n bytes unanswered is law k most = let e : Event = Message n bytes in omega (arith, requests-few s e law k, floors-few s e, most)
-sum-answered s n bytes (refused code details) is law k most = let e : Event = Message n bytes in omega (arith, requests-few s e law k, floors-few s e, most)
+sum-answered s n bytes unanswered is law k most = let e : Event = Message n bytes in omega (arith, requests-few s e law k, floors-few s e refl, most)
+sum-answered s n bytes (refused code details) is law k most = let e : Event = Message n bytes in omega (arith, requests-few s e law k, floors-few s e refl, most)
 sum-answered s n bytes (asks a) is law k most = by (refusal s (user_of s n) a) refl
   where
     by : (o : Option ErrorCode) → o ≡ refusal s (user_of s n) a →
         Sum s (Message n bytes) (length (option_map_or (λ code. Error (code_number code) [] ∷ []) o (answer_tells s (Message n bytes) (user_of s n) a)))
     by None none = sum-asked s n bytes a is none law k most
-    by (Some code) some = let e : Event = Message n bytes in omega (arith, requests-few s e law k, floors-few s e, most)
+    by (Some code) some = let e : Event = Message n bytes in omega (arith, requests-few s e law k, floors-few s e refl, most)
 
 headed-length : (head : Head) (tells : List Tell) → length (headed head tells) ≡ length tells
 headed-length head [] = refl
 headed-length head (tell ∷ tells) = omega (arith, length-map tells (notice head.conference head.user))
 
 -- any event
-sum-few : (s : Conference) (e : Event) → WhatIsAskedFits → Keeps s → length s.config.floors ≤ 32 → Sum s e (length (reply s e))
+sum-few : (s : Conference) (e : Event) → WhatIsAskedFits → IsLawful s e → Keeps s → Sum s e (length (reply s e))
 unfolding reply
-sum-few s (Join user) law k most = let e : Event = Join user in omega (arith, requests-few s e law k, floors-few s e, most)
-sum-few s (Message n bytes) law k most =
+sum-few s (Join user) law lawful k = let e : Event = Join user in omega (arith, requests-few s e law k, floors-few s e refl, k.limits.floors_count)
+sum-few s (Message n bytes) law lawful k =
     let tells : List Tell = reply_tells s (Message n bytes) (user_of s n) (ask bytes (binding s n)) in
-    omega (arith, headed-length (response_head bytes) tells, sum-answered s n bytes (ask bytes (binding s n)) refl law k most)
-sum-few s (Took n j) law k most = let e : Event = Took n j in omega (arith, requests-few s e law k, floors-few s e, most)
-sum-few s (Leave n) law k most = let e : Event = Leave n in omega (arith, requests-few s e law k, floors-few s e, most)
-sum-few s (Revoke request) law k most = let e : Event = Revoke request in omega (arith, requests-few s e law k, floors-few s e, most)
-sum-few s Close law k most = omega (arith, requests-few s Close law k, floors-few s Close, most)
+    omega (arith, headed-length (response_head bytes) tells, sum-answered s n bytes (ask bytes (binding s n)) refl law k k.limits.floors_count)
+sum-few s (Took n j) law lawful k = let e : Event = Took n j in omega (arith, requests-few s e law k, floors-few s e refl, k.limits.floors_count)
+sum-few s (Leave n) law lawful k = let e : Event = Leave n in omega (arith, requests-few s e law k, floors-few s e refl, k.limits.floors_count)
+sum-few s (Revoke request) law lawful k = let e : Event = Revoke request in omega (arith, requests-few s e law k, floors-few s e refl, k.limits.floors_count)
+sum-few s Close law lawful k = omega (arith, requests-few s Close law k, floors-few s Close refl, k.limits.floors_count)
+sum-few s (AddUser user) law lawful k = let e : Event = AddUser user in omega (arith, requests-few s e law k, floors-bound s e lawful k)
+sum-few s (AddFloor floor) law lawful k = let e : Event = AddFloor floor in omega (arith, requests-few s e law k, floors-bound s e lawful k)
+sum-few s (SetChair floor chair) law lawful k = let e : Event = SetChair floor chair in omega (arith, requests-few s e law k, floors-bound s e lawful k)
 
 replied-few : (s : Conference) (e : Event) (n : ℕ) → length (reply_to s e n) ≤ length (reply s e)
 replied-few s e n = by (is_sender e n)
@@ -324,14 +336,17 @@ due-silent s (Took j k) n h = cc
 due-silent s (Leave k) n h = cc
 due-silent s (Revoke request) n h = cc
 due-silent s Close n h = refl
+due-silent s (AddUser user) n h = cc
+due-silent s (AddFloor floor) n h = cc
+due-silent s (SetChair floor chair) n h = cc
 
 -- what is due to anyone
-due-few : (s : Conference) (e : Event) (n : ℕ) → WhatIsAskedFits → Keeps s → length s.config.floors ≤ 32 → length (due s e n) ≤ 289
-due-few s e n law k most = by (is_telling e) refl
+due-few : (s : Conference) (e : Event) (n : ℕ) → WhatIsAskedFits → IsLawful s e → Keeps s → length (due s e n) ≤ 289
+due-few s e n law lawful k = by (is_telling e) refl
   where
     found : (o : Option Member) → length (option_map_or (due_to s e) o []) ≤ 289
     found None = omega arith
-    found (Some m) = due_to-few s e m (sum-few s e law k most)
+    found (Some m) = due_to-few s e m (sum-few s e law lawful k)
 
     by : (b : Bool) → b ≡ is_telling e → length (due s e n) ≤ 289
     by true telling =
@@ -348,37 +363,25 @@ told-le s e n = by (keeps_up s e n)
     by false = omega arith
 
 -- what an event tells anyone
-pub told-few : (s : Conference) (e : Event) (n : ℕ) → WhatIsAskedFits → Keeps s → length s.config.floors ≤ 32 → length (told s e n) ≤ 289
-told-few s e n law k most = omega (arith, told-le s e n, due-few s e n law k most)
-
-config-next : (s : Conference) (e : Event) → (next s e).config ≡ s.config
-unfolding next
-config-next s e = settled-config s e
-
-config-after : (s : Conference) (es : List Event) → (after_from s es).config ≡ s.config
-config-after s [] = refl
-config-after s (e ∷ es) = config-after (next s e) es ∙ config-next s e
+pub told-few : (s : Conference) (e : Event) (n : ℕ) → WhatIsAskedFits → IsLawful s e → Keeps s → length (told s e n) ≤ 289
+told-few s e n law lawful k = omega (arith, told-le s e n, due-few s e n law lawful k)
 
 -- what a journal calls for
-pub called-few : (s : Conference) (es : List Event) (n : ℕ) → WhatIsAskedFits → SettlesOnce → IsLawfulFrom s es → Keeps s → length s.config.floors ≤ 32 →
-    length (told_from s es n) ≤ 289 * length es
-called-few s [] n law settles lawful k most = omega arith
-called-few s (e ∷ es) n law settles lawful k most =
-    let P : Configuration → Type 0 = λ config. length config.floors ≤ 32 in
+pub called-few : (s : Conference) (es : List Event) (n : ℕ) → WhatIsAskedFits → SettlesOnce → IsLawfulFrom s es → Keeps s → length (told_from s es n) ≤ 289 * length es
+called-few s [] n law settles lawful k = omega arith
+called-few s (e ∷ es) n law settles lawful k =
     omega (
       arith,
       length-append (told s e n) (told_from (next s e) es n),
-      told-few s e n law k most,
-      called-few (next s e) es n law settles lawful.1 (keeps-next s e law settles lawful.0 k) (subst P (sym (config-next s e)) most),
+      told-few s e n law lawful.0 k,
+      called-few (next s e) es n law settles lawful.1 (keeps-next s e law settles lawful.0 k),
     )
 
 -- what an event tells after a journal
 pub told_after-few : (config : Configuration) (es : List Event) (e : Event) (n : ℕ) → WhatIsAskedFits → SettlesOnce → IsConfiguration config → IsLawfulFrom (opening config) es →
-    length (told (after_from (opening config) es) e n) ≤ 289
-told_after-few config es e n law settles is lawful =
-    let P : Configuration → Type 0 = λ c. length c.floors ≤ 32 in
-    told-few (after_from (opening config) es) e n law (keeps-after (opening config) es law settles lawful (keeps-opening config is))
-    (subst P (sym (config-after (opening config) es)) is.floors_count)
+    IsLawful (after_from (opening config) es) e → length (told (after_from (opening config) es) e n) ≤ 289
+told_after-few config es e n law settles is lawful next_lawful =
+    told-few (after_from (opening config) es) e n law next_lawful (keeps-after (opening config) es law settles lawful (keeps-opening config is))
 
 -- a message is its header and what it tells
 message-length : (p : Primitive) (head : Head) (attrs : List Attr) → length (message_bytes p head attrs) ≡ 12 + length (canon (attributes_of attrs))

@@ -30,7 +30,7 @@ use Rattle.floor_machine.specs.Told.{Changed, reply_to}
 use Rattle.floor_machine.proofs.Bounds.{due-shown}
 use Rattle.floor_machine.proofs.Changing.{rising-numbers}
 use Rattle.floor_machine.proofs.Entries.{ended_of-entries, numbers_in-entries}
-use Rattle.floor_machine.proofs.Quiet.{floors-kept, settled-kept, parcels-kept, requests-kept, shown-kept}
+use Rattle.floor_machine.proofs.Quiet.{floors-kept, settled-kept, parcels-kept, requests-kept, shown-kept, still}
 use Rattle.floor_machine.proofs.Sent.{numbered-settled}
 use Rattle.floor_machine.proofs.Served.{change-decided, reply-answered}
 use Rattle.floor_machine.proofs.Telling.{update_for}
@@ -61,7 +61,7 @@ pub settled-message : (s : Conference) (n : ℕ) (bytes : List ℕ) (j : Decisio
     record s { members = members_by s.members n j.change } ≡ settled s (Message n bytes)
 settled-message s n bytes j is keeps is_settled =
     let k : IsKept s (members_by s.members n j.change) (change s (Message n bytes)) = event-kept s n bytes j is keeps in
-    ap (λ (members : List Member). record s { members = members }) (sym k.members) ∙ settled-kept s (Message n bytes) k.entries is_settled k.given k.is_open
+    ap (λ (members : List Member). record s { members = members }) (sym k.members) ∙ settled-kept s (Message n bytes) refl (still s (Message n bytes) refl k.entries is_settled) k.given k.is_open
 
 -- the reply to it
 pub replied-message : (s : Conference) (n : ℕ) (bytes : List ℕ) (j : Decision) (r : Replied) → IsDecided s n bytes j → changes_requests j.change ≡ false →
@@ -71,7 +71,7 @@ pub replied-message : (s : Conference) (n : ℕ) (bytes : List ℕ) (j : Decisio
 replied-message s n bytes j r is keeps is_settled ascending to head tells =
     let e : Event = Message n bytes in
     let k : IsKept s (members_by s.members n j.change) (change s e) = event-kept s n bytes j is keeps in
-    let same : shown s e ≡ map entry_of s.ongoing = shown-kept s e k.entries is_settled in
+    let same : shown s e ≡ map entry_of s.ongoing = shown-kept s e (still s e refl k.entries is_settled) in
     reply-answered s n bytes r (ask bytes (binding s n)) [] refl
     (sym (ap ended_of same ∙ ended_of-entries s.ongoing))
     (ap (λ (es : List Entry). is_rising (numbers_in es)) same ∙ ap is_rising (numbers_in-entries s.ongoing) ∙ rising-numbers s.ongoing ∙ ascending)
@@ -85,7 +85,7 @@ pub parcels-message : (s : Conference) (n : ℕ) (bytes : List ℕ) (j : Decisio
 parcels-message s n bytes j r is keeps is_settled ascending numbered replied =
     let e : Event = Message n bytes in
     let k : IsKept s (members_by s.members n j.change) (change s e) = event-kept s n bytes j is keeps in
-    parcels-kept s e (Some r) refl (numbered-settled s e numbered) replied (requests-kept s e k.entries is_settled ascending) (floors-kept s e k.entries is_settled)
+    parcels-kept s e (Some r) refl (numbered-settled s e numbered) replied (requests-kept s e (still s e refl k.entries is_settled) ascending) (floors-kept s e (still s e refl k.entries is_settled))
 
 -- what it tells shows no more than a conference has
 pub shown-message : (s : Conference) (n : ℕ) (bytes : List ℕ) (j : Decision) (r : Replied) → IsDecided s n bytes j → changes_requests j.change ≡ false →
@@ -97,5 +97,5 @@ shown-message s n bytes j r is keeps is_settled ascending replied reply =
     let U : List Changed → Type 0 = λ cs. AreUpdatesShown (map update_for cs) in
     let F : List Floor → Type 0 = λ fs. AreFloorsShown (filter (is_watched_by (settled s e).members) (map (floor_update (infos (settled s e))) fs)) in
     due-shown s e (Some r) refl replied reply
-    (subst U (sym (requests-kept s e k.entries is_settled ascending)) (All-nil (λ (u : Update). IsShown u.tell)))
-    (subst F (sym (floors-kept s e k.entries is_settled)) (All-nil (λ (u : FloorUpdate). IsShown u.tell)))
+    (subst U (sym (requests-kept s e (still s e refl k.entries is_settled) ascending)) (All-nil (λ (u : Update). IsShown u.tell)))
+    (subst F (sym (floors-kept s e (still s e refl k.entries is_settled))) (All-nil (λ (u : FloorUpdate). IsShown u.tell)))

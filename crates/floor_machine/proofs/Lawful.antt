@@ -1,20 +1,27 @@
 -- The events that are taken are the lawful ones.
 use Rattle.std.proofs.Common.{◌≡◌, ◌≢◌, ℕ, ◌<◌, ◌≤◌, Bool, true, false, cond, Option, Some, None, refl, sym, ap, arith}
-use Rattle.std.specs.Prelude.{◌&&◌, not, nat_le, count_by, is_some, IsSome}
+use Rattle.std.specs.Prelude.{◌&&◌, not, nat_le, nat_lt, count_by, is_some, IsSome, length, option_map}
 use Rattle.std.proofs.lemmas.Bool.Decides.{nat_tests}
-use Rattle.floor_config.specs.Lookup.{is_user}
+use Rattle.floor_config.specs.declared.fault.ConfigFault.{ConfigFault}
+use Rattle.floor_config.specs.declared.fault.ConfigFault.TheVariants as faults
+use Rattle.floor_config.specs.declared.floors.Floor.{Floor}
+use Rattle.floor_config.specs.declared.users.User.{User}
+use Rattle.floor_config.specs.Changed.{chair_fault, floor_fault, floor_is_within, unknown_chair, user_fault, user_is_within}
+use Rattle.floor_config.specs.Configuration.{Configuration}
+use Rattle.floor_config.specs.Limits.{is_known}
+use Rattle.floor_config.specs.Lookup.{is_floor, is_user}
 use Rattle.floor_queue.specs.Queue.{request_at}
 use Rattle.floor_queue.specs.declared.request.Request.{Request}
 use Rattle.floor_machine.specs.steps.Deciding.{MayAct}
 use Rattle.floor_machine.specs.declared.act.Act.{Act}
 use Rattle.floor_machine.specs.declared.event.Event.{Event}
-use Rattle.floor_machine.specs.declared.event.Event.TheVariants.{Join, Message, Took, Leave, Revoke, Close}
+use Rattle.floor_machine.specs.declared.event.Event.TheVariants.{Join, Message, Took, Leave, Revoke, Close, AddUser, AddFloor, SetChair}
 use Rattle.floor_machine.specs.declared.machine.Refusal.{Refusal}
 use Rattle.floor_machine.specs.declared.machine.Refusal.TheVariants.{Broken, Ended, NoMember, NoUser, Full, NoRequest, Cut, BadCount, Memory}
 use Rattle.floor_machine.specs.Conference.{Conference, backlog, is_cut, is_live}
 use Rattle.floor_machine.specs.Change.{IsLawful}
 use Rattle.floor_machine.specs.Laws.{IsWhole, TakenIsLawful}
-use Rattle.floor_machine.specs.Machine.{Machine, whole, act_refusal, event_of_act, event_refusal, is_backlog, leave_refusal}
+use Rattle.floor_machine.specs.Machine.{Machine, whole, act_refusal, fault_refusal, refusal_of_fault, event_of_act, event_refusal, is_backlog, leave_refusal}
 use Rattle.floor_machine.proofs.Joining.{join_lawful, message_lawful, took_lawful}
 
 -- where no refusal applies, the event is lawful
@@ -26,6 +33,15 @@ leave_lawful m n h = by m.is_broken m.conference.is_open (is_live m.conference n
     by false false d h = cc
     by false true false h = cc
     by false true true h = (refl, refl)
+
+faultless : (m : Machine) (fault : Option ConfigFault) → None ≡ fault_refusal m fault → (m.conference.is_open ≡ true) × (fault ≡ None)
+faultless m fault h = by m.is_broken m.conference.is_open fault h
+  where
+    by : (a b : Bool) (o : Option ConfigFault) → None ≡ cond a (Some Broken) (cond (not b) (Some Ended) (option_map refusal_of_fault o)) → (b ≡ true) × (o ≡ None)
+    by true b o h = cc
+    by false false o h = cc
+    by false true None h = (refl, refl)
+    by false true (Some fault) h = cc
 
 pub act_lawful : (m : Machine) (act : Act) → None ≡ act_refusal m act → IsLawful m.conference (event_of_act act)
 act_lawful m (Act.Revoke request) h = by m.is_broken m.conference.is_open (is_some (request_at m.conference.ongoing request)) h
@@ -41,9 +57,12 @@ act_lawful m Act.Close h = by m.is_broken m.conference.is_open h
     by true b h = cc
     by false false h = cc
     by false true h = refl
+act_lawful m (Act.AddUser user) h = faultless m (user_fault m.conference.config user) h
+act_lawful m (Act.AddFloor floor) h = faultless m (floor_fault m.conference.config floor) h
+act_lawful m (Act.SetChair floor chair) h = faultless m (chair_fault m.conference.config floor chair) h
 
 -- where no refusal applies, the act may be done
-pub may_act : (m : Machine) (act : Act) → None ≡ act_refusal m act → MayAct m.conference.ongoing act
+pub may_act : (m : Machine) (act : Act) → None ≡ act_refusal m act → MayAct m.conference act
 may_act m (Act.Revoke request) h = by m.is_broken m.conference.is_open (request_at m.conference.ongoing request) h
   where
     by : (a b : Bool) (o : Option Request) → None ≡ cond a (Some Broken) (cond (not b) (Some Ended) (cond (not (is_some o)) (Some NoRequest) None)) → IsSome o
@@ -52,6 +71,9 @@ may_act m (Act.Revoke request) h = by m.is_broken m.conference.is_open (request_
     by false true None h = cc
     by false true (Some r) h = refl
 may_act m Act.Close h = tt
+may_act m (Act.AddUser user) h = (faultless m (user_fault m.conference.config user) h).1
+may_act m (Act.AddFloor floor) h = (faultless m (floor_fault m.conference.config floor) h).1
+may_act m (Act.SetChair floor chair) h = (faultless m (chair_fault m.conference.config floor chair) h).1
 
 -- an event that is taken is lawful
 lawful_of-taken : (s : Conference) (e : Event) → IsWhole e → event_refusal (whole s) e ≡ None → IsLawful s e
@@ -61,12 +83,18 @@ lawful_of-taken s (Took n k) framed h = took_lawful (whole s) n k (sym h)
 lawful_of-taken s (Leave n) framed h = leave_lawful (whole s) n (sym h)
 lawful_of-taken s (Revoke request) framed h = act_lawful (whole s) (Act.Revoke request) (sym h)
 lawful_of-taken s Close framed h = act_lawful (whole s) Act.Close (sym h)
+lawful_of-taken s (AddUser user) framed h = act_lawful (whole s) (Act.AddUser user) (sym h)
+lawful_of-taken s (AddFloor floor) framed h = act_lawful (whole s) (Act.AddFloor floor) (sym h)
+lawful_of-taken s (SetChair floor chair) framed h = act_lawful (whole s) (Act.SetChair floor chair) (sym h)
 
 few : (n : ℕ) → n < 64 → nat_le 64 n ≡ false
 few n h = grind (arith, nat_tests)
 
 two_hold : (refusal : Refusal) (b d : Bool) → b ≡ true → d ≡ true → cond (not b) (Some Ended) (cond (not d) (Some refusal) None) ≡ None
 two_hold refusal b d h k = rw (h, k) refl
+
+no_fault : (b : Bool) (fault : Option ConfigFault) → b ≡ true → fault ≡ None → cond (not b) (Some Ended) (option_map refusal_of_fault fault) ≡ None
+no_fault b fault h k = rw (h, k) refl
 
 -- a lawful event is taken
 taken_of-lawful : (s : Conference) (e : Event) → IsLawful s e → event_refusal (whole s) e ≡ None
@@ -92,6 +120,9 @@ taken_of-lawful s Close h = by s.is_open h
   where
     by : (b : Bool) → b ≡ true → cond (not b) (Some Ended) None ≡ None
     by b h = rw h refl
+taken_of-lawful s (AddUser user) h = no_fault s.is_open (user_fault s.config user) h.0 h.1
+taken_of-lawful s (AddFloor floor) h = no_fault s.is_open (floor_fault s.config floor) h.0 h.1
+taken_of-lawful s (SetChair floor chair) h = no_fault s.is_open (chair_fault s.config floor chair) h.0 h.1
 
 -- of three refusals none is Memory
 never_third : (refusal : Refusal) (a b d : Bool) → (refusal ≡ Memory → ⊥) →
@@ -118,6 +149,9 @@ lawful_event m (Took n k) framed h = took_lawful m n k h
 lawful_event m (Leave n) framed h = leave_lawful m n h
 lawful_event m (Revoke request) framed h = act_lawful m (Act.Revoke request) h
 lawful_event m Close framed h = act_lawful m Act.Close h
+lawful_event m (AddUser user) framed h = act_lawful m (Act.AddUser user) h
+lawful_event m (AddFloor floor) framed h = act_lawful m (Act.AddFloor floor) h
+lawful_event m (SetChair floor chair) framed h = act_lawful m (Act.SetChair floor chair) h
 
 broken_refuses : (m : Machine) (e : Event) → m.is_broken ≡ true → event_refusal m e ≡ Some Broken
 broken_refuses m (Join user) h = rw h refl
@@ -126,6 +160,9 @@ broken_refuses m (Took n k) h = rw h refl
 broken_refuses m (Leave n) h = rw h refl
 broken_refuses m (Revoke request) h = rw h refl
 broken_refuses m Close h = rw h refl
+broken_refuses m (AddUser user) h = rw h refl
+broken_refuses m (AddFloor floor) h = rw h refl
+broken_refuses m (SetChair floor chair) h = rw h refl
 
 -- what a machine that isn't broken refuses isn't lawful
 pub unlawful_event : (m : Machine) (e : Event) (why : Refusal) → Some why ≡ event_refusal m e → why ≢ Broken → ¬ IsLawful m.conference e
@@ -138,6 +175,44 @@ unlawful_event m e why h other lawful = by m.is_broken refl
         let taken : event_refusal (whole m.conference) e ≡ None = taken_of-lawful m.conference e lawful in
         let refused : event_refusal (whole m.conference) e ≡ event_refusal m e = ap (λ (x : Machine). event_refusal x e) same in
         cc
+
+never_fault : (m : Machine) (fault : Option ConfigFault) → ((f : ConfigFault) → fault ≡ Some f → refusal_of_fault f ≢ Memory) → Some Memory ≡ fault_refusal m fault → ⊥
+never_fault m fault named h = by m.is_broken m.conference.is_open fault named h
+  where
+    by : (a b : Bool) (o : Option ConfigFault) → ((f : ConfigFault) → o ≡ Some f → refusal_of_fault f ≢ Memory) →
+        Some Memory ≡ cond a (Some Broken) (cond (not b) (Some Ended) (option_map refusal_of_fault o)) → ⊥
+    by true b o n h = cc
+    by false false o n h = cc
+    by false true None n h = cc
+    by false true (Some fault) n h = n fault refl (let same : refusal_of_fault fault ≡ Memory = cc in same)
+
+-- the faults of a user, a floor or a chair
+never_user : (config : Configuration) (user : User) (f : ConfigFault) → user_fault config user ≡ Some f → refusal_of_fault f ≢ Memory
+never_user config user f h = by (nat_lt (length config.users) 256 && user_is_within user) (is_user config user.id) h
+  where
+    by : (a b : Bool) → cond a (cond b (Some faults.DoubleUser) None) (Some faults.OutOfRange) ≡ Some f → refusal_of_fault f ≢ Memory
+    by true true h = let same : faults.DoubleUser ≡ f = cc in rw (sym same) (λ e. cc)
+    by true false h = cc
+    by false b h = let same : faults.OutOfRange ≡ f = cc in rw (sym same) (λ e. cc)
+
+never_unknown : (b : Bool) (f : ConfigFault) → cond b None (Some faults.UnknownChair) ≡ Some f → refusal_of_fault f ≢ Memory
+never_unknown true f h = cc
+never_unknown false f h = let same : faults.UnknownChair ≡ f = cc in rw (sym same) (λ e. cc)
+
+never_floor : (config : Configuration) (floor : Floor) (f : ConfigFault) → floor_fault config floor ≡ Some f → refusal_of_fault f ≢ Memory
+never_floor config floor f h = by (nat_lt (length config.floors) 32 && floor_is_within floor) (is_floor config.floors floor.id) h
+  where
+    by : (a b : Bool) → cond a (cond b (Some faults.DoubleFloor) (unknown_chair config floor.chair)) (Some faults.OutOfRange) ≡ Some f → refusal_of_fault f ≢ Memory
+    by true true h = let same : faults.DoubleFloor ≡ f = cc in rw (sym same) (λ e. cc)
+    by true false h = never_unknown (is_known config.users floor.chair) f h
+    by false b h = let same : faults.OutOfRange ≡ f = cc in rw (sym same) (λ e. cc)
+
+never_chair : (config : Configuration) (floor : ℕ) (chair : Option ℕ) (f : ConfigFault) → chair_fault config floor chair ≡ Some f → refusal_of_fault f ≢ Memory
+never_chair config floor chair f h = by (is_floor config.floors floor) h
+  where
+    by : (b : Bool) → cond b (unknown_chair config chair) (Some faults.NoFloor) ≡ Some f → refusal_of_fault f ≢ Memory
+    by true h = never_unknown (is_known config.users chair) f h
+    by false h = let same : faults.NoFloor ≡ f = cc in rw (sym same) (λ e. cc)
 
 -- no event is refused for want of memory before it begins
 pub never_memory : (m : Machine) (e : Event) → Some Memory ≡ event_refusal m e → ⊥
@@ -159,6 +234,9 @@ never_memory m Close h = by m.is_broken m.conference.is_open h
     by true b h = cc
     by false false h = cc
     by false true h = cc
+never_memory m (AddUser user) h = never_fault m (user_fault m.conference.config user) (never_user m.conference.config user) h
+never_memory m (AddFloor floor) h = never_fault m (floor_fault m.conference.config floor) (never_floor m.conference.config floor) h
+never_memory m (SetChair floor chair) h = never_fault m (chair_fault m.conference.config floor chair) (never_chair m.conference.config floor chair) h
 
 pub taken_is_lawful : TakenIsLawful
 taken_is_lawful = λ s e framed. (lawful_of-taken s e framed, taken_of-lawful s e)

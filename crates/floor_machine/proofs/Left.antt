@@ -30,7 +30,7 @@ change-leave : (s : Conference) (n : ℕ) → change s (Leave n) ≡ left_change
 unfolding change
 change-leave s n = refl
 
-map-same : {A B : Type 0} (f g : A → B) → ((x : A) → f x ≡ g x) → (xs : List A) → map f xs ≡ map g xs
+pub map-same : {A B : Type 0} (f g : A → B) → ((x : A) → f x ≡ g x) → (xs : List A) → map f xs ≡ map g xs
 map-same f g same [] = refl
 map-same {B = B} f g same (x ∷ xs) = ap (λ (y : B). y ∷ map f xs) (same x) ∙ ap (λ (ys : List B). g x ∷ ys) (map-same f g same xs)
 
@@ -72,15 +72,18 @@ changed-present s course n user members is_user queue begun left present =
     sym (none-without (user_of (conference_of s) n) rs)
     ∙ ap (λ (b : Bool). map (entry_without (user_of (conference_of s) n) b) rs) (sym here) in
     subst C (ap (left_change (conference_of s) n) none ∙ sym (change-leave (conference_of s) n)) record {
+      made = record {
+        config = refl;
+        given = refl;
+        members = left;
+        is_open = refl;
+        ongoing = begun.made.ongoing;
+        ended = begun.made.ended;
+        numbers = begun.made.numbers;
+        rising = begun.made.rising;
+        old = begun.made.old;
+      };
       config = refl;
-      given = refl;
-      members = left;
-      is_open = refl;
-      ongoing = begun.ongoing;
-      ended = begun.ended;
-      numbers = begun.numbers;
-      rising = begun.rising;
-      old = begun.old;
       noted = begun.noted;
     }
 
@@ -100,20 +103,23 @@ changed-absent s course course' n user members is_user queue begun left absent t
     sym (all-without user rs)
     ∙ ap (λ (b : Bool). map (entry_without user b) rs) (sym gone)
     ∙ ap (λ (u : ℕ). ending (conference_of s) (ends_without (map (leaving n) s.members) u)) is_user in
-    let same : course'.numbers.items ≡ numbers_of rs = ap (λ x. x.items) numbers ∙ begun.numbers ∙ numbers_in-entries rs in
+    let same : course'.numbers.items ≡ numbers_of rs = ap (λ x. x.items) numbers ∙ begun.made.numbers ∙ numbers_in-entries rs in
     subst C (ap (left_change (conference_of s) n) all ∙ sym (change-leave (conference_of s) n)) record {
+      made = record {
+        config = refl;
+        given = refl;
+        members = left;
+        is_open = refl;
+        ongoing = sym (ongoing_of-ends p released rs);
+        ended =
+            ap (map entry_of_ended) (told ∙ ap (λ (es : List Ended). es ++ released_for s.requests user) (none-ended (conference_of s) course begun))
+            ∙ entries (filter p rs)
+            ∙ sym (ended_of-ends p released rs);
+        numbers = same ∙ sym (numbers_in-ends p released rs);
+        rising = ap is_rising same ∙ rising-numbers rs ∙ queue.ascending;
+        old = ap (λ (ns : List ℕ). flat_map (λ n. listed (request_at rs n)) ns) (ap (λ x. x.items) numbers) ∙ begun.made.old;
+      };
       config = refl;
-      given = refl;
-      members = left;
-      is_open = refl;
-      ongoing = sym (ongoing_of-ends p released rs);
-      ended =
-          ap (map entry_of_ended) (told ∙ ap (λ (es : List Ended). es ++ released_for s.requests user) (none-ended (conference_of s) course begun))
-          ∙ entries (filter p rs)
-          ∙ sym (ended_of-ends p released rs);
-      numbers = same ∙ sym (numbers_in-ends p released rs);
-      rising = ap is_rising same ∙ rising-numbers rs ∙ queue.ascending;
-      old = ap (λ (ns : List ℕ). flat_map (λ n. listed (request_at rs n)) ns) (ap (λ x. x.items) numbers) ∙ begun.old;
       noted = noted;
     }
   where

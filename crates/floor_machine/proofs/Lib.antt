@@ -41,3 +41,6 @@ pub mod Moved
 pub mod Walk
 pub mod Courses
 pub mod Users
+pub mod Acts
+pub mod Grows
+pub mod Growing

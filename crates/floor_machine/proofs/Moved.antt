@@ -18,7 +18,7 @@ use Rattle.floor_machine.proofs.SameInfo.{info_equal, infos_same_is_equal}
 abbrev shows : ℕ → Info → Bool
 shows floor i = list_any (λ f. f.0 == floor) i.floors
 
-any-append : {A : Type 0} (p : A → Bool) (xs ys : List A) → list_any p (xs ++ ys) ≡ (list_any p xs || list_any p ys)
+pub any-append : {A : Type 0} (p : A → Bool) (xs ys : List A) → list_any p (xs ++ ys) ≡ (list_any p xs || list_any p ys)
 any-append p [] ys = refl
 any-append p (x ∷ xs) ys = by (p x) (any-append p xs ys)
   where

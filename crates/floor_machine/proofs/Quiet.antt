@@ -24,13 +24,14 @@ use Rattle.floor_machine.specs.Outgoing.{Outgoing, notice}
 use Rattle.floor_machine.specs.Reply.{infos, infos_on, floor_status_tell}
 use Rattle.floor_machine.specs.Told.{Changed, changed_of, changed_requests, changed_floors, is_changed, is_told, reply_to, due_to, due}
 use Rattle.floor_machine.specs.steps.Counting.{due_parcels}
+use Rattle.floor_machine.specs.steps.Serving.{is_telling}
 use Rattle.floor_machine.specs.steps.Telling.{answered_to, floor_update, parcels_to_all}
-use Rattle.floor_machine.proofs.Configs.{config-change}
+use Rattle.floor_machine.proofs.Configs.{config-change, keeps_config}
 use Rattle.floor_machine.proofs.Entries.{ongoing_of-entries}
 use Rattle.floor_machine.proofs.Found.{request_at_place}
 use Rattle.floor_machine.proofs.SameInfo.{list_own, info_own}
-use Rattle.floor_machine.proofs.Served.{settled-config, settled-made, settled-ongoing}
-use Rattle.floor_machine.proofs.Telling.{is_telling, due-member, parcels-told, update_for}
+use Rattle.floor_machine.proofs.Served.{settled-made, settled-ongoing}
+use Rattle.floor_machine.proofs.Telling.{due-member, parcels-told, update_for}
 
 -- the conference that ends keeps its members, and no request
 pub settled-close : (s : Conference) → record s { ongoing = []; is_open = false } ≡ settled s Close
@@ -57,13 +58,25 @@ entries-settled floors rs is_settled =
     ∙ each-settled floors rs rs
     ∙ ap (map entry_of) is_settled
 
--- an event that leaves each request as it is shows the same
-pub shown-kept : (s : Conference) (e : Event) → (change s e).entries ≡ map entry_of s.ongoing → settle s.config.floors s.ongoing ≡ s.ongoing →
-    shown s e ≡ map entry_of s.ongoing
+-- the event leaves each request as it is, none of which is due then, and as it is shown
+pub record IsStill (s : Conference) (e : Event) : Type 0 where
+  pub entries : (change s e).entries ≡ map entry_of s.ongoing
+  pub settled : settle (change s e).config.floors s.ongoing ≡ s.ongoing
+  pub infos : map (info (change s e).config s.ongoing) s.ongoing ≡ infos s
+
+-- so does one that leaves the configuration and each request as it is
+pub still : (s : Conference) (e : Event) → keeps_config e ≡ true → (change s e).entries ≡ map entry_of s.ongoing → settle s.config.floors s.ongoing ≡ s.ongoing → IsStill s e
+still s e keeps kept is_settled =
+    record {
+      entries = kept;
+      settled = ap (λ (config : Configuration). settle config.floors s.ongoing) (config-change s e keeps) ∙ is_settled;
+      infos = ap (λ (config : Configuration). map (info config s.ongoing) s.ongoing) (config-change s e keeps);
+    }
+
+-- its entries are those of the requests
+pub shown-kept : (s : Conference) (e : Event) → IsStill s e → shown s e ≡ map entry_of s.ongoing
 unfolding shown
-shown-kept s e kept is_settled =
-    ap (λ (config : Configuration). settle_entries config.floors (change s e).entries) (config-change s e)
-    ∙ ap (settle_entries s.config.floors) kept ∙ entries-settled s.config.floors s.ongoing is_settled
+shown-kept s e kept = ap (settle_entries (change s e).config.floors) kept.entries ∙ entries-settled (change s e).config.floors s.ongoing kept.settled
 
 number-info : (config : Configuration) (all : List Request) (r : Request) → (info config all r).request ≡ r.number
 unfolding info_of
@@ -104,14 +117,15 @@ none-changed config before all (r ∷ rs) fails =
     rw first (none-changed config before all rs (λ i d within. fails (suc i) d (omega arith)))
 
 -- it changes no request
-pub requests-kept : (s : Conference) (e : Event) → (change s e).entries ≡ map entry_of s.ongoing → settle s.config.floors s.ongoing ≡ s.ongoing →
-    is_ascending s.ongoing ≡ true → changed_requests s e ≡ []
+pub requests-kept : (s : Conference) (e : Event) → IsStill s e → is_ascending s.ongoing ≡ true → changed_requests s e ≡ []
 unfolding changed_requests
-requests-kept s e kept is_settled ascending =
-    ap (λ (config : Configuration). filter (λ c. is_changed (infos s) c.info) (map (changed_of config (shown s e)) (shown s e))) (settled-config s e)
-    ∙ ap (λ (es : List Entry). filter (λ c. is_changed (infos s) c.info) (map (changed_of s.config es) es)) (shown-kept s e kept is_settled)
-    ∙ none-changed s.config (infos s) s.ongoing s.ongoing
-    (λ i d within. same-unchanged s.config s.ongoing (get_or s.ongoing i d) (request_at_place s.ongoing i d ascending within))
+requests-kept s e kept ascending =
+    let config : Configuration = (change s e).config in
+    ap (λ (c : Configuration). filter (λ c. is_changed (infos s) c.info) (map (changed_of c (shown s e)) (shown s e))) (ap (λ (t : Conference). t.config) (settled-made s e))
+    ∙ ap (λ (es : List Entry). filter (λ c. is_changed (infos s) c.info) (map (changed_of config es) es)) (shown-kept s e kept)
+    ∙ ap (λ (is : List Info). filter (λ c. is_changed is c.info) (map (changed_of config (map entry_of s.ongoing)) (map entry_of s.ongoing))) (sym kept.infos)
+    ∙ none-changed config (map (info config s.ongoing) s.ongoing) s.ongoing s.ongoing
+    (λ i d within. same-unchanged config s.ongoing (get_or s.ongoing i d) (request_at_place s.ongoing i d ascending within))
 
 none-differ : (before now : ℕ → List Info) → ((id : ℕ) → now id ≡ before id) → (fs : List Floor) → filter (λ f. not (same_infos (before f.id) (now f.id))) fs ≡ []
 none-differ before now same [] = refl
@@ -120,27 +134,36 @@ none-differ before now same (f ∷ fs) =
     ap (same_infos (before f.id)) (same f.id) ∙ list_own same_info info_own (before f.id) in
     rw alike (none-differ before now same fs)
 
-infos-kept : (s : Conference) (e : Event) → (change s e).entries ≡ map entry_of s.ongoing → settle s.config.floors s.ongoing ≡ s.ongoing → infos (settled s e) ≡ infos s
-infos-kept s e kept is_settled =
-    ap (λ (config : Configuration). map (info config (settled s e).ongoing) (settled s e).ongoing) (settled-config s e)
-    ∙ ap (λ (rs : List Request). map (info s.config rs) rs) (settled-ongoing s e ∙ ap ongoing_of (shown-kept s e kept is_settled) ∙ ongoing_of-entries s.ongoing)
+ongoing-kept : (s : Conference) (e : Event) → IsStill s e → (settled s e).ongoing ≡ s.ongoing
+ongoing-kept s e kept = settled-ongoing s e ∙ ap ongoing_of (shown-kept s e kept) ∙ ongoing_of-entries s.ongoing
+
+infos-kept : (s : Conference) (e : Event) → IsStill s e → infos (settled s e) ≡ infos s
+infos-kept s e kept =
+    ap (λ (config : Configuration). map (info config (settled s e).ongoing) (settled s e).ongoing) (ap (λ (t : Conference). t.config) (settled-made s e))
+    ∙ ap (λ (rs : List Request). map (info (change s e).config rs) rs) (ongoing-kept s e kept)
+    ∙ kept.infos
 
 -- and no floor
-pub floors-kept : (s : Conference) (e : Event) → (change s e).entries ≡ map entry_of s.ongoing → settle s.config.floors s.ongoing ≡ s.ongoing → changed_floors s e ≡ []
+pub floors-kept : (s : Conference) (e : Event) → IsStill s e → changed_floors s e ≡ []
 unfolding changed_floors
-floors-kept s e kept is_settled =
-    ap (λ (config : Configuration). filter (λ f. not (same_infos (infos_on f.id (infos s)) (infos_on f.id (infos (settled s e))))) config.floors) (settled-config s e)
-    ∙ none-differ (λ id. infos_on id (infos s)) (λ id. infos_on id (infos (settled s e))) (λ id. ap (infos_on id) (infos-kept s e kept is_settled)) s.config.floors
+floors-kept s e kept = none-differ (λ id. infos_on id (infos s)) (λ id. infos_on id (infos (settled s e))) (λ id. ap (infos_on id) (infos-kept s e kept)) (settled s e).config.floors
 
--- the conference after it has other members, and is otherwise as it was
-pub settled-kept : (s : Conference) (e : Event) → (change s e).entries ≡ map entry_of s.ongoing → settle s.config.floors s.ongoing ≡ s.ongoing →
-    (change s e).given ≡ s.given → (change s e).is_open ≡ s.is_open → record s { members = (change s e).members } ≡ settled s e
-settled-kept s e kept is_settled given opened =
-    let ongoing : s.ongoing ≡ ongoing_of (shown s e) = sym (ap ongoing_of (shown-kept s e kept is_settled) ∙ ongoing_of-entries s.ongoing) in
-    ap (λ (rs : List Request). record s { members = (change s e).members; ongoing = rs }) ongoing
-    ∙ ap (λ (given : ℕ). record s { members = (change s e).members; ongoing = ongoing_of (shown s e); given = given }) (sym given)
-    ∙ ap (λ (b : Bool). record s { members = (change s e).members; ongoing = ongoing_of (shown s e); given = (change s e).given; is_open = b }) (sym opened)
+-- the conference after it may have another configuration and other members, and is otherwise as it was
+pub settled-still : (s : Conference) (e : Event) → IsStill s e → (change s e).given ≡ s.given → (change s e).is_open ≡ s.is_open →
+    record s { config = (change s e).config; members = (change s e).members } ≡ settled s e
+settled-still s e kept given opened =
+    let ongoing : s.ongoing ≡ ongoing_of (shown s e) = sym (ap ongoing_of (shown-kept s e kept) ∙ ongoing_of-entries s.ongoing) in
+    let c = change s e in
+    ap (λ (rs : List Request). record s { config = c.config; members = c.members; ongoing = rs }) ongoing
+    ∙ ap (λ (given : ℕ). record s { config = c.config; members = c.members; ongoing = ongoing_of (shown s e); given = given }) (sym given)
+    ∙ ap (λ (b : Bool). record s { config = c.config; members = c.members; ongoing = ongoing_of (shown s e); given = c.given; is_open = b }) (sym opened)
     ∙ sym (settled-made s e)
+
+-- where it keeps its configuration too, it has other members at the most
+pub settled-kept : (s : Conference) (e : Event) → keeps_config e ≡ true → IsStill s e → (change s e).given ≡ s.given → (change s e).is_open ≡ s.is_open →
+    record s { members = (change s e).members } ≡ settled s e
+settled-kept s e keeps kept given opened =
+    ap (λ (config : Configuration). record s { config = config; members = (change s e).members }) (sym (config-change s e keeps)) ∙ settled-still s e kept given opened
 
 -- the reply is all that it tells
 pub parcels-kept : (s : Conference) (e : Event) (reply : Option Replied) → is_telling e ≡ true → is_numbered_from 1 (settled s e).members ≡ true →
@@ -156,24 +179,18 @@ notices s e m requests floors =
     map (λ c. notice s.config.conference m.user (FloorRequestStatus c.info)) (filter (is_told [] m.user) requests)
     ++ map (λ f. notice s.config.conference m.user (floor_status_tell (settled s e) f.id)) (filter (λ f. list_any (λ floor. floor == f.id) m.watched) floors)
 
--- an event that nobody sent, and that leaves each request as it is
-record IsUnsent (s : Conference) (e : Event) : Type 0 where
-  telling : is_telling e ≡ true
-  unsent : (k : ℕ) → reply_to s e k ≡ []
-  entries : (change s e).entries ≡ map entry_of s.ongoing
-
--- nothing is due to anybody after it
-due-unsent : (s : Conference) (e : Event) → IsUnsent s e → settle s.config.floors s.ongoing ≡ s.ongoing → is_ascending s.ongoing ≡ true → (n : ℕ) → due s e n ≡ []
-due-unsent s e kept is_settled ascending n = due-member s e n kept.telling ∙ by (member_with (settled s e).members n)
+-- nothing is due to anybody after such an event that nobody sent
+pub due-unsent : (s : Conference) (e : Event) → is_telling e ≡ true → ((k : ℕ) → reply_to s e k ≡ []) → IsStill s e → is_ascending s.ongoing ≡ true → (n : ℕ) → due s e n ≡ []
+due-unsent s e telling unsent kept ascending n = due-member s e n telling ∙ by (member_with (settled s e).members n)
   where
     one : (m : Member) → due_to s e m ≡ []
     one m =
         ap (λ (replied : List Outgoing). replied
         ++ map (λ c. notice s.config.conference m.user (FloorRequestStatus c.info)) (filter (is_told replied m.user) (changed_requests s e))
         ++ map (λ f. notice s.config.conference m.user (floor_status_tell (settled s e) f.id)) (filter (λ f. list_any (λ floor. floor == f.id) m.watched) (changed_floors s e)))
-        (kept.unsent m.n)
-        ∙ ap (λ (cs : List Changed). notices s e m cs (changed_floors s e)) (requests-kept s e kept.entries is_settled ascending)
-        ∙ ap (notices s e m []) (floors-kept s e kept.entries is_settled)
+        (unsent m.n)
+        ∙ ap (λ (cs : List Changed). notices s e m cs (changed_floors s e)) (requests-kept s e kept ascending)
+        ∙ ap (notices s e m []) (floors-kept s e kept)
 
     by : (o : Option Member) → option_map_or (due_to s e) o [] ≡ []
     by None = refl
@@ -185,7 +202,7 @@ kept-join s user = refl
 
 -- nothing is due to anybody where a member joins
 pub due_of-join : (s : Conference) (user : ℕ) → settle s.config.floors s.ongoing ≡ s.ongoing → is_ascending s.ongoing ≡ true → (n : ℕ) → due s (Join user) n ≡ []
-due_of-join s user = due-unsent s (Join user) record { telling = refl; unsent = λ k. refl; entries = kept-join s user }
+due_of-join s user is_settled = due-unsent s (Join user) refl (λ k. refl) (still s (Join user) refl (kept-join s user) is_settled)
 
 kept-took : (s : Conference) (n k : ℕ) → (change s (Took n k)).entries ≡ map entry_of s.ongoing
 unfolding change
@@ -193,7 +210,7 @@ kept-took s n k = refl
 
 -- nor where some of the messages to one are acknowledged
 pub due_of-took : (s : Conference) (n k : ℕ) → settle s.config.floors s.ongoing ≡ s.ongoing → is_ascending s.ongoing ≡ true → (i : ℕ) → due s (Took n k) i ≡ []
-due_of-took s n k = due-unsent s (Took n k) record { telling = refl; unsent = λ i. refl; entries = kept-took s n k }
+due_of-took s n k is_settled = due-unsent s (Took n k) refl (λ i. refl) (still s (Took n k) refl (kept-took s n k) is_settled)
 
 members-took : (s : Conference) (n k : ℕ) → (change s (Took n k)).members ≡ map (acknowledging n k) s.members
 unfolding change
@@ -211,4 +228,4 @@ open-took s n k = refl
 pub settled-took : (s : Conference) (n k : ℕ) → settle s.config.floors s.ongoing ≡ s.ongoing → record s { members = map (acknowledging n k) s.members } ≡ settled s (Took n k)
 settled-took s n k is_settled =
     ap (λ (ms : List Member). record s { members = ms }) (sym (members-took s n k))
-    ∙ settled-kept s (Took n k) (kept-took s n k) is_settled (given-took s n k) (open-took s n k)
+    ∙ settled-kept s (Took n k) refl (still s (Took n k) refl (kept-took s n k) is_settled) (given-took s n k) (open-took s n k)

@@ -1,14 +1,19 @@
 -- What each journal of a configuration keeps.
-use Rattle.std.proofs.Common.{◌≡◌, ℕ, ◌+◌, ◌-◌, ◌≤◌, Bool, true, false, cond, List, [], ◌∷◌, ◌++◌, length, map, Option, Some, None, refl, sym, ap, subst, ◌∙◌, arith}
-use Rattle.std.specs.Prelude.{◌==◌, ◌&&◌, All, IfSome, not, filter, count_by, is_some}
-use Rattle.std.specs.List.{list_any}
-use Rattle.std.proofs.lemmas.List.Elements.{All-nil, All-weaker}
+use Rattle.std.proofs.Common.{◌≡◌, ℕ, ◌+◌, ◌-◌, ◌≤◌, Bool, true, false, cond, List, [], ◌∷◌, ◌++◌, length, map, Option, Some, None, refl, sym, ap, subst, arith}
+use Rattle.std.specs.Prelude.{◌==◌, ◌&&◌, All, IfSome, IsTrue, not, filter, count_by, is_some}
+use Rattle.std.specs.List.{list_all, list_any}
+use Rattle.std.proofs.lemmas.List.Elements.{All-cons, All-nil, All-weaker}
 use Rattle.std.proofs.lemmas.List.Sums.{sum_by_push}
 use Rattle.floor_config.specs.Configuration.{Configuration, IsConfiguration, IsFloor}
 use Rattle.floor_config.specs.declared.floors.Floor.{Floor}
 use Rattle.floor_queue.specs.declared.request.Request.{Request}
 use Rattle.floor_queue.specs.Order.{settle, position}
-use Rattle.floor_queue.specs.Queue.{Queue, IsAddable, IsQueue, IsReason, IsSettled, after_settle, first_request, new_of, without}
+use Rattle.floor_queue.specs.Queue.{Queue, IsAddable, IsQueue, IsReason, IsSettled, after_set_chair, after_settle, first_request, loses_chair, new_of, without}
+use Rattle.floor_config.specs.Changed.{chaired}
+use Rattle.floor_config.specs.Lookup.{is_user}
+use Rattle.floor_config.proofs.KeptAfter.{floor_free}
+use Rattle.floor_queue.proofs.Added.{IsQueue-add_floor}
+use Rattle.floor_queue.proofs.Chairs.{IsQueue-set_chair, ongoing_then}
 use Rattle.floor_queue.proofs.Counts.{count-cons, count_by-map, one}
 use Rattle.floor_queue.proofs.Kept.{IsQueue-add, IsQueue-end, IsQueue-filter, IsQueue-set_floor, IsQueue-settle}
 use Rattle.floor_message.specs.Ask.{Answer, asks, refused, unanswered, ask}
@@ -18,29 +23,27 @@ use Rattle.floor_message.specs.declared.ask.Ask.TheVariants.{FloorRequest, Floor
 use Rattle.floor_message.specs.declared.verdicts.Verdict.{Verdict}
 use Rattle.floor_message.specs.declared.code.ErrorCode.{ErrorCode}
 use Rattle.floor_machine.specs.declared.event.Event.{Event}
-use Rattle.floor_machine.specs.declared.event.Event.TheVariants.{Join, Message, Took, Leave, Revoke, Close}
+use Rattle.floor_machine.specs.declared.event.Event.TheVariants.{Join, Message, Took, Leave, Revoke, Close, AddUser, AddFloor, SetChair}
 use Rattle.floor_machine.specs.declared.member.Member.{Member}
 use Rattle.floor_machine.specs.Conference.{Conference, binding, is_numbered_from, is_present, joining, opening, user_of}
-use Rattle.floor_machine.specs.Shown.{Entry, entry_of, ongoing_of, settle_entries}
+use Rattle.floor_machine.specs.Shown.{Entry, entry_of, ongoing_of}
 use Rattle.floor_machine.specs.Checks.{refusal}
-use Rattle.floor_machine.specs.Change.{Change, IsLawful, asked_change, change, decided_at, dismissed, ending, ends_at, ends_without, entries_after, given_after, is_final, leaving, members_after, message_change, settled, no_change, reasoned, released, shown, acknowledging, watching, word_of}
+use Rattle.floor_machine.specs.Change.{Change, IsLawful, asked_change, change, decided_at, dismissed, ending, ends_at, ends_without, entries_after, given_after, is_final, leaving, members_after, message_change, queue_of, settled, no_change, reasoned, released, shown, acknowledging, watching, word_of}
 use Rattle.floor_machine.specs.Journal.{IsLawfulFrom, after_from}
-use Rattle.floor_machine.specs.Reachable.{IsReachable}
+use Rattle.floor_machine.specs.Reachable.{HasGrown, IsReachable}
 use Rattle.floor_machine.specs.steps.Deciding.{MayServe, new_of_ask}
 use Rattle.floor_machine.specs.Next.{counted, next}
 use Rattle.floor_machine.proofs.Allowed.{may_serve}
 use Rattle.floor_machine.proofs.Changing.{entries-added, ongoing_of-decided, ongoing_of-ending}
 use Rattle.floor_machine.proofs.Ended.{ongoing_of-ends}
-use Rattle.floor_machine.proofs.Configs.{config-change}
+use Rattle.floor_machine.proofs.Configs.{config-change, keeps_config}
 use Rattle.floor_machine.proofs.Entries.{ongoing_of-entries, ongoing_of-settled}
+use Rattle.floor_machine.proofs.Found.{and_left, and_right}
+use Rattle.floor_machine.proofs.Grows.{are_known, grown-change, known-next, limits-change, users-next}
 use Rattle.floor_machine.proofs.Counted.{AreWithin, within-next}
 use Rattle.floor_machine.proofs.Reasoned.{queue-reasoned}
 use Rattle.floor_machine.proofs.Sent.{numbered-next}
 use Rattle.floor_machine.proofs.Verdicts.{undecided, word-after}
-
--- the floors and requests of a conference
-abbrev pub queue_of : Conference → Queue
-queue_of s = record { floors = s.config.floors; given = s.given; ongoing = s.ongoing }
 
 -- those that an event leaves, before they are settled
 abbrev queue_changed : Conference → ℕ → List Request → Queue
@@ -112,16 +115,16 @@ queue-left s members user h =
     queue-of_entries s s.given (ending s (ends_without members user)) (filter (λ r. not (ends r)) s.ongoing) (ongoing_of-ends ends released s.ongoing)
     (IsQueue-filter (queue_of s) (λ r. not (ends r)) h)
 
--- after any event
-queue-change : (s : Conference) (e : Event) → WhatIsAskedFits → IsQueue (queue_of s) → IsQueue (queue_changed s (change s e).given (ongoing_of (change s e).entries))
+-- after an event that leaves the configuration as it is
+queue-kept : (s : Conference) (e : Event) → keeps_config e ≡ true → WhatIsAskedFits → IsQueue (queue_of s) → IsQueue (queue_changed s (change s e).given (ongoing_of (change s e).entries))
 unfolding change
-queue-change s (Join user) law h = queue-unchanged s h
-queue-change s (Message n bytes) law h = queue-message s n (ask bytes (binding s n)) (λ x is. law bytes (binding s n) x is) h
-queue-change s (Took n k) law h = queue-unchanged s h
-queue-change s (Leave n) law h = queue-left s (map (leaving n) s.members) (user_of s n) h
-queue-change s (Revoke request) law h =
+queue-kept s (Join user) keeps law h = queue-unchanged s h
+queue-kept s (Message n bytes) keeps law h = queue-message s n (ask bytes (binding s n)) (λ x is. law bytes (binding s n) x is) h
+queue-kept s (Took n k) keeps law h = queue-unchanged s h
+queue-kept s (Leave n) keeps law h = queue-left s (map (leaving n) s.members) (user_of s n) h
+queue-kept s (Revoke request) keeps law h =
     queue-of_entries s s.given (ending s (ends_at request dismissed)) (without request s.ongoing) (ongoing_of-ending request dismissed s.ongoing) (IsQueue-end (queue_of s) request h)
-queue-change s Close law h =
+queue-kept s Close keeps law h =
     record {
       rooms = h.rooms;
       ascending = refl;
@@ -131,13 +134,48 @@ queue-change s Close law h =
       reasons = All-nil (λ (r : Request). IfSome r.reason IsReason);
       holders_fit = λ floor. omega arith;
     }
+queue-kept s (AddUser user) keeps law h = cc
+queue-kept s (AddFloor floor) keeps law h = cc
+queue-kept s (SetChair floor chair) keeps law h = cc
+
+-- the queue that an event leaves, before it is settled
+abbrev queue_left : Conference → Event → Queue
+queue_left s e = queue_by (change s e).config.floors (change s e).given (ongoing_of (change s e).entries)
+
+queue-config : (s : Conference) (e : Event) → keeps_config e ≡ true → WhatIsAskedFits → IsQueue (queue_of s) → IsQueue (queue_left s e)
+queue-config s e keeps law h =
+    let P : Configuration → Type 0 = λ config. IsQueue (queue_by config.floors (change s e).given (ongoing_of (change s e).entries)) in
+    subst P (sym (config-change s e keeps)) (queue-kept s e keeps law h)
+
+queue-entries : (q : Queue) (floors : List Floor) (rs : List Request) → IsQueue (record q { floors = floors; ongoing = rs }) → IsQueue (record q { floors = floors; ongoing = ongoing_of (map entry_of rs) })
+queue-entries q floors rs h = let P : List Request → Type 0 = λ xs. IsQueue (record q { floors = floors; ongoing = xs }) in subst P (sym (ongoing_of-entries rs)) h
+
+queue-chair : (q : Queue) (floor : ℕ) (chair : Option ℕ) → IsQueue q → IsQueue (after_set_chair q floor chair)
+queue-chair q floor chair h =
+    let lost : Option ℕ = cond (loses_chair q.floors floor chair) (Some floor) None in
+    let P : List Request → Type 0 = λ rs. IsQueue (record q { floors = map (chaired floor chair) q.floors; ongoing = rs }) in
+    subst P (ongoing_then q.floors floor chair q.ongoing) (IsQueue-set_chair q floor chair lost h)
+
+-- after any event
+queue-change : (s : Conference) (e : Event) → WhatIsAskedFits → IsLawful s e → IsQueue (queue_of s) → IsQueue (queue_left s e)
+unfolding change
+queue-change s (Join user) law lawful h = queue-config s (Join user) refl law h
+queue-change s (Message n bytes) law lawful h = queue-config s (Message n bytes) refl law h
+queue-change s (Took n k) law lawful h = queue-config s (Took n k) refl law h
+queue-change s (Leave n) law lawful h = queue-config s (Leave n) refl law h
+queue-change s (Revoke request) law lawful h = queue-config s (Revoke request) refl law h
+queue-change s Close law lawful h = queue-config s Close refl law h
+queue-change s (AddUser user) law lawful h = queue-entries (queue_of s) s.config.floors s.ongoing h
+queue-change s (AddFloor floor) law lawful h =
+    let free = floor_free s.config floor lawful.1 in
+    queue-entries (queue_of s) (s.config.floors ++ floor ∷ []) s.ongoing (IsQueue-add_floor (queue_of s) floor free.0 free.1 h)
+queue-change s (SetChair floor chair) law lawful h =
+    let q : Queue = after_set_chair (queue_of s) floor chair in queue-entries (queue_of s) q.floors q.ongoing (queue-chair (queue_of s) floor chair h)
 
 -- the floors and requests after an event are those of its change, settled
-queue-next : (s : Conference) (e : Event) → queue_of (next s e) ≡ after_settle (queue_changed s (change s e).given (ongoing_of (change s e).entries))
+queue-next : (s : Conference) (e : Event) → queue_of (next s e) ≡ after_settle (queue_left s e)
 unfolding next settled shown
-queue-next s e =
-    ap (λ (config : Configuration). queue_by config.floors (change s e).given (ongoing_of (settle_entries config.floors (change s e).entries))) (config-change s e)
-    ∙ ap (queue_changed s (change s e).given) (ongoing_of-settled s.config.floors (change s e).entries)
+queue-next s e = ap (queue_by (change s e).config.floors (change s e).given) (ongoing_of-settled (change s e).config.floors (change s e).entries)
 
 is_live-watching : (n : ℕ) (floors : List ℕ) (m : Member) → (watching n floors m).is_live ≡ m.is_live
 is_live-watching n floors m = by (m.n == n)
@@ -191,6 +229,9 @@ live-change s (Took n k) lawful h =
 live-change s (Leave n) lawful h = omega (arith, live-leaving n s.members, h)
 live-change s (Revoke request) lawful h = h
 live-change s Close lawful h = h
+live-change s (AddUser user) lawful h = h
+live-change s (AddFloor floor) lawful h = h
+live-change s (SetChair floor chair) lawful h = h
 
 live-next : (s : Conference) (e : Event) → IsLawful s e → count_by (λ m. m.is_live) s.members ≤ 64 → count_by (λ m. m.is_live) (next s e).members ≤ 64
 unfolding next settled
@@ -199,9 +240,12 @@ live-next s e lawful h =
 
 -- what each lawful event keeps
 pub record Keeps (s : Conference) : Type 0 where
+  pub limits : IsConfiguration s.config
   pub queue : IsQueue (queue_of s)
   pub settled : IsSettled (queue_of s)
   pub numbered : is_numbered_from 1 s.members ≡ true
+  pub users : list_all (λ m. is_user s.config m.user) s.members ≡ true
+  pub known : list_all (are_known s.config) s.ongoing ≡ true
   pub live : count_by (λ m. m.is_live) s.members ≤ 64
   pub backlogs : AreWithin s.members
 
@@ -209,14 +253,21 @@ pub record Keeps (s : Conference) : Type 0 where
 abbrev pub SettlesOnce : Type 0
 SettlesOnce = (floors : List Floor) (requests : List Request) → settle floors (settle floors requests) ≡ settle floors requests
 
+limits-next : (s : Conference) (e : Event) → IsLawful s e → IsConfiguration s.config → IsConfiguration (next s e).config
+unfolding next settled
+limits-next s e lawful h = limits-change s e lawful h
+
 -- a lawful event keeps it
 pub keeps-next : (s : Conference) (e : Event) → WhatIsAskedFits → SettlesOnce → IsLawful s e → Keeps s → Keeps (next s e)
 keeps-next s e law once lawful k =
-    let q : Queue = queue_changed s (change s e).given (ongoing_of (change s e).entries) in
+    let q : Queue = queue_left s e in
     record {
-      queue = subst IsQueue (sym (queue-next s e)) (IsQueue-settle q (queue-change s e law k.queue));
+      limits = limits-next s e lawful k.limits;
+      queue = subst IsQueue (sym (queue-next s e)) (IsQueue-settle q (queue-change s e law lawful k.queue));
       settled = subst IsSettled (sym (queue-next s e)) (once q.floors q.ongoing);
       numbered = numbered-next s e k.numbered;
+      users = users-next s e lawful k.users;
+      known = known-next s e lawful k.users k.known;
       live = live-next s e lawful k.live;
       backlogs = within-next s e k.settled k.queue.ascending k.numbered k.backlogs;
     }
@@ -230,6 +281,7 @@ keeps-after s (e ∷ es) law once lawful k = keeps-after (next s e) es law once 
 pub keeps-opening : (config : Configuration) → IsConfiguration config → Keeps (opening config)
 keeps-opening config h =
     record {
+      limits = h;
       queue = record {
         rooms = All-weaker IsFloor (λ (f : Floor). 1 ≤ f.room) (λ f k. k.room_least) config.floors h.floors;
         ascending = refl;
@@ -241,17 +293,34 @@ keeps-opening config h =
       };
       settled = refl;
       numbered = refl;
+      users = refl;
+      known = refl;
       live = omega arith;
       backlogs = All-nil (λ (m : Member). m.backlog ≤ 1024);
     }
+
+grown-next : (config : Configuration) (s : Conference) (e : Event) → HasGrown config s.config → HasGrown config (next s e).config
+unfolding next settled
+grown-next config s e h = grown-change config s e h
+
+-- the configuration grows from the opening one
+pub grown-after : (config : Configuration) (s : Conference) (es : List Event) → HasGrown config s.config → HasGrown config (after_from s es).config
+grown-after config s [] h = h
+grown-after config s (e ∷ es) h = grown-after config (next s e) es (grown-next config s e h)
 
 -- queue positions fit
 abbrev pub PositionsFit : Type 0
 PositionsFit = (q : Queue) → IsQueue q → IsSettled q → All (λ r. (floor : ℕ) → position q.floors q.ongoing r floor ≤ 255) q.ongoing
 
-pub reachable : (s : Conference) → PositionsFit → Keeps s → IsReachable s
-reachable s positions k =
+each : {A : Type 0} (p : A → Bool) (xs : List A) → list_all p xs ≡ true → All (λ x. IsTrue (p x)) xs
+each p [] h = All-nil (λ x. IsTrue (p x))
+each p (x ∷ xs) h = All-cons (λ x. IsTrue (p x)) x xs (and_left (p x) (list_all p xs) h) (each p xs (and_right (p x) (list_all p xs) h))
+
+pub reachable : (config : Configuration) (s : Conference) → PositionsFit → HasGrown config s.config → Keeps s → IsReachable config s
+reachable config s positions grown k =
     record {
+      limits = k.limits;
+      grown = grown;
       ascending = k.queue.ascending;
       numbers = k.queue.numbers;
       few = k.queue.few;
@@ -259,6 +328,7 @@ reachable s positions k =
       settled = k.settled;
       positions = positions (queue_of s) k.queue k.settled;
       numbered = k.numbered;
+      users = each (λ m. is_user s.config m.user) s.members k.users;
       live = k.live;
       backlogs = k.backlogs;
     }

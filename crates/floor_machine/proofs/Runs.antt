@@ -6,7 +6,7 @@ use Rattle.floor_message.specs.Ask.{Answer, asks, refused, unanswered, ask}
 use Rattle.floor_message.specs.declared.ask.Ask.{Ask}
 use Rattle.floor_message.specs.declared.ask.Ask.TheVariants.{FloorRequest, FloorRelease, FloorRequestQuery, UserQuery, FloorQuery, ChairAction, Hello}
 use Rattle.floor_machine.specs.declared.event.Event.{Event}
-use Rattle.floor_machine.specs.declared.event.Event.TheVariants.{Join, Message, Took, Leave, Revoke, Close}
+use Rattle.floor_machine.specs.declared.event.Event.TheVariants.{Join, Message, Took, Leave, Revoke, Close, AddUser, AddFloor, SetChair}
 use Rattle.floor_machine.specs.Parcel.{Parcel}
 use Rattle.floor_machine.specs.Conference.{Conference, joining, user_of, binding}
 use Rattle.floor_machine.specs.Checks.{refusal}
@@ -59,6 +59,9 @@ members-change s (Took n k) = omega (arith, length-map s.members (acknowledging 
 members-change s (Leave n) = omega (arith, length-map s.members (leaving n))
 members-change s (Revoke request) = omega arith
 members-change s Close = omega arith
+members-change s (AddUser user) = omega arith
+members-change s (AddFloor floor) = omega arith
+members-change s (SetChair floor chair) = omega arith
 
 members-next : (s : Conference) (e : Event) → length (next s e).members ≤ length s.members + 1
 unfolding next settled
@@ -87,6 +90,9 @@ whole-event v m (Took n k) h = whole-taken v m _ h
 whole-event v m (Leave n) h = whole-taken v m _ h
 whole-event v m (Revoke request) h = whole-taken v m _ h
 whole-event v m Close h = whole-taken v m _ h
+whole-event v m (AddUser user) h = whole-taken v m _ h
+whole-event v m (AddFloor floor) h = whole-taken v m _ h
+whole-event v m (SetChair floor chair) h = whole-taken v m _ h
 
 -- the machine after one more event
 pub run-next : {T : Type 0} (v : T) (m now new : Machine) (es : List Event) (i : ℕ) (e : Event) → i < length es → e ≡ get_or es i e → now ≡ machine_after m (take i es) →

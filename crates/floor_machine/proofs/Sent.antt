@@ -13,7 +13,7 @@ use Rattle.floor_machine.specs.declared.member.Member.{Member}
 use Rattle.floor_machine.specs.Parcel.{Parcel}
 use Rattle.floor_machine.specs.Conference.{Conference, backlog, is_cut, joining, opening, member_with, user_of, binding, is_numbered_from}
 use Rattle.floor_machine.specs.declared.event.Event.{Event}
-use Rattle.floor_machine.specs.declared.event.Event.TheVariants.{Join, Message, Took, Leave, Revoke, Close}
+use Rattle.floor_machine.specs.declared.event.Event.TheVariants.{Join, Message, Took, Leave, Revoke, Close, AddUser, AddFloor, SetChair}
 use Rattle.floor_machine.specs.Checks.{refusal}
 use Rattle.floor_machine.specs.Change.{change, settled, no_change, asked_change, message_change, members_after, watching, acknowledging, leaving}
 use Rattle.floor_machine.specs.Outgoing.{Outgoing}
@@ -97,6 +97,9 @@ due-absent s (Took j k) n h = ap (λ (o : Option Member). option_map_or (due_to 
 due-absent s (Leave k) n h = ap (λ (o : Option Member). option_map_or (due_to s (Leave k)) o []) (absent (settled s (Leave k)).members n h)
 due-absent s (Revoke k) n h = ap (λ (o : Option Member). option_map_or (due_to s (Revoke k)) o []) (absent (settled s (Revoke k)).members n h)
 due-absent s Close n h = refl
+due-absent s (AddUser user) n h = ap (λ (o : Option Member). option_map_or (due_to s (AddUser user)) o []) (absent (settled s (AddUser user)).members n h)
+due-absent s (AddFloor floor) n h = ap (λ (o : Option Member). option_map_or (due_to s (AddFloor floor)) o []) (absent (settled s (AddFloor floor)).members n h)
+due-absent s (SetChair floor chair) n h = ap (λ (o : Option Member). option_map_or (due_to s (SetChair floor chair)) o []) (absent (settled s (SetChair floor chair)).members n h)
 
 -- of all that is due after an event, what is due to n
 pub sent_to-due : (s : Conference) (e : Event) (n : ℕ) → is_numbered_from 1 (settled s e).members ≡ true → sent_to n (due_parcels s e) ≡ map (parcel n) (due s e n)
@@ -192,6 +195,9 @@ numbered-change s (Took n k) h = numbered-map (acknowledging n k) (n-acknowledgi
 numbered-change s (Leave n) h = numbered-leaving n 1 s.members h
 numbered-change s (Revoke request) h = h
 numbered-change s Close h = h
+numbered-change s (AddUser user) h = h
+numbered-change s (AddFloor floor) h = h
+numbered-change s (SetChair floor chair) h = h
 
 -- the members stay numbered
 pub numbered-settled : (s : Conference) (e : Event) → is_numbered_from 1 s.members ≡ true → is_numbered_from 1 (settled s e).members ≡ true

@@ -23,7 +23,6 @@ use Rattle.floor_machine.specs.declared.course.Ended.{Ended}
 use Rattle.floor_machine.specs.declared.decision.Change.TheVariants as to
 use Rattle.floor_machine.specs.declared.decision.EndedBy.TheVariants.{Chair}
 use Rattle.floor_machine.specs.declared.member.Member.{Member}
-use Rattle.floor_machine.specs.Parcel.{Parcel}
 use Rattle.floor_machine.specs.declared.replied.Replied.{Replied}
 use Rattle.floor_machine.specs.declared.conference.State.{State}
 use Rattle.floor_machine.specs.declared.tell.changed.Update.{Update}
@@ -40,11 +39,11 @@ use Rattle.floor_machine.specs.Told.{changed_of, changed_requests, changed_floor
 use Rattle.floor_machine.specs.steps.Counting.{due_parcels}
 use Rattle.floor_machine.specs.steps.Telling.{entry_of_ended, entry_at, shown_of, infos_of, updates, floor_update, floor_updates, answered, answered_to, parcels_to_all}
 use Rattle.floor_machine.specs.steps.Deciding.{accepted, change_by, decision_of, refused_by}
-use Rattle.floor_machine.specs.steps.Serving.{IsChanged, conference_of, tells_by, status_tells, ended_of, numbers_in, is_rising, with_requests}
-use Rattle.floor_machine.proofs.Configs.{config-change}
+use Rattle.floor_machine.specs.steps.Serving.{is_telling, IsMade, conference_of, tells_by, status_tells, ended_of, numbers_in, is_rising, with_requests}
+use Rattle.floor_machine.proofs.Configs.{config-change, conference-change, keeps_config}
 use Rattle.floor_machine.proofs.Entries.{ongoing_of-settled, ended_of-settled, numbers_in-settled, entry_with, filter-number}
 use Rattle.floor_machine.proofs.Sent.{numbered-settled}
-use Rattle.floor_machine.proofs.Telling.{is_telling, finds, update_for, updates-changed, headed-answered, parcels-told}
+use Rattle.floor_machine.proofs.Telling.{finds, update_for, updates-changed, headed-answered, parcels-told}
 
 -- what is asked, and no check refuses, changes what its decision does
 accepts : (s : Conference) (n : ℕ) (a : Ask) → asked_change s n a ≡ change_by s n (accepted (user_of s n) a).change
@@ -85,47 +84,49 @@ change-accepted s n bytes a read accepted =
     ap (message_change s n) (sym read) ∙ ap (λ (o : Option ErrorCode). cond (is_some o) (no_change s) (asked_change s n a)) (sym accepted)
 
 -- the entries after the event are the changed ones, settled
-pub shown-changed : (s : Conference) (e : Event) (c : Change) → change s e ≡ c → shown s e ≡ settle_entries s.config.floors c.entries
+pub shown-changed : (s : Conference) (e : Event) (c : Change) → change s e ≡ c → shown s e ≡ settle_entries c.config.floors c.entries
 unfolding shown
-shown-changed s e c same =
-    ap (λ (config : Configuration). settle_entries config.floors (change s e).entries) (config-change s e) ∙ ap (λ (d : Change). settle_entries s.config.floors d.entries) same
+shown-changed s e c same = ap (λ (d : Change). settle_entries d.config.floors d.entries) same
 
 abbrev made : Configuration → ℕ → List Request → List Member → Bool → Conference
 made config given ongoing members is_open = record { config = config; given = given; ongoing = ongoing; members = members; is_open = is_open }
 
-pub settled-made : (s : Conference) (e : Event) → settled s e ≡ made s.config (change s e).given (ongoing_of (shown s e)) (change s e).members (change s e).is_open
+pub settled-made : (s : Conference) (e : Event) → settled s e ≡ made (change s e).config (change s e).given (ongoing_of (shown s e)) (change s e).members (change s e).is_open
 unfolding settled
-settled-made s e = ap (λ (config : Configuration). made config (change s e).given (ongoing_of (shown s e)) (change s e).members (change s e).is_open) (config-change s e)
+settled-made s e = refl
 
 -- the conference after the change, settled, is the next one
-pub settled-changed : (s : Conference) (e : Event) (c : Change) (t : Conference) (course : Course) → change s e ≡ c → IsChanged s c t course →
-    made t.config t.given (settle s.config.floors t.ongoing) t.members t.is_open ≡ settled s e
+pub settled-changed : (s : Conference) (e : Event) (c : Change) (t : Conference) (course : Course) → change s e ≡ c → IsMade s c t course →
+    made t.config t.given (settle t.config.floors t.ongoing) t.members t.is_open ≡ settled s e
 settled-changed s e c t course same changed =
-    ap (λ (config : Configuration). made config t.given (settle s.config.floors t.ongoing) t.members t.is_open) changed.config
-    ∙ ap (λ (given : ℕ). made s.config given (settle s.config.floors t.ongoing) t.members t.is_open) changed.given
-    ∙ ap (λ (rs : List Request). made s.config c.given rs t.members t.is_open)
-    (ap (settle s.config.floors) changed.ongoing ∙ sym (ongoing_of-settled s.config.floors c.entries) ∙ ap ongoing_of (sym (shown-changed s e c same)))
-    ∙ ap (λ (members : List Member). made s.config c.given (ongoing_of (shown s e)) members t.is_open) changed.members
-    ∙ ap (λ (b : Bool). made s.config c.given (ongoing_of (shown s e)) c.members b) changed.is_open
-    ∙ ap (λ (d : Change). made s.config d.given (ongoing_of (shown s e)) d.members d.is_open) (sym same)
+    ap (λ (config : Configuration). made config t.given (settle config.floors t.ongoing) t.members t.is_open) changed.config
+    ∙ ap (λ (given : ℕ). made c.config given (settle c.config.floors t.ongoing) t.members t.is_open) changed.given
+    ∙ ap (λ (rs : List Request). made c.config c.given rs t.members t.is_open)
+    (ap (settle c.config.floors) changed.ongoing ∙ sym (ongoing_of-settled c.config.floors c.entries) ∙ ap ongoing_of (sym (shown-changed s e c same)))
+    ∙ ap (λ (members : List Member). made c.config c.given (ongoing_of (shown s e)) members t.is_open) changed.members
+    ∙ ap (λ (b : Bool). made c.config c.given (ongoing_of (shown s e)) c.members b) changed.is_open
+    ∙ ap (λ (d : Change). made d.config d.given (ongoing_of (shown s e)) d.members d.is_open) (sym same)
     ∙ sym (settled-made s e)
 
 -- what the course has noted is of the entries after the event
-pub ended-shown : (s : Conference) (e : Event) (c : Change) (t : Conference) (course : Course) → change s e ≡ c → IsChanged s c t course →
+pub ended-shown : (s : Conference) (e : Event) (c : Change) (t : Conference) (course : Course) → change s e ≡ c → IsMade s c t course →
     map entry_of_ended course.ended.items ≡ ended_of (shown s e)
 ended-shown s e c t course same changed =
-    changed.ended ∙ sym (ended_of-settled s.config.floors c.entries) ∙ ap ended_of (sym (shown-changed s e c same))
+    changed.ended ∙ sym (ended_of-settled c.config.floors c.entries) ∙ ap ended_of (sym (shown-changed s e c same))
 
-pub numbers-shown : (s : Conference) (e : Event) (c : Change) (t : Conference) (course : Course) → change s e ≡ c → IsChanged s c t course →
+pub numbers-shown : (s : Conference) (e : Event) (c : Change) (t : Conference) (course : Course) → change s e ≡ c → IsMade s c t course →
     course.numbers.items ≡ numbers_in (shown s e)
 numbers-shown s e c t course same changed =
-    changed.numbers ∙ sym (numbers_in-settled s.config.floors c.entries) ∙ ap numbers_in (sym (shown-changed s e c same))
+    changed.numbers ∙ sym (numbers_in-settled c.config.floors c.entries) ∙ ap numbers_in (sym (shown-changed s e c same))
 
 pub settled-ongoing : (s : Conference) (e : Event) → (settled s e).ongoing ≡ ongoing_of (shown s e)
 settled-ongoing s e = ap (λ (t : Conference). t.ongoing) (settled-made s e)
 
-pub settled-config : (s : Conference) (e : Event) → (settled s e).config ≡ s.config
-settled-config s e = ap (λ (t : Conference). t.config) (settled-made s e)
+pub settled-config : (s : Conference) (e : Event) → keeps_config e ≡ true → (settled s e).config ≡ s.config
+settled-config s e keeps = ap (λ (t : Conference). t.config) (settled-made s e) ∙ config-change s e keeps
+
+settled-conference : (s : Conference) (e : Event) → (settled s e).config.conference ≡ s.config.conference
+settled-conference s e = ap (λ (t : Conference). t.config.conference) (settled-made s e) ∙ conference-change s e
 
 -- the statuses with a number are the one status that is found by it
 status-shown : (config : Configuration) (all : List Entry) (ended : List Ended) (k : ℕ) → map entry_of_ended ended ≡ ended_of all → is_rising (numbers_in all) ≡ true →
@@ -145,7 +146,7 @@ status-settled : (s : Conference) (n : ℕ) (bytes : List ℕ) (ended : List End
     ≡ status_tells (settled s (Message n bytes)) ended k
 status-settled s n bytes ended k =
     let told : Configuration → List Request → List Tell = λ config rs. option_map_or (λ shown. FloorRequestStatus shown.info ∷ []) (option_map (shown_of config rs) (entry_at ended rs k)) [] in
-    ap (told s.config) (sym (settled-ongoing s (Message n bytes))) ∙ ap (λ (config : Configuration). told config (settled s (Message n bytes)).ongoing) (sym (settled-config s (Message n bytes)))
+    ap (told s.config) (sym (settled-ongoing s (Message n bytes))) ∙ ap (λ (config : Configuration). told config (settled s (Message n bytes)).ongoing) (sym (settled-config s (Message n bytes) refl))
 
 -- the answer to an accepted message, as the steps make it
 pub tells-accepted : (s : Conference) (n : ℕ) (bytes : List ℕ) (user : ℕ) (a : Ask) (ended : List Ended) →
@@ -161,7 +162,7 @@ tells-accepted s n bytes user (FloorRelease request) ended same rising given =
 tells-accepted s n bytes user (FloorRequestQuery request) ended same rising given =
     status-shown s.config (shown s (Message n bytes)) ended request same rising ∙ status-settled s n bytes ended request
 tells-accepted s n bytes user (UserQuery beneficiary) ended same rising given =
-    ap (λ (config : Configuration). UserStatus (option_map (described config) beneficiary) (infos_of_user (unwrap_or beneficiary user) (settled s (Message n bytes))) ∷ []) (sym (settled-config s (Message n bytes)))
+    ap (λ (config : Configuration). UserStatus (option_map (described config) beneficiary) (infos_of_user (unwrap_or beneficiary user) (settled s (Message n bytes))) ∷ []) (sym (settled-config s (Message n bytes) refl))
 tells-accepted s n bytes user (FloorQuery floors) ended same rising given = refl
 tells-accepted s n bytes user (ChairAction request verdicts reason) ended same rising given = refl
 tells-accepted s n bytes user Hello ended same rising given = refl
@@ -200,21 +201,18 @@ reply-answered s n bytes r a ended read same rising to head tells k =
 
 pub updates-message : (s : Conference) (e : Event) (course : Course) → map entry_of_ended course.ended.items ≡ ended_of (shown s e) → course.numbers.items ≡ numbers_in (shown s e) →
     is_rising course.numbers.items ≡ true → course.before.items ≡ infos s →
-    updates s.config (settled s e).ongoing course.ended.items course.before.items course.numbers.items ≡ map update_for (changed_requests s e)
+    updates (settled s e).config (settled s e).ongoing course.ended.items course.before.items course.numbers.items ≡ map update_for (changed_requests s e)
 unfolding changed_requests
 updates-message s e course same numbered rising before =
-    ap (λ (rs : List Request). updates s.config rs course.ended.items course.before.items course.numbers.items) (settled-ongoing s e)
-    ∙ updates-changed s.config course.before.items (shown s e) course.ended.items course.numbers.items same numbered rising
-    ∙ ap (λ (is : List Info). map update_for (filter (λ c. is_changed is c.info) (map (changed_of s.config (shown s e)) (shown s e)))) before
-    ∙ ap (λ (config : Configuration). map update_for (filter (λ c. is_changed (infos s) c.info) (map (changed_of config (shown s e)) (shown s e)))) (sym (settled-config s e))
+    let config : Configuration = (settled s e).config in
+    ap (λ (rs : List Request). updates config rs course.ended.items course.before.items course.numbers.items) (settled-ongoing s e)
+    ∙ updates-changed config course.before.items (shown s e) course.ended.items course.numbers.items same numbered rising
+    ∙ ap (λ (is : List Info). map update_for (filter (λ c. is_changed is c.info) (map (changed_of config (shown s e)) (shown s e)))) before
 
-pub floors-message : (s : Conference) (e : Event) (before now : List Info) → before ≡ infos s → now ≡ infos (settled s e) →
-    floor_updates before now s.config.floors ≡ map (floor_update (infos (settled s e))) (changed_floors s e)
+pub floors-message : (s : Conference) (e : Event) (before : List Info) → before ≡ infos s →
+    floor_updates before (infos (settled s e)) (settled s e).config.floors ≡ map (floor_update (infos (settled s e))) (changed_floors s e)
 unfolding changed_floors
-floors-message s e before now b n =
-    ap (λ (is : List Info). floor_updates is now s.config.floors) b
-    ∙ ap (λ (is : List Info). floor_updates (infos s) is s.config.floors) n
-    ∙ ap (λ (config : Configuration). floor_updates (infos s) (infos (settled s e)) config.floors) (sym (settled-config s e))
+floors-message s e before b = ap (λ (is : List Info). floor_updates is (infos (settled s e)) (settled s e).config.floors) b
 
 -- the parcels that the steps put are those that the event calls for
 pub parcels-served : (s : Conference) (e : Event) (t : Conference) (course : Course) (reply : Option Replied) → is_telling e ≡ true → t ≡ settled s e →
@@ -225,28 +223,29 @@ pub parcels-served : (s : Conference) (e : Event) (t : Conference) (course : Cou
     (floor_updates course.before.items (infos_of t.config t.ongoing) t.config.floors) t.members
     ≡ due_parcels s e
 parcels-served s e t course reply telling is numbered same numbers rising before replied =
-    let all : Conference → Configuration → List Parcel = λ x config.
-    parcels_to_all config.conference reply (updates config x.ongoing course.ended.items course.before.items course.numbers.items) (floor_updates course.before.items (infos_of config x.ongoing) config.floors) x.members in
-    ap (λ (x : Conference). all x x.config) is
-    ∙ ap (all (settled s e)) (settled-config s e)
-    ∙ ap (λ (us : List Update). parcels_to_all s.config.conference reply us (floor_updates course.before.items (infos_of s.config (settled s e).ongoing) s.config.floors) (settled s e).members)
+    let u : Conference = settled s e in
+    ap (λ (x : Conference). parcels_to_all x.config.conference reply (updates x.config x.ongoing course.ended.items course.before.items course.numbers.items)
+    (floor_updates course.before.items (infos_of x.config x.ongoing) x.config.floors) x.members) is
+    ∙ ap (λ (id : ℕ). parcels_to_all id reply (updates u.config u.ongoing course.ended.items course.before.items course.numbers.items) (floor_updates course.before.items (infos u) u.config.floors) u.members)
+    (settled-conference s e)
+    ∙ ap (λ (us : List Update). parcels_to_all s.config.conference reply us (floor_updates course.before.items (infos u) u.config.floors) u.members)
     (updates-message s e course same numbers rising before)
-    ∙ ap (λ (us : List FloorUpdate). parcels_to_all s.config.conference reply (map update_for (changed_requests s e)) us (settled s e).members)
-    (floors-message s e course.before.items (infos_of s.config (settled s e).ongoing) before (ap (λ (config : Configuration). infos_of config (settled s e).ongoing) (sym (settled-config s e))))
+    ∙ ap (λ (us : List FloorUpdate). parcels_to_all s.config.conference reply (map update_for (changed_requests s e)) us u.members)
+    (floors-message s e course.before.items before)
     ∙ parcels-told s e reply telling (numbered-settled s e numbered) replied
 
 -- the state after the change, settled, is the next conference
-pub settled-state : (s : Conference) (e : Event) (c : Change) (t : State) (course : Course) (q : Queue) → change s e ≡ c → IsChanged s c (conference_of t) course →
+pub settled-state : (s : Conference) (e : Event) (c : Change) (t : State) (course : Course) (q : Queue) → change s e ≡ c → IsMade s c (conference_of t) course →
     q ≡ after_settle t.requests → with_requests (conference_of t) q ≡ settled s e
 settled-state s e c t course q same changed is_settled =
     ap (λ (x : Queue). with_requests (conference_of t) x) is_settled
     ∙ ap (λ (fs : List Floor). made t.config t.requests.given (settle fs t.requests.ongoing) t.members t.is_open)
-    (t.same_floors ∙ ap (λ (config : Configuration). config.floors) changed.config)
+    t.same_floors
     ∙ settled-changed s e c (conference_of t) course same changed
 
 -- what the steps that reply to nobody put is what a changed event calls for that nobody sent
 pub parcels-changed : (s : Conference) (e : Event) (t : State) (course : Course) (q : Queue) → is_telling e ≡ true → ((k : ℕ) → reply_to s e k ≡ []) →
-    IsChanged s (change s e) (conference_of t) course → course.before.items ≡ infos s → is_numbered_from 1 s.members ≡ true → q ≡ after_settle t.requests →
+    IsMade s (change s e) (conference_of t) course → course.before.items ≡ infos s → is_numbered_from 1 s.members ≡ true → q ≡ after_settle t.requests →
     parcels_to_all t.config.conference None (updates t.config q.ongoing course.ended.items course.before.items course.numbers.items)
     (floor_updates course.before.items (infos_of t.config q.ongoing) t.config.floors) t.members
     ≡ due_parcels s e

@@ -19,7 +19,7 @@ use Rattle.floor_machine.specs.declared.replied.Replied.{Replied}
 use Rattle.floor_machine.specs.declared.tell.changed.Update.{Update}
 use Rattle.floor_machine.specs.Conference.{Conference, member_with, is_numbered_from}
 use Rattle.floor_machine.specs.declared.event.Event.{Event}
-use Rattle.floor_machine.specs.declared.event.Event.TheVariants.{Join, Message, Took, Leave, Revoke, Close}
+use Rattle.floor_machine.specs.declared.event.Event.TheVariants.{Join, Message, Took, Leave, Revoke, Close, AddUser, AddFloor, SetChair}
 use Rattle.floor_machine.specs.Shown.{Entry, ongoing_of, info_of}
 use Rattle.floor_machine.specs.Change.{settled}
 use Rattle.floor_machine.specs.Outgoing.{Outgoing, notice}
@@ -28,7 +28,7 @@ use Rattle.floor_machine.specs.Told.{Changed, changed_of, changed_requests, chan
 use Rattle.floor_machine.specs.Journal.{parcel}
 use Rattle.floor_machine.specs.steps.Counting.{due_parcels}
 use Rattle.floor_machine.specs.steps.Telling.{entry_of_ended, entry_at, shown_of, update_of, update_if, update_at, updates, floor_update, answered, answered_to, is_answered, is_due_to, is_watched, is_to, update_to, floor_update_to, parcels_to, parcels_to_all}
-use Rattle.floor_machine.specs.steps.Serving.{ended_of, numbers_in, is_rising}
+use Rattle.floor_machine.specs.steps.Serving.{ended_of, is_telling, numbers_in, is_rising}
 use Rattle.floor_machine.proofs.Found.{and_left, and_right, same_number}
 use Rattle.floor_machine.proofs.Entries.{entry_at-find, entry_with, find_entry, by_number}
 
@@ -189,15 +189,6 @@ members-told f all (m ∷ ms) k h same =
     by true = refl
     by false = refl
 
--- the event tells live members what it changed: all do but Close
-abbrev pub is_telling : Event → Bool
-is_telling (Join user) = true
-is_telling (Message n bytes) = true
-is_telling (Took n k) = true
-is_telling (Leave n) = true
-is_telling (Revoke request) = true
-is_telling Close = false
-
 -- what is told to n is told to the live member with the number
 pub due-member : (s : Conference) (e : Event) (n : ℕ) → is_telling e ≡ true → due s e n ≡ option_map_or (due_to s e) (member_with (settled s e).members n) []
 unfolding due
@@ -207,6 +198,9 @@ due-member s (Took m k) n h = refl
 due-member s (Leave k) n h = refl
 due-member s (Revoke request) n h = refl
 due-member s Close n h = cc
+due-member s (AddUser user) n h = refl
+due-member s (AddFloor floor) n h = refl
+due-member s (SetChair floor chair) n h = refl
 
 -- what an event calls for, member by member
 pub due_parcels-members : (s : Conference) (e : Event) → is_telling e ≡ true → is_numbered_from 1 (settled s e).members ≡ true →

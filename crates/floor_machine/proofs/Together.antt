@@ -4,19 +4,15 @@ use Rattle.std.specs.Prelude.{◌==◌, All}
 use Rattle.std.specs.List.{flat_map}
 use Rattle.std.proofs.lemmas.Bool.Decides.{nat_tests}
 use Rattle.std.proofs.lemmas.List.Elements.{All-append, All-cons, All-nil, All-weaker}
-use Rattle.floor_config.specs.Configuration.{Configuration}
-use Rattle.floor_queue.specs.Order.{settle}
 use Rattle.floor_machine.specs.declared.event.Event.{Event}
 use Rattle.floor_machine.specs.declared.member.Member.{Member}
 use Rattle.floor_machine.specs.Parcel.{Parcel}
 use Rattle.floor_machine.specs.Conference.{Conference, is_numbered_from, opening}
-use Rattle.floor_machine.specs.Shown.{ongoing_of}
 use Rattle.floor_machine.specs.Change.{change, settled, shown}
 use Rattle.floor_machine.specs.Journal.{IsLawfulFrom, after_from, parcel, parcels_from, parcels_of, told_from}
 use Rattle.floor_machine.specs.Membership.{AfterBoth, BothLawful, ParcelsOfBoth, SentToMembers, SettlesAsQueue, ToldByBoth, ToldOnceJoined}
 use Rattle.floor_machine.specs.Outgoing.{Outgoing}
 use Rattle.floor_machine.specs.Next.{next, told}
-use Rattle.floor_machine.proofs.Configs.{config-change}
 use Rattle.floor_machine.proofs.Entries.{ongoing_of-settled}
 use Rattle.floor_machine.proofs.Found.{and_left, and_right}
 use Rattle.floor_machine.proofs.Staying.{told-before}
@@ -95,4 +91,3 @@ pub settles_as_queue : SettlesAsQueue
 unfolding next settled shown
 settles_as_queue = λ s e.
     ongoing_of-settled (change s e).config.floors (change s e).entries
-    ∙ ap (λ (config : Configuration). settle config.floors (ongoing_of (change s e).entries)) (config-change s e)

@@ -22,7 +22,6 @@ use Rattle.floor_machine.specs.steps.Serving.{is_rising}
 use Rattle.floor_machine.specs.steps.Telling.{AreChanged, entry_at, entry_of_ended, infos_of, listed, shown_at, shown_of, update_at, update_if, update_of, updates}
 use Rattle.floor_machine.proofs.Found.{and_left, and_right}
 use Rattle.floor_machine.proofs.Moved.{moved-all}
-use Rattle.floor_machine.proofs.Noting.{found-unmarked, info-unmarked}
 use Rattle.floor_machine.proofs.Places.{IsKeyed, here-number, renewed-number}
 use Rattle.floor_machine.proofs.Renewed.{found-number, request-info}
 
@@ -123,9 +122,9 @@ behind-place config ended ongoing ms =
     ∙ length-map (flat_map (λ n. listed (left_at ended ongoing n)) ms) (info config ongoing)
 
 -- the walk begins
-pub begun-at : (config : Configuration) (ended : List Ended) (ongoing requests : List Request) (before : List Info) (ns : List ℕ) → before ≡ infos_of config requests →
+pub begun-at : (config was : Configuration) (ended : List Ended) (ongoing requests : List Request) (before : List Info) (ns : List ℕ) → before ≡ infos_of was requests →
     flat_map (λ n. listed (request_at requests n)) ns ≡ requests → IsAt config ended ongoing before ns 0 0 before
-begun-at config ended ongoing requests before ns shows known = record { infos = shown-numbers config requests before ns shows known; place = refl }
+begun-at config was ended ongoing requests before ns shows known = record { infos = shown-numbers was requests before ns shows known; place = refl }
 
 -- the place is within the infos
 pub place-within : (config : Configuration) (ended : List Ended) (ongoing : List Request) (before : List Info) (ns : List ℕ) (k place : ℕ) (infos : List Info) →
@@ -156,13 +155,7 @@ info-there config ended ongoing before ns k d place infos rising within at =
 -- an info that no mark concerns is the new one
 pub unmarked-there : (config : Configuration) (course : Course) (ongoing : List Request) (before : List Info) (n : ℕ) (r : Request) → IsCourse config ongoing before course →
     left_at course.ended.items ongoing n ≡ Some r → is_marked course.marks.items r ≡ false → info_with before n ≡ Some (info config ongoing r)
-unmarked-there config course ongoing before n r known left free =
-    let found : request_at known.requests n ≡ Some r =
-    found-unmarked config.floors known.requests ongoing course.marks.items r n known.noted free (left-found course.ended.items ongoing n r left) in
-    ap (λ (is : List Info). info_with is n) known.before
-    ∙ info_with-infos config known.requests known.requests n
-    ∙ ap (option_map (info config known.requests)) found
-    ∙ ap (λ (i : Info). Some i) (sym (info-unmarked config known.requests ongoing course.marks.items r known.noted free))
+unmarked-there config course ongoing before n r known left free = known.unmarked n r (left-found course.ended.items ongoing n r left) free
 
 -- one number further
 pub next-at : (config : Configuration) (ended : List Ended) (ongoing : List Request) (before : List Info) (ns : List ℕ) (k d place place' : ℕ) (infos infos' : List Info) (old : Option Info) →
@@ -270,5 +263,5 @@ floors-changed config course ongoing before k changed known all noted = λ floor
     let now : List Info = flat_map (λ n. listed (now_at config ended ongoing n)) ns in
     ap (λ (fs : List ℕ). list_any (λ f. f == floor) fs) (noted ∙ ap (moved config ongoing ended before) (take_all k ns all))
     ∙ moved-all floor (info_with before) (now_at config ended ongoing) ns (info-keyed before) (now-keyed config ended ongoing) known.rising
-    ∙ ap (λ (is : List Info). not (same_infos (infos_on floor is) (infos_on floor now))) (sym (shown-numbers config known.requests before ns known.before known.old))
+    ∙ ap (λ (is : List Info). not (same_infos (infos_on floor is) (infos_on floor now))) (sym (shown-numbers known.was known.requests before ns known.before known.old))
     ∙ ap (λ (is : List Info). not (same_infos (infos_on floor before) (infos_on floor is))) (now-numbers config ended ongoing ns known.left)

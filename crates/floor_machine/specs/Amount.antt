@@ -2,17 +2,18 @@
 use Rattle.std.specs.Prelude.{◌≤◌, ℕ, ◌+◌, ◌*◌, List, length}
 use Rattle.floor_config.specs.Configuration.{Configuration, IsConfiguration}
 use Rattle.floor_message.specs.Fits.{TellFits}
+use Rattle.floor_machine.specs.Change.{IsLawful}
 use Rattle.floor_machine.specs.Conference.{opening}
 use Rattle.floor_machine.specs.declared.event.Event.{Event}
 use Rattle.floor_machine.specs.Outgoing.{Outgoing, outgoing_bytes}
 use Rattle.floor_machine.specs.Journal.{IsJournal, after, told_from}
 use Rattle.floor_machine.specs.Next.{told}
 
--- Whatever happens after a journal, a member is told at most a response, the statuses of 256 floor requests, and those of 32
+-- Whatever may happen after a journal, a member is told at most a response, the statuses of 256 floor requests, and those of 32
 -- floors. A FloorQuery alone is answered by more than one message, by 32 at most, and then nothing else is told.
 abbrev pub ToldIsFew : Type 0
 ToldIsFew = (config : Configuration) (es : List Event) (e : Event) (n : ℕ) → IsConfiguration config → IsJournal config es →
-    length (told (after config es) e n) ≤ 1 + 256 + 32
+    IsLawful (after config es) e → length (told (after config es) e n) ≤ 1 + 256 + 32
 
 -- so a journal calls for at most so many messages at a member for each of its events
 abbrev pub CalledForIsFew : Type 0

@@ -3,6 +3,7 @@ use Rattle.std.specs.Prelude.{◌≡◌, ℕ, ◌+◌, ◌-◌, ◌<◌, ◌≤�
 use Rattle.std.specs.List.{list_any}
 use Rattle.std.specs.Option.{option_map_or}
 use Rattle.floor_wire.specs.Message.{IsMessage}
+use Rattle.floor_config.specs.Changed.{chair_fault, floor_fault, user_fault, with_chair, with_floor, with_user}
 use Rattle.floor_config.specs.Configuration.{Configuration}
 use Rattle.floor_config.specs.Lookup.{is_user}
 use Rattle.floor_queue.specs.declared.request.Request.{Request}
@@ -10,7 +11,7 @@ use Rattle.floor_queue.specs.declared.requested_floor.FloorStatus.TheVariants.{A
 use Rattle.floor_queue.specs.declared.requested_floor.RequestedFloor.{RequestedFloor}
 use Rattle.floor_queue.specs.declared.requested_floor.Word.{Word}
 use Rattle.floor_queue.specs.declared.requested_floor.Word.TheVariants.{Accepted as AcceptedWord, Granted as GrantedWord}
-use Rattle.floor_queue.specs.Queue.{request_at, first_request, with_reason}
+use Rattle.floor_queue.specs.Queue.{Queue, after_set_chair, request_at, first_request, with_reason}
 use Rattle.floor_message.specs.Ask.{Answer, asks, refused, unanswered, ask}
 use Rattle.floor_message.specs.declared.ask.Ask.{Ask}
 use Rattle.floor_message.specs.declared.ask.Ask.TheVariants.{FloorRequest, FloorRelease, FloorRequestQuery, UserQuery, FloorQuery, ChairAction, Hello}
@@ -21,7 +22,7 @@ use Rattle.floor_message.specs.declared.status.RequestStatus.TheVariants as stat
 use Rattle.floor_machine.specs.declared.member.Member.{Member}
 use Rattle.floor_machine.specs.Conference.{Conference, backlog, is_cut, is_live, is_present, joining, user_of, binding}
 use Rattle.floor_machine.specs.declared.event.Event.{Event}
-use Rattle.floor_machine.specs.declared.event.Event.TheVariants.{Join, Message, Took, Leave, Revoke, Close}
+use Rattle.floor_machine.specs.declared.event.Event.TheVariants.{Join, Message, Took, Leave, Revoke, Close, AddUser, AddFloor, SetChair}
 use Rattle.floor_machine.specs.Shown.{Entry, entry_of, ongoing_of, settle_entries}
 use Rattle.floor_machine.specs.Checks.{beneficiary_of, refusal}
 
@@ -150,6 +151,10 @@ leaving n m = if m.n == n then record m { is_live = false } else m
 abbrev pub ends_without : List Member → ℕ → Request → Option RequestStatus
 ends_without members user r = if r.beneficiary == user && not (is_present members user) then Some (released r) else None
 
+-- the requests of a conference, as a queue
+abbrev pub queue_of : Conference → Queue
+queue_of s = record { floors = s.config.floors; given = s.given; ongoing = s.ongoing }
+
 -- what an event makes of a conference
 unfoldable pub change : Conference → Event → Change
 change s (Join user) =
@@ -163,6 +168,13 @@ change s (Leave n) =
     record (no_change s) { members = members; entries = ending s (ends_without members (user_of s n)) }
 change s (Revoke request) = record (no_change s) { entries = ending s (ends_at request dismissed) }
 change s Close = record (no_change s) { entries = []; is_open = false }
+change s (AddUser user) = record (no_change s) { config = with_user s.config user }
+change s (AddFloor floor) = record (no_change s) { config = with_floor s.config floor }
+change s (SetChair floor chair) =
+    record (no_change s) {
+      config = with_chair s.config floor chair;
+      entries = map entry_of (after_set_chair (queue_of s) floor chair).ongoing;
+    }
 
 -- the requests after an event: settled, with those that ended kept aside among them
 unfoldable pub shown : Conference → Event → List Entry
@@ -180,8 +192,8 @@ settled s e =
     }
 
 -- the event may happen now: an open conference is joined by its users, 64 live members at most; a live member that isn't cut sends
--- one whole message; a live member acknowledges some of its backlog, or leaves; an ongoing request is revoked; and the conference is
--- closed
+-- one whole message; a live member acknowledges some of its backlog, or leaves; an ongoing request is revoked; the conference is
+-- closed; and a user, a floor or a chair is one that the configuration may get
 abbrev pub IsLawful : Conference → Event → Type 0
 IsLawful s (Join user) = (s.is_open ≡ true) × (is_user s.config user ≡ true) × (count_by (λ m. m.is_live) s.members < 64)
 IsLawful s (Message n bytes) = (s.is_open ≡ true) × (is_live s n ≡ true) × (is_cut s n ≡ false) × IsMessage bytes
@@ -189,3 +201,6 @@ IsLawful s (Took n k) = (s.is_open ≡ true) × (is_live s n ≡ true) × (1 ≤
 IsLawful s (Leave n) = (s.is_open ≡ true) × (is_live s n ≡ true)
 IsLawful s (Revoke request) = (s.is_open ≡ true) × (is_some (request_at s.ongoing request) ≡ true)
 IsLawful s Close = s.is_open ≡ true
+IsLawful s (AddUser user) = (s.is_open ≡ true) × (user_fault s.config user ≡ None)
+IsLawful s (AddFloor floor) = (s.is_open ≡ true) × (floor_fault s.config floor ≡ None)
+IsLawful s (SetChair floor chair) = (s.is_open ≡ true) × (chair_fault s.config floor chair ≡ None)

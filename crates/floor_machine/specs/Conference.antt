@@ -7,8 +7,8 @@ use Rattle.floor_queue.specs.declared.request.Request.{Request}
 use Rattle.floor_message.specs.Binding.{Binding}
 use Rattle.floor_machine.specs.declared.member.Member.{Member}
 
--- the configuration; how many floor requests were ever accepted; the ongoing ones by ascending number; the members in the
--- order of joining; and whether the conference is open, or has ended
+-- the configuration that stands now; how many floor requests were ever accepted; the ongoing ones by ascending number; the
+-- members in the order of joining; and whether the conference is open, or has ended
 pub record Conference : Type 0 where
   pub config : Configuration
   pub given : ℕ
@@ -16,7 +16,7 @@ pub record Conference : Type 0 where
   pub members : List Member
   pub is_open : Bool
 
--- a conference as it opens: nobody has joined, and nothing is requested
+-- a conference as it opens, with its opening configuration: nobody has joined, and nothing is requested
 abbrev pub opening : Configuration → Conference
 opening config = record { config = config; given = 0; ongoing = []; members = []; is_open = true }
 

@@ -22,7 +22,7 @@ abbrev pub after_from : Conference → List Event → Conference
 after_from s [] = s
 after_from s (e ∷ es) = after_from (next s e) es
 
--- the conference of a configuration after these events
+-- the conference that opened with this configuration, after these events
 abbrev pub after : Configuration → List Event → Conference
 after config es = after_from (opening config) es
 

@@ -1,8 +1,11 @@
 -- The floor machine of one conference, as contracts see it.
-use Rattle.std.specs.Prelude.{◌≡◌, ◌≢◌, ℕ, ◌<◌, List, [], ◌∷◌, ◌++◌, true, length, take, drop, not, ◌&&◌, nat_le, if◌then◌else◌, Bool, false, count_by, Option, Some, None, is_some, Result, Ok, Err}
+use Rattle.std.specs.Prelude.{◌≡◌, ◌≢◌, ℕ, ◌<◌, List, [], ◌∷◌, ◌++◌, true, length, take, drop, not, ◌&&◌, nat_le, if◌then◌else◌, Bool, false, count_by, Option, Some, None, is_some, option_map, Result, Ok, Err}
+use Rattle.floor_config.specs.declared.fault.ConfigFault.{ConfigFault}
+use Rattle.floor_config.specs.declared.fault.ConfigFault.TheVariants as faults
+use Rattle.floor_config.specs.Changed.{chair_fault, floor_fault, user_fault}
 use Rattle.floor_config.specs.Lookup.{is_user}
 use Rattle.floor_machine.specs.declared.machine.Refusal.{Refusal}
-use Rattle.floor_machine.specs.declared.machine.Refusal.TheVariants.{Broken, Ended, NoMember, NoUser, Full, NoRequest, Cut, BadCount, Memory}
+use Rattle.floor_machine.specs.declared.machine.Refusal.TheVariants.{Broken, Ended, NoMember, NoUser, Full, NoRequest, Cut, BadCount, OutOfRange, DoubleUser, DoubleFloor, NoFloor, UnknownChair, Memory}
 use Rattle.floor_machine.specs.declared.act.Act.{Act}
 use Rattle.floor_machine.specs.declared.event.Event.{Event}
 use Rattle.floor_queue.specs.Queue.{request_at}
@@ -59,11 +62,36 @@ leave_refusal m n = member_refusal m n None
 abbrev pub event_of_act : Act → Event
 event_of_act (Act.Revoke request) = Event.Revoke request
 event_of_act Act.Close = Event.Close
+event_of_act (Act.AddUser user) = Event.AddUser user
+event_of_act (Act.AddFloor floor) = Event.AddFloor floor
+event_of_act (Act.SetChair floor chair) = Event.SetChair floor chair
 
--- why an act of the administrator is not taken: it revokes a request that isn't ongoing
+-- the refusal that says why the configuration doesn't change so; no change of it has another fault than the first five and Memory
+abbrev pub refusal_of_fault : ConfigFault → Refusal
+refusal_of_fault faults.OutOfRange = OutOfRange
+refusal_of_fault faults.DoubleUser = DoubleUser
+refusal_of_fault faults.DoubleFloor = DoubleFloor
+refusal_of_fault faults.NoFloor = NoFloor
+refusal_of_fault faults.UnknownChair = UnknownChair
+refusal_of_fault faults.Memory = Memory
+refusal_of_fault faults.Syntax = Memory
+refusal_of_fault faults.MissingKey = Memory
+refusal_of_fault faults.WrongType = Memory
+refusal_of_fault faults.DoubleConference = Memory
+refusal_of_fault faults.DoublePort = Memory
+
+-- why the configuration doesn't change so
+abbrev pub fault_refusal : Machine → Option ConfigFault → Option Refusal
+fault_refusal m fault = refusal_of m (option_map refusal_of_fault fault)
+
+-- why an act of the administrator is not taken: it revokes a request that isn't ongoing, or adds or changes what the configuration may
+-- not get
 abbrev pub act_refusal : Machine → Act → Option Refusal
 act_refusal m (Act.Revoke request) = refusal_of m (if not (is_some (request_at m.conference.ongoing request)) then Some NoRequest else None)
 act_refusal m Act.Close = refusal_of m None
+act_refusal m (Act.AddUser user) = fault_refusal m (user_fault m.conference.config user)
+act_refusal m (Act.AddFloor floor) = fault_refusal m (floor_fault m.conference.config floor)
+act_refusal m (Act.SetChair floor chair) = fault_refusal m (chair_fault m.conference.config floor chair)
 
 -- why an event is not taken
 abbrev pub event_refusal : Machine → Event → Option Refusal
@@ -73,6 +101,9 @@ event_refusal m (Event.Took n k) = took_refusal m n k
 event_refusal m (Event.Leave n) = leave_refusal m n
 event_refusal m (Event.Revoke request) = act_refusal m (Act.Revoke request)
 event_refusal m Event.Close = act_refusal m Act.Close
+event_refusal m (Event.AddUser user) = act_refusal m (Act.AddUser user)
+event_refusal m (Event.AddFloor floor) = act_refusal m (Act.AddFloor floor)
+event_refusal m (Event.SetChair floor chair) = act_refusal m (Act.SetChair floor chair)
 
 -- The call is refused exactly by this refusal; where there is none it is done, or memory was refused.
 abbrev pub IsRefusedBy : {T : Type 0} → Option Refusal → Result T Refusal → Type 0

@@ -64,6 +64,6 @@ ToldByBoth = (s : Conference) (es fs : List Event) (n : ℕ) → told_from s (es
 abbrev pub BothLawful : Type 0
 BothLawful = (s : Conference) (es fs : List Event) → IsLawfulFrom s (es ++ fs) ↔ (IsLawfulFrom s es × IsLawfulFrom (after_from s es) fs)
 
--- the ongoing requests after an event are those that its change leaves, settled as a queue settles them
+-- the ongoing requests after an event are those that its change leaves, settled as a queue of the floors of then settles them
 abbrev pub SettlesAsQueue : Type 0
-SettlesAsQueue = (s : Conference) (e : Event) → (next s e).ongoing ≡ settle s.config.floors (ongoing_of (change s e).entries)
+SettlesAsQueue = (s : Conference) (e : Event) → (next s e).ongoing ≡ settle (next s e).config.floors (ongoing_of (change s e).entries)

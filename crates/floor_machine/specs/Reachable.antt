@@ -1,6 +1,8 @@
 -- What holds of each conference that a journal leads to.
-use Rattle.std.specs.Prelude.{◌≡◌, ◌≢◌, ◌≤◌, ℕ, ◌+◌, ◌==◌, if◌then◌else◌, Bool, true, false, List, [], ◌++◌, length, map, sum_by, count_by, All, IsTrue, is_some}
+use Rattle.std.specs.Prelude.{◌≡◌, ◌≢◌, ◌≤◌, ℕ, ◌+◌, ◌==◌, if◌then◌else◌, Bool, true, false, List, [], ◌++◌, length, map, take, sum_by, count_by, All, IsTrue, None, is_some}
+use Rattle.floor_config.specs.declared.floors.Floor.{Floor}
 use Rattle.floor_config.specs.Configuration.{Configuration, IsConfiguration}
+use Rattle.floor_config.specs.Lookup.{is_user}
 use Rattle.floor_queue.specs.Order.{holders, position, room_of, settle}
 use Rattle.floor_queue.specs.Queue.{is_ascending}
 use Rattle.floor_message.specs.Ask.{Answer, asks, refused, unanswered, ask}
@@ -8,16 +10,32 @@ use Rattle.floor_machine.specs.declared.member.Member.{Member}
 use Rattle.floor_machine.specs.Parcel.{Parcel}
 use Rattle.floor_machine.specs.Conference.{Conference, backlog, binding, is_cut, is_numbered_from, opening, user_of}
 use Rattle.floor_machine.specs.declared.event.Event.{Event}
-use Rattle.floor_machine.specs.declared.event.Event.TheVariants.{Message}
+use Rattle.floor_machine.specs.declared.event.Event.TheVariants.{AddFloor, AddUser, Message}
 use Rattle.floor_machine.specs.Events.{acknowledged_by}
+use Rattle.floor_machine.specs.Change.{IsLawful}
 use Rattle.floor_machine.specs.Checks.{refusal}
 use Rattle.floor_machine.specs.Journal.{IsJournal, after, parcels, parcels_from, sent_to}
 use Rattle.floor_machine.specs.Next.{MAX_BACKLOG, next, told}
 
--- What a journal keeps: the numbers of the ongoing requests ascend, none above the number of requests that were accepted; at most
--- 256 are ongoing; no floor has more holders than room; the requests are settled; no queue position is above 255; the members are
--- numbered 1, 2, .. in the order of joining; at most 64 of them are live; and none has a backlog above 1,024.
-pub record IsReachable (s : Conference) : Type 0 where
+-- a floor, whatever its chair is
+abbrev pub unchaired : Floor → Floor
+unchaired f = record f { chair = None }
+
+-- A configuration that began as the opening one: its conference and its limit are the same, and its users and floors begin with the
+-- opening ones in their order, of which nothing but chairs has changed.
+pub record HasGrown (opening now : Configuration) : Type 0 where
+  pub conference : now.conference ≡ opening.conference
+  pub limit : now.limit ≡ opening.limit
+  pub users : take (length opening.users) now.users ≡ opening.users
+  pub floors : map unchaired (take (length opening.floors) now.floors) ≡ map unchaired opening.floors
+
+-- What a journal keeps: the configuration of now keeps its limits, has no doubles, and has grown from the opening one; the numbers of
+-- the ongoing requests ascend, none above the number of requests that were accepted; at most 256 are ongoing; no floor has more
+-- holders than room; the requests are settled; no queue position is above 255; the members are numbered 1, 2, .. in the order of
+-- joining, and each one's user is a user; at most 64 of them are live; and none has a backlog above 1,024.
+pub record IsReachable (config : Configuration) (s : Conference) : Type 0 where
+  pub limits : IsConfiguration s.config
+  pub grown : HasGrown config s.config
   pub ascending : IsTrue (is_ascending s.ongoing)
   pub numbers : All (λ r. (1 ≤ r.number) × (r.number ≤ s.given)) s.ongoing
   pub few : length s.ongoing ≤ 256
@@ -25,12 +43,13 @@ pub record IsReachable (s : Conference) : Type 0 where
   pub settled : settle s.config.floors s.ongoing ≡ s.ongoing
   pub positions : All (λ r. (floor : ℕ) → position s.config.floors s.ongoing r floor ≤ 255) s.ongoing
   pub numbered : IsTrue (is_numbered_from 1 s.members)
+  pub users : All (λ m. IsTrue (is_user s.config m.user)) s.members
   pub live : count_by (λ m. m.is_live) s.members ≤ 64
   pub backlogs : All (λ m. m.backlog ≤ MAX_BACKLOG) s.members
 
 -- each journal of a configuration leads to such a conference
 abbrev pub Kept : Type 0
-Kept = (config : Configuration) (es : List Event) → IsConfiguration config → IsJournal config es → IsReachable (after config es)
+Kept = (config : Configuration) (es : List Event) → IsConfiguration config → IsJournal config es → IsReachable config (after config es)
 
 -- the message, as it is read, is refused by its form or by a check of its own, or is left unanswered
 abbrev pub is_unaccepted : Conference → ℕ → Answer → Bool
@@ -55,6 +74,22 @@ pub record LeavesAlone (s : Conference) (n : ℕ) (bytes : List ℕ) : Type 0 wh
 abbrev pub Quiet : Type 0
 Quiet = (config : Configuration) (es : List Event) (n : ℕ) (bytes : List ℕ) → IsConfiguration config → IsJournal config es →
     (let s = after config es in is_unaccepted s (user_of s n) (ask bytes (binding s n)) ≡ true → LeavesAlone s n bytes)
+
+-- the event adds a user or a floor
+abbrev pub is_growth : Event → Bool
+is_growth (AddUser user) = true
+is_growth (AddFloor floor) = true
+is_growth _ = false
+
+-- such an event changes nothing but the configuration, and tells nobody anything
+pub record GrowsAlone (s : Conference) (e : Event) : Type 0 where
+  pub next : next s e ≡ record s { config = (next s e).config }
+  pub told : (n : ℕ) → told s e n ≡ []
+
+-- after each journal, a user or a floor that is added changes and tells nothing else
+abbrev pub Grown : Type 0
+Grown = (config : Configuration) (es : List Event) (e : Event) → IsConfiguration config → IsJournal config es → is_growth e ≡ true →
+    IsLawful (after config es) e → GrowsAlone (after config es) e
 
 -- the bytes of the parcels to n, of all that a journal calls for, are those that it calls for at n
 abbrev pub Sent : Type 0

@@ -37,7 +37,7 @@ unfoldable pub changed_requests : Conference → Event → List Changed
 changed_requests s e =
     filter (λ c. is_changed (infos s) c.info) (map (changed_of (settled s e).config (shown s e)) (shown s e))
 
--- the floors whose ongoing requests are shown otherwise than before, in the order of the settled conference
+-- the floors whose ongoing requests are shown otherwise than before, in the order of the configuration of then
 unfoldable pub changed_floors : Conference → Event → List Floor
 changed_floors s e =
     filter (λ f. not (same_infos (infos_on f.id (infos s)) (infos_on f.id (infos (settled s e))))) (settled s e).config.floors

@@ -6,12 +6,14 @@ ghost use Rattle.floor_queue.specs.Order.{settle};
 ghost use Rattle.floor_queue.specs.Queue.{after_settle, request_at};
 ghost use Rattle.floor_wire.specs.Message.{IsMessage};
 ghost use Rattle.floor_message.specs.Shown.{IsShownInfo};
+ghost use Rattle.floor_machine.specs.Conference.{Conference};
 ghost use Rattle.floor_machine.specs.Journal.{parcels_of};
 ghost use Rattle.floor_machine.specs.Next.{next};
+ghost use Rattle.floor_machine.specs.declared.event.Event.{Event};
 ghost use Rattle.floor_machine.specs.declared.event.Event.TheVariants.{Leave, Message, Revoke};
 ghost use Rattle.floor_machine.specs.steps.Fitting.{AreUpdatesShown, IsToldShown};
 ghost use Rattle.floor_machine.specs.steps.Renewing.{IsCourse};
-ghost use Rattle.floor_machine.specs.steps.Serving.{IsAtRest, conference_of, with_requests};
+ghost use Rattle.floor_machine.specs.steps.Serving.{IsAtRest, IsUnsent, conference_of, with_requests};
 ghost use Rattle.floor_machine.specs.steps.Telling.{AreChanged, infos_of, updates};
 
 use crate::conference::State;
@@ -87,8 +89,7 @@ impl State {
         let alloc = self.members.allocator();
         let mut course = begin(alloc, &self.requests, &mut self.shown)?;
         self.change_left(&mut course, n)?;
-        let changes = self.settle(alloc, &mut course)?;
-        self.tell(alloc, &changes, &None, out)
+        self.conclude(alloc, &mut course, out)
     }
 
     /// The administrator takes the request away where it was Granted, and denies it else: that ends
@@ -108,7 +109,30 @@ impl State {
         // Each ongoing request is one that could be added, which bounds what is shown of it.
         let _ongoing = self.requests.ongoing();
         let mut course = self.end_ongoing(alloc, request, EndedBy::Chair, None)?;
-        let changes = self.settle(alloc, &mut course)?;
+        self.conclude(alloc, &mut course, out)
+    }
+
+    /// Settles what an event changed that nobody sent, and tells each member of it. After an error `out`
+    /// is as it was.
+    pub(crate) fn conclude(
+        &mut self,
+        alloc: Global,
+        course: &mut Course,
+        out: &mut Vec<Parcel>,
+    ) -> Result<(), AllocError>
+        requires course { IsCourse self.old.config self.old.requests.ongoing
+            course.old.before.items course.old }
+        requires fit { All IsShownInfo course.old.before.items }
+        ensures next { (s : Conference) (e : Event) → IsUnsent s e self.old course.old
+            → OnOk result (conference_of self.new ≡ next s e) }
+        ensures out { (s : Conference) (e : Event) → IsUnsent s e self.old course.old
+            → OnOk result (out.new.items ≡ out.old.items ++ parcels_of s e) }
+        ensures shown { (s : Conference) (e : Event) → IsUnsent s e self.old course.old
+            → OnOk result (IsToldShown s e) }
+        ensures left { OnErr result (out.new.items ≡ out.old.items) }
+        ensures rest { OnOk result (IsAtRest self.new) }
+    {
+        let changes = self.settle(alloc, course)?;
         self.tell(alloc, &changes, &None, out)
     }
 

@@ -2,10 +2,11 @@
 //! those that it changed. What changes a conference writes it, and what tells of the change reads it.
 
 ghost use Rattle.std.specs.Option.{option_copied};
-ghost use Rattle.std.specs.Prelude.{◌≡◌, ◌==◌, [], IfOk, find};
+ghost use Rattle.std.specs.Prelude.{◌≡◌, ◌==◌, [], IfOk, find, map};
 ghost use Rattle.floor_queue.specs.Queue.{IsQueue, numbers_of};
+ghost use Rattle.floor_machine.specs.steps.Marks.{mark_of};
 
-use crate::marks::Mark;
+use crate::marks::{Mark, mark_all};
 use floor_message::{Info, RequestStatus};
 use floor_queue::{Request, Requests};
 use std::alloc::{AllocError, Global};
@@ -53,6 +54,25 @@ pub(crate) fn begin(
         ended: Vec::new(alloc),
         marks: Vec::new(alloc),
     })
+}
+
+/// The course of an event by which each ongoing request may be shown otherwise.
+pub(crate) fn begin_with_all(
+    alloc: Global,
+    requests: &Requests,
+    shown: &mut Vec<Info>,
+) -> Result<Course, AllocError>
+    ensures before { IfOk result (λ course. course.before.items ≡ shown.old.items) }
+    ensures numbers { IfOk result (λ course. course.numbers.items
+        ≡ numbers_of requests.now.ongoing) }
+    ensures ended { IfOk result (λ course. course.ended.items ≡ []) }
+    ensures marks { IfOk result (λ course. course.marks.items
+        ≡ map mark_of requests.now.ongoing) }
+    ensures queue { IfOk result (λ course. IsQueue requests.now) }
+{
+    let mut course = begin(alloc, requests, shown)?;
+    mark_all(&mut course.marks, requests.ongoing())?;
+    Ok(course)
 }
 
 fn numbers_of(alloc: Global, requests: &[Request]) -> Result<Vec<u16>, AllocError>

@@ -10,6 +10,7 @@ ghost use Rattle.floor_machine.specs.Machine.{Applied, IsRefusedBy, Left, event_
 use crate::act::Act;
 use crate::machine::{Machine, Refusal};
 use crate::parcel::Parcel;
+use floor_config::{Floor, User};
 use floor_wire::{Copies, Frame};
 use std::alloc::AllocError;
 
@@ -52,6 +53,23 @@ pub enum Event {
     },
     /// The administrator closes the conference.
     Close,
+    /// The administrator adds a user.
+    AddUser {
+        /// The user, as it was handed in: its port and empty texts make no difference.
+        user: User,
+    },
+    /// The administrator adds a floor.
+    AddFloor {
+        /// The floor.
+        floor: Floor,
+    },
+    /// The administrator gives a floor another chair, or none.
+    SetChair {
+        /// The Floor ID.
+        floor: u16,
+        /// The User ID of the chair, if there is one.
+        chair: Option<u16>,
+    },
 }
 
 impl Event {
@@ -62,6 +80,9 @@ impl Event {
         match act {
             Act::Revoke(request) => Event::Revoke { request },
             Act::Close => Event::Close,
+            Act::AddUser(user) => Event::AddUser { user },
+            Act::AddFloor(floor) => Event::AddFloor { floor },
+            Act::SetChair(floor, chair) => Event::SetChair { floor, chair },
         }
     }
 
@@ -136,6 +157,9 @@ impl Machine {
             Event::Leave { n } => self.leave(*n, out),
             Event::Revoke { request } => self.admin(Act::Revoke(*request), out),
             Event::Close => self.admin(Act::Close, out),
+            Event::AddUser { user } => self.add_user(user, out),
+            Event::AddFloor { floor } => self.admin(Act::AddFloor(*floor), out),
+            Event::SetChair { floor, chair } => self.admin(Act::SetChair(*floor, *chair), out),
         }
     }
 }

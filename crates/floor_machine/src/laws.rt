@@ -3,7 +3,7 @@
 ghost use Rattle.floor_machine.specs.Amount.{CalledForIsFew, MessageIsShort, ToldIsFew};
 ghost use Rattle.floor_machine.specs.Laws.{InfosSameIsEqual, SameIsEqual, SentIsTold, TakenIsLawful};
 ghost use Rattle.floor_machine.specs.Membership.{AfterBoth, BothLawful, JoinsAdd, JoinsLive, ParcelsOfBoth, SentToMembers, SettlesAsQueue, StaysLive, ToldByBoth, ToldOnceJoined, WasLive};
-ghost use Rattle.floor_machine.specs.Reachable.{Counted, Kept, Quiet, Sent, Silent};
+ghost use Rattle.floor_machine.specs.Reachable.{Counted, Grown, Kept, Quiet, Sent, Silent};
 
 use floor_message::what_is_asked_fits;
 use floor_queue::{positions_fit, settles_once};
@@ -33,15 +33,25 @@ pub fn taken_is_lawful()
     ensures { TakenIsLawful }
 {}
 
-/// Each journal of a configuration keeps its conference: the requests are settled and their numbers
-/// ascend, at most 256 are ongoing, no floor has more holders than room, each queue position fits a
-/// byte, at most 64 members are live, and no backlog is above 1,024.
+/// Each journal of a configuration keeps its conference: the configuration of now keeps its limits and
+/// has grown from the opening one, of which nothing but chairs has changed; the requests are settled
+/// and their numbers ascend, at most 256 are ongoing, no floor has more holders than room, each queue
+/// position fits a byte, each member's user is a user, at most 64 members are live, and no backlog is
+/// above 1,024.
 pub fn journals_keep()
     ensures { Kept }
 {
     what_is_asked_fits();
     settles_once();
     positions_fit();
+}
+
+/// A user or a floor that is added changes nothing but the configuration, and tells nobody anything.
+pub fn additions_grow_alone()
+    ensures { Grown }
+{
+    what_is_asked_fits();
+    settles_once();
 }
 
 /// A message that is refused or left unanswered leaves the conference as it is, but for its sender's
@@ -74,7 +84,7 @@ pub fn members_come_and_stay()
     ensures told { ToldOnceJoined }
 {}
 
-/// Whatever happens after a journal, it tells a member at most 289 messages, so that a journal calls
+/// Whatever may happen after a journal, it tells a member at most 289 messages, so that a journal calls
 /// for at most 289 at a member for each of its events. A message that can be written has at most
 /// 262,152 bytes.
 pub fn events_tell_few()

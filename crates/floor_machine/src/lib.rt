@@ -28,9 +28,9 @@ pub use floor_config::{Config, Floor, User};
 pub use floor_message::{Ask, Head, Info, RequestStatus, Tell};
 pub use floor_wire::{Frame, Numbers, Octets};
 pub use laws::{
-    backlogs_are_counted, cut_stays_silent, events_tell_few, journals_keep, members_come_and_stay,
-    refusals_are_quiet, runs_add_up, sent_is_called_for, sent_is_told, settles_as_queue,
-    shown_alike_is_equal, taken_is_lawful,
+    additions_grow_alone, backlogs_are_counted, cut_stays_silent, events_tell_few, journals_keep,
+    members_come_and_stay, refusals_are_quiet, runs_add_up, sent_is_called_for, sent_is_told,
+    settles_as_queue, shown_alike_is_equal, taken_is_lawful,
 };
 pub use machine::{Machine, Refusal};
 pub use member::Member;

@@ -2,13 +2,13 @@
 
 ghost use Rattle.std.specs.Prelude.{◌≡◌, ◌+◌, ◌<◌, ◌≤◌, [], IfOk, IfErr, OnOk, length, count_by};
 ghost use Rattle.floor_machine.specs.Conference.{is_cut, live_numbers, opening};
-ghost use Rattle.floor_machine.specs.declared.event.Event.TheVariants.{Join, Leave, Message, Took};
-ghost use Rattle.floor_machine.specs.Machine.{Applied, IsRefusedBy, Left, act_refusal, event_of_act, is_backlog, join_refusal, leave_refusal, member_refusal, message_refusal, took_refusal, whole};
+ghost use Rattle.floor_machine.specs.declared.event.Event.TheVariants.{AddUser, Join, Leave, Message, Took};
+ghost use Rattle.floor_machine.specs.Machine.{Applied, IsRefusedBy, Left, act_refusal, event_of_act, fault_refusal, is_backlog, join_refusal, leave_refusal, member_refusal, message_refusal, refusal_of, refusal_of_fault, took_refusal, whole};
 
 use crate::act::Act;
 use crate::conference::State;
 use crate::parcel::Parcel;
-use floor_config::Config;
+use floor_config::{Config, ConfigFault, User};
 use floor_message::what_is_shown_fits;
 use floor_wire::Frame;
 use std::alloc::{AllocError, Global};
@@ -36,6 +36,17 @@ pub enum Refusal {
     Cut,
     /// Nothing is acknowledged, or more than the backlog of the member.
     BadCount,
+    /// The conference has 256 users or 32 floors, or a number or the length of a text is beyond its
+    /// range.
+    OutOfRange,
+    /// A user of the conference has the id.
+    DoubleUser,
+    /// A floor of the conference has the id.
+    DoubleFloor,
+    /// No floor of the conference has the id.
+    NoFloor,
+    /// The chair is no user of the conference.
+    UnknownChair,
     /// Memory was refused: the machine is broken from then on.
     Memory,
 }
@@ -56,8 +67,28 @@ impl Refusal {
             Refusal::NoRequest => "NoRequest",
             Refusal::Cut => "Cut",
             Refusal::BadCount => "BadCount",
+            Refusal::OutOfRange => "OutOfRange",
+            Refusal::DoubleUser => "DoubleUser",
+            Refusal::DoubleFloor => "DoubleFloor",
+            Refusal::NoFloor => "NoFloor",
+            Refusal::UnknownChair => "UnknownChair",
             Refusal::Memory => "Memory",
         }
+    }
+}
+
+/// The refusal that says why the configuration doesn't change so.
+fn refusal_of_fault(fault: ConfigFault) -> Refusal
+    ensures { result ≡ refusal_of_fault fault }
+{
+    match fault {
+        ConfigFault::OutOfRange => Refusal::OutOfRange,
+        ConfigFault::DoubleUser => Refusal::DoubleUser,
+        ConfigFault::DoubleFloor => Refusal::DoubleFloor,
+        ConfigFault::NoFloor => Refusal::NoFloor,
+        ConfigFault::UnknownChair => Refusal::UnknownChair,
+        // No change of a configuration has another fault, but want of memory.
+        _ => Refusal::Memory,
     }
 }
 
@@ -226,21 +257,52 @@ impl Machine {
     fn act_refusal(&self, act: &Act) -> Option<Refusal>
         ensures { result ≡ act_refusal self.now act.now }
     {
-        if self.is_broken {
-            return Some(Refusal::Broken);
-        }
-        if !self.state.is_open {
-            return Some(Refusal::Ended);
-        }
         match act {
             Act::Revoke(request) => {
-                if self.state.has_request(*request) {
+                let request = if self.state.has_request(*request) {
                     None
                 } else {
                     Some(Refusal::NoRequest)
-                }
+                };
+                self.refusal_of(request)
             }
-            Act::Close => None,
+            Act::Close => self.refusal_of(None),
+            Act::AddUser(user) => self.user_refusal(user),
+            Act::AddFloor(floor) => self.fault_refusal(self.state.config.floor_fault(floor)),
+            Act::SetChair(floor, chair) => {
+                self.fault_refusal(self.state.config.chair_fault(*floor, *chair))
+            }
+        }
+    }
+
+    /// Why the user is not added.
+    fn user_refusal(&self, user: &User) -> Option<Refusal>
+        ensures { result ≡ act_refusal self.now (Act.AddUser user.now) }
+    {
+        self.fault_refusal(self.state.config.user_fault(user))
+    }
+
+    /// Why the configuration doesn't change so, for which this fault stands.
+    fn fault_refusal(&self, fault: Option<ConfigFault>) -> Option<Refusal>
+        ensures { result ≡ fault_refusal self.now fault }
+    {
+        let refusal = match fault {
+            Some(fault) => Some(refusal_of_fault(fault)),
+            None => None,
+        };
+        self.refusal_of(refusal)
+    }
+
+    /// Why nothing is taken: the machine is broken, the conference has ended, or this applies.
+    fn refusal_of(&self, other: Option<Refusal>) -> Option<Refusal>
+        ensures { result ≡ refusal_of self.now other }
+    {
+        if self.is_broken {
+            Some(Refusal::Broken)
+        } else if !self.state.is_open {
+            Some(Refusal::Ended)
+        } else {
+            other
         }
     }
 
@@ -333,8 +395,11 @@ impl Machine {
     }
 
     /// Does what the administrator does, and appends what that tells the members to `out`, by
-    /// ascending member: a Close tells nobody anything. After a refusal nothing has changed, but
-    /// that `Memory` leaves the machine broken.
+    /// ascending member: a Close, a new user and a new floor tell nobody anything. Refused are, in this
+    /// order, `Broken`, `Ended`, then for a Revoke `NoRequest`, for a new user `OutOfRange`,
+    /// `DoubleUser`, for a new floor `OutOfRange`, `DoubleFloor`, `UnknownChair`, for a chair `NoFloor`,
+    /// `UnknownChair`; `Memory` comes last. After a refusal nothing has changed, but that `Memory`
+    /// leaves the machine broken.
     #[tactic(auto, using(crate::proofs::Bounds::shown_fits, crate::proofs::Lawful::may_act))]
     pub fn admin(&mut self, act: Act, out: &mut Vec<Parcel>) -> Result<(), Refusal>
         ensures took { OnOk result
@@ -352,5 +417,24 @@ impl Machine {
         self.state.administer(act, out)?;
         self.is_broken = false;
         Ok(())
+    }
+
+    /// Adds a user as an event bears it, which keeps its own: refused as an act is, and by `Memory`
+    /// also where its texts can't be copied.
+    pub(crate) fn add_user(&mut self, user: &User, out: &mut Vec<Parcel>) -> Result<(), Refusal>
+        ensures took { OnOk result
+            (Applied self.old (AddUser user.now) self.new out.old.items out.new.items) }
+        ensures refused { IsRefusedBy (act_refusal self.old (Act.AddUser user.now)) result }
+        ensures left { IfErr result
+            (Left self.old (AddUser user.now) self.new out.old.items out.new.items) }
+    {
+        match self.user_refusal(user) {
+            Some(refusal) => return Err(refusal),
+            None => {}
+        }
+        self.is_broken = true;
+        let user = user.copy(self.state.members.allocator())?;
+        self.is_broken = false;
+        self.admin(Act::AddUser(user), out)
     }
 }

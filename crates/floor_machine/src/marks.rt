@@ -90,6 +90,16 @@ pub(crate) fn mark_request(marks: &mut Vec<Mark>, request: &Request) -> Result<(
     Ok(())
 }
 
+/// Marks each of the requests as it is.
+pub(crate) fn mark_all(marks: &mut Vec<Mark>, requests: &[Request]) -> Result<(), AllocError>
+    ensures { OnOk result (marks.new.items ≡ marks.old.items ++ map mark_of requests.now) }
+{
+    for request in requests {
+        mark_request(marks, request)?;
+    }
+    Ok(())
+}
+
 /// Marks the ongoing request with this number as it is.
 pub(crate) fn mark_ongoing(
     marks: &mut Vec<Mark>,

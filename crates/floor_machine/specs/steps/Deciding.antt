@@ -2,6 +2,7 @@
 use Rattle.std.specs.Prelude.{◌≡◌, ◌≢◌, ◌<◌, ℕ, ◌+◌, Bool, true, false, List, [], ◌∷◌, ◌++◌, length, map, Option, None, IfSome, IsSome, IsSomeAnd, if◌then◌else◌}
 use Rattle.std.specs.List.{list_any, list_all}
 use Rattle.std.specs.Option.{option_map_or}
+use Rattle.floor_config.specs.Changed.{chair_fault, floor_fault, user_fault}
 use Rattle.floor_queue.specs.declared.request.New.{New}
 use Rattle.floor_queue.specs.declared.request.Request.{Request}
 use Rattle.floor_queue.specs.Order.{names}
@@ -120,10 +121,13 @@ MayChange s (to.Words request verdicts reason) =
     MayDecide s.ongoing request verdicts × (list_any (λ v. is_final v.1) verdicts ≡ false) × IfSome reason IsReason
 MayChange s (to.Watch floors) = Unit {0}
 
--- an act of the administrator may be done: a request that it revokes is ongoing
-abbrev pub MayAct : List Request → Act → Type 0
-MayAct ongoing (Act.Revoke request) = IsSome (request_at ongoing request)
-MayAct ongoing Act.Close = Unit {0}
+-- an act of the administrator may be done: a request that it revokes is ongoing, and what it adds or sets the configuration may get
+abbrev pub MayAct : Conference → Act → Type 0
+MayAct s (Act.Revoke request) = IsSome (request_at s.ongoing request)
+MayAct s Act.Close = Unit {0}
+MayAct s (Act.AddUser user) = user_fault s.config user ≡ None
+MayAct s (Act.AddFloor floor) = floor_fault s.config floor ≡ None
+MayAct s (Act.SetChair floor chair) = chair_fault s.config floor chair ≡ None
 
 -- what is asked by this user, and no check refuses, may be done
 abbrev pub MayServe : Conference → ℕ → Ask → Type 0

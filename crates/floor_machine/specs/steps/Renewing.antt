@@ -1,5 +1,5 @@
 -- What is shown after an event, number by number: of some requests it is made anew, and of all others it stays.
-use Rattle.std.specs.Prelude.{◌≡◌, ℕ, ◌+◌, ◌==◌, not, if◌then◌else◌, Bool, true, List, [], ◌∷◌, ◌++◌, drop, find, length, map, take, Option, Some, None, option_and_then, option_map}
+use Rattle.std.specs.Prelude.{◌≡◌, ℕ, ◌+◌, ◌==◌, not, if◌then◌else◌, Bool, true, false, List, [], ◌∷◌, ◌++◌, drop, find, length, map, take, Option, Some, None, option_and_then, option_map}
 use Rattle.std.specs.List.{flat_map, slice_get}
 use Rattle.std.specs.Option.{option_map_or}
 use Rattle.floor_config.specs.Configuration.{Configuration}
@@ -14,7 +14,7 @@ use Rattle.floor_machine.specs.declared.tell.changed.Update.{Update}
 use Rattle.floor_machine.specs.Shown.{info}
 use Rattle.floor_machine.specs.Same.{same_info}
 use Rattle.floor_machine.specs.steps.Fitting.{AreFit}
-use Rattle.floor_machine.specs.steps.Marks.{AreNoted}
+use Rattle.floor_machine.specs.steps.Marks.{is_marked}
 use Rattle.floor_machine.specs.steps.Serving.{is_rising}
 use Rattle.floor_machine.specs.steps.Telling.{infos_of, listed, update_of}
 
@@ -69,12 +69,14 @@ pub record IsRenewed (place : ℕ) (old now : Option Info) (shown : Option Shown
   pub updates : changes'.updates ≡ changes.updates ++ update_from old shown
   pub floors : changes'.floors.items ≡ changes.floors.items ++ floors_moved old now
 
--- What the course of an event knows: there were some requests, which were shown, and of which its marks have noted what became of them;
--- its numbers rise, and are those of the requests before and after; and each that ended could be added once.
+-- What the course of an event knows: there were some requests, which were shown by the configuration of then; of what became of them,
+-- whatever no mark concerns is shown as it was; its numbers rise, and are those of the requests before and after; and each that ended
+-- could be added once.
 pub record IsCourse (config : Configuration) (ongoing : List Request) (shown : List Info) (course : Course) : Type 0 where
+  pub was : Configuration
   pub requests : List Request
-  pub before : shown ≡ infos_of config requests
-  pub noted : AreNoted config.floors requests ongoing course.marks.items
+  pub before : shown ≡ infos_of was requests
+  pub unmarked : (n : ℕ) (r : Request) → request_at ongoing n ≡ Some r → is_marked course.marks.items r ≡ false → info_with shown n ≡ Some (info config ongoing r)
   pub rising : is_rising course.numbers.items ≡ true
   pub old : flat_map (λ n. listed (request_at requests n)) course.numbers.items ≡ requests
   pub left : flat_map (λ n. listed (left_at course.ended.items ongoing n)) course.numbers.items ≡ ongoing

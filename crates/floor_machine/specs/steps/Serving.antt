@@ -12,10 +12,13 @@ use Rattle.floor_machine.specs.declared.decision.Change.{Change as Decided}
 use Rattle.floor_machine.specs.declared.decision.Reply.{Reply as Replying}
 use Rattle.floor_machine.specs.declared.decision.Reply.TheVariants as say
 use Rattle.floor_machine.specs.declared.conference.State.{State}
-use Rattle.floor_machine.specs.Conference.{Conference}
+use Rattle.floor_machine.specs.Conference.{Conference, is_numbered_from}
+use Rattle.floor_machine.specs.declared.event.Event.{Event}
+use Rattle.floor_machine.specs.declared.event.Event.TheVariants.{Close, Took}
 use Rattle.floor_machine.specs.Shown.{Entry, ongoing_of, described}
-use Rattle.floor_machine.specs.Change.{Change, no_change, released}
-use Rattle.floor_machine.specs.Reply.{infos_of_user, floor_answers, supported_primitives, supported_attributes}
+use Rattle.floor_machine.specs.Change.{Change, change, no_change, released}
+use Rattle.floor_machine.specs.Reply.{infos, infos_of_user, floor_answers, supported_primitives, supported_attributes}
+use Rattle.floor_machine.specs.Told.{reply_to}
 use Rattle.floor_machine.specs.steps.Deciding.{change_by, changes_requests, members_by}
 use Rattle.floor_machine.specs.steps.Marks.{AreNoted}
 use Rattle.floor_machine.specs.steps.Telling.{AreInfos, entry_of_ended, listed, shown_at}
@@ -51,9 +54,9 @@ abbrev pub is_rising : List ℕ → Bool
 is_rising [] = true
 is_rising (n ∷ numbers) = list_all (nat_lt n) numbers && is_rising numbers
 
--- t, which isn't settled yet, is s after the change, and the course has noted what it was, what ended, and what else changed
-pub record IsChanged (s : Conference) (c : Change) (t : Conference) (course : Course) : Type 0 where
-  pub config : t.config ≡ s.config
+-- t, which isn't settled yet, is s after the change, and the course has noted which requests there were, and which ended
+pub record IsMade (s : Conference) (c : Change) (t : Conference) (course : Course) : Type 0 where
+  pub config : t.config ≡ c.config
   pub given : t.given ≡ c.given
   pub members : t.members ≡ c.members
   pub is_open : t.is_open ≡ c.is_open
@@ -62,7 +65,31 @@ pub record IsChanged (s : Conference) (c : Change) (t : Conference) (course : Co
   pub numbers : course.numbers.items ≡ numbers_in c.entries
   pub rising : is_rising course.numbers.items ≡ true
   pub old : flat_map (λ n. listed (request_at s.ongoing n)) course.numbers.items ≡ s.ongoing
+
+-- such a change that leaves the configuration as it is, and of which the marks have noted what else it changed
+pub record IsChanged (s : Conference) (c : Change) (t : Conference) (course : Course) : Type 0 where
+  pub made : IsMade s c t course
+  pub config : t.config ≡ s.config
   pub noted : AreNoted s.config.floors s.ongoing t.ongoing course.marks.items
+
+-- the event tells live members what it changed: all do but Close
+abbrev pub is_telling : Event → Bool
+is_telling Close = false
+is_telling _ = true
+
+-- the event acknowledges nothing
+abbrev pub is_untaking : Event → Bool
+is_untaking (Took n k) = false
+is_untaking _ = true
+
+-- t, which isn't settled yet, is s after an event that nobody sent, but neither a close nor an acknowledgement, and the course has noted what was shown before it
+pub record IsUnsent (s : Conference) (e : Event) (t : State) (course : Course) : Type 0 where
+  pub made : IsMade s (change s e) (conference_of t) course
+  pub before : course.before.items ≡ infos s
+  pub telling : is_telling e ≡ true
+  pub untaking : is_untaking e ≡ true
+  pub unsent : (n : ℕ) → reply_to s e n ≡ []
+  pub numbered : is_numbered_from 1 s.members ≡ true
 
 -- the course of an event that has changed nothing yet
 abbrev pub IsBegun : Conference → Course → Type 0

@@ -1,23 +1,27 @@
 //! What the administrator changes in a conference.
 
-ghost use Rattle.std.specs.Prelude.{◌≡◌, ◌++◌, [], OnErr, OnOk};
+ghost use Rattle.std.specs.Prelude.{◌≡◌, ◌++◌, [], None, OnErr, OnOk};
+ghost use Rattle.floor_config.specs.Changed.{chair_fault, floor_fault, user_fault, with_chair, with_floor, with_user};
+ghost use Rattle.floor_queue.specs.Queue.{after_set_chair};
 ghost use Rattle.floor_machine.specs.Journal.{parcels_of};
 ghost use Rattle.floor_machine.specs.Next.{next};
-ghost use Rattle.floor_machine.specs.declared.event.Event.TheVariants.{Close};
+ghost use Rattle.floor_machine.specs.declared.event.Event.TheVariants.{AddFloor, AddUser, Close, SetChair};
 ghost use Rattle.floor_machine.specs.Machine.{event_of_act};
 ghost use Rattle.floor_machine.specs.steps.Deciding.{MayAct};
 ghost use Rattle.floor_machine.specs.steps.Fitting.{IsToldShown};
-ghost use Rattle.floor_machine.specs.steps.Serving.{IsAtRest, conference_of};
+ghost use Rattle.floor_machine.specs.steps.Serving.{IsAtRest, conference_of, with_requests};
 
 use crate::act::Act;
 use crate::conference::State;
+use crate::course::begin_with_all;
 use crate::parcel::Parcel;
+use floor_config::{Floor, User};
 use std::alloc::AllocError;
 
 impl State {
     /// Does what the administrator does. After an error `out` is as it was.
     pub(crate) fn administer(&mut self, act: Act, out: &mut Vec<Parcel>) -> Result<(), AllocError>
-        requires may { MayAct self.old.requests.ongoing act }
+        requires may { MayAct (conference_of self.old) act }
         requires rest { IsAtRest self.old }
         ensures next { OnOk result (conference_of self.new
             ≡ next (conference_of self.old) (event_of_act act)) }
@@ -33,6 +37,9 @@ impl State {
                 self.close();
                 Ok(())
             }
+            Act::AddUser(user) => self.add_user(user, out),
+            Act::AddFloor(floor) => self.add_floor(floor, out),
+            Act::SetChair(floor, chair) => self.set_chair(floor, chair, out),
         }
     }
 
@@ -47,5 +54,113 @@ impl State {
         self.shown.clear();
         self.shown.shrink_to_fit();
         self.is_open = false;
+    }
+
+    /// The conference gets a user. After an error `out` is as it was.
+    fn add_user(&mut self, user: User, out: &mut Vec<Parcel>) -> Result<(), AllocError>
+        requires may { user_fault self.old.config user ≡ None }
+        requires rest { IsAtRest self.old }
+        ensures next { OnOk result (conference_of self.new
+            ≡ next (conference_of self.old) (AddUser user)) }
+        ensures out { OnOk result (out.new.items ≡ out.old.items
+            ++ parcels_of (conference_of self.old) (AddUser user)) }
+        ensures shown { OnOk result (IsToldShown (conference_of self.old) (AddUser user)) }
+        ensures left { OnErr result (out.new.items ≡ out.old.items) }
+        ensures rest { OnOk result (IsAtRest self.new) }
+    {
+        let alloc = self.members.allocator();
+        let mut course = begin_with_all(alloc, &self.requests, &mut self.shown)?;
+        self.put_user(user)?;
+        self.conclude(alloc, &mut course, out)
+    }
+
+    /// The conference gets a floor. After an error `out` is as it was.
+    fn add_floor(&mut self, floor: Floor, out: &mut Vec<Parcel>) -> Result<(), AllocError>
+        requires may { floor_fault self.old.config floor ≡ None }
+        requires rest { IsAtRest self.old }
+        ensures next { OnOk result (conference_of self.new
+            ≡ next (conference_of self.old) (AddFloor floor)) }
+        ensures out { OnOk result (out.new.items ≡ out.old.items
+            ++ parcels_of (conference_of self.old) (AddFloor floor)) }
+        ensures shown { OnOk result (IsToldShown (conference_of self.old) (AddFloor floor)) }
+        ensures left { OnErr result (out.new.items ≡ out.old.items) }
+        ensures rest { OnOk result (IsAtRest self.new) }
+    {
+        let alloc = self.members.allocator();
+        let mut course = begin_with_all(alloc, &self.requests, &mut self.shown)?;
+        self.put_floor(floor)?;
+        self.conclude(alloc, &mut course, out)
+    }
+
+    /// A floor gets another chair, or none: whoever waits for a chair that is taken away may be granted
+    /// at once. After an error `out` is as it was.
+    fn set_chair(
+        &mut self,
+        floor: u16,
+        chair: Option<u16>,
+        out: &mut Vec<Parcel>,
+    ) -> Result<(), AllocError>
+        requires may { chair_fault self.old.config floor chair ≡ None }
+        requires rest { IsAtRest self.old }
+        ensures next { OnOk result (conference_of self.new
+            ≡ next (conference_of self.old) (SetChair floor chair)) }
+        ensures out { OnOk result (out.new.items ≡ out.old.items
+            ++ parcels_of (conference_of self.old) (SetChair floor chair)) }
+        ensures shown { OnOk result
+            (IsToldShown (conference_of self.old) (SetChair floor chair)) }
+        ensures left { OnErr result (out.new.items ≡ out.old.items) }
+        ensures rest { OnOk result (IsAtRest self.new) }
+    {
+        let alloc = self.members.allocator();
+        let mut course = begin_with_all(alloc, &self.requests, &mut self.shown)?;
+        self.put_chair(floor, chair)?;
+        self.conclude(alloc, &mut course, out)
+    }
+
+    /// Puts a user behind the others.
+    fn put_user(&mut self, user: User) -> Result<(), AllocError>
+        requires { user_fault self.old.config user ≡ None }
+        ensures { OnOk result (conference_of self.new
+            ≡ record (conference_of self.old) { config = with_user self.old.config user }) }
+    {
+        let id = user.id;
+        self.users.reserve(1)?;
+        match self.config.add_user(user) {
+            Ok(()) => {}
+            // No fault stands against it: memory was refused.
+            Err(_fault) => return Err(AllocError),
+        }
+        let _pushed = self.users.push(id);
+        Ok(())
+    }
+
+    /// Puts a floor behind the others.
+    fn put_floor(&mut self, floor: Floor) -> Result<(), AllocError>
+        requires { floor_fault self.old.config floor ≡ None }
+        ensures { OnOk result (conference_of self.new
+            ≡ record (conference_of self.old) { config = with_floor self.old.config floor }) }
+    {
+        let mut config = self.config.copy(self.members.allocator())?;
+        match config.add_floor(floor) {
+            Ok(()) => {}
+            // No fault stands against it: memory was refused.
+            Err(_fault) => return Err(AllocError),
+        }
+        self.requests.add_floor(floor)?;
+        self.config = config;
+        Ok(())
+    }
+
+    /// Gives a floor another chair, or none, before the requests are settled.
+    fn put_chair(&mut self, floor: u16, chair: Option<u16>) -> Result<(), AllocError>
+        requires { chair_fault self.old.config floor chair ≡ None }
+        ensures { OnOk result (conference_of self.new
+            ≡ record (with_requests (conference_of self.old)
+            (after_set_chair self.old.requests floor chair))
+            { config = with_chair self.old.config floor chair }) }
+    {
+        self.requests.set_chair(floor, chair)?;
+        let _set = self.config.set_chair(floor, chair);
+        Ok(())
     }
 }

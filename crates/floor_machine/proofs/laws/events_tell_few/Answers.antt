@@ -5,8 +5,8 @@ use Rattle.floor_machine.proofs.laws.events_tell_few.Goals as goal
 
 pub returns : goal.returns
 returns c = record {
-  told = λ config es e n is journal. told_after-few config es e n c.what_is_asked_fits.ensures c.settles_once.ensures is journal.lawful;
+  told = λ config es e n is journal lawful. told_after-few config es e n c.what_is_asked_fits.ensures c.settles_once.ensures is journal.lawful lawful;
   called = λ config es n is journal.
-      called-few (opening config) es n c.what_is_asked_fits.ensures c.settles_once.ensures journal.lawful (keeps-opening config is) is.floors_count;
+      called-few (opening config) es n c.what_is_asked_fits.ensures c.settles_once.ensures journal.lawful (keeps-opening config is);
   bytes = message-short;
 }

@@ -83,11 +83,11 @@ returns-in_ok-reply-in-Some-clause-next c =
     let changed : IsChanged s (change_by s n j.change) (conference_of before) course = taken.0 in
     let changes : change s e ≡ change_by s n j.change = change-decided s n bytes a refl ∙ ap (λ (d : Decision). change_by s n d.change) (sym is_decided) in
     let t : Conference = with_requests (conference_of before) (after_settle before.requests) in
-    let is_next : t ≡ settled s e = settled-state s e (change_by s n j.change) before course (after_settle before.requests) changes changed refl in
+    let is_next : t ≡ settled s e = settled-state s e (change_by s n j.change) before course (after_settle before.requests) changes changed.made refl in
     let done = c.in_ok-changes-in-Some.ensures in
     let to : IsSettledTo before after course c.in_ok-changes-in-Some.changes = record { next = done.next; shows = done.rest.shows; updates = done.updates; floors = done.floors } in
-    let ended = ended-shown s e (change_by s n j.change) (conference_of before) course changes changed in
-    let numbers = numbers-shown s e (change_by s n j.change) (conference_of before) course changes changed in
+    let ended = ended-shown s e (change_by s n j.change) (conference_of before) course changes changed.made in
+    let numbers = numbers-shown s e (change_by s n j.change) (conference_of before) course changes changed.made in
     let r : Replied = c.in_ok-reply-in-Some.reply in
     let tells : r.tells ≡ tells_by (settled s e) course.ended.items (user_of s n) (decision_of s (user_of s n) a).reply =
     c.in_ok-reply-in-Some.ensures.tells
@@ -96,10 +96,10 @@ returns-in_ok-reply-in-Some-clause-next c =
     ∙ ap (λ (x : Conference). tells_by x course.ended.items user j.reply) is_next
     ∙ ap (λ (u : ℕ). tells_by (settled s e) course.ended.items u j.reply) is_user
     ∙ ap (λ (d : Decision). tells_by (settled s e) course.ended.items (user_of s n) d.reply) is_decided in
-    let answered = reply-answered s n bytes r a course.ended.items refl ended (ap is_rising (sym numbers) ∙ changed.rising) c.in_ok-reply-in-Some.ensures.to c.in_ok-reply-in-Some.ensures.head tells in
+    let answered = reply-answered s n bytes r a course.ended.items refl ended (ap is_rising (sym numbers) ∙ changed.made.rising) c.in_ok-reply-in-Some.ensures.to c.in_ok-reply-in-Some.ensures.head tells in
     let all : parcels_to_all after.config.conference (Some r) c.in_ok-changes-in-Some.changes.updates (floors_changed after.shown.items c.in_ok-changes-in-Some.changes.floors.items after.config.floors) after.members ≡ due_parcels s e =
     parcels-settled before after course c.in_ok-changes-in-Some.changes (Some r) to
-    ∙ parcels-served s e t course (Some r) refl is_next c.allocator-alloc.ensures.kept ended numbers changed.rising (taken.1 ∙ c.requires.rest.shows.infos) answered in
+    ∙ parcels-served s e t course (Some r) refl is_next c.allocator-alloc.ensures.kept ended numbers changed.made.rising (taken.1 ∙ c.requires.rest.shows.infos) answered in
     on_ok c.tell.result (λ counted. counted
     ∙ ap (λ (ps : List Parcel). counted_all ps (conference_of after)) all
     ∙ ap (counted_all (due_parcels s e)) (to.next ∙ is_next)
@@ -127,11 +127,11 @@ returns-in_ok-reply-in-Some-clause-out c =
     let changed : IsChanged s (change_by s n j.change) (conference_of before) course = taken.0 in
     let changes : change s e ≡ change_by s n j.change = change-decided s n bytes a refl ∙ ap (λ (d : Decision). change_by s n d.change) (sym is_decided) in
     let t : Conference = with_requests (conference_of before) (after_settle before.requests) in
-    let is_next : t ≡ settled s e = settled-state s e (change_by s n j.change) before course (after_settle before.requests) changes changed refl in
+    let is_next : t ≡ settled s e = settled-state s e (change_by s n j.change) before course (after_settle before.requests) changes changed.made refl in
     let done = c.in_ok-changes-in-Some.ensures in
     let to : IsSettledTo before after course c.in_ok-changes-in-Some.changes = record { next = done.next; shows = done.rest.shows; updates = done.updates; floors = done.floors } in
-    let ended = ended-shown s e (change_by s n j.change) (conference_of before) course changes changed in
-    let numbers = numbers-shown s e (change_by s n j.change) (conference_of before) course changes changed in
+    let ended = ended-shown s e (change_by s n j.change) (conference_of before) course changes changed.made in
+    let numbers = numbers-shown s e (change_by s n j.change) (conference_of before) course changes changed.made in
     let r : Replied = c.in_ok-reply-in-Some.reply in
     let tells : r.tells ≡ tells_by (settled s e) course.ended.items (user_of s n) (decision_of s (user_of s n) a).reply =
     c.in_ok-reply-in-Some.ensures.tells
@@ -140,10 +140,10 @@ returns-in_ok-reply-in-Some-clause-out c =
     ∙ ap (λ (x : Conference). tells_by x course.ended.items user j.reply) is_next
     ∙ ap (λ (u : ℕ). tells_by (settled s e) course.ended.items u j.reply) is_user
     ∙ ap (λ (d : Decision). tells_by (settled s e) course.ended.items (user_of s n) d.reply) is_decided in
-    let answered = reply-answered s n bytes r a course.ended.items refl ended (ap is_rising (sym numbers) ∙ changed.rising) c.in_ok-reply-in-Some.ensures.to c.in_ok-reply-in-Some.ensures.head tells in
+    let answered = reply-answered s n bytes r a course.ended.items refl ended (ap is_rising (sym numbers) ∙ changed.made.rising) c.in_ok-reply-in-Some.ensures.to c.in_ok-reply-in-Some.ensures.head tells in
     let all : parcels_to_all after.config.conference (Some r) c.in_ok-changes-in-Some.changes.updates (floors_changed after.shown.items c.in_ok-changes-in-Some.changes.floors.items after.config.floors) after.members ≡ due_parcels s e =
     parcels-settled before after course c.in_ok-changes-in-Some.changes (Some r) to
-    ∙ parcels-served s e t course (Some r) refl is_next c.allocator-alloc.ensures.kept ended numbers changed.rising (taken.1 ∙ c.requires.rest.shows.infos) answered in
+    ∙ parcels-served s e t course (Some r) refl is_next c.allocator-alloc.ensures.kept ended numbers changed.made.rising (taken.1 ∙ c.requires.rest.shows.infos) answered in
     on_ok c.tell.result (λ told. told
     ∙ ap (λ (ps : List Parcel). c.args.out.now.items ++ told_of_all ps after.members) all
     ∙ ap (λ (x : Conference). c.args.out.now.items ++ told_of_all (due_parcels s e) x.members) (to.next ∙ is_next)
@@ -171,11 +171,11 @@ returns-in_ok-reply-in-Some-clause-shown c =
     let changed : IsChanged s (change_by s n j.change) (conference_of before) course = taken.0 in
     let changes : change s e ≡ change_by s n j.change = change-decided s n bytes a refl ∙ ap (λ (d : Decision). change_by s n d.change) (sym is_decided) in
     let t : Conference = with_requests (conference_of before) (after_settle before.requests) in
-    let is_next : t ≡ settled s e = settled-state s e (change_by s n j.change) before course (after_settle before.requests) changes changed refl in
+    let is_next : t ≡ settled s e = settled-state s e (change_by s n j.change) before course (after_settle before.requests) changes changed.made refl in
     let done = c.in_ok-changes-in-Some.ensures in
     let to : IsSettledTo before after course c.in_ok-changes-in-Some.changes = record { next = done.next; shows = done.rest.shows; updates = done.updates; floors = done.floors } in
-    let ended = ended-shown s e (change_by s n j.change) (conference_of before) course changes changed in
-    let numbers = numbers-shown s e (change_by s n j.change) (conference_of before) course changes changed in
+    let ended = ended-shown s e (change_by s n j.change) (conference_of before) course changes changed.made in
+    let numbers = numbers-shown s e (change_by s n j.change) (conference_of before) course changes changed.made in
     let r : Replied = c.in_ok-reply-in-Some.reply in
     let tells : r.tells ≡ tells_by (settled s e) course.ended.items (user_of s n) (decision_of s (user_of s n) a).reply =
     c.in_ok-reply-in-Some.ensures.tells
@@ -184,9 +184,9 @@ returns-in_ok-reply-in-Some-clause-shown c =
     ∙ ap (λ (x : Conference). tells_by x course.ended.items user j.reply) is_next
     ∙ ap (λ (u : ℕ). tells_by (settled s e) course.ended.items u j.reply) is_user
     ∙ ap (λ (d : Decision). tells_by (settled s e) course.ended.items (user_of s n) d.reply) is_decided in
-    let answered = reply-answered s n bytes r a course.ended.items refl ended (ap is_rising (sym numbers) ∙ changed.rising) c.in_ok-reply-in-Some.ensures.to c.in_ok-reply-in-Some.ensures.head tells in
+    let answered = reply-answered s n bytes r a course.ended.items refl ended (ap is_rising (sym numbers) ∙ changed.made.rising) c.in_ok-reply-in-Some.ensures.to c.in_ok-reply-in-Some.ensures.head tells in
     on_ok c.tell.result (λ floors.
-    served-shown s e t course (Some r) refl is_next ended numbers changed.rising (taken.1 ∙ c.requires.rest.shows.infos) answered c.in_ok-reply-in-Some.ensures.shown
+    served-shown s e t course (Some r) refl is_next ended numbers changed.made.rising (taken.1 ∙ c.requires.rest.shows.infos) answered c.in_ok-reply-in-Some.ensures.shown
     (subst AreUpdatesShown to.updates done.shown) (floors-shown before after course c.in_ok-changes-in-Some.changes to floors))
     c.tell.ensures.floors_shown
 
@@ -218,7 +218,7 @@ returns-in_ok-reply-in-None-clause-next c =
     replied-message s n bytes j r is_decided taken.0 is_settled ascending c.in_ok-reply-in-None.ensures.to c.in_ok-reply-in-None.ensures.head tells in
     let all : parcels_to_all after.config.conference (Some r) [] [] after.members ≡ due_parcels s e =
     ap (λ (x : Conference). parcels_to_all x.config.conference (Some r) [] [] x.members) is_next
-    ∙ ap (λ (config : Configuration). parcels_to_all config.conference (Some r) [] [] (settled s e).members) (settled-config s e)
+    ∙ ap (λ (config : Configuration). parcels_to_all config.conference (Some r) [] [] (settled s e).members) (settled-config s e refl)
     ∙ parcels-message s n bytes j r is_decided taken.0 is_settled ascending c.allocator-alloc.ensures.kept replied in
     on_ok c.tell_reply.result (λ counted. counted
     ∙ ap (λ (ps : List Parcel). counted_all ps (conference_of after)) all
@@ -254,7 +254,7 @@ returns-in_ok-reply-in-None-clause-out c =
     replied-message s n bytes j r is_decided taken.0 is_settled ascending c.in_ok-reply-in-None.ensures.to c.in_ok-reply-in-None.ensures.head tells in
     let all : parcels_to_all after.config.conference (Some r) [] [] after.members ≡ due_parcels s e =
     ap (λ (x : Conference). parcels_to_all x.config.conference (Some r) [] [] x.members) is_next
-    ∙ ap (λ (config : Configuration). parcels_to_all config.conference (Some r) [] [] (settled s e).members) (settled-config s e)
+    ∙ ap (λ (config : Configuration). parcels_to_all config.conference (Some r) [] [] (settled s e).members) (settled-config s e refl)
     ∙ parcels-message s n bytes j r is_decided taken.0 is_settled ascending c.allocator-alloc.ensures.kept replied in
     on_ok c.tell_reply.result (λ told. told
     ∙ ap (λ (ps : List Parcel). c.args.out.now.items ++ told_of_all ps after.members) all

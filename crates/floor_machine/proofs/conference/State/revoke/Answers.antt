@@ -1,86 +1,58 @@
-use Rattle.std.proofs.Common.{◌≡◌, List, None, ◌++◌, ap, refl, subst, ◌∙◌}
-use Rattle.floor_queue.specs.Queue.{after_settle}
-use Rattle.floor_machine.specs.declared.course.Course.{Course}
-use Rattle.floor_machine.specs.declared.event.Event.{Event}
+use Rattle.std.proofs.Common.{refl, ◌∙◌}
 use Rattle.floor_machine.specs.declared.event.Event.TheVariants.{Revoke}
-use Rattle.floor_machine.specs.declared.tell.renewing.Changes.{Changes}
-use Rattle.floor_machine.specs.declared.conference.State.{State}
-use Rattle.floor_machine.specs.Parcel.{Parcel}
-use Rattle.floor_machine.specs.Conference.{Conference}
-use Rattle.floor_machine.specs.Change.{change, settled}
-use Rattle.floor_machine.specs.steps.Telling.{floors_changed, parcels_to_all}
-use Rattle.floor_machine.specs.steps.Counting.{counted_all, due_parcels, told_of_all}
-use Rattle.floor_machine.proofs.Counted.{counted-all, told-all}
-use Rattle.floor_machine.specs.steps.Fitting.{AreUpdatesShown}
-use Rattle.floor_machine.specs.steps.Serving.{conference_of}
+use Rattle.floor_machine.specs.Change.{change}
+use Rattle.floor_machine.specs.steps.Serving.{IsUnsent, conference_of}
 use Rattle.floor_machine.proofs.Addable.{revoked_addable, queue_addable}
-use Rattle.floor_machine.proofs.Asked.{on_ok}
-use Rattle.floor_machine.proofs.Bounds.{changed-shown}
 use Rattle.floor_machine.proofs.Courses.{course-changed}
 use Rattle.floor_machine.proofs.Left.{revoked}
-use Rattle.floor_machine.proofs.Served.{parcels-changed, settled-state}
-use Rattle.floor_machine.proofs.Settled.{IsSettledTo, floors-shown, parcels-settled}
 use Rattle.floor_machine.proofs.conference.State.revoke.Goals as goal
 
-pub settle-requires-clause-course : goal.settle-requires-clause-course
-settle-requires-clause-course c =
-    let s = c.args.self.now in
-    course-changed (conference_of s) (conference_of c.end_ongoing.new.self) (change (conference_of s) (Revoke c.args.request)) c.in_ok-course.course (revoked (conference_of c.args.self.now) (conference_of c.end_ongoing.new.self) c.args.request c.in_ok-course.course c.in_ok-course.ensures.changed) (c.in_ok-course.ensures.before ∙ c.requires.rest.shows.infos)
-    (revoked_addable (conference_of s) (conference_of c.end_ongoing.new.self) c.args.request c.in_ok-course.course (queue_addable s c.ongoing-ongoing.ensures.kept) (revoked (conference_of c.args.self.now) (conference_of c.end_ongoing.new.self) c.args.request c.in_ok-course.course c.in_ok-course.ensures.changed))
+pub conclude-requires-clause-course : goal.conclude-requires-clause-course
+conclude-requires-clause-course c =
+    let s = conference_of c.args.self.now in
+    let t = conference_of c.end_ongoing.new.self in
+    let changed = revoked s t c.args.request c.in_ok-course.course c.in_ok-course.ensures.changed in
+    course-changed s t (change s (Revoke c.args.request)) c.in_ok-course.course changed (c.in_ok-course.ensures.before ∙ c.requires.rest.shows.infos)
+    (revoked_addable s t c.args.request c.in_ok-course.course (queue_addable c.args.self.now c.ongoing-ongoing.ensures.kept) changed)
 
 pub returns-clause-next : goal.returns-clause-next
 returns-clause-next c =
     let s = conference_of c.args.self.now in
-    let e : Event = Revoke c.args.request in
-    let t : State = c.end_ongoing.new.self in
-    let course : Course = c.in_ok-course.course in
-    let changes : Changes = c.in_ok-changes.changes in
-    let to : IsSettledTo t c.settle.new.self course changes =
-    record { next = c.in_ok-changes.ensures.next; shows = c.in_ok-changes.ensures.rest.shows; updates = c.in_ok-changes.ensures.updates; floors = c.in_ok-changes.ensures.floors } in
-    let u : State = c.settle.new.self in
-    let all : parcels_to_all u.config.conference None changes.updates (floors_changed u.shown.items changes.floors.items u.config.floors) u.members ≡ due_parcels s e =
-    parcels-settled t c.settle.new.self course changes None to
-    ∙ parcels-changed s (Revoke c.args.request) t course (after_settle t.requests) refl (λ k. refl) (revoked (conference_of c.args.self.now) (conference_of c.end_ongoing.new.self) c.args.request c.in_ok-course.course c.in_ok-course.ensures.changed) (c.in_ok-course.ensures.before ∙ c.requires.rest.shows.infos) c.allocator-alloc.ensures.kept refl in
-    let is_next : conference_of u ≡ settled s e =
-    c.in_ok-changes.ensures.next
-    ∙ settled-state s e (change s e) t c.in_ok-course.course (after_settle t.requests) refl (revoked (conference_of c.args.self.now) (conference_of c.end_ongoing.new.self) c.args.request c.in_ok-course.course c.in_ok-course.ensures.changed) refl in
-    on_ok c.tell.result (λ counted. counted
-    ∙ ap (λ (ps : List Parcel). counted_all ps (conference_of u)) all
-    ∙ ap (counted_all (due_parcels s e)) is_next
-    ∙ counted-all s e refl c.allocator-alloc.ensures.kept)
-    c.tell.ensures.counted
+    let unsent : IsUnsent s (Revoke c.args.request) c.end_ongoing.new.self c.in_ok-course.course =
+    record {
+      made = (revoked s (conference_of c.end_ongoing.new.self) c.args.request c.in_ok-course.course c.in_ok-course.ensures.changed).made;
+      before = c.in_ok-course.ensures.before ∙ c.requires.rest.shows.infos;
+      telling = refl;
+      untaking = refl;
+      unsent = λ k. refl;
+      numbered = c.allocator-alloc.ensures.kept;
+    } in
+    c.conclude.ensures.next s (Revoke c.args.request) unsent
 
 pub returns-clause-out : goal.returns-clause-out
 returns-clause-out c =
     let s = conference_of c.args.self.now in
-    let e : Event = Revoke c.args.request in
-    let t : State = c.end_ongoing.new.self in
-    let course : Course = c.in_ok-course.course in
-    let changes : Changes = c.in_ok-changes.changes in
-    let to : IsSettledTo t c.settle.new.self course changes =
-    record { next = c.in_ok-changes.ensures.next; shows = c.in_ok-changes.ensures.rest.shows; updates = c.in_ok-changes.ensures.updates; floors = c.in_ok-changes.ensures.floors } in
-    let u : State = c.settle.new.self in
-    let all : parcels_to_all u.config.conference None changes.updates (floors_changed u.shown.items changes.floors.items u.config.floors) u.members ≡ due_parcels s e =
-    parcels-settled t c.settle.new.self course changes None to
-    ∙ parcels-changed s (Revoke c.args.request) t course (after_settle t.requests) refl (λ k. refl) (revoked (conference_of c.args.self.now) (conference_of c.end_ongoing.new.self) c.args.request c.in_ok-course.course c.in_ok-course.ensures.changed) (c.in_ok-course.ensures.before ∙ c.requires.rest.shows.infos) c.allocator-alloc.ensures.kept refl in
-    let is_next : conference_of u ≡ settled s e =
-    c.in_ok-changes.ensures.next
-    ∙ settled-state s e (change s e) t c.in_ok-course.course (after_settle t.requests) refl (revoked (conference_of c.args.self.now) (conference_of c.end_ongoing.new.self) c.args.request c.in_ok-course.course c.in_ok-course.ensures.changed) refl in
-    on_ok c.tell.result (λ told. told
-    ∙ ap (λ (ps : List Parcel). c.args.out.now.items ++ told_of_all ps u.members) all
-    ∙ ap (λ (x : Conference). c.args.out.now.items ++ told_of_all (due_parcels s e) x.members) is_next
-    ∙ ap (λ (ps : List Parcel). c.args.out.now.items ++ ps) (told-all s e refl c.allocator-alloc.ensures.kept))
-    c.tell.ensures.told
+    let unsent : IsUnsent s (Revoke c.args.request) c.end_ongoing.new.self c.in_ok-course.course =
+    record {
+      made = (revoked s (conference_of c.end_ongoing.new.self) c.args.request c.in_ok-course.course c.in_ok-course.ensures.changed).made;
+      before = c.in_ok-course.ensures.before ∙ c.requires.rest.shows.infos;
+      telling = refl;
+      untaking = refl;
+      unsent = λ k. refl;
+      numbered = c.allocator-alloc.ensures.kept;
+    } in
+    c.conclude.ensures.out s (Revoke c.args.request) unsent
 
 pub returns-clause-shown : goal.returns-clause-shown
 returns-clause-shown c =
     let s = conference_of c.args.self.now in
-    let t : State = c.end_ongoing.new.self in
-    let course : Course = c.in_ok-course.course in
-    let changes : Changes = c.in_ok-changes.changes in
-    let to : IsSettledTo t c.settle.new.self course changes =
-    record { next = c.in_ok-changes.ensures.next; shows = c.in_ok-changes.ensures.rest.shows; updates = c.in_ok-changes.ensures.updates; floors = c.in_ok-changes.ensures.floors } in
-    on_ok c.tell.result (λ floors.
-    changed-shown s (Revoke c.args.request) t course (after_settle t.requests) refl (λ k. refl) (revoked (conference_of c.args.self.now) (conference_of c.end_ongoing.new.self) c.args.request c.in_ok-course.course c.in_ok-course.ensures.changed) (c.in_ok-course.ensures.before ∙ c.requires.rest.shows.infos) refl
-    (subst AreUpdatesShown to.updates c.in_ok-changes.ensures.shown) (floors-shown t c.settle.new.self course changes to floors))
-    c.tell.ensures.floors_shown
+    let unsent : IsUnsent s (Revoke c.args.request) c.end_ongoing.new.self c.in_ok-course.course =
+    record {
+      made = (revoked s (conference_of c.end_ongoing.new.self) c.args.request c.in_ok-course.course c.in_ok-course.ensures.changed).made;
+      before = c.in_ok-course.ensures.before ∙ c.requires.rest.shows.infos;
+      telling = refl;
+      untaking = refl;
+      unsent = λ k. refl;
+      numbered = c.allocator-alloc.ensures.kept;
+    } in
+    c.conclude.ensures.shown s (Revoke c.args.request) unsent

@@ -15,7 +15,7 @@ use Rattle.floor_machine.proofs.tell.renewing.renew.Goals as goal
 pub loop-number-init : goal.loop-number-init
 loop-number-init c =
     let known = c.requires.course in
-    let at = begun-at c.args.settled.now.config.now c.args.course.now.ended.items c.args.settled.now.requests.now.ongoing known.requests c.args.infos.now.items c.args.course.now.numbers.items known.before known.old in
+    let at = begun-at c.args.settled.now.config.now known.was c.args.course.now.ended.items c.args.settled.now.requests.now.ongoing known.requests c.args.infos.now.items c.args.course.now.numbers.items known.before known.old in
     record {
       infos = at.infos;
       place = refl;
