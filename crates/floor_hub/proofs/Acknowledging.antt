@@ -1,8 +1,6 @@
 -- A connection acknowledges some of what was told to it.
-use Rattle.std.proofs.Common.{◌≡◌, ℕ, Option, Some, None, inl, inr, refl, sym, ap, subst, ◌∙◌, ◌⊎◌}
-use Rattle.std.specs.Prelude.{nat_eq, false, Result, Ok, Err, OnOk, IfErr, MatchResult}
-use Rattle.std.proofs.lemmas.Bool.{ne_eqb}
-use Rattle.floor_machine.specs.declared.event.Event.{Event}
+use Rattle.std.proofs.Common.{◌≡◌, ℕ, Option, Some, None, inr, refl, sym, ap, subst, ◌∙◌, ◌⊎◌}
+use Rattle.std.specs.Prelude.{nat_eq, false, Result, Err, OnOk, IfErr, MatchResult}
 use Rattle.floor_machine.specs.declared.event.Event.TheVariants.{Took as Takes}
 use Rattle.floor_machine.specs.declared.machine.Refusal.TheVariants.{Broken, Memory}
 use Rattle.floor_room.specs.declared.refusal.RoomRefusal.TheVariants.{Refused as ByMachine}

@@ -7,8 +7,8 @@ use Rattle.std.proofs.lemmas.Bool.{eqb-true, eqb-false, ne_eqb}
 use Rattle.std.proofs.lemmas.Map.{update_here, update_apart}
 use Rattle.floor_machine.specs.declared.act.Act.{Act}
 use Rattle.floor_machine.specs.declared.event.Event.{Event}
-use Rattle.floor_machine.specs.declared.event.Event.TheVariants.{Join, Message, Took, Leave, Revoke, Close}
-use Rattle.floor_machine.specs.declared.machine.Refusal.TheVariants.{Broken, Ended, NoMember, NoUser, Full, NoRequest, Cut, BadCount, Memory}
+use Rattle.floor_machine.specs.declared.event.Event.TheVariants.{Join, Message, Took, Leave, Revoke, Close, AddUser, AddFloor, SetChair}
+use Rattle.floor_machine.specs.declared.machine.Refusal.TheVariants.{Broken, Ended, NoMember, NoUser, Full, NoRequest, Cut, BadCount, Memory, OutOfRange, DoubleUser, DoubleFloor, NoFloor, UnknownChair}
 use Rattle.floor_machine.specs.Machine.{event_of_act}
 use Rattle.floor_room.specs.declared.refusal.RoomRefusal.{RoomRefusal}
 use Rattle.floor_room.specs.declared.refusal.RoomRefusal.TheVariants.{JournalFull, Refused as ByMachine}
@@ -33,6 +33,9 @@ IsQuiet e = (n : ℕ) → messages_of n (e ∷ []) ≡ []
 pub quiet-act : (act : Act) → IsQuiet (event_of_act act)
 quiet-act (Act.Revoke request) = λ n. refl
 quiet-act Act.Close = λ n. refl
+quiet-act (Act.AddUser user) = λ n. refl
+quiet-act (Act.AddFloor floor) = λ n. refl
+quiet-act (Act.SetChair floor chair) = λ n. refl
 
 messages-quiet : (n : ℕ) (es : List Event) (e : Event) → IsQuiet e → messages_of n (es ++ e ∷ []) ≡ messages_of n es
 messages-quiet n [] e q = q n
@@ -42,6 +45,9 @@ messages-quiet n (Took m k ∷ es) e q = messages-quiet n es e q
 messages-quiet n (Leave m ∷ es) e q = messages-quiet n es e q
 messages-quiet n (Revoke request ∷ es) e q = messages-quiet n es e q
 messages-quiet n (Close ∷ es) e q = messages-quiet n es e q
+messages-quiet n (AddUser user ∷ es) e q = messages-quiet n es e q
+messages-quiet n (AddFloor floor ∷ es) e q = messages-quiet n es e q
+messages-quiet n (SetChair floor chair ∷ es) e q = messages-quiet n es e q
 
 -- what came stays, where the room has taken it
 came-quiet : (r new : Room) (e : Event) → IsQuiet e → r.ledger.is_broken ≡ false → new.ledger.journal ≡ r.ledger.journal ++ e ∷ [] → (x : Connection) (a : Arrival) → CameTo (Some r) x a → CameTo (Some new) x a
@@ -227,6 +233,11 @@ module _ (rooms now : ℕ → Option Room) (xs : ℕ → Option Connection) (k :
   act_failed r new (ByMachine NoRequest) is others here by left = act_refused r new (ByMachine NoRequest) is others here by (λ x. cc) (λ x. cc) left
   act_failed r new (ByMachine Cut) is others here by left = act_refused r new (ByMachine Cut) is others here by (λ x. cc) (λ x. cc) left
   act_failed r new (ByMachine BadCount) is others here by left = act_refused r new (ByMachine BadCount) is others here by (λ x. cc) (λ x. cc) left
+  act_failed r new (ByMachine OutOfRange) is others here by left = act_refused r new (ByMachine OutOfRange) is others here by (λ x. cc) (λ x. cc) left
+  act_failed r new (ByMachine DoubleUser) is others here by left = act_refused r new (ByMachine DoubleUser) is others here by (λ x. cc) (λ x. cc) left
+  act_failed r new (ByMachine DoubleFloor) is others here by left = act_refused r new (ByMachine DoubleFloor) is others here by (λ x. cc) (λ x. cc) left
+  act_failed r new (ByMachine NoFloor) is others here by left = act_refused r new (ByMachine NoFloor) is others here by (λ x. cc) (λ x. cc) left
+  act_failed r new (ByMachine UnknownChair) is others here by left = act_refused r new (ByMachine UnknownChair) is others here by (λ x. cc) (λ x. cc) left
   act_failed r new (ByMachine Memory) is others here by left = inl (inl refl, broken_off r new is others here left)
 
   -- what a refused act has left of a room

@@ -8,8 +8,8 @@ use Rattle.std.proofs.lemmas.Bool.Decides.{nat_tests}
 use Rattle.std.proofs.lemmas.Option.{none-some}
 use Rattle.std.proofs.lemmas.Map.{update_here, update_apart}
 use Rattle.floor_machine.specs.declared.event.Event.{Event}
-use Rattle.floor_machine.specs.declared.event.Event.TheVariants.{Join, Message, Took as Takes, Leave as Leaves, Revoke, Close}
-use Rattle.floor_machine.specs.declared.machine.Refusal.TheVariants.{Broken, Ended, NoMember, NoUser, Full, NoRequest, Cut, BadCount, Memory}
+use Rattle.floor_machine.specs.declared.event.Event.TheVariants.{Join, Message, Took as Takes, Leave as Leaves, Revoke, Close, AddUser, AddFloor, SetChair}
+use Rattle.floor_machine.specs.declared.machine.Refusal.TheVariants.{Broken, Ended, NoMember, NoUser, Full, NoRequest, Cut, BadCount, Memory, OutOfRange, DoubleUser, DoubleFloor, NoFloor, UnknownChair}
 use Rattle.floor_machine.specs.declared.member.Member.{Member}
 use Rattle.floor_machine.specs.Conference.{Conference, member_with, opening}
 use Rattle.floor_machine.specs.Journal.{IsLawfulFrom, after, after_from}
@@ -74,6 +74,9 @@ messages_before s (Takes m k ∷ es) n h l few = messages_before (next s (Takes 
 messages_before s (Leaves m ∷ es) n h l few = messages_before (next s (Leaves m)) es n (numbered-next s (Leaves m) h) l.1 few
 messages_before s (Revoke request ∷ es) n h l few = messages_before (next s (Revoke request)) es n (numbered-next s (Revoke request) h) l.1 few
 messages_before s (Close ∷ es) n h l few = messages_before (next s Close) es n (numbered-next s Close h) l.1 few
+messages_before s (AddUser user ∷ es) n h l few = messages_before (next s (AddUser user)) es n (numbered-next s (AddUser user) h) l.1 few
+messages_before s (AddFloor floor ∷ es) n h l few = messages_before (next s (AddFloor floor)) es n (numbered-next s (AddFloor floor) h) l.1 few
+messages_before s (SetChair floor chair ∷ es) n h l few = messages_before (next s (SetChair floor chair)) es n (numbered-next s (SetChair floor chair) h) l.1 few
 
 push_apart : {A : Type 0} (xs : List A) (x : A) (k : ℕ) → k ≢ length xs → slice_get (xs ++ x ∷ []) k ≡ slice_get xs k
 push_apart [] x zero ne = absurd (ne refl)
@@ -304,6 +307,11 @@ module _ (rooms now : ℕ → Option Room) (xs now_xs : ℕ → Option Connectio
   is_memory (ByMachine NoRequest) = inr (λ e. cc)
   is_memory (ByMachine Cut) = inr (λ e. cc)
   is_memory (ByMachine BadCount) = inr (λ e. cc)
+  is_memory (ByMachine OutOfRange) = inr (λ e. cc)
+  is_memory (ByMachine DoubleUser) = inr (λ e. cc)
+  is_memory (ByMachine DoubleFloor) = inr (λ e. cc)
+  is_memory (ByMachine NoFloor) = inr (λ e. cc)
+  is_memory (ByMachine UnknownChair) = inr (λ e. cc)
   is_memory (ByMachine Memory) = inl refl
 
   left_same : (r new : Room) (e : Event) (why : RoomRefusal) → why ≢ ByMachine Memory → Left r new e why → new ≡ r
@@ -316,6 +324,11 @@ module _ (rooms now : ℕ → Option Room) (xs now_xs : ℕ → Option Connectio
   left_same r new e (ByMachine NoRequest) ne h = h
   left_same r new e (ByMachine Cut) ne h = h
   left_same r new e (ByMachine BadCount) ne h = h
+  left_same r new e (ByMachine OutOfRange) ne h = h
+  left_same r new e (ByMachine DoubleUser) ne h = h
+  left_same r new e (ByMachine DoubleFloor) ne h = h
+  left_same r new e (ByMachine NoFloor) ne h = h
+  left_same r new e (ByMachine UnknownChair) ne h = h
   left_same r new e (ByMachine Memory) ne h = absurd (ne refl)
 
   by_room : (why why2 : RoomRefusal) → why ≡ why2 → ByRoom why ≡ ByRoom why2

@@ -5,7 +5,7 @@ use Rattle.std.specs.List.{concat}
 use Rattle.std.specs.Map.{update}
 use Rattle.std.proofs.lemmas.Option.{none-some}
 use Rattle.floor_machine.specs.declared.event.Event.{Event}
-use Rattle.floor_machine.specs.declared.event.Event.TheVariants.{Join, Message, Took as Takes, Leave as Leaves, Revoke, Close}
+use Rattle.floor_machine.specs.declared.event.Event.TheVariants.{Join, Message, Took as Takes, Leave as Leaves, Revoke, Close, AddUser, AddFloor, SetChair}
 use Rattle.floor_room.specs.Room.{Room}
 use Rattle.floor_hub.specs.declared.refusal.HubRefusal.TheVariants.{NoConnection}
 use Rattle.floor_hub.specs.declared.connection.Connection.{Connection}
@@ -115,6 +115,9 @@ messages-append n (Takes m k ∷ es) fs = messages-append n es fs
 messages-append n (Leaves m ∷ es) fs = messages-append n es fs
 messages-append n (Revoke request ∷ es) fs = messages-append n es fs
 messages-append n (Close ∷ es) fs = messages-append n es fs
+messages-append n (AddUser user ∷ es) fs = messages-append n es fs
+messages-append n (AddFloor floor ∷ es) fs = messages-append n es fs
+messages-append n (SetChair floor chair ∷ es) fs = messages-append n es fs
 
 pub concat-append : (xs ys : List (List ℕ)) → concat (xs ++ ys) ≡ concat xs ++ concat ys
 concat-append [] ys = refl

@@ -14,7 +14,7 @@ use Rattle.floor_wire.specs.Message.{IsMessage, messages}
 use Rattle.floor_wire.proofs.Messages.{messages_are_messages}
 use Rattle.floor_machine.specs.declared.act.Act.{Act}
 use Rattle.floor_machine.specs.declared.event.Event.{Event}
-use Rattle.floor_machine.specs.declared.event.Event.TheVariants.{Join, Message, Took as Takes, Leave as Leaves, Revoke, Close}
+use Rattle.floor_machine.specs.declared.event.Event.TheVariants.{Join, Message, Took as Takes, Leave as Leaves, Revoke, Close, AddUser, AddFloor, SetChair}
 use Rattle.floor_machine.specs.declared.machine.Refusal.{Refusal}
 use Rattle.floor_machine.specs.declared.machine.Refusal.TheVariants.{Ended}
 use Rattle.floor_machine.specs.Conference.{Conference, is_live, opening}
@@ -51,6 +51,9 @@ lawful_open s (Takes n k) h = h.0
 lawful_open s (Leaves n) h = h.0
 lawful_open s (Revoke request) h = h.0
 lawful_open s Close h = h
+lawful_open s (AddUser user) h = h.0
+lawful_open s (AddFloor floor) h = h.0
+lawful_open s (SetChair floor chair) h = h.0
 
 joins_one : (e : Event) → joins (e ∷ []) ≡ joins_by e
 joins_one (Join user) = refl
@@ -59,6 +62,9 @@ joins_one (Takes n k) = refl
 joins_one (Leaves n) = refl
 joins_one (Revoke request) = refl
 joins_one Close = refl
+joins_one (AddUser user) = refl
+joins_one (AddFloor floor) = refl
+joins_one (SetChair floor chair) = refl
 
 joins-append : (es fs : List Event) → joins (es ++ fs) ≡ joins es + joins fs
 joins-append es fs = sum_by-append (λ e. cond (is_join e) 1 0) es fs
@@ -120,14 +126,23 @@ allowed p e framed h =
 whole_act : (act : Act) → IsWhole (event_of_act act)
 whole_act (Act.Revoke request) = tt
 whole_act Act.Close = tt
+whole_act (Act.AddUser user) = tt
+whole_act (Act.AddFloor floor) = tt
+whole_act (Act.SetChair floor chair) = tt
 
 stays_act : (act : Act) (n : ℕ) → StaysIn n (event_of_act act)
 stays_act (Act.Revoke request) n = tt
 stays_act Act.Close n = tt
+stays_act (Act.AddUser user) n = tt
+stays_act (Act.AddFloor floor) n = tt
+stays_act (Act.SetChair floor chair) n = tt
 
 joins_act : (act : Act) → joins_by (event_of_act act) ≡ 0
 joins_act (Act.Revoke request) = refl
 joins_act Act.Close = refl
+joins_act (Act.AddUser user) = refl
+joins_act (Act.AddFloor floor) = refl
+joins_act (Act.SetChair floor chair) = refl
 
 pub opened_kept : (config : Configuration) → IsKeptPart (world.opened config)
 opened_kept config = record {

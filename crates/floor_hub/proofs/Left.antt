@@ -5,7 +5,7 @@ use Rattle.std.proofs.lemmas.Bool.{eqb-true, ne_eqb}
 use Rattle.std.proofs.lemmas.Option.{none-some}
 use Rattle.floor_machine.specs.declared.event.Event.{Event}
 use Rattle.floor_machine.specs.declared.event.Event.TheVariants.{Join, Message, Took, Leave}
-use Rattle.floor_machine.specs.declared.machine.Refusal.TheVariants.{Broken, Ended, NoMember, NoUser, Full, NoRequest, Cut, BadCount, Memory}
+use Rattle.floor_machine.specs.declared.machine.Refusal.TheVariants.{Broken, Ended, NoMember, NoUser, Full, NoRequest, Cut, BadCount, Memory, OutOfRange, DoubleUser, DoubleFloor, NoFloor, UnknownChair}
 use Rattle.floor_machine.specs.Journal.{parcels_of}
 use Rattle.floor_room.specs.declared.refusal.RoomRefusal.{RoomRefusal}
 use Rattle.floor_room.specs.declared.refusal.RoomRefusal.TheVariants.{JournalFull, Refused as ByMachine}
@@ -78,6 +78,11 @@ module _ (c : ℕ) (old new : Hub) (r s : Room) (was : room_at old c ≡ Some r)
   left-room own e (ByMachine NoRequest) is left same = unchanged left same
   left-room own e (ByMachine Cut) is left same = unchanged left same
   left-room own e (ByMachine BadCount) is left same = unchanged left same
+  left-room own e (ByMachine OutOfRange) is left same = unchanged left same
+  left-room own e (ByMachine DoubleUser) is left same = unchanged left same
+  left-room own e (ByMachine DoubleFloor) is left same = unchanged left same
+  left-room own e (ByMachine NoFloor) is left same = unchanged left same
+  left-room own e (ByMachine UnknownChair) is left same = unchanged left same
   left-room own e (ByMachine Memory) is left same = (breaks own (broken-off (own r) r s e is left), same)
 
 module _ (own : Room → List Event) (e : Event) (c : ℕ) (old new : Hub) (is : (r : Room) → own r ≡ e ∷ []) (arrivals : new.arrivals ≡ old.arrivals) where

@@ -2,13 +2,16 @@
 use Rattle.std.proofs.Common.{◌≡◌, ◌≢◌, inl, inr, ℕ, ◌+◌, Bool, true, false, cond, length, List, [], ◌∷◌, ◌++◌, refl, sym, ◌∙◌, ap, subst, append-nil, Some, None, map, take}
 use Rattle.std.specs.Prelude.{Option, ◌↔◌, count_by, if◌then◌else◌, is_some, nat_eq, nat_le, not, Result, Ok, Err, IfErr, OnOk}
 use Rattle.std.proofs.lemmas.Option.{none-some}
+use Rattle.floor_config.specs.declared.fault.ConfigFault.{ConfigFault}
+use Rattle.floor_config.specs.declared.fault.ConfigFault.TheVariants as faults
+use Rattle.floor_config.specs.Changed.{chair_fault, floor_fault, user_fault}
 use Rattle.floor_machine.specs.declared.event.Event.{Event}
-use Rattle.floor_machine.specs.declared.event.Event.TheVariants.{Join, Message, Took, Leave, Revoke, Close}
-use Rattle.floor_machine.specs.declared.machine.Refusal.TheVariants.{Broken, Ended, NoMember, NoUser, Full, NoRequest, Cut, BadCount, Memory}
+use Rattle.floor_machine.specs.declared.event.Event.TheVariants.{Join, Message, Took, Leave, Revoke, Close, AddUser, AddFloor, SetChair}
+use Rattle.floor_machine.specs.declared.machine.Refusal.TheVariants.{Broken, Ended, NoMember, NoUser, Full, NoRequest, Cut, BadCount, Memory, OutOfRange, DoubleUser, DoubleFloor, NoFloor, UnknownChair}
 use Rattle.floor_machine.specs.Parcel.{Parcel}
 use Rattle.floor_machine.specs.declared.machine.Refusal.{Refusal}
 use Rattle.floor_machine.specs.Conference.{Conference, is_cut, is_live}
-use Rattle.floor_machine.specs.Machine.{event_refusal, is_backlog, whole}
+use Rattle.floor_machine.specs.Machine.{event_refusal, is_backlog, whole, refusal_of_fault}
 use Rattle.std.specs.Option.{option_map}
 use Rattle.floor_config.specs.Lookup.{is_user}
 use Rattle.floor_wire.specs.Message.{messages}
@@ -47,6 +50,9 @@ queues-new put n (Took m k) = tt
 queues-new put n (Leave m) = tt
 queues-new put n (Revoke request) = tt
 queues-new put n Close = tt
+queues-new put n (AddUser user) = tt
+queues-new put n (AddFloor floor) = tt
+queues-new put n (SetChair floor chair) = tt
 
 -- what an event tells waits behind what waited
 pub queues-more : (put : List Parcel) (n : ℕ) (e : Event) (os : List Outbox) → QueuesMore os (delivered put n (os ++ joined e))
@@ -140,6 +146,24 @@ close_not : (a : Bool) → ◌≡◌ {A = Option Refusal} (cond (not a) (Some En
 close_not false e = cc
 close_not true e = cc
 
+fault_named : (fault : ConfigFault) → refusal_of_fault fault ≡ Broken → ⊥
+fault_named faults.OutOfRange e = cc
+fault_named faults.DoubleUser e = cc
+fault_named faults.DoubleFloor e = cc
+fault_named faults.NoFloor e = cc
+fault_named faults.UnknownChair e = cc
+fault_named faults.Memory e = cc
+fault_named faults.Syntax e = cc
+fault_named faults.MissingKey e = cc
+fault_named faults.WrongType e = cc
+fault_named faults.DoubleConference e = cc
+fault_named faults.DoublePort e = cc
+
+fault_not : (a : Bool) (fault : Option ConfigFault) → ◌≡◌ {A = Option Refusal} (cond (not a) (Some Ended) (option_map refusal_of_fault fault)) (Some Broken) → ⊥
+fault_not false fault e = cc
+fault_not true None e = cc
+fault_not true (Some fault) e = let same : refusal_of_fault fault ≡ Broken = cc in fault_named fault same
+
 event_not : (s : Conference) (e : Event) → event_refusal (whole s) e ≡ Some Broken → ⊥
 event_not s (Join user) h = join_not s.is_open (is_user s.config user) (nat_le 64 (count_by (λ m. m.is_live) s.members)) h
 event_not s (Message n bytes) h = further_not Cut (λ e. cc) s.is_open (is_live s n) (is_cut s n) h
@@ -147,6 +171,9 @@ event_not s (Took n k) h = further_not BadCount (λ e. cc) s.is_open (is_live s 
 event_not s (Leave n) h = member_not s.is_open (is_live s n) h
 event_not s (Revoke request) h = request_not s.is_open _ h
 event_not s Close h = close_not s.is_open h
+event_not s (AddUser user) h = fault_not s.is_open (user_fault s.config user) h
+event_not s (AddFloor floor) h = fault_not s.is_open (floor_fault s.config floor) h
+event_not s (SetChair floor chair) h = fault_not s.is_open (chair_fault s.config floor chair) h
 
 -- a room that isn't broken doesn't refuse as broken
 told-broken : (l : Ledger) (e : Event) (b : Bool) → l.is_broken ≡ b → IsRefusedBy {T = Unit {0}} (refusal l e) (Err (ByMachine Broken)) → b ≡ true
@@ -194,6 +221,11 @@ room-left own r s e (ByMachine Full) is by left = left-same own r s e (ByMachine
 room-left own r s e (ByMachine NoRequest) is by left = left-same own r s e (ByMachine NoRequest) (λ w. cc) refl by left
 room-left own r s e (ByMachine Cut) is by left = left-same own r s e (ByMachine Cut) (λ w. cc) refl by left
 room-left own r s e (ByMachine BadCount) is by left = left-same own r s e (ByMachine BadCount) (λ w. cc) refl by left
+room-left own r s e (ByMachine OutOfRange) is by left = left-same own r s e (ByMachine OutOfRange) (λ w. cc) refl by left
+room-left own r s e (ByMachine DoubleUser) is by left = left-same own r s e (ByMachine DoubleUser) (λ w. cc) refl by left
+room-left own r s e (ByMachine DoubleFloor) is by left = left-same own r s e (ByMachine DoubleFloor) (λ w. cc) refl by left
+room-left own r s e (ByMachine NoFloor) is by left = left-same own r s e (ByMachine NoFloor) (λ w. cc) refl by left
+room-left own r s e (ByMachine UnknownChair) is by left = left-same own r s e (ByMachine UnknownChair) (λ w. cc) refl by left
 room-left own r s e (ByMachine Memory) is by (inl off) = room-off by_broken own r s (sound-before r e r.ledger.is_broken refl by) off
 room-left own r s e (ByMachine Memory) is by (inr began) =
     room-event by_broken by_memory own r s e began.put true (sound-before r e r.ledger.is_broken refl by) (λ t. refl, λ w. refl) memory_broken

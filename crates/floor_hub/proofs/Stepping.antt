@@ -13,7 +13,7 @@ use Rattle.floor_wire.specs.Message.{IsMessage, messages}
 use Rattle.floor_wire.proofs.Messages.{messages-concat}
 use Rattle.floor_machine.specs.declared.act.Act.{Act}
 use Rattle.floor_machine.specs.declared.event.Event.{Event}
-use Rattle.floor_machine.specs.declared.event.Event.TheVariants.{Join, Message, Took as Takes, Leave as Leaves, Revoke, Close}
+use Rattle.floor_machine.specs.declared.event.Event.TheVariants.{Join, Message, Took as Takes, Leave as Leaves, Revoke, Close, AddUser, AddFloor, SetChair}
 use Rattle.floor_machine.specs.declared.machine.Refusal.TheVariants.{Ended}
 use Rattle.floor_machine.specs.declared.member.Member.{Member}
 use Rattle.floor_machine.specs.Conference.{Conference, is_live, member_with}
@@ -52,6 +52,9 @@ opened_now s (Takes n k) h = h.0
 opened_now s (Leaves n) h = h.0
 opened_now s (Revoke request) h = h.0
 opened_now s Close h = h
+opened_now s (AddUser user) h = h.0
+opened_now s (AddFloor floor) h = h.0
+opened_now s (SetChair floor chair) h = h.0
 
 accepted : (p : Part) (e : Event) → IsWhole e → IsLawful (state_of p) e → length p.events < 2000000 → refused p e ≡ None
 accepted p e framed lawful few =
@@ -138,10 +141,16 @@ goes_act c v p act f lawful few =
     framed : (act : Act) → IsWhole (event_of_act act)
     framed (Act.Revoke request) = tt
     framed Act.Close = tt
+    framed (Act.AddUser user) = tt
+    framed (Act.AddFloor floor) = tt
+    framed (Act.SetChair floor chair) = tt
 
     none : (act : Act) → joins (event_of_act act) ≡ 0
     none (Act.Revoke request) = refl
     none Act.Close = refl
+    none (Act.AddUser user) = refl
+    none (Act.AddFloor floor) = refl
+    none (Act.SetChair floor chair) = refl
 
 -- some of the parcels to a live member are acknowledged
 goes_took : (c : ℕ) (v : World) (p : Part) (n k : ℕ) (a : Arrival) → Follows c v p → IsLawful (state_of p) (Takes n k) → length p.events < 2000000 →
@@ -373,6 +382,9 @@ goes c v p (Leaves n) f lawful few =
     (gone p n found.0 (Leaves n ∷ []), goes_leave c v p n found.0 f lawful few found.1 found.2, refl, refl)
 goes c v p (Revoke request) f lawful few = (with_events p (Revoke request ∷ []), goes_act c v p (Act.Revoke request) f lawful few, refl, refl)
 goes c v p Close f lawful few = (with_events p (Close ∷ []), goes_act c v p Act.Close f lawful few, refl, refl)
+goes c v p (AddUser user) f lawful few = (with_events p (AddUser user ∷ []), goes_act c v p (Act.AddUser user) f lawful few, refl, refl)
+goes c v p (AddFloor floor) f lawful few = (with_events p (AddFloor floor ∷ []), goes_act c v p (Act.AddFloor floor) f lawful few, refl, refl)
+goes c v p (SetChair floor chair) f lawful few = (with_events p (SetChair floor chair ∷ []), goes_act c v p (Act.SetChair floor chair) f lawful few, refl, refl)
 
 -- the world has under c the part with these events more
 abbrev Ends : ℕ → World → Part → List Event → Type 0

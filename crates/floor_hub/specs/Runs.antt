@@ -6,7 +6,7 @@ use Rattle.floor_config.specs.Configuration.{Configuration}
 use Rattle.floor_machine.specs.Conference.{Conference}
 use Rattle.floor_machine.specs.declared.act.Act.{Act}
 use Rattle.floor_machine.specs.declared.event.Event.{Event}
-use Rattle.floor_machine.specs.declared.event.Event.TheVariants.{Join, Message, Took as Takes, Leave as Leaves, Revoke, Close}
+use Rattle.floor_machine.specs.declared.event.Event.TheVariants.{Join, Message, Took as Takes, Leave as Leaves, Revoke, Close, AddUser, AddFloor, SetChair}
 use Rattle.floor_machine.specs.Journal.{Q, told_from}
 use Rattle.floor_machine.specs.Machine.{event_of_act}
 use Rattle.floor_machine.specs.Outgoing.{outgoing_bytes}
@@ -102,6 +102,9 @@ steps_for c (Takes n k) = Took n k ∷ []
 steps_for c (Leaves n) = Leave n ∷ []
 steps_for c (Revoke request) = Admin c (Act.Revoke request) ∷ []
 steps_for c Close = Admin c Act.Close ∷ []
+steps_for c (AddUser user) = Admin c (Act.AddUser user) ∷ []
+steps_for c (AddFloor floor) = Admin c (Act.AddFloor floor) ∷ []
+steps_for c (SetChair floor chair) = Admin c (Act.SetChair floor chair) ∷ []
 
 -- the steps that give a conference these events: its Open, then those of each event
 abbrev pub steps_of : Configuration → List Event → List Step

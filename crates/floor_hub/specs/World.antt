@@ -6,7 +6,7 @@ use Rattle.floor_config.specs.Configuration.{Configuration}
 use Rattle.floor_wire.specs.Message.{messages}
 use Rattle.floor_machine.specs.Conference.{Conference}
 use Rattle.floor_machine.specs.declared.event.Event.{Event}
-use Rattle.floor_machine.specs.declared.event.Event.TheVariants.{Join, Message, Took as Takes, Leave as Leaves, Revoke, Close}
+use Rattle.floor_machine.specs.declared.event.Event.TheVariants.{Join, Message, Took as Takes, Leave as Leaves, Revoke, Close, AddUser, AddFloor, SetChair}
 use Rattle.floor_machine.specs.declared.machine.Refusal.TheVariants.{Ended}
 use Rattle.floor_machine.specs.Journal.{MAX_EVENTS, after}
 use Rattle.floor_machine.specs.Machine.{event_of_act}
@@ -228,3 +228,6 @@ messages_of n (Takes m k ∷ es) = messages_of n es
 messages_of n (Leaves m ∷ es) = messages_of n es
 messages_of n (Revoke request ∷ es) = messages_of n es
 messages_of n (Close ∷ es) = messages_of n es
+messages_of n (AddUser user ∷ es) = messages_of n es
+messages_of n (AddFloor floor ∷ es) = messages_of n es
+messages_of n (SetChair floor chair ∷ es) = messages_of n es

@@ -186,7 +186,8 @@ impl Hub {
     }
 
     /// Does what the administrator of a conference does. Refused by `NoConference`, else as the
-    /// room refuses it: `Broken`, `Ended`, `JournalFull`, `NoRequest`. After a `Memory` the room is
+    /// room refuses it: `Broken`, `Ended`, `JournalFull`, then `NoRequest`, or `OutOfRange`,
+    /// `DoubleUser`, `DoubleFloor`, `NoFloor`, `UnknownChair`. After a `Memory` the room is
     /// broken off.
     pub fn admin(&mut self, conference: u32, act: Act) -> Result<(), HubRefusal>
         ensures next { (w : World) → StandsFor self.old w → MatchResult result

@@ -16,7 +16,9 @@ mod step;
 mod transcript;
 
 pub use connection::ConnNo;
-pub use floor_room::{Act, Config, Event, Frame, Parcel, Refusal, RoomRefusal, Status};
+pub use floor_room::{
+    Act, Config, Event, Floor, Frame, Parcel, Refusal, RoomRefusal, Status, User,
+};
 pub use floor_wire::Octets;
 pub use hub::Hub;
 pub use laws::{

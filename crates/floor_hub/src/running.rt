@@ -86,7 +86,7 @@ fn step(
         Step::Serve(number) => serve(hub, *number),
         Step::Took { number, k } => took(hub, *number, *k),
         Step::Leave(number) => leave(hub, *number),
-        Step::Admin { conference, act } => admin(hub, *conference, act.copy()),
+        Step::Admin { conference, act } => admin(hub, alloc, *conference, act),
     }
 }
 
@@ -146,11 +146,14 @@ fn leave(hub: &mut Hub, number: ConnNo) -> Result<Answer, Memory>
     done(hub.leave(number))
 }
 
-fn admin(hub: &mut Hub, conference: u32, act: Act) -> Result<Answer, Memory>
+fn admin(hub: &mut Hub, alloc: Global, conference: u32, act: &Act) -> Result<Answer, Memory>
     ensures { (places : List Placed)
-        → Goes hub.old hub.new places places (Admin conference act) result }
+        → Goes hub.old hub.new places places (Admin conference act.now) result }
 {
-    done(hub.admin(conference, act))
+    match act.copy(alloc) {
+        Ok(copy) => done(hub.admin(conference, copy)),
+        Err(_) => Err(Memory),
+    }
 }
 
 /// The answer that a refusal is, unless it is want of memory, now or before.

@@ -8,7 +8,7 @@ use Rattle.floor_machine.specs.declared.event.Event.{Event}
 use Rattle.floor_machine.specs.declared.event.Event.TheVariants.{Join}
 use Rattle.floor_machine.specs.Events.{joiner}
 use Rattle.floor_machine.specs.Parcel.{Parcel}
-use Rattle.floor_machine.specs.declared.machine.Refusal.TheVariants.{Broken, Ended, NoMember, NoUser, Full, NoRequest, Cut, BadCount, Memory}
+use Rattle.floor_machine.specs.declared.machine.Refusal.TheVariants.{Broken, Ended, NoMember, NoUser, Full, NoRequest, Cut, BadCount, Memory, OutOfRange, DoubleUser, DoubleFloor, NoFloor, UnknownChair}
 use Rattle.floor_machine.specs.Conference.{Conference, opening}
 use Rattle.floor_machine.specs.Change.{IsLawful}
 use Rattle.floor_machine.specs.Journal.{IsLawfulFrom, after, parcels_of, parcels_from, sent_to}
@@ -165,6 +165,11 @@ keeps-unadded r new why room_for k h = by why h
     by (Refused NoRequest) e = same e
     by (Refused Cut) e = same e
     by (Refused BadCount) e = same e
+    by (Refused OutOfRange) e = same e
+    by (Refused DoubleUser) e = same e
+    by (Refused DoubleFloor) e = same e
+    by (Refused NoFloor) e = same e
+    by (Refused UnknownChair) e = same e
     by (Refused Memory) e =
         subst (λ (x : Ledger). Keeps (record { ledger = x; outboxes = r.outboxes }) room_for) (sym e) (keeps-broken r room_for k)
 
@@ -209,6 +214,11 @@ left-unadded r new e why h = by why h
     by (Refused NoRequest) is = same r.ledger is
     by (Refused Cut) is = same r.ledger is
     by (Refused BadCount) is = same r.ledger is
+    by (Refused OutOfRange) is = same r.ledger is
+    by (Refused DoubleUser) is = same r.ledger is
+    by (Refused DoubleFloor) is = same r.ledger is
+    by (Refused NoFloor) is = same r.ledger is
+    by (Refused UnknownChair) is = same r.ledger is
     by (Refused Memory) is = inl (same (broken_off r.ledger) is)
 
 -- a call is refused as the call that it makes

@@ -9,7 +9,7 @@ use Rattle.floor_config.specs.Configuration.{Configuration}
 use Rattle.floor_machine.specs.declared.event.Event.{Event}
 use Rattle.floor_machine.specs.Parcel.{Parcel}
 use Rattle.floor_machine.specs.declared.machine.Refusal.{Refusal}
-use Rattle.floor_machine.specs.declared.machine.Refusal.TheVariants.{Broken, Ended, NoMember, NoUser, Full, NoRequest, Cut, BadCount, Memory}
+use Rattle.floor_machine.specs.declared.machine.Refusal.TheVariants.{Broken, Ended, NoMember, NoUser, Full, NoRequest, Cut, BadCount, Memory, OutOfRange, DoubleUser, DoubleFloor, NoFloor, UnknownChair}
 use Rattle.floor_machine.specs.Conference.{Conference, opening}
 use Rattle.floor_machine.specs.Change.{IsLawful}
 use Rattle.floor_machine.specs.Journal.{IsJournal, IsLawfulFrom, Q, after, after_from, parcel, parcels_of, parcels_from, sent_to, told_from}
@@ -132,6 +132,11 @@ refused-unlawful m e refusal same framed other h lawful =
     by NoRequest o k = k
     by Cut o k = k
     by BadCount o k = k
+    by OutOfRange o k = k
+    by DoubleUser o k = k
+    by DoubleFloor o k = k
+    by NoFloor o k = k
+    by UnknownChair o k = k
     by Memory o k = o refl
 
 bytes_of-parcels : (n : ℕ) (ms : List Outgoing) → bytes_of (map (parcel n) ms) ≡ concat (map outgoing_bytes ms)

@@ -1,9 +1,11 @@
 //! What happened in a conference, event by event.
 
 ghost use Rattle.std.specs.Prelude.{◌≡◌, ◌+◌, ◌-◌, ◌++◌, ◌<◌, ◌≤◌, IfOk, OnOk, drop, length, string_bytes, take};
-ghost use Rattle.floor_room.specs.Text.{end_line, journal_text, line, lines};
+ghost use Rattle.floor_machine.specs.declared.event.Event.TheVariants.{AddUser};
+ghost use Rattle.floor_room.specs.Text.{end_line, journal_text, line, lines, number_word, text_word};
 
-use floor_machine::Event;
+use floor_config::Text;
+use floor_machine::{Event, User};
 use std::alloc::{AllocError, Global};
 
 /// The place of an event in the journal, from 1.
@@ -90,5 +92,54 @@ fn line(alloc: Global, place: usize, event: &Event) -> Result<String, AllocError
         Event::Leave { n } => format!(in alloc; "{place} leave {n}\n"),
         Event::Revoke { request } => format!(in alloc; "{place} revoke {request}\n"),
         Event::Close => format!(in alloc; "{place} close\n"),
+        Event::AddUser { user } => user_line(alloc, place, user),
+        Event::AddFloor { floor } => {
+            let id = floor.id;
+            let room = floor.room;
+            let chair = number_word(alloc, floor.chair)?;
+            format!(in alloc; "{place} floor {id} {room} {chair}\n")
+        }
+        Event::SetChair { floor, chair } => {
+            let chair = number_word(alloc, *chair)?;
+            format!(in alloc; "{place} chair {floor} {chair}\n")
+        }
+    }
+}
+
+/// The line of a user that was added at this place.
+fn user_line(alloc: Global, place: usize, user: &User) -> Result<String, AllocError>
+    ensures { IfOk result (λ text. string_bytes text ≡ line place (AddUser user.now)) }
+{
+    let id = user.id;
+    let proxy = if user.proxy { "1" } else { "0" };
+    let name = text_word(alloc, &user.name)?;
+    let uri = text_word(alloc, &user.uri)?;
+    format!(in alloc; "{place} user {id} {proxy} {name} {uri}\n")
+}
+
+/// A text in hexadecimal, lower case, and `-` for an absent or empty one.
+fn text_word(alloc: Global, text: &Option<Text>) -> Result<String, AllocError>
+    ensures { IfOk result (λ word. string_bytes word ≡ text_word text.now) }
+{
+    match text {
+        Some(text) => {
+            let bytes = text.as_str().as_bytes();
+            if bytes.is_empty() {
+                String::from_str(alloc, "-")
+            } else {
+                hex::encode(alloc, bytes)
+            }
+        }
+        None => String::from_str(alloc, "-"),
+    }
+}
+
+/// A number, and `-` for none.
+fn number_word(alloc: Global, number: Option<u16>) -> Result<String, AllocError>
+    ensures { IfOk result (λ word. string_bytes word ≡ number_word number) }
+{
+    match number {
+        Some(number) => format!(in alloc; "{number}"),
+        None => String::from_str(alloc, "-"),
     }
 }

@@ -14,7 +14,7 @@ use Rattle.floor_machine.specs.Journal.{IsLawfulFrom, after, parcels_of, sent_to
 use Rattle.floor_machine.proofs.Runs.{after_from-more, members-after}
 use Rattle.floor_machine.specs.Membership.{joins}
 use Rattle.floor_machine.proofs.Staying as members
-use Rattle.floor_machine.specs.declared.machine.Refusal.TheVariants.{Broken, Ended, NoMember, NoUser, Full, NoRequest, Cut, BadCount, Memory}
+use Rattle.floor_machine.specs.declared.machine.Refusal.TheVariants.{Broken, Ended, NoMember, NoUser, Full, NoRequest, Cut, BadCount, Memory, OutOfRange, DoubleUser, DoubleFloor, NoFloor, UnknownChair}
 use Rattle.floor_machine.specs.Next.{next}
 use Rattle.floor_room.specs.declared.refusal.RoomRefusal.{RoomRefusal}
 use Rattle.floor_room.specs.declared.refusal.RoomRefusal.TheVariants.{JournalFull, Refused}
@@ -279,6 +279,11 @@ booth-unadded b now senders (Refused Full) h e f = same_booth b.ledger now b.sen
 booth-unadded b now senders (Refused NoRequest) h e f = same_booth b.ledger now b.senders senders e f h
 booth-unadded b now senders (Refused Cut) h e f = same_booth b.ledger now b.senders senders e f h
 booth-unadded b now senders (Refused BadCount) h e f = same_booth b.ledger now b.senders senders e f h
+booth-unadded b now senders (Refused OutOfRange) h e f = same_booth b.ledger now b.senders senders e f h
+booth-unadded b now senders (Refused DoubleUser) h e f = same_booth b.ledger now b.senders senders e f h
+booth-unadded b now senders (Refused DoubleFloor) h e f = same_booth b.ledger now b.senders senders e f h
+booth-unadded b now senders (Refused NoFloor) h e f = same_booth b.ledger now b.senders senders e f h
+booth-unadded b now senders (Refused UnknownChair) h e f = same_booth b.ledger now b.senders senders e f h
 
 -- the members after a join
 pub booth-number : (b : Booth) (out : List Parcel) (s : Sender) (senders put : List (Option Sender)) → IsBooth b → put ≡ fed out 1 senders → senders ≡ b.senders ++ Some s ∷ [] →

@@ -144,6 +144,11 @@ read-refused old mid new a b c held piece pushed refusal marked h more e g unmar
     by (Refused Refusal.NoRequest) k = (k, refl, unmarked)
     by (Refused Refusal.Cut) k = (k, refl, unmarked)
     by (Refused Refusal.BadCount) k = (k, refl, unmarked)
+    by (Refused Refusal.OutOfRange) k = (k, refl, unmarked)
+    by (Refused Refusal.DoubleUser) k = (k, refl, unmarked)
+    by (Refused Refusal.DoubleFloor) k = (k, refl, unmarked)
+    by (Refused Refusal.NoFloor) k = (k, refl, unmarked)
+    by (Refused Refusal.UnknownChair) k = (k, refl, unmarked)
     by (Refused Refusal.Memory) k = (k, unmarked)
 
 -- a piece finds no memory

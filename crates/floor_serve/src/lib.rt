@@ -27,7 +27,9 @@ pub use desk::Desk;
 pub use end::finish::{Report, finish};
 pub use fault::{DeskRefusal, FinishFault, OpenRefusal, ReadFault, WriteFault};
 pub use floor_outbox::{ClosedMark, Outbox, Parcel, Sender, Taker};
-pub use floor_room::{Act, Config, Event, Frame, Phase, Place, Refusal, RoomRefusal, Status};
+pub use floor_room::{
+    Act, Config, Event, Floor, Frame, Phase, Place, Refusal, RoomRefusal, Status, User,
+};
 pub use floor_wire::Octets;
 pub use gate::{FreePass, Gate};
 pub use marked::{Marked, Sink, Source};
