@@ -1,5 +1,7 @@
 //! Runs of a room, as lines that act on it and lines that they answer, and a full journal.
 
+mod changes;
+
 use crate::cases::{assert_told, barred, differing};
 use crate::framed::message;
 use crate::hexadecimal::{frame, spelled};
@@ -230,8 +232,17 @@ fn status(alloc: Global, room: &Room) -> Result<String, AllocError> {
 }
 
 fn replayed(alloc: Global, events: &[Event], n: u32) -> Result<String, AllocError> {
-    let config = Config::demonstration(alloc)?;
-    match replay(alloc, &config, events, n) {
+    replayed_from(alloc, &Config::demonstration(alloc)?, events, n)
+}
+
+/// What the events tell a member, from the configuration with which the conference opened.
+fn replayed_from(
+    alloc: Global,
+    config: &Config,
+    events: &[Event],
+    n: u32,
+) -> Result<String, AllocError> {
+    match replay(alloc, config, events, n) {
         Ok(bytes) if bytes.is_empty() => String::from_str(alloc, "none"),
         Ok(bytes) => sent_bytes(alloc, &bytes),
         Err(ReplayFault::NotAJournal(place)) => format!(in alloc; "NotAJournal {place}"),
