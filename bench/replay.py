@@ -126,7 +126,16 @@ class Peer:
             self.socket = None
 
     def give_up(self):
+        """It was cut off: what has come until then is still heard."""
         self.how = 'cut off'
+        try:
+            self.socket.setblocking(False)
+            piece = self.socket.recv(65536)
+            while piece:
+                self.heard += piece
+                piece = self.socket.recv(65536)
+        except OSError:
+            pass
         self.socket.close()
         self.socket = None
 
@@ -359,6 +368,10 @@ def compare(conference, users, sent, taken, told, peers, counts):
             raise Difference('member %d is user %d, and was %d' % (n, user, of))
         if sent[n] != messages_[:len(sent[n])]:
             raise Difference('member %d sent something else than the journal has' % n)
+        # More was called for than it was told, unless the server cut it.
+        is_cut = len(told[n]) - taken[n] >= BEHIND
+        if is_cut:
+            how = 'no end' if how == 'no end' else 'by the server'
         if conference == CONFERENCES and how == 'in order':
             # Its conference was closed, perhaps before it had heard all.
             how = 'cut off'
@@ -373,12 +386,13 @@ def compare(conference, users, sent, taken, told, peers, counts):
                       min(len(heard), len(wanted)))
             raise Difference('member %d, byte %d of %d: %s is heard, %s is called for' % (
                 n, at, len(wanted), heard[at:at + 32].hex(), wanted[at:at + 32].hex()))
-        is_cut = len(told[n]) - taken[n] >= BEHIND
-        if is_cut and how == 'in order':
+        if is_cut and len(heard) == len(wanted):
             raise Difference('member %d has %d messages, of which it acknowledged %d, and is not cut' % (
                 n, len(told[n]), taken[n]))
-        counts['by the server' if is_cut else how] += 1
+        counts[how] += 1
         counts['bytes'] += len(heard)
+        if is_cut:
+            counts['bytes of cut'] += len(heard)
         for text in told[n]:
             counts['primitive %d' % text[1]] += 1
     for _, user, _, _, heard, how in by_mark.values():
@@ -465,9 +479,10 @@ def main():
         began = time.monotonic()
         events, counts = round_of(sys.argv[1], sys.argv[2], seed)
         print('seed %d: %d events, %d members; %d streams heard whole, %d in part, %d of members that '
-              'the server cut, %d bytes, all as the journal calls for (%.1f s)' % (
+              'the server cut (%d bytes), %d bytes, all as the journal calls for (%.1f s)' % (
                   seed, events, counts['members'], counts['in order'], counts['cut off'],
-                  counts['by the server'], counts['bytes'], time.monotonic() - began))
+                  counts['by the server'], counts['bytes of cut'], counts['bytes'],
+                  time.monotonic() - began))
         print('    %s' % ', '.join('%s: %d' % pair for pair in sorted(counts.items())
                                    if pair[0].startswith('primitive')), flush=True)
 
