@@ -1,0 +1,12 @@
+mod Effects
+mod Fronts
+mod Closing
+mod Heard
+mod Carried
+mod Turns
+mod Telling
+mod Calls
+mod Appending
+mod Paths
+mod Ends
+mod Differing

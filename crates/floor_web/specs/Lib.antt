@@ -1,0 +1,14 @@
+-- What a reader has to believe, in the order of reading.
+pub mod End
+pub mod Frames
+pub mod Relay
+pub mod Refusal
+pub mod Fields
+pub mod Origins
+pub mod Asked
+pub mod Head
+pub mod Kinds
+pub mod Replies
+pub mod Tokens
+-- the steps of the proofs
+pub mod steps

@@ -1,0 +1,81 @@
+//! Why a relay ended, and the code that its WebSocket is closed by (RFC 6455, section 7.4.1).
+
+ghost use Rattle.std.specs.Prelude.{◌≡◌};
+ghost use Rattle.floor_web.specs.End as spec;
+
+use websocket::error::Error;
+use websocket::protocol::CloseCode;
+
+/// Why a relay carries nothing any more.
+#[derive(Clone, Copy, Debug, PartialEq, Eq)]
+pub enum End {
+    /// The browser closed the WebSocket, and its close is answered.
+    Closed,
+    /// The browser's stream ended without a close.
+    Gone,
+    /// The floor control server's stream ended, or it refused the connection. Code 1001.
+    ServerGone,
+    /// The browser broke the protocol of WebSocket (RFC 6455). Code 1002.
+    Broken,
+    /// The browser sent a message in fragments (RFC 8857, section 4.2). Code 1002.
+    Fragment,
+    /// The browser sent a text: BFCP is carried in binary messages alone (RFC 8857, section 4.2).
+    /// Code 1003.
+    Text,
+    /// The browser sent a text, or the reason of a close, that is no UTF-8. Code 1007.
+    NoUtf8,
+    /// The browser sent a binary message that isn't exactly one BFCP message. Code 1007.
+    NoMessage,
+    /// The browser sent a frame that is longer than any BFCP message. Code 1009.
+    TooLong,
+    /// Memory was refused. Code 1011, where there is memory for it.
+    Memory,
+}
+
+impl End {
+    /// Its name.
+    pub fn name(self) -> &'static str
+        ensures { result.now ≡ spec.name_of self }
+    {
+        match self {
+            End::Closed => "Closed",
+            End::Gone => "Gone",
+            End::ServerGone => "ServerGone",
+            End::Broken => "Broken",
+            End::Fragment => "Fragment",
+            End::Text => "Text",
+            End::NoUtf8 => "NoUtf8",
+            End::NoMessage => "NoMessage",
+            End::TooLong => "TooLong",
+            End::Memory => "Memory",
+        }
+    }
+
+    /// The code of the close that the browser is sent for it; none where the browser's own close is
+    /// answered, or nothing reaches the browser any more.
+    pub fn code(self) -> Option<CloseCode>
+        ensures { result ≡ spec.code_of self }
+    {
+        match self {
+            End::Closed | End::Gone => None,
+            End::ServerGone => Some(CloseCode::Away),
+            End::Broken | End::Fragment => Some(CloseCode::Protocol),
+            End::Text => Some(CloseCode::Unsupported),
+            End::NoUtf8 | End::NoMessage => Some(CloseCode::Invalid),
+            End::TooLong => Some(CloseCode::Size),
+            End::Memory => Some(CloseCode::Error),
+        }
+    }
+}
+
+/// The end that an error of the WebSocket is.
+pub(crate) fn end_of_error(error: Error) -> End
+    ensures { result ≡ spec.end_of_error error }
+{
+    match error {
+        Error::Capacity(_) => End::TooLong,
+        Error::Utf8 => End::NoUtf8,
+        Error::OutOfMemory => End::Memory,
+        Error::Protocol(_) | Error::ConnectionClosed | Error::AlreadyClosed => End::Broken,
+    }
+}
