@@ -5,10 +5,11 @@
 
 Makes COUNT scripts (200 if absent) of 150 lines over three conferences, one for each seed from FIRST (0 if
 absent) on: connections that come and leave, messages of every kind, cut anywhere and malformed ones among
-them, revokes and closes. Each script is run whole, and then once for each conference with that conference's
-lines alone, its connections under the numbers that they have there. What the conference's lines print is to
-be the same. What all scripts print has to reach grants, queues, each refusal and so on, three times each.
-Prints how many lines were compared; status 1 where something differs or isn't reached.
+them, revokes and closes, users and floors that are added, chairs that are given and taken away. Each script
+is run whole, and then once for each conference with that conference's lines alone, its connections under the
+numbers that they have there. What the conference's lines print is to be the same. What all scripts print has
+to reach grants, queues, each refusal and so on, three times each. Prints how many lines were compared;
+status 1 where something differs or isn't reached.
 """
 import random
 import subprocess
@@ -67,6 +68,9 @@ REACHED = {
     'a notice of a floor': '20080001000000030000', 'a connection': 'attached', 'no message': 'nothing',
     'no user': 'NoUser', 'no connection': 'NoConnection', 'no request': 'NoRequest',
     'a closed conference': 'Ended',
+    'a user who is there': 'DoubleUser', 'a floor that is there': 'DoubleFloor', 'no floor': 'NoFloor',
+    'no chair': 'UnknownChair', 'an act out of range': 'OutOfRange', "an added user's name": '1806446176650000',
+    'an added floor': '22080005', 'an added floor with a chair': '22080006',
     **{'Error %d' % code: '0c03%02x00' % code for code in (1, 2, 3, 5, 6, 7, 8, 10, 12, 14)}}
 
 # Behind each line: nothing else attaches to conference 0, so that what a line prints ends with this.
@@ -90,19 +94,20 @@ class Script:
         self.random = random.Random(seed)
         self.connections = []
         self.closed = set()
+        self.users = {it: {10, 11, 12, 13} for it in range(1, CONFERENCES + 1)}
         self.lines = []
         for place in range(LINES):
-            choice = self.random.randrange(20) if place >= 8 else 0
+            choice = self.random.randrange(22) if place >= 8 else 0
             if choice <= 2:
                 self.attach()
-            elif choice == 3:
+            elif choice in (3, 20, 21):
                 self.administer()
             else:
                 self.use(choice)
 
     def attach(self):
         conference = self.random.randint(1, CONFERENCES)
-        user = 99 if self.random.randrange(20) == 0 else self.random.randint(10, 13)
+        user = 99 if self.random.randrange(20) == 0 else self.random.choice(sorted(self.users[conference]))
         self.lines.append((conference, 'attach %d %d' % (conference, user), None, ''))
         if user != 99 and conference not in self.closed:
             number = 1 + sum(it['conference'] == conference for it in self.connections)
@@ -110,11 +115,32 @@ class Script:
 
     def administer(self):
         conference = self.random.randint(1, CONFERENCES)
-        if self.random.randrange(8) == 0:
+        choice = self.random.randrange(16)
+        if choice == 0:
             self.closed.add(conference)
-            self.lines.append((conference, 'close %d' % conference, None, ''))
+            line = 'close %d' % conference
+        elif choice <= 4:
+            line = 'revoke %d %d' % (conference, self.request())
+        elif choice <= 7:
+            line = self.user(conference)
+        elif choice <= 10:
+            line = 'floor %d %d%s%s' % (
+                conference, self.random.randint(3, 6), self.random.choice(('', ' room 2', ' room 0')),
+                self.random.choice(('', ' chair 12', ' chair %d' % self.random.randint(10, 17))))
         else:
-            self.lines.append((conference, 'revoke %d %d' % (conference, self.request()), None, ''))
+            line = 'chair %d %d%s' % (
+                conference, self.random.randint(1, 6),
+                self.random.choice(('', ' 12', ' %d' % self.random.randint(10, 17))))
+        self.lines.append((conference, line, None, ''))
+
+    def user(self, conference):
+        """The line of a user who is added, unless one has the number."""
+        number = self.random.randint(12, 17)
+        name = self.random.choice(('', ' name Dave', ' name Dave', ' name ' + 31 * 'x'))
+        if conference not in self.closed and len(name) < 30:
+            self.users[conference].add(number)
+        return 'user %d %d%s%s%s' % (conference, number, self.random.choice(('', ' proxy')),
+                                     self.random.choice(('', ' port 7')), name)
 
     def use(self, choice):
         if not self.connections:
@@ -144,9 +170,9 @@ class Script:
             '#c': lambda: '%08x' % connection['conference'],
             '#t': lambda: '%04x' % self.random.randint(1, 9),
             '#u': lambda: '%04x' % connection['user'],
-            '#f': lambda: '%04x' % self.random.randint(1, 4),
+            '#f': lambda: '%04x' % self.random.randint(1, 6),
             '#r': lambda: '%04x' % self.request(),
-            '#b': lambda: '%04x' % self.random.randint(10, 14),
+            '#b': lambda: '%04x' % self.random.randint(10, 17),
             '#p': lambda: '%04x' % (0x2000 * self.random.randrange(5)),
             '#v': lambda: '%04x' % self.random.choice(VERDICTS)}
         return values[word]() if word in values else word

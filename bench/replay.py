@@ -1,17 +1,19 @@
 #!/usr/bin/env python3
-"""Does the server send what its journal calls for? ./replay.py FLOORD FLOORSIM [SEED [ROUNDS]]
+"""Does the server send what its journal calls for? ./replay.py FLOORD FLOORSIM [SEED [ROUNDS [STEPS]]]
 
 Random clients with a seed (1) play against floord: they ask, chair, watch, send nonsense, cut their
-messages anywhere, read late or never, leave, are cut off, while an administrator revokes and
-closes. In each conference some greet without ever reading, until they are more than 1,024 messages
-behind and the server cuts them. Then the console prints each conference's journal. The journal has to hold what each
-connection sent, in its order; and floorsim, which runs it as a script, has to print for each
-connection the bytes that it heard: all of them where it ended in order, else a beginning of them.
+messages anywhere, read late or never, leave, are cut off, while an administrator revokes, adds users
+and floors, gives floors other chairs or none, and closes. In each conference some greet without ever
+reading, until they are more than 1,024 messages behind and the server cuts them. Then the console prints
+each conference's journal. The journal has to hold what each connection sent, in its order; and floorsim,
+which runs it as a script from the configuration with which the conference was opened, has to print for
+each connection the bytes that it heard: all of them where it ended in order, else a beginning of them.
 An acknowledgement is no line of a script, which acknowledges all that it prints: so there nobody is
 cut, and who is cut by the server has heard a beginning of what is printed. Of the latter there has to
 be one in each round: the journal has more than 1,024 messages for it that it never acknowledged.
-So many rounds (3), each with the next seed. A difference is printed with its seed, conference,
-connection and place, and the script is kept; then the status is 1.
+So many rounds (3), each with the next seed; in rounds of less than 6,000 STEPS nobody greets so. A
+difference is printed with its seed, conference, connection and place, and the script is kept; then the
+status is 1.
 """
 import collections
 import multiprocessing
@@ -35,9 +37,13 @@ FIRST_PORT = 8200
 CONFERENCES = 4
 USERS = range(10, 16)
 FLOORS = range(1, 7)
+# Who and what may have been added.
+EVERYBODY = range(10, 20)
+ALL_FLOORS = range(1, 10)
+ACTS = ('revoked', 'user', 'floor', 'chair')
 DRIVERS = 3
 PEERS = 5
-STEPS = 6000
+CUTTING_STEPS = 6000
 DEADLINE = 60
 # A greeter sends so many Hellos at each of so many steps. Of their answers its sockets hold some 2,000.
 BURST, BURSTS = 200, 40
@@ -158,7 +164,7 @@ class Peer:
         return self.chance.choice(self.requests[-6:])
 
     def some(self, most):
-        return floors(*(self.chance.choice(FLOORS)
+        return floors(*(self.chance.choice(FLOORS if self.chance.random() < 0.8 else ALL_FLOORS)
                         for _ in range(self.chance.randint(1, most))))
 
     def reason(self):
@@ -177,7 +183,7 @@ class Peer:
         if kind == FLOOR_REQUEST:
             payload = self.some(3)
             if chance.random() < 0.3:
-                payload += number(BENEFICIARY_ID, chance.choice(USERS))
+                payload += number(BENEFICIARY_ID, chance.choice(EVERYBODY))
             if chance.random() < 0.5:
                 payload += attribute(PRIORITY, bytes([chance.randint(0, 255), 0]))
             if chance.random() < 0.3:
@@ -190,7 +196,7 @@ class Peer:
         elif kind == FLOOR_QUERY and chance.random() < 0.9:
             payload = self.some(6)
         elif kind == USER_QUERY and chance.random() < 0.5:
-            payload = number(BENEFICIARY_ID, chance.choice(USERS))
+            payload = number(BENEFICIARY_ID, chance.choice(EVERYBODY))
         return message(kind, self.conference, chance.randint(0, 65535), self.user, payload)
 
     def step(self):
@@ -261,16 +267,16 @@ def read_all(peers, seconds, deaf):
         reading[ready].read()
 
 
-def drive(seed, driver, closing, done, results):
+def drive(seed, driver, steps, closing, done, results):
     """Plays some connections of each conference."""
     chance = random.Random('%d %d' % (seed, driver))
     peers = []
     count = 0
-    for conference in range(1, CONFERENCES + 1):
+    for conference in range(1, CONFERENCES + 1 if steps >= CUTTING_STEPS else 1):
         count += 1
         peers.append(Greeter(chance, conference, chance.choice(USERS),
                              struct.pack('>HHI', seed & 0xffff, driver, count)))
-    for step in range(STEPS):
+    for step in range(steps):
         live = [peer for peer in peers if peer.socket and peer.goes_on]
         if len(live) < (PEERS + 1) * CONFERENCES:
             count += 1
@@ -281,7 +287,7 @@ def drive(seed, driver, closing, done, results):
         elif live:
             chance.choice(live).step()
         read_all(peers, 0, False)
-        if step == STEPS * 3 // 4:
+        if step == steps * 3 // 4:
             closing.set()
     for peer in peers:
         if peer.socket and peer.goes_on:
@@ -322,6 +328,16 @@ def script_of(conference, lines):
             script.append('leave %s' % words[2])
         elif words[1] == 'revoke':
             script.append('revoke %d %s' % (conference, words[2]))
+        elif words[1] == 'user':
+            name = '' if words[4] == '-' else ' name ' + bytes.fromhex(words[4]).decode()
+            script.append('user %d %s%s%s' % (conference, words[2], ' proxy' if words[3] == '1' else '', name))
+        elif words[1] == 'floor':
+            chair = '' if words[4] == '-' else ' chair ' + words[4]
+            script.append('floor %d %s room %s%s' % (conference, words[2], words[3], chair))
+        elif words[1] == 'chair':
+            script.append('chair %d %s %s' % (conference, words[2], words[3].replace('-', '')))
+        elif words[1] != 'close':
+            raise Difference('place %d of the journal is "%s"' % (place, line))
         else:
             script.append('close %d' % conference)
     if lines[-1] != 'end %d' % (len(lines) - 1):
@@ -405,8 +421,30 @@ def compare(conference, users, sent, taken, told, peers, counts):
                 user, heard[:64].hex()))
 
 
-def administer(server, chance, closing, done):
-    """Revokes now and then, and closes the last conference while its clients are at work."""
+def act(chance, conference, last):
+    """The line of an act, and what may answer it."""
+    choice = chance.random()
+    if choice < 0.7:
+        line = 'revoke %d %d' % (conference, chance.randint(1, last))
+        return line, (line.replace('revoke', 'ok revoked'), 'error NoRequest')
+    if choice < 0.8:
+        number = chance.choice(EVERYBODY)
+        name = chance.choice(('', ' name ' + chance.randint(1, 30) * 'y', ' name ' + 16 * '\u00e4'))
+        return ('user %d %d%s%s' % (conference, number, chance.choice(('', ' proxy')), name),
+                ('ok user %d %d' % (conference, number), 'error DoubleUser', 'error OutOfRange'))
+    chair = chance.choice((None, chance.choice(USERS), chance.choice(EVERYBODY)))
+    if choice < 0.85:
+        floor = chance.choice(ALL_FLOORS)
+        return ('floor %d %d room %d%s' % (conference, floor, chance.randint(1, 3),
+                                           ' chair %d' % chair if chair else ''),
+                ('ok floor %d %d' % (conference, floor), 'error DoubleFloor', 'error UnknownChair'))
+    floor = chance.choice(ALL_FLOORS)
+    return ('chair %d %d %s' % (conference, floor, chair or ''),
+            ('ok chair %d %d' % (conference, floor), 'error NoFloor', 'error UnknownChair'))
+
+
+def administer(server, chance, closing, done, counts):
+    """Acts now and then, and closes the last conference while its clients are at work."""
     is_closed = False
     while not done.is_set():
         if closing.is_set() and not is_closed:
@@ -416,21 +454,21 @@ def administer(server, chance, closing, done):
         conference = chance.randint(1, CONFERENCES)
         words = server.ask('status %d' % conference).split()
         last = max(1, int(words[7]) // 8)
-        line = 'revoke %d %d' % (conference, chance.randint(1, last))
-        wanted = (line.replace('revoke', 'ok revoked'), 'error NoRequest', 'error Ended')
+        line, wanted = act(chance, conference, last)
         answer = server.ask(line)
-        if answer not in wanted:
+        if answer not in wanted and answer != 'error Ended':
             raise Difference('%s is answered by %s' % (line, answer))
-        time.sleep(0.005)
+        counts[answer.split()[1] if answer.startswith('ok') else answer] += 1
+        time.sleep(0.001)
 
 
-def round_of(floord, floorsim, seed):
+def round_of(floord, floorsim, seed, steps):
     chance = random.Random(seed)
     texts = [configuration(chance, conference) for conference in range(1, CONFERENCES + 1)]
     server = Server(floord, ''.join(texts))
     results = multiprocessing.Queue()
     closing, done = multiprocessing.Event(), multiprocessing.Event()
-    drivers = [multiprocessing.Process(target=drive, args=(seed, k, closing, done, results),
+    drivers = [multiprocessing.Process(target=drive, args=(seed, k, steps, closing, done, results),
                                        daemon=True) for k in range(DRIVERS)]
     for driver in drivers:
         driver.start()
@@ -439,7 +477,7 @@ def round_of(floord, floorsim, seed):
     where = 'seed %d' % seed
     script = None
     try:
-        administer(server, chance, closing, done)
+        administer(server, chance, closing, done, counts)
         for _ in drivers:
             peers += results.get(timeout=2 * DEADLINE)
         events = 0
@@ -457,7 +495,7 @@ def round_of(floord, floorsim, seed):
         wanted = ('ok stopped seats %d events %d' % (counts['members'], events), 0)
         if report != wanted:
             raise Difference('the report is %s, not %s' % (report, wanted))
-        if not counts['by the server']:
+        if steps >= CUTTING_STEPS and not counts['by the server']:
             raise Difference('nobody was cut')
         return events, counts
     except (Difference, SystemExit) as fault:
@@ -475,16 +513,18 @@ def main():
         raise SystemExit(__doc__)
     first = int(sys.argv[3]) if len(sys.argv) > 3 else 1
     rounds = int(sys.argv[4]) if len(sys.argv) > 4 else 3
+    steps = int(sys.argv[5]) if len(sys.argv) > 5 else CUTTING_STEPS
     for seed in range(first, first + rounds):
         began = time.monotonic()
-        events, counts = round_of(sys.argv[1], sys.argv[2], seed)
+        events, counts = round_of(sys.argv[1], sys.argv[2], seed, steps)
         print('seed %d: %d events, %d members; %d streams heard whole, %d in part, %d of members that '
               'the server cut (%d bytes), %d bytes, all as the journal calls for (%.1f s)' % (
                   seed, events, counts['members'], counts['in order'], counts['cut off'],
                   counts['by the server'], counts['bytes of cut'], counts['bytes'],
                   time.monotonic() - began))
         print('    %s' % ', '.join('%s: %d' % pair for pair in sorted(counts.items())
-                                   if pair[0].startswith('primitive')), flush=True)
+                                   if pair[0].startswith(('primitive', 'error'))
+                                   or pair[0] in ACTS), flush=True)
 
 
 if __name__ == '__main__':

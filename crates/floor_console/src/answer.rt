@@ -1,7 +1,7 @@
 //! The text of each answer.
 
 ghost use Rattle.std.specs.Prelude.{◌≡◌, false, IfOk, Ok, Err, string_bytes};
-ghost use Rattle.floor_console.specs.Answer.{closed, faulty, opened, refused, revoked, standing, stopped};
+ghost use Rattle.floor_console.specs.Answer.{chair_set, closed, faulty, floor_added, opened, refused, revoked, standing, stopped, user_added};
 ghost use Rattle.floor_console.specs.Names.{is_memory};
 
 use crate::board::{BoardRefusal, StopRefusal, Stopped};
@@ -48,6 +48,27 @@ pub(crate) fn revoked(alloc: Global, conference: u32, request: u16) -> Result<St
     ensures { IfOk result (λ text. string_bytes text ≡ revoked conference request (Ok tt)) }
 {
     format!(in alloc; "ok revoked {conference} {request}\n")
+}
+
+/// The answer to `user`.
+pub(crate) fn user_added(alloc: Global, conference: u32, id: u16) -> Result<String, AllocError>
+    ensures { IfOk result (λ text. string_bytes text ≡ user_added conference id (Ok tt)) }
+{
+    format!(in alloc; "ok user {conference} {id}\n")
+}
+
+/// The answer to `floor`.
+pub(crate) fn floor_added(alloc: Global, conference: u32, id: u16) -> Result<String, AllocError>
+    ensures { IfOk result (λ text. string_bytes text ≡ floor_added conference id (Ok tt)) }
+{
+    format!(in alloc; "ok floor {conference} {id}\n")
+}
+
+/// The answer to `chair`.
+pub(crate) fn chair_set(alloc: Global, conference: u32, floor: u16) -> Result<String, AllocError>
+    ensures { IfOk result (λ text. string_bytes text ≡ chair_set conference floor (Ok tt)) }
+{
+    format!(in alloc; "ok chair {conference} {floor}\n")
 }
 
 /// The answer to `status`.

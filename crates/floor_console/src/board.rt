@@ -1,6 +1,6 @@
 //! What a console's lines are about.
 
-use floor_config::{ConfigFault, Text};
+use floor_config::{ConfigFault, Floor, Text, User};
 use floor_room::{RoomRefusal, Status};
 use std::alloc::AllocError;
 
@@ -88,7 +88,9 @@ pub enum StopRefusal {
 /// Its ghost members say which answers each call may give, and what becomes of the board: `opens`
 /// for `open`, and so on. A board that other threads share may give any.
 pub trait Board {
-    ghost use Rattle.std.specs.Prelude.{List, ℕ, Result};
+    ghost use Rattle.std.specs.Prelude.{List, ℕ, Option, Result};
+    ghost use Rattle.floor_config.specs.declared.floors.Floor.{Floor};
+    ghost use Rattle.floor_config.specs.declared.users.User.{User};
     ghost use Rattle.floor_room.specs.declared.status.Status.{Status};
     ghost use Rattle.floor_console.specs.declared.board.BoardRefusal.{BoardRefusal};
     ghost use Rattle.floor_console.specs.declared.board.StopRefusal.{StopRefusal};
@@ -99,6 +101,12 @@ pub trait Board {
     ghost closes: { Self → ℕ → Result (Unit {0}) BoardRefusal → Self → Type 0 };
 
     ghost revokes: { Self → ℕ → ℕ → Result (Unit {0}) BoardRefusal → Self → Type 0 };
+
+    ghost adds_user: { Self → ℕ → User → Result (Unit {0}) BoardRefusal → Self → Type 0 };
+
+    ghost adds_floor: { Self → ℕ → Floor → Result (Unit {0}) BoardRefusal → Self → Type 0 };
+
+    ghost sets_chair: { Self → ℕ → ℕ → Option ℕ → Result (Unit {0}) BoardRefusal → Self → Type 0 };
 
     ghost stands: { Self → ℕ → Result Status BoardRefusal → Self → Type 0 };
 
@@ -117,6 +125,24 @@ pub trait Board {
     /// Revokes a floor request of a conference.
     fn revoke(&mut self, conference: u32, request: u16) -> Result<(), BoardRefusal>
         ensures { revokes self.old conference request result self.new };
+
+    /// Adds a user to a conference. Where the user has a port, it is had before the user is added,
+    /// and given back where that is refused.
+    fn add_user(&mut self, conference: u32, user: User) -> Result<(), BoardRefusal>
+        ensures { adds_user self.old conference user result self.new };
+
+    /// Adds a floor to a conference.
+    fn add_floor(&mut self, conference: u32, floor: Floor) -> Result<(), BoardRefusal>
+        ensures { adds_floor self.old conference floor result self.new };
+
+    /// Gives a floor of a conference this chair, or none.
+    fn set_chair(
+        &mut self,
+        conference: u32,
+        floor: u16,
+        chair: Option<u16>,
+    ) -> Result<(), BoardRefusal>
+        ensures { sets_chair self.old conference floor chair result self.new };
 
     /// Tells how a conference stands.
     fn status(&mut self, conference: u32) -> Result<Status, BoardRefusal>

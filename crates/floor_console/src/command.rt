@@ -1,11 +1,11 @@
 //! What a line of the console asks for.
 
 ghost use Rattle.std.specs.Prelude.{◌≡◌, ◌^◌, map};
-ghost use Rattle.floor_console.specs.Command.{number_of, of_words, one_word, three_words, two_words};
-ghost use Rattle.floor_console.specs.Command.{command_of, Reads};
+ghost use Rattle.floor_console.specs.Command.{command_of, number_of, of_act, of_words, one_word, two_words, Reads};
 
+use floor_acts::{Act, ActFault, ActLine, Floor, User, read_act};
 use floor_config::Text;
-use floor_words::{read_u16, read_u32, words};
+use floor_words::{read_u32, words};
 use std::alloc::{AllocError, Global};
 
 /// What a line asks for.
@@ -14,15 +14,42 @@ pub enum Command {
     /// Nothing: the line is empty.
     Empty,
     /// To open the conferences of the configuration that a file has.
-    Open { path: Text },
+    Open {
+        path: Text,
+    },
     /// To close a conference.
-    Close { conference: u32 },
+    Close {
+        conference: u32,
+    },
     /// To revoke a floor request.
-    Revoke { conference: u32, request: u16 },
+    Revoke {
+        conference: u32,
+        request: u16,
+    },
+    /// To add a user to a conference, with the port that leads to it, if one is given.
+    AddUser {
+        conference: u32,
+        user: User,
+    },
+    /// To add a floor to a conference.
+    AddFloor {
+        conference: u32,
+        floor: Floor,
+    },
+    /// To give a floor of a conference this chair, or none.
+    SetChair {
+        conference: u32,
+        floor: u16,
+        chair: Option<u16>,
+    },
     /// To tell how a conference stands.
-    Status { conference: u32 },
+    Status {
+        conference: u32,
+    },
     /// To tell what happened in a conference.
-    Journal { conference: u32 },
+    Journal {
+        conference: u32,
+    },
     /// To stop the server.
     Stop,
 }
@@ -30,10 +57,10 @@ pub enum Command {
 /// Why a line is no command. The first that applies is answered.
 #[derive(Clone, Copy, Debug, PartialEq, Eq)]
 pub enum ConsoleFault {
-    /// No command has this name and so many words.
+    /// No command has this name and this form.
     UnknownCommand,
     /// A number isn't one to ten decimal digits, or is above its type: 32 bits for a conference, 16
-    /// for a request.
+    /// for all others; or a port is 0.
     BadNumber,
     /// Memory was refused.
     Memory,
@@ -65,27 +92,68 @@ impl From<AllocError> for ConsoleFault {
     }
 }
 
+impl From<ActFault> for ConsoleFault {
+    ghost use Rattle.std.specs.Prelude.{◌≡◌};
+    ghost use Rattle.floor_console.specs.Command.{of_act_fault};
+
+    ghost from_gives = { λ fault e. e ≡ of_act_fault fault };
+
+    fn from(fault: ActFault) -> ConsoleFault {
+        match fault {
+            ActFault::UnknownCommand => ConsoleFault::UnknownCommand,
+            ActFault::BadNumber => ConsoleFault::BadNumber,
+            ActFault::Memory => ConsoleFault::Memory,
+        }
+    }
+}
+
 /// The command of a line, which has no line feed.
 ///
-/// Words are parted by spaces, and numbers are one to ten decimal digits. A line of spaces alone is
-/// an `UnknownCommand`.
+/// Words are parted by spaces, and numbers are one to ten decimal digits. A line that begins with the
+/// name of an act has one of that act's forms. A line of spaces alone is an `UnknownCommand`.
 pub fn parse_line(alloc: Global, line: &str) -> Result<Command, ConsoleFault>
     ensures value { Reads (command_of line.now) result }
 {
     if line.is_empty() {
         return Ok(Command::Empty);
     }
-    let words = words(alloc, line)?;
-    of_words(alloc, &words)
+    match read_act(alloc, line)? {
+        Some(line) => Ok(of_act(line)),
+        None => {
+            let words = words(alloc, line)?;
+            of_words(alloc, &words)
+        }
+    }
 }
 
+/// The command of an act.
+fn of_act(line: ActLine) -> Command
+    ensures { result ≡ of_act line }
+{
+    let ActLine { conference, act } = line;
+    match act {
+        Act::Close => Command::Close { conference },
+        Act::Revoke(request) => Command::Revoke {
+            conference,
+            request,
+        },
+        Act::AddUser(user) => Command::AddUser { conference, user },
+        Act::AddFloor(floor) => Command::AddFloor { conference, floor },
+        Act::SetChair(floor, chair) => Command::SetChair {
+            conference,
+            floor,
+            chair,
+        },
+    }
+}
+
+/// The command of words of which the first is no act's name.
 fn of_words(alloc: Global, words: &[&str]) -> Result<Command, ConsoleFault>
     ensures { Reads (of_words (map (λ w. w.now) words.now)) result }
 {
     match words {
         [name] => of_one_word(name),
         [name, word] => of_two_words(alloc, name, word),
-        [name, conference, request] => of_three_words(name, conference, request),
         _ => Err(ConsoleFault::UnknownCommand),
     }
 }
@@ -109,10 +177,6 @@ fn of_two_words(alloc: Global, name: &str, word: &str) -> Result<Command, Consol
             path: Text::from_string(path),
         });
     }
-    if name == "close" {
-        let conference = conference_of(word)?;
-        return Ok(Command::Close { conference });
-    }
     if name == "status" {
         let conference = conference_of(word)?;
         return Ok(Command::Status { conference });
@@ -124,34 +188,11 @@ fn of_two_words(alloc: Global, name: &str, word: &str) -> Result<Command, Consol
     Err(ConsoleFault::UnknownCommand)
 }
 
-fn of_three_words(name: &str, conference: &str, request: &str) -> Result<Command, ConsoleFault>
-    ensures { Reads (three_words name.now conference.now request.now) result }
-{
-    if name == "revoke" {
-        let conference = conference_of(conference)?;
-        let request = request_of(request)?;
-        return Ok(Command::Revoke {
-            conference,
-            request,
-        });
-    }
-    Err(ConsoleFault::UnknownCommand)
-}
-
 fn conference_of(word: &str) -> Result<u32, ConsoleFault>
     ensures { result ≡ number_of (2 ^ 32) word.now }
 {
     match read_u32(word) {
         Some(conference) => Ok(conference),
-        None => Err(ConsoleFault::BadNumber),
-    }
-}
-
-fn request_of(word: &str) -> Result<u16, ConsoleFault>
-    ensures { result ≡ number_of (2 ^ 16) word.now }
-{
-    match read_u16(word) {
-        Some(request) => Ok(request),
         None => Err(ConsoleFault::BadNumber),
     }
 }

@@ -13,7 +13,7 @@ mod laws;
 
 pub use board::{Board, BoardRefusal, StopRefusal, Stopped};
 pub use command::{Command, ConsoleFault, parse_line};
-pub use console::run_line;
-pub use floor_config::{ConfigFault, Text};
+pub use console::{run_command, run_line};
+pub use floor_config::{ConfigFault, Floor, Text, User};
 pub use floor_room::{Phase, Refusal, RoomRefusal, Status};
 pub use laws::a_printed_command_is_read_back;

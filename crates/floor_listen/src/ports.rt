@@ -1,12 +1,12 @@
 //! The ports that are listened on: where, and which are given back at a refused `open`, at `close`
 //! and at `stop`.
 
-ghost use Rattle.std.specs.Prelude.{◌≡◌, ◌<◌, ◌++◌, ◌∷◌, [], List, OnOk, length, map, option_to_list, reverse};
+ghost use Rattle.std.specs.Prelude.{◌≡◌, ◌<◌, ◌++◌, ◌∷◌, [], List, None, OnErr, OnOk, length, map, option_to_list, reverse};
 ghost use Rattle.std.specs.Fn.{CalledAt};
 ghost use Rattle.std.specs.List.{FoldsTo};
 ghost use Rattle.std.specs.Net.Addr.{ipv4_octets};
 ghost use Rattle.std.specs.Net.Socket.{v4_ip, v4_port};
-ghost use Rattle.floor_listen.specs.Ports.{given, is_chosen, kept};
+ghost use Rattle.floor_listen.specs.Ports.{given, is_chosen, kept, IsLastGivenBack};
 ghost use Rattle.floor_listen.specs.declared.ports.Listening.{Listening};
 
 use std::alloc::{AllocError, Global};
@@ -42,7 +42,8 @@ pub struct Listening<L> {
 /// The ports that are listened on, in the order in which that began.
 ///
 /// `reserve` and then `add` take a port in: room for it is there before it is listened on, so that
-/// none that is listened on is lost. `give_back` hands each out again.
+/// none that is listened on is lost. `give_back` hands each out again, and `give_back_refused` the last
+/// alone.
 #[derive(Drop)]
 pub struct Ports<L> {
     listening: Vec<Listening<L>>,
@@ -100,6 +101,28 @@ impl<L: Drop> Ports<L> {
         while let Some((first, behind)) = rest.split_first() {
             visit(&first.listener);
             rest = behind;
+        }
+    }
+
+    /// Takes out the port that was taken in last, and hands out what listens on it, where what it was
+    /// taken in for was refused; where it was done the port stays. Takes no memory.
+    pub fn give_back_refused<E>(&mut self, outcome: &Result<(), E>) -> Option<L>
+        ensures kept { OnOk outcome.now
+            ((result ≡ None) × (self.new.listening ≡ self.old.listening)) }
+        ensures given { OnErr outcome.now
+            (IsLastGivenBack self.old.listening result self.new.listening) }
+    {
+        match outcome {
+            Ok(()) => None,
+            Err(_) => match self.listening.pop() {
+                None => None,
+                Some(
+                    Listening {
+                        conference: _,
+                        listener,
+                    },
+                ) => Some(listener),
+            },
         }
     }
 

@@ -1,5 +1,6 @@
 //! The meeting that each conference holds, and one line of it.
 
+use floor_acts::read_act;
 use floor_hub::{Act, ConnNo, Hub, HubRefusal};
 use floor_words::{read_hexadecimal, read_u16, words};
 use std::alloc::{AllocError, AllocFailed, Global};
@@ -27,8 +28,9 @@ chair = 10
 ";
 
 /// The lines of a long meeting: `attach <user>`, `send <connection> <message>`,
-/// `took <connection> <parcels>`, `leave <connection>`, `revoke <request>` and `close`. The connections
-/// are numbered in the order of attaching, and each message has the conference's number put in.
+/// `took <connection> <parcels>`, `leave <connection>`, and an administrator's acts as a script has them,
+/// whose conference is passed over. The connections are numbered in the order of attaching, and each
+/// message has the conference's number put in.
 pub const LONG: &str = "\
 attach 10
 attach 11
@@ -36,6 +38,8 @@ attach 12
 send 1 200b0000 00000000 0001 000a
 send 1 20070002 00000000 0002 000a 04040001 04040002
 took 1 2
+user 2 13 proxy name Dave
+floor 2 3 room 2 chair 11
 send 3 20070001 00000000 0001 000c 04040002
 send 1 20010001 00000000 0003 000a 04040001
 send 2 20010004 00000000 0002 000b 04040001 1005 686921 000000 08046000
@@ -45,14 +49,19 @@ send 3 20030001 00000000 0004 000c 06040003
 send 3 20050001 00000000 0005 000c 0204000b
 send 1 20090003 00000000 0004 000a 1e0c0004 22080002 0a040200
 send 2 20020001 00000000 0005 000b 06040002
+send 3 20010003 00000000 0006 000c 04040001 04040002 0204000d
+chair 2 2 12
+chair 2 2
 send 2 20010002 00000000 0006 000b 04040001 ff040000
 send 2 20020001 00000000 0007 000b 06040063
-revoke 3
+revoke 2 3
+chair 2 1 11
+chair 2 1
 leave 3
 attach 12
 send 4 20010002 00000000 0001 000c 04040002 08048000
 leave 1
-close
+close 2
 ";
 
 /// The lines of a short meeting. Each is done behind so many of the long one.
@@ -76,8 +85,7 @@ enum Line {
     Send(usize, Vec<u8>),
     Took(usize, u32),
     Leave(usize),
-    Revoke(u16),
-    Close,
+    Admin(Act),
 }
 
 /// Memory was refused to reading the lines, or they are no lines of a meeting.
@@ -151,13 +159,21 @@ impl Meeting {
                 Some(connection) => hub.leave(*connection),
                 None => Ok(()),
             },
-            Line::Revoke(request) => hub.admin(self.conference, Act::Revoke(*request)),
-            Line::Close => hub.admin(self.conference, Act::Close),
+            Line::Admin(act) => match act.copy(alloc) {
+                Ok(act) => hub.admin(self.conference, act),
+                Err(_) => Err(HubRefusal::Memory),
+            },
         }
     }
 }
 
 fn read_line(alloc: Global, conference: u32, text: &str) -> Result<Line, Unread> {
+    let Ok(act) = read_act(alloc, text) else {
+        return Err(Unread);
+    };
+    if let Some(line) = act {
+        return Ok(Line::Admin(line.act));
+    }
     let words = words(alloc, text)?;
     match words.as_slice() {
         ["attach", user] => Ok(Line::Attach(number(user)?)),
@@ -172,8 +188,6 @@ fn read_line(alloc: Global, conference: u32, text: &str) -> Result<Line, Unread>
             Ok(Line::Took(place(connection)?, u32::from(number(parcels)?)))
         }
         ["leave", connection] => Ok(Line::Leave(place(connection)?)),
-        ["revoke", request] => Ok(Line::Revoke(number(request)?)),
-        ["close"] => Ok(Line::Close),
         _ => Err(Unread),
     }
 }

@@ -18,7 +18,7 @@ const UNLUCKY: u32 = 2;
 const LONG_LINES: usize = 3;
 
 /// How many turns there are: a line of the long meeting is done in each.
-const TURNS: usize = 23;
+const TURNS: usize = 30;
 
 /// How many parcels wait for a connection after one line at most.
 const MAX_PARCELS: u32 = 1000;

@@ -8,7 +8,7 @@ use crate::attached::{Attached, Pace};
 use crate::fault::RunFault;
 use crate::line::Command;
 use crate::script::MAX_TURNS;
-use floor_hub::{Act, Config, Hub, HubRefusal, Parcel, Served};
+use floor_hub::{Config, Hub, HubRefusal, Parcel, Served};
 use std::alloc::{AllocError, Global};
 use std::io::Write;
 
@@ -71,9 +71,9 @@ impl Conferences {
     /// The conference that a line is about: no other one's connections are sent anything.
     fn conference_of(&self, command: &Command) -> Option<u32> {
         match command {
-            Command::Attach { conference, .. }
-            | Command::Revoke { conference, .. }
-            | Command::Close { conference } => Some(*conference),
+            Command::Attach { conference, .. } | Command::Admin { conference, .. } => {
+                Some(*conference)
+            }
             Command::Piece { connection, .. }
             | Command::Serve { connection }
             | Command::Send { connection, .. }
@@ -98,11 +98,7 @@ impl Conferences {
             Command::Leave { connection } => Ok(self.leave(connection)),
             Command::Slow { connection } => Ok(self.set_pace(connection, Pace::Slow)),
             Command::Fast { connection } => Ok(self.set_pace(connection, Pace::Fast)),
-            Command::Revoke {
-                conference,
-                request,
-            } => Ok(self.hub.admin(conference, Act::Revoke(request))),
-            Command::Close { conference } => Ok(self.hub.admin(conference, Act::Close)),
+            Command::Admin { conference, act } => Ok(self.hub.admin(conference, act)),
         }
     }
 

@@ -1,9 +1,10 @@
 //! One line of a script.
 
 ghost use Rattle.std.specs.Prelude.{◌≡◌, ◌^◌, map};
-ghost use Rattle.floor_script.specs.Line.{bytes_of, command_of, number_of, of_words, three_words, three_words_or_more, two_words, Reads};
+ghost use Rattle.floor_script.specs.Line.{bytes_of, command_of, number_of, of_act, of_words, three_words_or_more, two_words, without_port, Reads};
 
-use floor_hub::Octets;
+use floor_acts::{ActFault, ActLine, User, read_act};
+use floor_hub::{Act, Octets};
 use floor_words::{HexadecimalFault, read_hexadecimal, read_u16, read_u32, read_u64, words};
 use std::alloc::{AllocError, Global};
 
@@ -24,18 +25,16 @@ pub enum Command {
     Slow { connection: u64 },
     /// From now on it is taken again behind each line.
     Fast { connection: u64 },
-    /// The administrator revokes a floor request.
-    Revoke { conference: u32, request: u16 },
-    /// The administrator closes a conference.
-    Close { conference: u32 },
+    /// The administrator acts upon a conference. A user that is added has no port.
+    Admin { conference: u32, act: Act },
 }
 
 /// Why a line is bad: the first that applies.
 #[derive(Clone, Copy, Debug, PartialEq, Eq)]
 pub enum LineFault {
-    /// No command has this name and so many words.
+    /// No command has this name and this form.
     UnknownCommand,
-    /// A number is not one to ten decimal digits, or above its type.
+    /// A number is not one to ten decimal digits, or above its type; or a port is 0.
     BadNumber,
     /// The words of hexadecimal, joined, have another character or an odd count of digits.
     BadHex,
@@ -85,17 +84,58 @@ impl From<HexadecimalFault> for LineFault {
     }
 }
 
+impl From<ActFault> for LineFault {
+    ghost use Rattle.std.specs.Prelude.{◌≡◌};
+    ghost use Rattle.floor_script.specs.Line.{of_act_fault};
+
+    ghost from_gives = { λ fault e. e ≡ of_act_fault fault };
+
+    fn from(fault: ActFault) -> LineFault {
+        match fault {
+            ActFault::UnknownCommand => LineFault::UnknownCommand,
+            ActFault::BadNumber => LineFault::BadNumber,
+            ActFault::Memory => LineFault::Memory,
+        }
+    }
+}
+
 /// The command of a line that is neither empty nor a comment.
 ///
 /// Words are parted by spaces. Numbers are one to ten decimal digits; the words of hexadecimal are
-/// joined, and spell bytes. Where several parts of a line are bad, the fault of the first is told.
+/// joined, and spell bytes. Where several parts of a line are bad, the fault of the first is told. A
+/// line that begins with the name of an act has one of that act's forms.
 pub fn parse_line(alloc: Global, line: &str) -> Result<Command, LineFault>
     ensures value { Reads (command_of line.now) result }
 {
-    let words = words(alloc, line)?;
-    of_words(alloc, &words)
+    match read_act(alloc, line)? {
+        Some(line) => Ok(of_act(line)),
+        None => {
+            let words = words(alloc, line)?;
+            of_words(alloc, &words)
+        }
+    }
 }
 
+/// The command of an act. A port is no part of a conference, and nobody listens on one here.
+fn of_act(line: ActLine) -> Command
+    ensures { result ≡ of_act line }
+{
+    Command::Admin {
+        conference: line.conference,
+        act: without_port(line.act),
+    }
+}
+
+fn without_port(act: Act) -> Act
+    ensures { result ≡ without_port act }
+{
+    match act {
+        Act::AddUser(user) => Act::AddUser(User { port: None, ..user }),
+        act => act,
+    }
+}
+
+/// The command of words of which the first is no act's name.
 fn of_words(alloc: Global, words: &[&str]) -> Result<Command, LineFault>
     ensures { Reads (of_words (map (λ w. w.now) words.now)) result }
 {
@@ -125,10 +165,6 @@ fn of_two_words(name: &str, word: &str) -> Result<Command, LineFault>
         let connection = connection_of(word)?;
         return Ok(Command::Fast { connection });
     }
-    if name == "close" {
-        let conference = conference_of(word)?;
-        return Ok(Command::Close { conference });
-    }
     Err(LineFault::UnknownCommand)
 }
 
@@ -151,28 +187,13 @@ fn of_three_or_more(
         return Ok(Command::Send { connection, bytes });
     }
     match rest {
-        [third] => of_three_words(name, word, third),
+        [user] if name == "attach" => {
+            let conference = conference_of(word)?;
+            let user = user_of(user)?;
+            Ok(Command::Attach { conference, user })
+        }
         _ => Err(LineFault::UnknownCommand),
     }
-}
-
-fn of_three_words(name: &str, conference: &str, word: &str) -> Result<Command, LineFault>
-    ensures { result ≡ three_words name.now conference.now word.now }
-{
-    if name == "attach" {
-        let conference = conference_of(conference)?;
-        let user = user_or_request_of(word)?;
-        return Ok(Command::Attach { conference, user });
-    }
-    if name == "revoke" {
-        let conference = conference_of(conference)?;
-        let request = user_or_request_of(word)?;
-        return Ok(Command::Revoke {
-            conference,
-            request,
-        });
-    }
-    Err(LineFault::UnknownCommand)
 }
 
 fn connection_of(word: &str) -> Result<u64, LineFault>
@@ -193,7 +214,7 @@ fn conference_of(word: &str) -> Result<u32, LineFault>
     }
 }
 
-fn user_or_request_of(word: &str) -> Result<u16, LineFault>
+fn user_of(word: &str) -> Result<u16, LineFault>
     ensures { result ≡ number_of (2 ^ 16) word.now }
 {
     match read_u16(word) {

@@ -2,3 +2,4 @@ pub mod Parting
 pub mod Some
 pub mod Ends
 pub mod Digits
+pub mod Cutting

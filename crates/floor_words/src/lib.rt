@@ -12,7 +12,10 @@ mod number;
 mod word;
 
 pub use hexadecimal::{HexadecimalFault, read_hexadecimal};
-pub use laws::{numbers_are_read_back, words_are_plain, words_are_read_back};
+pub use laws::{
+    first_words_are_cut_off, numbers_are_read_back, texts_begin_with_a_word, words_are_plain,
+    words_are_read_back,
+};
 pub use line::{Cut, cut_line};
 pub use number::{read_u16, read_u32, read_u64};
-pub use word::words;
+pub use word::{CutWord, cut_word, from_first_word, words};

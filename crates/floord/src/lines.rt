@@ -1,7 +1,7 @@
 //! The administrator's lines, one after another.
 
 use crate::server::Server;
-use floor_console::run_line;
+use floor_console::{parse_line, run_command};
 use floor_listen::{Next, ServerFault, after_read};
 use floor_serve::Gate;
 use std::alloc::Global;
@@ -43,8 +43,9 @@ where
             Next::Stop => "stop",
             Next::Memory => return Err(ServerFault::Memory),
         };
-        server.prepare(line);
-        let text = run_line(alloc, server, line)?;
+        let command = parse_line(alloc, line);
+        server.prepare(&command);
+        let text = run_command(alloc, server, command)?;
         print(output, text.as_str())?;
         if server.outcome().is_some() {
             break;

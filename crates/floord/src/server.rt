@@ -4,7 +4,9 @@ use crate::binding::{Binding, Shared};
 use crate::fault::stopped;
 use crate::port::Port;
 use floor_config::{Config, ConfigFault, read_configs};
-use floor_console::{Board, BoardRefusal, Command, StopRefusal, Stopped, Text, parse_line};
+use floor_console::{
+    Board, BoardRefusal, Command, ConsoleFault, Floor, StopRefusal, Stopped, Text, User,
+};
 use floor_listen::{Chosen, Ports};
 use floor_room::Status;
 use floor_serve::{Act, Desk, DeskRefusal, Gate, OpenRefusal};
@@ -24,9 +26,30 @@ pub struct Server<G, R> {
     alloc: Global,
     shared: Arc<Shared<G>, Global>,
     ports: Ports<Port<G>>,
-    /// What came of an `open` line that the board has yet to answer.
-    opening: Option<Result<usize, BoardRefusal>>,
+    /// What was done for a line that the board has yet to answer.
+    prepared: Prepared,
     outcome: Option<Result<Stopped, StopRefusal>>,
+}
+
+/// What was done for a line ahead of the board's answer, since it needs threads, which the methods of a
+/// trait can't start.
+#[derive(Clone, Copy, Debug)]
+enum Prepared {
+    /// Nothing: the line needs no thread.
+    Nothing,
+    /// The conferences of an `open` line were opened, so many, or this refused it.
+    Open(Result<usize, BoardRefusal>),
+    /// The port of a `user` line is listened on, where it has one, or this refused it.
+    User(Result<Listens, BoardRefusal>),
+}
+
+/// Whether a port is listened on for a user who is to be added.
+#[derive(Clone, Copy, Debug)]
+enum Listens {
+    /// It is the last of the ports.
+    OnAPort,
+    /// The user has none.
+    Nowhere,
 }
 
 impl<G, R> Server<G, R>
@@ -50,18 +73,34 @@ where
             alloc,
             shared,
             ports: Ports::new(alloc),
-            opening: None,
+            prepared: Prepared::Nothing,
             outcome: None,
         }
     }
 
-    /// Does what an `open` line asks for, ahead of the board's answer: a conference's ports need
-    /// threads, which the methods of a trait can't start. Any other line is left alone.
-    pub fn prepare(&mut self, line: &str) {
-        self.opening = match parse_line(self.alloc, line) {
-            Ok(Command::Open { path }) => Some(self.open_file(path.as_str())),
-            _ => None,
+    /// Does ahead of the board's answer what a command needs threads for: opens the conferences of an
+    /// `open` line, and listens on the port of a `user` line. Any other command is left alone.
+    pub fn prepare(&mut self, command: &Result<Command, ConsoleFault>) {
+        self.prepared = match command {
+            Ok(Command::Open { path }) => Prepared::Open(self.open_file(path.as_str())),
+            Ok(Command::AddUser { conference, user }) => {
+                Prepared::User(self.listen_for(*conference, user))
+            }
+            _ => Prepared::Nothing,
         };
+    }
+
+    /// Listens on the port of a user who is to be added, if there is one. The conference is looked for
+    /// first. Whoever connects before the user is added is shut down.
+    fn listen_for(&mut self, conference: u32, user: &User) -> Result<Listens, BoardRefusal> {
+        self.desk(conference)?;
+        match user.port {
+            None => Ok(Listens::Nowhere),
+            Some(port) => {
+                self.listen(conference, user.id, port)?;
+                Ok(Listens::OnAPort)
+            }
+        }
     }
 
     /// Opens the conferences of a file, and tells how many.
@@ -149,6 +188,14 @@ impl<G: Drop, R: Threads + Wait + Drop> Server<G, R> {
         self.ports.give_back(chosen, |port: Port<G>| port.close(rt));
     }
 
+    /// Closes the port that was listened on last, where the user was refused whom it is for.
+    fn give_back_refused(&mut self, outcome: &Result<(), BoardRefusal>) {
+        match self.ports.give_back_refused(outcome) {
+            Some(port) => port.close(&self.rt),
+            None => {}
+        }
+    }
+
     /// The desk of a conference that was opened.
     fn desk(&self, conference: u32) -> Result<Desk, BoardRefusal> {
         match self.shared.registry.desk(&self.rt, conference) {
@@ -173,6 +220,12 @@ impl<G: Drop, R: Threads + Wait + Drop> Board for Server<G, R> {
 
     ghost revokes = { λ _ _ _ _ _. Unit {0} };
 
+    ghost adds_user = { λ _ _ _ _ _. Unit {0} };
+
+    ghost adds_floor = { λ _ _ _ _ _. Unit {0} };
+
+    ghost sets_chair = { λ _ _ _ _ _ _. Unit {0} };
+
     ghost stands = { λ _ _ _ _. Unit {0} };
 
     ghost lists = { λ _ _ _ _. Unit {0} };
@@ -180,10 +233,10 @@ impl<G: Drop, R: Threads + Wait + Drop> Board for Server<G, R> {
     ghost stops = { λ _ _ _. Unit {0} };
 
     fn open(&mut self, _path: &str) -> Result<usize, BoardRefusal> {
-        match self.opening.take() {
-            Some(outcome) => outcome,
-            // The line was read twice, and memory was refused at the first reading alone.
-            None => Err(BoardRefusal::Memory),
+        match self.prepared {
+            Prepared::Open(outcome) => outcome,
+            // Nothing was opened for it.
+            Prepared::User(_) | Prepared::Nothing => Err(BoardRefusal::CannotRead),
         }
     }
 
@@ -195,6 +248,34 @@ impl<G: Drop, R: Threads + Wait + Drop> Board for Server<G, R> {
 
     fn revoke(&mut self, conference: u32, request: u16) -> Result<(), BoardRefusal> {
         self.act(conference, Act::Revoke(request))
+    }
+
+    fn add_user(&mut self, conference: u32, user: User) -> Result<(), BoardRefusal> {
+        let listens = match self.prepared {
+            Prepared::User(outcome) => outcome?,
+            Prepared::Open(_) | Prepared::Nothing => Listens::Nowhere,
+        };
+        // The port is this server's, and no part of the conference.
+        let user = User { port: None, ..user };
+        let outcome = self.act(conference, Act::AddUser(user));
+        match listens {
+            Listens::OnAPort => self.give_back_refused(&outcome),
+            Listens::Nowhere => {}
+        }
+        outcome
+    }
+
+    fn add_floor(&mut self, conference: u32, floor: Floor) -> Result<(), BoardRefusal> {
+        self.act(conference, Act::AddFloor(floor))
+    }
+
+    fn set_chair(
+        &mut self,
+        conference: u32,
+        floor: u16,
+        chair: Option<u16>,
+    ) -> Result<(), BoardRefusal> {
+        self.act(conference, Act::SetChair(floor, chair))
     }
 
     fn status(&mut self, conference: u32) -> Result<Status, BoardRefusal> {

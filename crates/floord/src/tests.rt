@@ -1,5 +1,6 @@
 //! Runs over real sockets: a client is a socket, the administrator's lines come through one too.
 
+mod changes;
 mod clients;
 mod connections;
 mod console;

@@ -3,7 +3,7 @@
 use crate::fault::Fault;
 use floor_config::read_configs;
 use floor_hub as hub;
-use floor_hub::{Act, Step, Transcript};
+use floor_hub::{Step, Transcript};
 use floor_script::{Command, parse_line};
 use std::alloc::Global;
 
@@ -66,11 +66,8 @@ fn push_steps(alloc: Global, steps: &mut Vec<Step>, line: &str) -> Result<(), Fa
             steps.push(Step::Serve(connection))?;
         }
         Ok(Command::Leave { connection }) => steps.push(Step::Leave(connection))?,
-        Ok(Command::Close { conference }) => steps.push(Step::Admin {
-            conference,
-            act: Act::Close,
-        })?,
-        Ok(Command::Slow { .. } | Command::Fast { .. } | Command::Revoke { .. }) | Err(_) => {
+        Ok(Command::Admin { conference, act }) => steps.push(Step::Admin { conference, act })?,
+        Ok(Command::Slow { .. } | Command::Fast { .. }) | Err(_) => {
             return Err(Fault::Layout("another line"));
         }
     }

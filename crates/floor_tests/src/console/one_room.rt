@@ -3,7 +3,9 @@
 use crate::cases::{assert_told, barred, differing};
 use crate::hexadecimal::frame;
 use floor_config::Config;
-use floor_console::{Board, BoardRefusal, Status, StopRefusal, Stopped, Text, run_line};
+use floor_console::{
+    Board, BoardRefusal, Floor, Status, StopRefusal, Stopped, Text, User, run_line,
+};
 use floor_room::{Act, Room, journal_text};
 use std::alloc::{AllocError, Global};
 
@@ -21,6 +23,12 @@ impl Board for OneRoom {
 
     ghost revokes = { λ _ _ _ _ _. Unit {0} };
 
+    ghost adds_user = { λ _ _ _ _ _. Unit {0} };
+
+    ghost adds_floor = { λ _ _ _ _ _. Unit {0} };
+
+    ghost sets_chair = { λ _ _ _ _ _ _. Unit {0} };
+
     ghost stands = { λ _ _ _ _. Unit {0} };
 
     ghost lists = { λ _ _ _ _. Unit {0} };
@@ -32,23 +40,29 @@ impl Board for OneRoom {
     }
 
     fn close(&mut self, conference: u32) -> Result<(), BoardRefusal> {
-        if conference != 1 {
-            return Err(BoardRefusal::NoConference);
-        }
-        match self.room.admin(Act::Close) {
-            Ok(()) => Ok(()),
-            Err(refusal) => Err(BoardRefusal::ByRoom(refusal)),
-        }
+        self.act(conference, Act::Close)
     }
 
     fn revoke(&mut self, conference: u32, request: u16) -> Result<(), BoardRefusal> {
-        if conference != 1 {
-            return Err(BoardRefusal::NoConference);
-        }
-        match self.room.admin(Act::Revoke(request)) {
-            Ok(()) => Ok(()),
-            Err(refusal) => Err(BoardRefusal::ByRoom(refusal)),
-        }
+        self.act(conference, Act::Revoke(request))
+    }
+
+    fn add_user(&mut self, conference: u32, user: User) -> Result<(), BoardRefusal> {
+        // Nobody listens here: the room drops the port.
+        self.act(conference, Act::AddUser(user))
+    }
+
+    fn add_floor(&mut self, conference: u32, floor: Floor) -> Result<(), BoardRefusal> {
+        self.act(conference, Act::AddFloor(floor))
+    }
+
+    fn set_chair(
+        &mut self,
+        conference: u32,
+        floor: u16,
+        chair: Option<u16>,
+    ) -> Result<(), BoardRefusal> {
+        self.act(conference, Act::SetChair(floor, chair))
     }
 
     fn status(&mut self, conference: u32) -> Result<Status, BoardRefusal> {
@@ -74,6 +88,18 @@ impl Board for OneRoom {
             seats: 2,
             events: u128::from(events),
         })
+    }
+}
+
+impl OneRoom {
+    fn act(&mut self, conference: u32, act: Act) -> Result<(), BoardRefusal> {
+        if conference != 1 {
+            return Err(BoardRefusal::NoConference);
+        }
+        match self.room.admin(act) {
+            Ok(()) => Ok(()),
+            Err(refusal) => Err(BoardRefusal::ByRoom(refusal)),
+        }
     }
 }
 
@@ -113,16 +139,34 @@ halt=error UnknownCommand|
 open a.toml=error CannotRead|
 revoke 1 2=ok revoked 1 2|
 status 1=conference 1 members 2 ongoing 0 events 6 open|
+user 1 13 name Ann=ok user 1 13|
+floor 1 5 room 2 chair 12=ok floor 1 5|
+chair 1 5=ok chair 1 5|
+chair 1 5 99=error UnknownChair|
+user 9 13=error NoConference|
+floor 9 6=error NoConference|
+chair 9 5=error NoConference|
+user 1 14 port 0=error BadNumber|
+user 1 14 port 7010 name  Ann  Lee =ok user 1 14|
+user 1 10 port 7011=error DoubleUser|
+user 1 15 uri a=error UnknownCommand|
+floor 1 5=error DoubleFloor|
+floor 1 6 room 0 chair 99=error OutOfRange|
+chair 1 9 99=error NoFloor|
+status 1=conference 1 members 2 ongoing 0 events 10 open|
 close 1=ok closed 1|
 close 1=error Ended|
 revoke 1 2=error Ended|
-status 1=conference 1 members 2 ongoing 0 events 7 ended|
-stop=ok stopped seats 2 events 7|
+user 1 16=error Ended|
+floor 1 6=error Ended|
+chair 1 5 10=error Ended|
+status 1=conference 1 members 2 ongoing 0 events 11 ended|
+stop=ok stopped seats 2 events 11|
 =";
 
 #[test]
 fn a_board_of_one_room_answers(rt: HostRuntime) {
-    assert_told(&rt, exchanged(rt.alloc()), "18 cases");
+    assert_told(&rt, exchanged(rt.alloc()), "36 cases");
 }
 
 fn exchanged(alloc: Global) -> Result<String, AllocError> {

@@ -2,8 +2,8 @@
 
 use crate::cases::assert_told;
 use floor_console::{
-    Board, BoardRefusal, ConfigFault, Refusal, RoomRefusal, Status, StopRefusal, Stopped, Text,
-    run_line,
+    Board, BoardRefusal, ConfigFault, Floor, Refusal, RoomRefusal, Status, StopRefusal, Stopped,
+    Text, User, run_line,
 };
 use std::alloc::{AllocError, Global};
 
@@ -21,6 +21,12 @@ impl Board for Refusing {
 
     ghost revokes = { λ _ _ _ _ _. Unit {0} };
 
+    ghost adds_user = { λ _ _ _ _ _. Unit {0} };
+
+    ghost adds_floor = { λ _ _ _ _ _. Unit {0} };
+
+    ghost sets_chair = { λ _ _ _ _ _ _. Unit {0} };
+
     ghost stands = { λ _ _ _ _. Unit {0} };
 
     ghost lists = { λ _ _ _ _. Unit {0} };
@@ -36,6 +42,23 @@ impl Board for Refusing {
     }
 
     fn revoke(&mut self, _conference: u32, _request: u16) -> Result<(), BoardRefusal> {
+        Err(self.refusal)
+    }
+
+    fn add_user(&mut self, _conference: u32, _user: User) -> Result<(), BoardRefusal> {
+        Err(self.refusal)
+    }
+
+    fn add_floor(&mut self, _conference: u32, _floor: Floor) -> Result<(), BoardRefusal> {
+        Err(self.refusal)
+    }
+
+    fn set_chair(
+        &mut self,
+        _conference: u32,
+        _floor: u16,
+        _chair: Option<u16>,
+    ) -> Result<(), BoardRefusal> {
         Err(self.refusal)
     }
 
@@ -89,7 +112,15 @@ fn refusal_told(alloc: Global, refusal: BoardRefusal) -> Result<String, AllocErr
     };
     let mut board = Refusing { refusal, fault };
     let mut told = run_line(alloc, &mut board, "open a")?;
-    for line in ["close 1", "revoke 1 1", "status 1", "journal 1"] {
+    for line in [
+        "close 1",
+        "revoke 1 1",
+        "user 1 13",
+        "floor 1 5",
+        "chair 1 5",
+        "status 1",
+        "journal 1",
+    ] {
         let other = run_line(alloc, &mut board, line)?;
         if other.as_str() != told.as_str() {
             told.push_str(line)?;
