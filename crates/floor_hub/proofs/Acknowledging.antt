@@ -2,12 +2,10 @@
 use Rattle.std.proofs.Common.{◌≡◌, ℕ, Option, Some, None, inr, refl, sym, ap, subst, ◌∙◌, ◌⊎◌}
 use Rattle.std.specs.Prelude.{nat_eq, false, Result, Err, OnOk, IfErr, MatchResult}
 use Rattle.floor_machine.specs.declared.event.Event.TheVariants.{Took as Takes}
-use Rattle.floor_machine.specs.declared.machine.Refusal.TheVariants.{Broken, Memory}
-use Rattle.floor_room.specs.declared.refusal.RoomRefusal.TheVariants.{Refused as ByMachine}
 use Rattle.floor_room.specs.Room.{Room}
 use Rattle.floor_hub.specs.declared.connection.Connection.{Connection}
 use Rattle.floor_hub.specs.declared.refusal.HubRefusal.{HubRefusal}
-use Rattle.floor_hub.specs.declared.refusal.HubRefusal.TheVariants.{ByRoom, NoConnection}
+use Rattle.floor_hub.specs.declared.refusal.HubRefusal.TheVariants.{NoConnection}
 use Rattle.floor_hub.specs.declared.step.Step.TheVariants.{Took}
 use Rattle.floor_hub.specs.declared.step.Answer.{Answer}
 use Rattle.floor_hub.specs.declared.step.Answer.TheVariants.{Done, Refused}
@@ -18,6 +16,7 @@ use Rattle.floor_hub.specs.steps.Serving.{EventIn}
 use Rattle.floor_hub.proofs.Acting.{IsQuiet, acted, offered}
 use Rattle.floor_hub.proofs.Here.{Here, WantsLive, gone, here}
 use Rattle.floor_hub.proofs.Changed.{rooms_again}
+use Rattle.floor_hub.specs.Calls.{IsWant}
 
 quiet-took : (n k : ℕ) → IsQuiet (Takes n k)
 quiet-took n k = λ m. refl
@@ -31,7 +30,7 @@ module _ (rooms now : ℕ → Option Room) (xs : ℕ → Option Connection) (k :
   Turned t a = Stands now xs k t.world × (t.answer ≡ a)
 
   abbrev Fails : world.Turn → HubRefusal → Type 0
-  Fails t r = (((r ≡ ByRoom (ByMachine Memory)) ⊎ (r ≡ ByRoom (ByMachine Broken))) × Stands now xs k w) ⊎ Turned t (Refused r)
+  Fails t r = (IsWant t.answer r × Stands now xs k w) ⊎ Turned t (Refused r)
 
   -- the step is that of the connection's own conference
   took_turn : (x : Connection) (h : Here rooms w number x) → turn w (Took number many) ≡ put w h.p.conference (offered (Takes h.p.n many) (w.parts h.p.conference))

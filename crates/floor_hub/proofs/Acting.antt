@@ -22,9 +22,11 @@ use Rattle.floor_hub.specs.declared.step.Step.TheVariants.{Admin}
 use Rattle.floor_hub.specs.declared.step.Answer.{Answer}
 use Rattle.floor_hub.specs.declared.step.Answer.TheVariants.{Done, Refused}
 use Rattle.floor_hub.specs.World as world
-use Rattle.floor_hub.specs.World.{World, Part, Arrival, messages_of, offer, put, ledger_of, refused, turn, with_events}
+use Rattle.floor_hub.specs.World.{IsIdle, World, Part, Arrival, messages_of, offer, put, ledger_of, refused, turn, with_events}
 use Rattle.floor_hub.specs.StandsFor.{arrival_in, RoomStands, CameTo, Stands}
 use Rattle.floor_hub.proofs.Changed.{stands_changed}
+use Rattle.floor_hub.specs.Calls.{IsWant}
+use Rattle.floor_hub.proofs.Wanting.{allowed}
 
 -- the event is no message
 abbrev pub IsQuiet : Event → Type 0
@@ -162,7 +164,7 @@ module _ (rooms now : ℕ → Option Room) (xs : ℕ → Option Connection) (k :
   Acted a = TurnIs (offered e (w.parts c)) a
 
   abbrev pub ActFails : HubRefusal → Type 0
-  ActFails r = (((r ≡ ByRoom (ByMachine Memory)) ⊎ (r ≡ ByRoom (ByMachine Broken))) × Stands now xs k w) ⊎ Acted (Refused r)
+  ActFails r = (IsWant (put w c (offered e (w.parts c))).answer r × Stands now xs k w) ⊎ Acted (Refused r)
 
   pub act_absent : rooms c ≡ None → ((d : ℕ) → now d ≡ rooms d) → Acted (Refused NoConference)
   act_absent is same = subst (λ (z : Option Part). TurnIs (offered e z) (Refused NoConference)) (sym gone) (stands_refused rooms now xs k w c e quiet st same None gone, refl)
@@ -222,6 +224,13 @@ module _ (rooms now : ℕ → Option Room) (xs : ℕ → Option Connection) (k :
   broken_off r new is others here (inr began) =
       stands_broken rooms now xs k w c e quiet st r new is others here (ap (λ (x : Room). x.ledger.is_broken) began.next) (ap (λ (x : Room). x.ledger.config) began.next)
 
+  -- the part takes an event that its room doesn't refuse
+  would : (r : Room) (z : Option Part) → refusal r.ledger e ≡ None → RoomStands (Some r) z → (put w c (offered e z)).answer ≡ Done
+  would r None free h = absurd h
+  would r (Some p) free h =
+      let sound : r.ledger.is_broken ≡ false = sound-by r e None r.ledger.is_broken refl free (λ x. cc) in
+      ap (λ (x : Option RoomRefusal). (put w c (world.add_event p e x)).answer) (sym (refusal-part r p e sound h.0 (h.1 sound)) ∙ free)
+
   pub act_failed : (r new : Room) (why : RoomRefusal) → rooms c ≡ Some r → ((d : ℕ) → d ≢ c → now d ≡ rooms d) → now c ≡ Some new → IsRefusedBy {T = Unit {0}} (refusal r.ledger e) (Err why) →
       Left r new e why → ActFails (ByRoom why)
   act_failed r new JournalFull is others here by left = act_refused r new JournalFull is others here by (λ x. cc) (λ x. cc) left
@@ -238,7 +247,10 @@ module _ (rooms now : ℕ → Option Room) (xs : ℕ → Option Connection) (k :
   act_failed r new (ByMachine DoubleFloor) is others here by left = act_refused r new (ByMachine DoubleFloor) is others here by (λ x. cc) (λ x. cc) left
   act_failed r new (ByMachine NoFloor) is others here by left = act_refused r new (ByMachine NoFloor) is others here by (λ x. cc) (λ x. cc) left
   act_failed r new (ByMachine UnknownChair) is others here by left = act_refused r new (ByMachine UnknownChair) is others here by (λ x. cc) (λ x. cc) left
-  act_failed r new (ByMachine Memory) is others here by left = inl (inl refl, broken_off r new is others here left)
+  act_failed r new (ByMachine Memory) is others here by left = inl (
+    inl (refl, λ idle. subst IsIdle (would r (w.parts c) (allowed r.ledger e by) (subst (λ (x : Option Room). RoomStands x (w.parts c)) is (st.of_rooms c))) idle),
+    broken_off r new is others here left,
+  )
 
   -- what a refused act has left of a room
   abbrev pub FailedAt : Room → Room → HubRefusal → Type 0
@@ -264,10 +276,10 @@ module _ (rooms now : ℕ → Option Room) (xs : ℕ → Option Connection) (k :
 pub admin_acted : (rooms now : ℕ → Option Room) (xs : ℕ → Option Connection) (k : ℕ) (w : World) (c : ℕ) (act : Act) (st : Stands rooms xs k w) (res : Result (Unit {0}) HubRefusal) →
     MatchResult res (λ _. Acted rooms now xs k w c (event_of_act act) (quiet-act act) st Done) (ActFails rooms now xs k w c (event_of_act act) (quiet-act act) st) →
     MatchResult res (λ _. Stands now xs k (turn w (Admin c act)).world × ((turn w (Admin c act)).answer ≡ Done))
-    (λ r. (((r ≡ ByRoom (ByMachine Memory)) ⊎ (r ≡ ByRoom (ByMachine Broken))) × Stands now xs k w) ⊎ (Stands now xs k (turn w (Admin c act)).world × ((turn w (Admin c act)).answer ≡ Refused r)))
+    (λ r. (IsWant (turn w (Admin c act)).answer r × Stands now xs k w) ⊎ (Stands now xs k (turn w (Admin c act)).world × ((turn w (Admin c act)).answer ≡ Refused r)))
 admin_acted rooms now xs k w c act st res h =
     subst (λ (o : world.Offered). MatchResult res (λ _. Stands now xs k (put w c o).world × ((put w c o).answer ≡ Done))
-    (λ r. (((r ≡ ByRoom (ByMachine Memory)) ⊎ (r ≡ ByRoom (ByMachine Broken))) × Stands now xs k w) ⊎ (Stands now xs k (put w c o).world × ((put w c o).answer ≡ Refused r))))
+    (λ r. (IsWant (put w c o).answer r × Stands now xs k w) ⊎ (Stands now xs k (put w c o).world × ((put w c o).answer ≡ Refused r))))
     (same (w.parts c)) h
   where
     same : (z : Option Part) → offered (event_of_act act) z ≡ offer z (Admin c act)

@@ -55,15 +55,15 @@ no_want r h e = h.1 (same r (ByRoom (ByMachine Memory)) e)
     same x y e = cc
 
 pub fails_same : (new : Hub) (w : World) (s : Step) (r : HubRefusal) → IsRunOn r → FailsSame new w s r → Turns new w s (Refused r)
-fails_same new w s r on (inl h) = absurd (on.0 h.0)
+fails_same new w s r on (inl h) = absurd (on.0 h.0.0)
 fails_same new w s r on (inr t) = t
 
 pub fails : (new : Hub) (w : World) (s : Step) (r : HubRefusal) → IsRunOn r → Fails new w s r → Turns new w s (Refused r)
-fails new w s r on (inl h) = elim h.0 [ inl e ↦ absurd (on.1 e) | inr e ↦ absurd (on.2 e) ]
+fails new w s r on (inl h) = elim h.0 [ inl e ↦ absurd (on.1 e.0) | inr e ↦ absurd (on.2 e) ]
 fails new w s r on (inr t) = t
 
 pub fails_gone : (new : Hub) (w : World) (s : Step) (r : HubRefusal) → IsRunOn r → FailsGone new w s r → Turns new w s (Refused r)
-fails_gone new w s r on (inl h) = absurd (on.1 h.0)
+fails_gone new w s r on (inl h) = absurd (on.1 h.0.0)
 fails_gone new w s r on (inr t) = t
 
 -- a step that makes no place

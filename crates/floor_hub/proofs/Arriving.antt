@@ -31,7 +31,7 @@ use Rattle.floor_hub.specs.declared.step.Step.TheVariants.{Attach}
 use Rattle.floor_hub.specs.declared.step.Answer.{Answer}
 use Rattle.floor_hub.specs.declared.step.Answer.TheVariants.{Attached, Refused}
 use Rattle.floor_hub.specs.World as world
-use Rattle.floor_hub.specs.World.{World, Part, Arrival, Place, Offered, arrival, if_live, messages_of, offer, place, put, refused, state_of, turn}
+use Rattle.floor_hub.specs.World.{IsIdle, World, Part, Arrival, Place, Offered, arrival, if_live, messages_of, offer, place, put, refused, state_of, turn}
 use Rattle.floor_hub.specs.StandsFor.{arrival_in, live_at, RoomStands, CameTo, ArrivalStands, NumberStands, Stands}
 use Rattle.floor_hub.specs.steps.Serving.{AttachFailsIn}
 use Rattle.floor_hub.specs.Kept.{IsKept, IsKeptPart, KeptIn}
@@ -42,6 +42,8 @@ use Rattle.floor_hub.proofs.Here.{messages-append}
 use Rattle.floor_hub.proofs.Keeping.{members_of}
 use Rattle.floor_hub.proofs.Places.{number_within}
 use Rattle.floor_hub.proofs.Changed.{connections_again, rooms_again}
+use Rattle.floor_hub.specs.Calls.{IsWant}
+use Rattle.floor_hub.proofs.Wanting.{allowed}
 
 -- no member has a number above theirs
 absent : (ms : List Member) (k n : ℕ) → is_numbered_from k ms ≡ true → k + length ms ≤ n → is_some (member_with ms n) ≡ false
@@ -283,7 +285,7 @@ module _ (rooms now : ℕ → Option Room) (xs now_xs : ℕ → Option Connectio
   attached r new (Some p) was s is here others t own_x other_x = attached_at r new p is was here others t own_x other_x
 
   abbrev pub AttachFails : HubRefusal → Type 0
-  AttachFails r = (((r ≡ ByRoom (ByMachine Memory)) ⊎ (r ≡ ByRoom (ByMachine Broken))) × Stands now now_xs k w) ⊎ AttachIs k (Refused r)
+  AttachFails r = (IsWant (turn w (Attach c user)).answer r × Stands now now_xs k w) ⊎ AttachIs k (Refused r)
 
   refused_part : (r : Room) (why : RoomRefusal) (z : Option Part) → w.parts c ≡ z → ((d : ℕ) → now d ≡ rooms d) → ((j : ℕ) → now_xs j ≡ xs j) → r.ledger.is_broken ≡ false →
       refusal r.ledger (Join user) ≡ Some why → RoomStands (Some r) z → TurnIs k (offer z (Attach c user)) (Refused (ByRoom why))
@@ -337,12 +339,23 @@ module _ (rooms now : ℕ → Option Room) (xs now_xs : ℕ → Option Connectio
   some_is : (y z : RoomRefusal) → ◌≡◌ {A = Option RoomRefusal} (Some y) (Some z) → y ≡ z
   some_is y z e = cc
 
+  -- the part takes a user that its room doesn't refuse
+  would : (r : Room) (z : Option Part) → refusal r.ledger (Join user) ≡ None → RoomStands (Some r) z → (put w c (offer z (Attach c user))).answer ≡ Attached (length w.places + 1)
+  would r None free h = absurd h
+  would r (Some p) free h =
+      let sound : r.ledger.is_broken ≡ false = sound-by r (Join user) None r.ledger.is_broken refl free (λ x. cc) in
+      ap (λ (x : Option RoomRefusal). (put w c (world.attach p user x)).answer) (sym (refusal-part r p (Join user) sound h.0 (h.1 sound)) ∙ free)
+
+  busy : (r : Room) → rooms c ≡ Some r → refusal r.ledger (Join user) ≡ None → ¬ IsIdle (turn w (Attach c user)).answer
+  busy r is free = λ idle. subst IsIdle (would r (w.parts c) free (subst (λ (y : Option Room). RoomStands y (w.parts c)) is (st.of_rooms c))) idle
+
   attach_refused : (r new : Room) (why : RoomRefusal) → rooms c ≡ Some r → now c ≡ Some new → ((d : ℕ) → d ≢ c → now d ≡ rooms d) → ((j : ℕ) → now_xs j ≡ xs j) →
       IsRefusedBy {T = Unit {0}} (refusal r.ledger (Join user)) (Err why) → Left r new (Join user) why → AttachFails (ByRoom why)
   attach_refused r new why is here others same_xs by left = elim (is_memory why) [
     | inl memory ↦
         let broken = left_broken r new (Join user) why memory left in
-        inl (inl (by_room why (ByMachine Memory) memory), broken_off r new is here others same_xs broken.0 broken.1)
+        let free = allowed r.ledger (Join user) (subst (λ (y : RoomRefusal). IsRefusedBy {T = Unit {0}} (refusal r.ledger (Join user)) (Err y)) memory by) in
+        inl (inl (by_room why (ByMachine Memory) memory, busy r is free), broken_off r new is here others same_xs broken.0 broken.1)
     | inr ne ↦ whole ne r.ledger.is_broken refl
   ]
     where
@@ -364,7 +377,7 @@ module _ (rooms now : ℕ → Option Room) (xs now_xs : ℕ → Option Connectio
       AttachFailsIn r new user why → AttachFails (ByRoom why)
   attach_failed r new why is here others same_xs (inl f) = attach_refused r new why is here others same_xs f.0 f.1
   attach_failed r new why is here others same_xs (inr f) = inl (
-    inl (by_room why (ByMachine Memory) f.0),
+    inl (by_room why (ByMachine Memory) f.0, busy r is f.1.1.allowed),
     broken_off r new is here others same_xs (ap (λ (y : Room). y.ledger.is_broken) f.1.2)
         (ap (λ (y : Room). y.ledger.config) f.1.2 ∙ ap (λ (y : Room). y.ledger.config) f.1.1.next),
   )

@@ -30,9 +30,9 @@ use Rattle.floor_hub.specs.declared.step.Step.TheVariants.{Serve, Leave}
 use Rattle.floor_hub.specs.declared.step.Answer.{Answer}
 use Rattle.floor_hub.specs.declared.step.Answer.TheVariants.{Nothing, Refused, Served as HasServed}
 use Rattle.floor_hub.specs.World as world
-use Rattle.floor_hub.specs.World.{World, Part, Arrival, Place, Offered, aim, arrival, if_live, messages_of, offer, place, put, ledger_of, state_of, turn, turn_at, unserved, with_arrival, with_events}
+use Rattle.floor_hub.specs.World.{IsIdle, World, Part, Arrival, Place, Offered, aim, arrival, if_live, messages_of, offer, place, put, ledger_of, state_of, turn, turn_at, unserved, with_arrival, with_events}
 use Rattle.floor_hub.specs.StandsFor.{RoomStands, CameTo, ArrivalStands, Stands}
-use Rattle.floor_hub.specs.Calls.{answer_of}
+use Rattle.floor_hub.specs.Calls.{IsWant, answer_of}
 use Rattle.floor_hub.specs.steps.Serving.{IsServable, ServeFailsIn, ServedIn, ServesIn}
 use Rattle.floor_hub.specs.Kept.{IsKept, IsKeptPart, KeptIn}
 use Rattle.floor_hub.proofs.Acting.{refusal-part}
@@ -263,7 +263,7 @@ module _ (rooms now : ℕ → Option Room) (xs now_xs : ℕ → Option Connectio
       first_none (Some r) z e = absurd (none-some r (sym e))
 
   abbrev pub ServeFails : HubRefusal → Type 0
-  ServeFails r = (((r ≡ ByRoom (ByMachine Memory)) ⊎ (r ≡ ByRoom (ByMachine Broken))) × Stands now now_xs k w) ⊎ Turned (Refused r)
+  ServeFails r = (IsWant (turn w (Serve number)).answer r × Stands now now_xs k w) ⊎ Turned (Refused r)
 
   some_is : (y z : RoomRefusal) → ◌≡◌ {A = Option RoomRefusal} (Some y) (Some z) → z ≡ y
   some_is y z e = cc
@@ -302,6 +302,18 @@ module _ (rooms now : ℕ → Option Room) (xs now_xs : ℕ → Option Connectio
       let live : is_live (state_of part) n ≡ true = kept_part.live n h.a (open_part room.unbroken room.open_now) h.there h.live in
       subst (λ (i : ℕ). is_live (conference_of h.r.ledger) i ≡ true) (sym h.n) (subst (λ (s : Conference). is_live s n ≡ true) (sym state) live)
 
+  -- a whole message of a member that isn't cut is served, where the room takes events
+  busy : (frame : List ℕ) → closed h.r.ledger ≡ None → is_cut (conference_of h.r.ledger) x.n ≡ false → first (messages x.held) ≡ Some frame → ¬ IsIdle (turn w (Serve number)).answer
+  busy frame none uncut one =
+      let room = adding.opened h.r.ledger (sym none) in
+      let allowed : world.refused part (Message n frame) ≡ None =
+      ap (λ (i : ℕ). world.refused part (Message i frame)) (sym h.n)
+      ∙ sym (refusal-part h.r part (Message x.n frame) room.unbroken h.stands.0 (h.stands.1 room.unbroken))
+      ∙ no_message_refusal h.r x.n none (member_live none) uncut in
+      let served : (turn w (Serve number)).answer ≡ HasServed =
+      ap (λ (t : world.Turn). t.answer) (serve_turn ∙ ap (put w c) (serve_open (open_part room.unbroken room.open_now) (Some frame) (next_held room.unbroken ∙ one) ∙ ap (world.take_message part n h.a frame) allowed)) in
+      λ idle. subst IsIdle served idle
+
   serve_failed : (rest : List ℕ) (why : RoomRefusal) → xs number ≡ Some x → now_xs number ≡ Some (record { conference = x.conference; n = x.n; held = rest }) →
       ServeFailsIn h.r new x.n x.held rest why → ServeFails (ByRoom why)
   serve_failed rest why mine_was mine_now (inl f) = serve_closed rest why mine_was mine_now f.0 f.1 f.2 f.3
@@ -316,11 +328,12 @@ module _ (rooms now : ℕ → Option Room) (xs now_xs : ℕ → Option Connectio
       (serve_open (open_part room.unbroken room.open_now) (Some one.0) (next_held room.unbroken ∙ one.1) ∙ ap (world.take_message part n h.a one.0) refuses)
       (stands_same rest mine_was mine_now f.4 f.5 (update nat_eq w.parts c (Some part)) (λ d. put_back w c (Some part) h.was d (d == c) refl), refl))
   serve_failed rest why mine_was mine_now (inr (inr (inl f))) =
-      inl (inl (ap (λ (y : RoomRefusal). ByRoom y) f.0), stands_broken rest mine_now (ap (λ (y : Room). y.ledger.is_broken) f.2) (ap (λ (y : Room). y.ledger.config) f.2))
+      let one = some_first (messages x.held) f.3 in
+      inl (inl (ap (λ (y : RoomRefusal). ByRoom y) f.0, busy one.0 f.1 f.2 one.1), stands_broken rest mine_now (ap (λ (y : Room). y.ledger.is_broken) f.4) (ap (λ (y : Room). y.ledger.config) f.4))
   serve_failed rest why mine_was mine_now (inr (inr (inr f))) =
       let memory : why ≡ ByMachine Memory = by_memory (refusal h.r.ledger (Message x.n f.0)) why (no_message_refusal h.r x.n f.1 (member_live f.1) f.2) f.3 in
       let broken = left_broken h.r new (Message x.n f.0) why memory f.4 in
-      inl (inl (ap (λ (y : RoomRefusal). ByRoom y) memory), stands_broken rest mine_now broken.0 broken.1)
+      inl (inl (ap (λ (y : RoomRefusal). ByRoom y) memory, busy f.0 f.1 f.2 (ap first f.5)), stands_broken rest mine_now broken.0 broken.1)
 
   serve_done : (rest : List ℕ) (found : Served) → xs number ≡ Some x → now_xs number ≡ Some (record { conference = x.conference; n = x.n; held = rest }) →
       ServesIn h.r new x.n x.held rest found → Turned (answer_of found)
@@ -345,7 +358,7 @@ module _ (rooms now : ℕ → Option Room) (xs now_xs : ℕ → Option Connectio
   ServedAll a = Stands now now_xs k (turn w (Serve number)).world × ((turn w (Serve number)).answer ≡ a)
 
   abbrev pub ServeFailsAll : HubRefusal → Type 0
-  ServeFailsAll r = (((r ≡ ByRoom (ByMachine Memory)) ⊎ (r ≡ ByRoom (ByMachine Broken))) × Stands now now_xs k w) ⊎ ServedAll (Refused r)
+  ServeFailsAll r = (IsWant (turn w (Serve number)).answer r × Stands now now_xs k w) ⊎ ServedAll (Refused r)
 
   -- what serving is in the world
   pub serve_result : (res : Result Served HubRefusal) (y : Option Connection) → xs number ≡ y →

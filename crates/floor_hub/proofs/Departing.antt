@@ -21,7 +21,7 @@ use Rattle.floor_hub.specs.declared.step.Step.TheVariants.{Leave}
 use Rattle.floor_hub.specs.declared.step.Answer.{Answer}
 use Rattle.floor_hub.specs.declared.step.Answer.TheVariants.{Done, Refused}
 use Rattle.floor_hub.specs.World as world
-use Rattle.floor_hub.specs.World.{World, Part, Arrival, Place, aim, arrival, if_live, offer, place, put, ledger_of, turn, turn_at, with_arrival, with_events}
+use Rattle.floor_hub.specs.World.{IsIdle, World, Part, Arrival, Place, aim, arrival, if_live, offer, place, put, ledger_of, turn, turn_at, with_arrival, with_events}
 use Rattle.floor_hub.specs.StandsFor.{RoomStands, CameTo, ArrivalStands, Stands}
 use Rattle.floor_hub.specs.steps.Serving.{LeaveFailsIn, LeavesIn}
 use Rattle.floor_hub.specs.Kept.{IsKept}
@@ -107,14 +107,15 @@ module _ (rooms now : ℕ → Option Room) (xs now_xs : ℕ → Option Connectio
       first_none (Some r) z e = absurd (none-some r (sym e))
 
   abbrev pub LeaveFails : HubRefusal → Type 0
-  LeaveFails r = ((r ≡ ByRoom (ByMachine Memory)) × Stands now now_xs k (turn w (Leave number)).world) ⊎ Turned (Refused r)
+  LeaveFails r = (((r ≡ ByRoom (ByMachine Memory)) × (¬ IsIdle (turn w (Leave number)).answer)) × Stands now now_xs k (turn w (Leave number)).world) ⊎ Turned (Refused r)
 
   failed : (why : RoomRefusal) → LeaveFailsIn h.r new x.n why → LeaveFails (ByRoom why)
   failed why f =
       let live = member_live rooms now xs now_xs k w number st kept x h new now_here other_rooms others f.opened in
       let memory : why ≡ ByMachine Memory = by_memory (refusal h.r.ledger (Leaves x.n)) why (no_refusal h.r x.n f.opened live) f.refused in
       let broken = left_broken h.r new (Leaves x.n) why memory f.after in
-      inl (ap (λ (y : RoomRefusal). ByRoom y) memory, (leaves_broken broken.0 broken.1).0)
+      let gone = leaves_broken broken.0 broken.1 in
+      inl ((ap (λ (y : RoomRefusal). ByRoom y) memory, λ idle. subst IsIdle gone.1 idle), gone.0)
 
   pub leave_made : (res : Result (Unit {0}) HubRefusal) → OnOk res (LeavesIn h.r new x.n) → IfErr res (λ y. (why : RoomRefusal) × (y ≡ ByRoom why) × LeaveFailsIn h.r new x.n why) →
       MatchResult res (λ _. Turned Done) LeaveFails
@@ -126,7 +127,7 @@ module _ (rooms now : ℕ → Option Room) (xs now_xs : ℕ → Option Connectio
   LeftAll a = Stands now now_xs k (turn w (Leave number)).world × ((turn w (Leave number)).answer ≡ a)
 
   abbrev pub LeaveFailsAll : HubRefusal → Type 0
-  LeaveFailsAll r = ((r ≡ ByRoom (ByMachine Memory)) × Stands now now_xs k (turn w (Leave number)).world) ⊎ LeftAll (Refused r)
+  LeaveFailsAll r = (((r ≡ ByRoom (ByMachine Memory)) × (¬ IsIdle (turn w (Leave number)).answer)) × Stands now now_xs k (turn w (Leave number)).world) ⊎ LeftAll (Refused r)
 
   -- what leaving is in the world
   pub leave_result : (res : Result (Unit {0}) HubRefusal) (y : Option Connection) → xs number ≡ y →

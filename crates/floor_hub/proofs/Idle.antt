@@ -13,8 +13,8 @@ use Rattle.floor_hub.specs.declared.step.Step.TheVariants.{Open, Attach, Piece, 
 use Rattle.floor_hub.specs.declared.step.Answer.{Answer}
 use Rattle.floor_hub.specs.declared.step.Answer.TheVariants.{Done, Attached, Nothing, Served, Refused}
 use Rattle.floor_hub.specs.World as world
-use Rattle.floor_hub.specs.World.{Aim, Arrival, Offered, Part, Place, World, aimed, numbered, offer, places_after, turn, turn_at}
-use Rattle.floor_hub.specs.Laws.{IdleStays, IsIdle}
+use Rattle.floor_hub.specs.World.{IsIdle, Aim, Arrival, Offered, Part, Place, World, aimed, numbered, offer, places_after, turn, turn_at}
+use Rattle.floor_hub.specs.Laws.{IdleStays}
 
 -- where what is offered is refused, or nothing, the part is as it was
 abbrev Stays : Option Part → Offered → Type 0

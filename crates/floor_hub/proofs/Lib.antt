@@ -1,5 +1,6 @@
 pub mod Slotted
 pub mod Changed
+pub mod Wanting
 pub mod Acting
 pub mod Changes
 pub mod Pieces

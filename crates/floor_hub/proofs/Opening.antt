@@ -14,7 +14,7 @@ use Rattle.floor_hub.specs.declared.step.Step.TheVariants.{Open}
 use Rattle.floor_hub.specs.declared.step.Answer.{Answer}
 use Rattle.floor_hub.specs.declared.step.Answer.TheVariants.{Done, Refused}
 use Rattle.floor_hub.specs.World as world
-use Rattle.floor_hub.specs.World.{World, Part, Arrival, arrival, offer, opened, put, turn, if_live}
+use Rattle.floor_hub.specs.World.{IsIdle, World, Part, Arrival, arrival, offer, opened, put, turn, if_live}
 use Rattle.floor_hub.specs.StandsFor.{arrival_in, RoomStands, Stands}
 use Rattle.floor_hub.proofs.Changed.{stands_changed, put_back, rooms_again}
 
@@ -62,14 +62,18 @@ module _ (rooms now : ℕ → Option Room) (xs : ℕ → Option Connection) (k :
   used (Some p) was there same = (rooms_again rooms now xs k w (update nat_eq w.parts c (Some p)) same (λ d. put_back w c (Some p) was d (d == c) refl) st, refl)
 
   abbrev pub OpenFails : HubRefusal → Type 0
-  OpenFails r = ((r ≡ Memory) × Stands now xs k w) ⊎ Opened (Refused r)
+  OpenFails r = (((r ≡ Memory) × (¬ IsIdle (turn w (Open config)).answer)) × Stands now xs k w) ⊎ Opened (Refused r)
 
-  failed : (r : HubRefusal) → ((r ≡ Memory) ⊎ ((r ≡ Used) × (rooms c ≢ None))) → ((d : ℕ) → now d ≡ rooms d) → OpenFails r
-  failed r (inl m) same = inl (m, rooms_again rooms now xs k w w.parts same (λ d. refl) st)
+  failed : (r : HubRefusal) → (((r ≡ Memory) × (rooms c ≡ None)) ⊎ ((r ≡ Used) × (rooms c ≢ None))) → ((d : ℕ) → now d ≡ rooms d) → OpenFails r
+  failed r (inl m) same = inl ((m.0, λ idle. subst IsIdle would idle), rooms_again rooms now xs k w w.parts same (λ d. refl) st)
+    where
+      -- a conference is opened that isn't there
+      would : (turn w (Open config)).answer ≡ Done
+      would = ap (λ (z : Option Part). (put w c (offer z (Open config))).answer) (no_part (w.parts c) (subst (λ (x : Option Room). RoomStands x (w.parts c)) m.1 (st.of_rooms c)))
   failed r (inr u) same = let t = used (w.parts c) refl u.1 same in inr (t.0, t.1 ∙ ap (λ (x : HubRefusal). Refused x) (sym u.0))
 
   pub open_result : {T : Type 0} (res : Result T HubRefusal) →
-      MatchResult res (λ _. (rooms c ≡ None) × (now c ≡ Some (new_room config)) × ((d : ℕ) → nat_eq c d ≡ false → now d ≡ rooms d)) (λ r. (r ≡ Memory) ⊎ ((r ≡ Used) × (rooms c ≢ None))) →
+      MatchResult res (λ _. (rooms c ≡ None) × (now c ≡ Some (new_room config)) × ((d : ℕ) → nat_eq c d ≡ false → now d ≡ rooms d)) (λ r. ((r ≡ Memory) × (rooms c ≡ None)) ⊎ ((r ≡ Used) × (rooms c ≢ None))) →
       OnErr res ((d : ℕ) → now d ≡ rooms d) → MatchResult res (λ _. Opened Done) OpenFails
   open_result (Ok v) h same = opens h.0 h.1 (λ d ne. h.2 d (ne_eqb c d (λ x. ne (sym x))))
   open_result (Err r) h same = failed r h same

@@ -11,7 +11,7 @@ use Rattle.floor_room.specs.Room.{Room}
 use Rattle.floor_hub.specs.declared.refusal.HubRefusal.{HubRefusal}
 use Rattle.floor_hub.specs.declared.refusal.HubRefusal.TheVariants.{NoConnection, Memory}
 use Rattle.std.specs.List.{concat}
-use Rattle.floor_hub.specs.World.{messages_of}
+use Rattle.floor_hub.specs.World.{IsIdle, messages_of}
 use Rattle.floor_hub.specs.declared.connection.Connection.{Connection}
 use Rattle.floor_hub.specs.declared.step.Step.TheVariants.{Piece}
 use Rattle.floor_hub.specs.declared.step.Answer.TheVariants.{Done, Refused}
@@ -197,13 +197,20 @@ module _ (rooms : ℕ → Option Room) (cs now_cs : Connections) (k : ℕ) (w : 
   now_xs = connection_at now_cs
 
   abbrev pub FailsPiece : HubRefusal → Type 0
-  FailsPiece r = ((r ≡ Memory) × Stands rooms now_xs k w) ⊎ (Stands rooms now_xs k (turn w (Piece number bytes)).world × ((turn w (Piece number bytes)).answer ≡ Refused r))
+  FailsPiece r = (((r ≡ Memory) × (¬ IsIdle (turn w (Piece number bytes)).answer)) × Stands rooms now_xs k w) ⊎ (Stands rooms now_xs k (turn w (Piece number bytes)).world × ((turn w (Piece number bytes)).answer ≡ Refused r))
 
   ok_err : (v : Unit {0}) → ◌≡◌ {A = Result (Unit {0}) HubRefusal} (Ok v) (Err NoConnection) → ⊥
   ok_err v e = cc
 
   err_is : (r : HubRefusal) → ◌≡◌ {A = Result (Unit {0}) HubRefusal} (Err r) (Err NoConnection) → r ≡ NoConnection
   err_is r e = cc
+
+  -- bytes of a live connection are taken
+  busy : (x : Connection) → Stands rooms xs k w → xs number ≡ Some x → ¬ IsIdle (turn w (Piece number bytes)).answer
+  busy x st e =
+      let more : ℕ → Option Connection = update nat_eq xs number (Some (longer x bytes)) in
+      let taken = piece_present rooms xs more k w number bytes x st e (update_apart xs number (Some (longer x bytes))) (update_here xs number (Some (longer x bytes))) in
+      λ idle. subst IsIdle taken.1 idle
 
   pub piece_result : (res : Result (Unit {0}) HubRefusal) (y : Option Connection) → xs number ≡ y → Stands rooms xs k w
       → (xs number ≡ None → res ≡ Err NoConnection)
@@ -216,4 +223,4 @@ module _ (rooms : ℕ → Option Room) (cs now_cs : Connections) (k : ℕ) (w : 
   piece_result (Err r) None e st absent ok err =
       let t : RefusesPiece rooms xs k (turn w (Piece number bytes)) = piece_absent rooms xs k w number bytes st e in
       inr (connections_again rooms xs now_xs k (turn w (Piece number bytes)).world err t.0, t.1 ∙ ap Refused (sym (err_is r (absent e))))
-  piece_result (Err r) (Some x) e st absent ok err = inl (ok x e, connections_again rooms xs now_xs k w err st)
+  piece_result (Err r) (Some x) e st absent ok err = inl ((ok x e, busy x st e), connections_again rooms xs now_xs k w err st)

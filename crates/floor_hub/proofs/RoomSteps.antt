@@ -301,7 +301,7 @@ room-serve-fails r s x rest why (inr (inl f)) =
     subst (λ (y : RoomRefusal). RoomAfter by_broken (Some (ByRoom y)) (serve_event x r) r s) (sym f.0)
     (room-same by_broken (Some (ByRoom (ByMachine Cut))) (serve_event x r) r s (λ w. cc) (λ b. absurd (true_false (sym b ∙ (opened r.ledger (sym f.1)).unbroken))) (λ t. absurd (cc)) refl f.4)
 room-serve-fails r s x rest why (inr (inr (inl f))) =
-    subst (λ (y : RoomRefusal). RoomAfter by_broken (Some (ByRoom y)) (serve_event x r) r s) (sym f.0) (room-off by_broken (serve_event x r) r s (opened r.ledger (sym f.1)).unbroken f.2)
+    subst (λ (y : RoomRefusal). RoomAfter by_broken (Some (ByRoom y)) (serve_event x r) r s) (sym f.0) (room-off by_broken (serve_event x r) r s (opened r.ledger (sym f.1)).unbroken f.4)
 room-serve-fails r s x rest why (inr (inr (inr f))) = room-left (serve_event x r) r s (Message x.n f.0) why (serves-first x r f.0 rest f.5) f.3 f.4
 
 pub room-served : (r s : Room) (x : Connection) (rest : List ℕ) (res : Result Served HubRefusal) → ServedIn r s x.n x.held rest res →

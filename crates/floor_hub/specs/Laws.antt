@@ -5,10 +5,8 @@ use Rattle.floor_machine.specs.declared.event.Event.{Event}
 use Rattle.floor_machine.specs.Journal.{IsJournal, Q}
 use Rattle.floor_hub.specs.declared.step.Step.{Step}
 use Rattle.floor_hub.specs.declared.step.Step.TheVariants.{Open, Attach, Piece, Serve, Took, Leave, Admin}
-use Rattle.floor_hub.specs.declared.step.Answer.{Answer}
-use Rattle.floor_hub.specs.declared.step.Answer.TheVariants.{Done, Attached, Nothing, Served, Refused}
 use Rattle.floor_hub.specs.declared.transcript.Transcript.{Transcript}
-use Rattle.floor_hub.specs.World.{World, nothing, turn}
+use Rattle.floor_hub.specs.World.{IsIdle, World, nothing, turn}
 use Rattle.floor_hub.specs.Kept.{IsKept, IsNumbered, first_numbers, joins}
 use Rattle.floor_hub.specs.Runs.{IsRunOf, added, alone, answers, answers_to, called_for, configuration, events, queued, queued_in, run, steps_of}
 
@@ -28,14 +26,6 @@ StepAdds = (c : ℕ) (steps : List Step) (s : Step) → events c (steps ++ s ∷
 abbrev pub ConfigurationStays : Type 0
 ConfigurationStays = (c : ℕ) (config : Configuration) (steps : List Step) (s : Step) →
     configuration c steps ≡ Some config → configuration c (steps ++ s ∷ []) ≡ Some config
-
--- the step was refused, or found no message
-abbrev pub IsIdle : Answer → Type 0
-IsIdle (Refused r) = Unit {0}
-IsIdle Nothing = Unit {0}
-IsIdle Done = ⊥
-IsIdle (Attached number) = ⊥
-IsIdle Served = ⊥
 
 -- a step that is refused, or that finds no message, changes nothing
 abbrev pub IdleStays : Type 0

@@ -219,6 +219,14 @@ turn_at w (Some a) = put w a.conference (offer (w.parts a.conference) a.step)
 abbrev pub turn : World → Step → Turn
 turn w s = turn_at w (aimed w s)
 
+-- the step was refused, or found no message
+abbrev pub IsIdle : Answer → Type 0
+IsIdle (Refused r) = Unit {0}
+IsIdle Nothing = Unit {0}
+IsIdle Done = ⊥
+IsIdle (Attached number) = ⊥
+IsIdle Served = ⊥
+
 -- the bytes of n's messages
 abbrev pub messages_of : ℕ → List Event → List (List ℕ)
 messages_of n [] = []

@@ -40,7 +40,8 @@ use std::marker::Model;
 ///   told nothing more, and its messages are refused by `Cut`.
 ///
 /// A refused call changes nothing. Want of memory does so in `open` and `piece`, too; in `attach`,
-/// `serve`, `took`, `leave` and `admin` it breaks that one conference's room off, and no other.
+/// `serve`, `took`, `leave` and `admin` it breaks that one conference's room off, and no other. It
+/// comes behind every other refusal.
 #[derive(Drop)]
 pub struct Hub {
     rooms: IndexMap<u32, Room>,

@@ -32,8 +32,8 @@ pub(crate) fn open_at(
         × (get nat_eq rooms.new config.conference ≡ Some (new_room config))
         × ((d : ℕ) → nat_eq config.conference d ≡ false
         → get nat_eq rooms.new d ≡ get nat_eq rooms.old d))
-        (λ r. (r ≡ HubRefusal.Memory) ⊎ ((r ≡ HubRefusal.Used)
-        × (get nat_eq rooms.old config.conference ≢ None))) }
+        (λ r. ((r ≡ HubRefusal.Memory) × (get nat_eq rooms.old config.conference ≡ None))
+        ⊎ ((r ≡ HubRefusal.Used) × (get nat_eq rooms.old config.conference ≢ None))) }
     ensures left { OnErr result ((other : ℕ) → get nat_eq rooms.new other
         ≡ get nat_eq rooms.old other) }
 {

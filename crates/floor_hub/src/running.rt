@@ -1,11 +1,11 @@
 //! Whole runs: a list of steps, from an empty hub on.
 
-ghost use Rattle.std.specs.Prelude.{◌≡◌, ℕ, List, IfOk, MatchResult};
+ghost use Rattle.std.specs.Prelude.{◌≡◌, ℕ, List, IfOk, MatchResult, OnErr};
 ghost use Rattle.floor_hub.specs.declared.connection.Place.{Place as Placed};
 ghost use Rattle.floor_hub.specs.declared.step.Answer.TheVariants.{Done, Refused};
 ghost use Rattle.floor_hub.specs.declared.step.Step.TheVariants.{Admin, Attach, Leave, Open, Piece, Serve, Took};
 ghost use Rattle.floor_hub.specs.Runs.{IsRunOf, queues_from};
-ghost use Rattle.floor_hub.specs.steps.Running.{Goes, IsRunning, IsRunOn};
+ghost use Rattle.floor_hub.specs.steps.Running.{Goes, IsRunning, IsRunOn, StopsRun};
 ghost use Rattle.floor_hub.specs.Calls.{answer_of};
 ghost use Rattle.floor_hub.specs.World.{World};
 
@@ -158,7 +158,8 @@ fn admin(hub: &mut Hub, alloc: Global, conference: u32, act: &Act) -> Result<Ans
 
 /// The answer that a refusal is, unless it is want of memory, now or before.
 fn refused(refusal: HubRefusal) -> Result<Answer, Memory>
-    ensures { IfOk result (λ a. (a ≡ Refused refusal) × IsRunOn refusal) }
+    ensures value { IfOk result (λ a. (a ≡ Refused refusal) × IsRunOn refusal) }
+    ensures memory { OnErr result (StopsRun refusal) }
 {
     match refusal {
         HubRefusal::Memory => Err(Memory),
@@ -169,8 +170,9 @@ fn refused(refusal: HubRefusal) -> Result<Answer, Memory>
 }
 
 fn done(outcome: Result<(), HubRefusal>) -> Result<Answer, Memory>
-    ensures { IfOk result (λ a. MatchResult outcome (λ _. a ≡ Done)
+    ensures value { IfOk result (λ a. MatchResult outcome (λ _. a ≡ Done)
         (λ r. (a ≡ Refused r) × IsRunOn r)) }
+    ensures memory { OnErr result (MatchResult outcome (λ _. ⊥) StopsRun) }
 {
     match outcome {
         Ok(()) => Ok(Answer::Done),
@@ -179,8 +181,9 @@ fn done(outcome: Result<(), HubRefusal>) -> Result<Answer, Memory>
 }
 
 fn served(outcome: Result<Served, HubRefusal>) -> Result<Answer, Memory>
-    ensures { IfOk result (λ a. MatchResult outcome (λ found. a ≡ answer_of found)
+    ensures value { IfOk result (λ a. MatchResult outcome (λ found. a ≡ answer_of found)
         (λ r. (a ≡ Refused r) × IsRunOn r)) }
+    ensures memory { OnErr result (MatchResult outcome (λ _. ⊥) StopsRun) }
 {
     match outcome {
         Ok(Served::Nothing) => Ok(Answer::Nothing),

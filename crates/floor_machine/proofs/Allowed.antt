@@ -43,7 +43,8 @@ not_false : (b : Bool) → not b ≡ false → b ≡ true
 not_false true h = refl
 not_false false h = cc
 
-all_true : {X : Type 0} (p : X → Bool) (xs : List X) → list_all p xs ≡ true → All (λ x. IsTrue (p x)) xs
+-- what passes a test each
+pub all_true : {X : Type 0} (p : X → Bool) (xs : List X) → list_all p xs ≡ true → All (λ x. IsTrue (p x)) xs
 all_true p [] h = All-nil (λ x. IsTrue (p x))
 all_true p (x ∷ xs) h = All-cons (λ x. IsTrue (p x)) x xs (and_left (p x) (list_all p xs) h) (all_true p xs (and_right (p x) (list_all p xs) h))
 

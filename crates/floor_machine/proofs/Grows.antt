@@ -11,6 +11,7 @@ use Rattle.floor_config.specs.Changed.{added_user, chaired, with_user}
 use Rattle.floor_config.specs.Configuration.{Configuration, IsConfiguration}
 use Rattle.floor_config.specs.Lookup.{is_user, user_with}
 use Rattle.floor_config.proofs.KeptAfter.{chair_kept, floor_kept, user_kept}
+use Rattle.floor_queue.proofs.Counts.{list_all_mono}
 use Rattle.floor_queue.specs.declared.request.Request.{Request}
 use Rattle.floor_queue.specs.Order.{granted_if, is_due}
 use Rattle.floor_queue.specs.Queue.{after_set_chair, first_request, loses_chair, with_reason, without, without_chair}
@@ -113,15 +114,6 @@ grown-change config s (SetChair floor chair) h =
 
 -- users -----------------------------------------------------------------------------------------
 
--- all that pass one test pass the other
-all-weaker : {A : Type 0} (p q : A → Bool) → ((x : A) → p x ≡ true → q x ≡ true) → (xs : List A) → list_all p xs ≡ true → list_all q xs ≡ true
-all-weaker p q leads [] h = refl
-all-weaker p q leads (x ∷ xs) h = both (q x) (list_all q xs) (leads x (and_left (p x) (list_all p xs) h)) (all-weaker p q leads xs (and_right (p x) (list_all p xs) h))
-  where
-    both : (a b : Bool) → a ≡ true → b ≡ true → (a && b) ≡ true
-    both true b h k = k
-    both false b h k = h
-
 -- what is made of them passes as they did
 all-map : {A B : Type 0} (p : B → Bool) (q : A → Bool) (f : A → B) → ((x : A) → p (f x) ≡ q x) → (xs : List A) → list_all p (map f xs) ≡ list_all q xs
 all-map p q f same [] = refl
@@ -221,7 +213,7 @@ users-change s (Leave n) lawful h = all-map (is_member_known s.config) (is_membe
 users-change s (Revoke request) lawful h = h
 users-change s Close lawful h = h
 users-change s (AddUser user) lawful h =
-    all-weaker (is_member_known s.config) (is_member_known (with_user s.config user)) (λ m k. is_user-more s.config user m.user k) s.members h
+    list_all_mono (is_member_known s.config) (is_member_known (with_user s.config user)) (λ m k. is_user-more s.config user m.user k) s.members h
 users-change s (AddFloor floor) lawful h = h
 users-change s (SetChair floor chair) lawful h = h
 
@@ -328,7 +320,7 @@ known-change s (Revoke request) lawful users h =
 known-change s Close lawful users h = refl
 known-change s (AddUser user) lawful users h =
     known-entries (with_user s.config user) (map entry_of s.ongoing) s.ongoing (ongoing_of-entries s.ongoing)
-    (all-weaker (are_known s.config) (are_known (with_user s.config user)) (are_known-more s.config user) s.ongoing h)
+    (list_all_mono (are_known s.config) (are_known (with_user s.config user)) (are_known-more s.config user) s.ongoing h)
 known-change s (AddFloor floor) lawful users h = known-entries s.config (map entry_of s.ongoing) s.ongoing (ongoing_of-entries s.ongoing) h
 known-change s (SetChair floor chair) lawful users h =
     known-entries s.config (map entry_of (after_set_chair (queue_of s) floor chair).ongoing) (after_set_chair (queue_of s) floor chair).ongoing (ongoing_of-entries (after_set_chair (queue_of s) floor chair).ongoing)

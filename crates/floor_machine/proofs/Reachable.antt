@@ -1,8 +1,8 @@
 -- What each journal of a configuration keeps.
 use Rattle.std.proofs.Common.{◌≡◌, ℕ, ◌+◌, ◌-◌, ◌≤◌, Bool, true, false, cond, List, [], ◌∷◌, ◌++◌, length, map, Option, Some, None, refl, sym, ap, subst, arith}
-use Rattle.std.specs.Prelude.{◌==◌, ◌&&◌, All, IfSome, IsTrue, not, filter, count_by, is_some}
+use Rattle.std.specs.Prelude.{◌==◌, ◌&&◌, All, IfSome, not, filter, count_by, is_some}
 use Rattle.std.specs.List.{list_all, list_any}
-use Rattle.std.proofs.lemmas.List.Elements.{All-cons, All-nil, All-weaker}
+use Rattle.std.proofs.lemmas.List.Elements.{All-nil, All-weaker}
 use Rattle.std.proofs.lemmas.List.Sums.{sum_by_push}
 use Rattle.floor_config.specs.Configuration.{Configuration, IsConfiguration, IsFloor}
 use Rattle.floor_config.specs.declared.floors.Floor.{Floor}
@@ -33,12 +33,11 @@ use Rattle.floor_machine.specs.Journal.{IsLawfulFrom, after_from}
 use Rattle.floor_machine.specs.Reachable.{HasGrown, IsReachable}
 use Rattle.floor_machine.specs.steps.Deciding.{MayServe, new_of_ask}
 use Rattle.floor_machine.specs.Next.{counted, next}
-use Rattle.floor_machine.proofs.Allowed.{may_serve}
+use Rattle.floor_machine.proofs.Allowed.{all_true, may_serve}
 use Rattle.floor_machine.proofs.Changing.{entries-added, ongoing_of-decided, ongoing_of-ending}
 use Rattle.floor_machine.proofs.Ended.{ongoing_of-ends}
 use Rattle.floor_machine.proofs.Configs.{config-change, keeps_config}
 use Rattle.floor_machine.proofs.Entries.{ongoing_of-entries, ongoing_of-settled}
-use Rattle.floor_machine.proofs.Found.{and_left, and_right}
 use Rattle.floor_machine.proofs.Grows.{are_known, grown-change, known-next, limits-change, users-next}
 use Rattle.floor_machine.proofs.Counted.{AreWithin, within-next}
 use Rattle.floor_machine.proofs.Reasoned.{queue-reasoned}
@@ -312,10 +311,6 @@ grown-after config s (e ∷ es) h = grown-after config (next s e) es (grown-next
 abbrev pub PositionsFit : Type 0
 PositionsFit = (q : Queue) → IsQueue q → IsSettled q → All (λ r. (floor : ℕ) → position q.floors q.ongoing r floor ≤ 255) q.ongoing
 
-each : {A : Type 0} (p : A → Bool) (xs : List A) → list_all p xs ≡ true → All (λ x. IsTrue (p x)) xs
-each p [] h = All-nil (λ x. IsTrue (p x))
-each p (x ∷ xs) h = All-cons (λ x. IsTrue (p x)) x xs (and_left (p x) (list_all p xs) h) (each p xs (and_right (p x) (list_all p xs) h))
-
 pub reachable : (config : Configuration) (s : Conference) → PositionsFit → HasGrown config s.config → Keeps s → IsReachable config s
 reachable config s positions grown k =
     record {
@@ -328,7 +323,7 @@ reachable config s positions grown k =
       settled = k.settled;
       positions = positions (queue_of s) k.queue k.settled;
       numbered = k.numbered;
-      users = each (λ m. is_user s.config m.user) s.members k.users;
+      users = all_true (λ m. is_user s.config m.user) s.members k.users;
       live = k.live;
       backlogs = k.backlogs;
     }

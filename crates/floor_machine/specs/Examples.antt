@@ -20,15 +20,15 @@ use Rattle.floor_machine.specs.Journal.{Q, after, parcels_of, parcels_from}
 use Rattle.floor_machine.specs.Next.{next, told}
 
 -- a user without name, URI and port
-abbrev plain : ℕ → User
+abbrev pub plain : ℕ → User
 plain id = record { id = id; name = None; uri = None; proxy = false; port = None }
 
 -- a floor without a chair, of room 1
-abbrev free : ℕ → Floor
+abbrev pub free : ℕ → Floor
 free id = record { id = id; room = 1; chair = None }
 
 -- users 10, 11 and 12, and floor 1
-abbrev demonstration : Configuration
+abbrev pub demonstration : Configuration
 demonstration = record { conference = 1; limit = 4; users = plain 10 ∷ plain 11 ∷ plain 12 ∷ []; floors = free 1 ∷ [] }
 
 -- the same with floors 1 and 2
@@ -36,7 +36,7 @@ abbrev two_floors : Configuration
 two_floors = record demonstration { floors = free 1 ∷ free 2 ∷ [] }
 
 -- the same with floor 4 alone, which user 12 chairs
-abbrev chaired_floor : Configuration
+abbrev pub chaired_floor : Configuration
 chaired_floor = record demonstration { floors = record { id = 4; room = 1; chair = Some 12 } ∷ [] }
 
 -- the same, where user 12 has the proxy mark
@@ -48,7 +48,7 @@ abbrev named : Configuration
 named = record demonstration { users = plain 10 ∷ record (plain 13) { name = Some (0x41 ∷ 0x6e ∷ 0x6e ∷ []) } ∷ [] }
 
 -- a parcel to n
-abbrev sent : ℕ → List ℕ → Parcel
+abbrev pub sent : ℕ → List ℕ → Parcel
 sent n bytes = record { n = n; bytes = bytes }
 
 -- a Hello is answered by what is supported, and again
@@ -142,7 +142,7 @@ unfolding ask spelled spelled_within outgoing_bytes info_of same_info refusal ch
 joint_request = refl
 
 -- a chair grants, accepts, and grants over a higher priority
-abbrev chair_decides_events : List Event
+abbrev pub chair_decides_events : List Event
 chair_decides_events =
     Join 10
     ∷ Join 11

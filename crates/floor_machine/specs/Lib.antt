@@ -19,5 +19,6 @@ pub mod Reachable
 pub mod Membership
 pub mod Amount
 pub mod Examples
+pub mod ActExamples
 -- the steps of the proofs
 pub mod steps

@@ -112,6 +112,11 @@ IsRefusedBy None (Ok value) = Unit {0}
 IsRefusedBy None (Err Memory) = Unit {0}
 IsRefusedBy None (Err refusal) = ⊥
 
+-- the call is refused by this refusal, and done without one: it takes no memory
+abbrev pub unless_refused : Option Refusal → Result (Unit {0}) Refusal
+unless_refused None = Ok tt
+unless_refused (Some refusal) = Err refusal
+
 -- What a call that took an event did: the event was lawful, the conference is the next one, the parcels stand behind those before
 -- them, and each of their messages can be written.
 pub record Applied (old : Machine) (e : Event) (new : Machine) (before after : List Parcel) : Type 0 where

@@ -3,7 +3,7 @@
 ghost use Rattle.std.specs.Prelude.{◌≡◌, ◌+◌, ◌<◌, ◌≤◌, [], IfOk, IfErr, OnOk, length, count_by};
 ghost use Rattle.floor_machine.specs.Conference.{is_cut, live_numbers, opening};
 ghost use Rattle.floor_machine.specs.declared.event.Event.TheVariants.{AddUser, Join, Leave, Message, Took};
-ghost use Rattle.floor_machine.specs.Machine.{Applied, IsRefusedBy, Left, act_refusal, event_of_act, fault_refusal, is_backlog, join_refusal, leave_refusal, member_refusal, message_refusal, refusal_of, refusal_of_fault, took_refusal, whole};
+ghost use Rattle.floor_machine.specs.Machine.{Applied, IsRefusedBy, Left, act_refusal, event_of_act, fault_refusal, is_backlog, join_refusal, leave_refusal, member_refusal, message_refusal, refusal_of, refusal_of_fault, took_refusal, unless_refused, whole};
 
 use crate::act::Act;
 use crate::conference::State;
@@ -360,7 +360,7 @@ impl Machine {
     #[tactic(auto, using(crate::proofs::Bounds::shown_fits))]
     pub fn took(&mut self, n: u32, k: u32) -> Result<(), Refusal>
         ensures took { OnOk result (Applied self.old (Took n k) self.new [] []) }
-        ensures refused { IsRefusedBy (took_refusal self.old n k) result }
+        ensures refused { result ≡ unless_refused (took_refusal self.old n k) }
         ensures left { IfErr result (Left self.old (Took n k) self.new [] []) }
     {
         match self.took_refusal(n, k) {

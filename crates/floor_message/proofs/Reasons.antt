@@ -1,11 +1,13 @@
--- The reason of a floor is found by going through the floors once.
-use Rattle.std.proofs.Common.{◌≡◌, ℕ, Bool, true, false, not, cond, ◌&&◌, List, [], ◌∷◌, ◌++◌, filter, Option, Some, None, refl, sym, ◌∙◌, ap}
+-- The reason of a floor is found by going through the groups once.
+use Rattle.std.proofs.Common.{◌≡◌, ℕ, ◌+◌, ◌<◌, Bool, true, false, not, cond, ◌&&◌, List, [], ◌∷◌, ◌++◌, length, map, take, drop, get_or, filter, Option, Some, None, refl, sym, ◌∙◌, ap}
 use Rattle.std.specs.Prelude.{filter_map, ◌==◌}
 use Rattle.std.specs.List.{list_any, cons_option}
+use Rattle.std.proofs.lemmas.List.{append-nil, drop_more, map-append, take_more}
+use Rattle.std.proofs.lemmas.List.Elements.{filter_map-append}
 use Rattle.floor_wire.specs.declared.attribute.Attr.{Attr}
 use Rattle.floor_message.specs.Fields.{status_info_in, floor_reason, reason_for}
-use Rattle.floor_message.specs.Picked.{first, groups, once_by}
-use Rattle.floor_message.specs.steps.Reasons.{reason_unless_named, reason_behind}
+use Rattle.floor_message.specs.Picked.{first, group_in, groups, if_kind, once_by}
+use Rattle.floor_message.specs.steps.Reasons.{floors_named, reason_unless_named, reason_behind}
 use Rattle.floor_message.proofs.Once.{filter_both, filter_same, any_more, flip}
 
 -- the floor of the group isn't named already
@@ -49,3 +51,33 @@ all_kept (x ∷ xs) = ap (λ l. x ∷ l) (all_kept xs)
 -- where no floor is named yet, it is the reason of a floor
 pub reason_from_start : (inside : List Attr) → reason_behind [] (groups 17 inside) ≡ floor_reason inside
 reason_from_start inside = reason_behind-is [] (groups 17 inside) ∙ ap reason_among (all_kept (once_by (λ g. g.0) (groups 17 inside)))
+
+-- the floors that are named behind one attribute more
+named_behind : (front : List Attr) (a : Attr) (o : Option (ℕ × List Attr)) → if_kind group_in 17 a ≡ o → floors_named (front ++ a ∷ []) ≡ map (λ g. g.0) (groups 17 front ++ cons_option o [])
+named_behind front a o is =
+    ap (map (λ g. g.0)) (filter_map-append (if_kind group_in 17) front (a ∷ []) ∙ ap (λ x. groups 17 front ++ cons_option x []) is)
+
+-- no reason is passed over with an attribute that is no such group
+pub past_other : (front rest : List Attr) (a : Attr) → if_kind group_in 17 a ≡ None
+    → reason_behind (floors_named (front ++ a ∷ [])) (groups 17 rest) ≡ reason_behind (floors_named front) (groups 17 (a ∷ rest))
+past_other front rest a is =
+    ap (λ named. reason_behind named (groups 17 rest)) (named_behind front a None is ∙ ap (map (λ g. g.0)) (append-nil (groups 17 front)))
+    ∙ ap (λ o. reason_behind (floors_named front) (cons_option o (groups 17 rest))) (sym is)
+
+-- nor with a group that has none, or whose floor is named already
+pub past_group : (front rest : List Attr) (a : Attr) (g : ℕ × List Attr) → if_kind group_in 17 a ≡ Some g → reason_unless_named (floors_named front) g ≡ None
+    → reason_behind (floors_named (front ++ a ∷ [])) (groups 17 rest) ≡ reason_behind (floors_named front) (groups 17 (a ∷ rest))
+past_group front rest a g is none =
+    ap (λ named. reason_behind named (groups 17 rest)) (named_behind front a (Some g) is ∙ map-append (λ x. x.0) (groups 17 front) (g ∷ []))
+    ∙ ap (λ o. reason_for o (reason_behind (floors_named front ++ g.0 ∷ []) (groups 17 rest))) (sym none)
+    ∙ ap (λ o. reason_behind (floors_named front) (cons_option o (groups 17 rest))) (sym is)
+
+-- so at each place
+pub past_at : (inside : List Attr) (place : ℕ) (d : Attr) → place < length inside
+    → (reason_behind (floors_named (take place inside ++ get_or inside place d ∷ [])) (groups 17 (drop (place + 1) inside))
+    ≡ reason_behind (floors_named (take place inside)) (groups 17 (get_or inside place d ∷ drop (place + 1) inside)))
+    → reason_behind (floors_named (take (place + 1) inside)) (groups 17 (drop (place + 1) inside)) ≡ reason_behind (floors_named (take place inside)) (groups 17 (drop place inside))
+past_at inside place d within past =
+    ap (λ xs. reason_behind (floors_named xs) (groups 17 (drop (place + 1) inside))) (take_more inside place d within)
+    ∙ past
+    ∙ ap (λ xs. reason_behind (floors_named (take place inside)) (groups 17 xs)) (sym (drop_more inside place d within))

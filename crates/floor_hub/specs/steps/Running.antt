@@ -1,5 +1,5 @@
 -- How far a run has come.
-use Rattle.std.specs.Prelude.{◌≡◌, ℕ, ◌≤◌, List, [], ◌∷◌, length, false, Some, Result, IfOk, map, ◌≢◌}
+use Rattle.std.specs.Prelude.{◌≡◌, ℕ, ◌≤◌, List, [], ◌∷◌, length, false, Some, Result, IfOk, map, ◌≢◌, ◌⊎◌}
 use Rattle.floor_machine.specs.Journal.{Q}
 use Rattle.floor_room.specs.Outbox.{Outbox}
 use Rattle.floor_room.specs.Ledger.{conference_of}
@@ -47,3 +47,7 @@ Goes old new before after s result = (w : World) → IsRunning old before w → 
 -- after this refusal a run goes on: it isn't want of memory, now or before
 abbrev pub IsRunOn : HubRefusal → Type 0
 IsRunOn r = (r ≢ NoMemory) × (r ≢ ByRoom (ByMachine OutOfMemory)) × (r ≢ ByRoom (ByMachine Broken))
+
+-- after this refusal it doesn't: it is want of memory, now or before
+abbrev pub StopsRun : HubRefusal → Type 0
+StopsRun r = (r ≡ NoMemory) ⊎ ((r ≡ ByRoom (ByMachine OutOfMemory)) ⊎ (r ≡ ByRoom (ByMachine Broken)))

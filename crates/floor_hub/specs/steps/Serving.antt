@@ -35,7 +35,7 @@ abbrev pub ServeFailsIn : Room → Room → ℕ → List ℕ → List ℕ → Ro
 ServeFailsIn old new n held rest why =
     ((closed old.ledger ≡ Some why) × (why ≡ JournalFull → messages held ≢ []) × (new ≡ old) × (rest ≡ held))
     ⊎ (((why ≡ ByMachine Cut) × (closed old.ledger ≡ None) × (is_cut (conference_of old.ledger) n ≡ true) × (messages held ≢ []) × (new ≡ old) × (rest ≡ held))
-    ⊎ (((why ≡ ByMachine Memory) × (closed old.ledger ≡ None) × (new ≡ broken_room old) × (rest ≡ held))
+    ⊎ (((why ≡ ByMachine Memory) × (closed old.ledger ≡ None) × (is_cut (conference_of old.ledger) n ≡ false) × (messages held ≢ []) × (new ≡ broken_room old) × (rest ≡ held))
     ⊎ ((frame : List ℕ) × (closed old.ledger ≡ None) × (is_cut (conference_of old.ledger) n ≡ false) × IsRefusedBy {T = Unit {0}} (refusal old.ledger (Message n frame)) (Err why) × Left old new (Message n frame) why
     × (messages held ≡ frame ∷ messages rest) × (held ≡ frame ++ rest))))
 

@@ -1,9 +1,9 @@
 //! STATUS-INFO: the reason that a chair gives for its decision (RFC 8855, sections 5.2.9 and 11.1).
 
-ghost use Rattle.std.specs.Prelude.{◌≡◌, ◌==◌, IfOk, None, option_copied, if◌then◌else◌};
 ghost use Rattle.std.specs.List.{list_any};
+ghost use Rattle.std.specs.Prelude.{◌≡◌, ◌==◌, IfOk, None, option_copied, if◌then◌else◌};
 ghost use Rattle.floor_message.specs.Fields as spec;
-ghost use Rattle.floor_message.specs.steps.Reasons.{reason_unless_named};
+ghost use Rattle.floor_message.specs.steps.Reasons.{floors_named, reason_unless_named};
 
 use crate::format::group::group_of;
 use crate::format::octets::first_octets;
@@ -24,34 +24,49 @@ pub(crate) fn reason_kept(
 {
     let text = match overall_reason(inside) {
         Some(text) => Some(text),
-        None => floor_reason(alloc, inside)?,
+        None => floor_reason(inside),
     };
     text_kept(alloc, text, LONGEST_REASON)
 }
 
 /// The text in the first STATUS-INFO inside the first FLOOR-REQUEST-STATUS that has one. Where a
-/// floor is named twice, the first counts.
-fn floor_reason(alloc: Global, inside: &[Attr]) -> Result<Option<&[u8]>, AllocError>
-    ensures { IfOk result (λ text. option_copied text ≡ spec.floor_reason inside.now) }
+/// floor is named twice, the first counts. Takes no memory: the floors that stand in front are looked
+/// through again only where there is a text.
+fn floor_reason(inside: &[Attr]) -> Option<&[u8]>
+    ensures { option_copied result ≡ spec.floor_reason inside.now }
 {
-    let mut named = Vec::new(alloc);
-    for attr in inside {
-        if let Some((floor, within)) = group_of(attr, FLOOR_REQUEST_STATUS) {
-            if let Some(text) = reason_unless_named(&named, floor, within) {
-                return Ok(Some(text));
+    for place in 0..inside.len() {
+        if let Some((floor, within)) = group_of(&inside[place], FLOOR_REQUEST_STATUS) {
+            if let Some(text) = reason_unless_named(&inside[..place], floor, within) {
+                return Some(text);
             }
-            named.push(floor)?;
         }
     }
-    Ok(None)
+    None
 }
 
-fn reason_unless_named<'a>(named: &[u16], floor: u16, within: &'a [Attr]) -> Option<&'a [u8]>
-    ensures { option_copied result ≡ reason_unless_named named.now (floor, within.now) }
+/// The text in the group of this floor, unless a group in front of it is of the floor already.
+fn reason_unless_named<'a>(before: &[Attr], floor: u16, within: &'a [Attr]) -> Option<&'a [u8]>
+    ensures { option_copied result
+        ≡ reason_unless_named (floors_named before.now) (floor, within.now) }
 {
-    let is_named = named.contains(&floor);
-    if is_named {
+    let text = first_octets(within, STATUS_INFO)?;
+    if is_named(before, floor) {
         return None;
     }
-    first_octets(within, STATUS_INFO)
+    Some(text)
+}
+
+/// Whether one of the groups is of this floor.
+fn is_named(before: &[Attr], floor: u16) -> bool
+    ensures { result ≡ list_any (λ named. floor == named) (floors_named before.now) }
+{
+    for attr in before {
+        if let Some((named, _)) = group_of(attr, FLOOR_REQUEST_STATUS) {
+            if floor == named {
+                return true;
+            }
+        }
+    }
+    false
 }

@@ -21,5 +21,5 @@ returns-in-Ok-push c =
 
 pub returns-in-Err : goal.returns-in-Err
 returns-in-Err c =
-    unattached c.args.hub.now c.attach.new.self (Attach c.args.conference c.args.user) c.in-Err.refusal c.refused.result c.args.places.now.items c.refused.ensures c.in-Err.ensures.next
+    unattached c.args.hub.now c.attach.new.self (Attach c.args.conference c.args.user) c.in-Err.refusal c.refused.result c.args.places.now.items c.refused.ensures.value c.in-Err.ensures.next
     (whole_one by_broken (Some c.in-Err.refusal) _ c.args.conference c.args.hub.now c.attach.new.self c.in-Err.ensures.room)

@@ -1,9 +1,9 @@
 use Rattle.floor_hub.proofs.Acting.{acted, admin_acted, quiet-act}
-use Rattle.floor_hub.proofs.Left.{left-at}
+use Rattle.floor_hub.proofs.Left.{free, left-at}
 use Rattle.floor_hub.proofs.RoomSteps.{event-room}
-use Rattle.std.proofs.Common.{◌≡◌, ◌⊎◌, refl, sym, subst}
+use Rattle.std.proofs.Common.{◌≡◌, refl, sym, subst, None}
 use Rattle.std.specs.Prelude.{IfErr, MatchResult, OnErr, Result, Ok, Err}
-use Rattle.floor_machine.specs.declared.machine.Refusal.TheVariants.{Memory, Broken}
+use Rattle.floor_machine.specs.declared.machine.Refusal.TheVariants.{Memory}
 use Rattle.floor_machine.specs.Machine.{event_of_act}
 use Rattle.floor_room.specs.declared.refusal.RoomRefusal.{RoomRefusal}
 use Rattle.floor_room.specs.declared.refusal.RoomRefusal.TheVariants.{Refused as ByMachine}
@@ -19,8 +19,8 @@ use Rattle.floor_hub.specs.Hub.{Hub, room_at}
 use Rattle.floor_hub.specs.Left.{LeftAt}
 use Rattle.floor_hub.specs.Rooms.{OneRoom, admin_event, by_broken, refusal_in}
 use Rattle.floor_hub.specs.StandsFor.{StandsFor}
-use Rattle.floor_hub.specs.Calls.{Fails, Turns}
-use Rattle.floor_hub.specs.World.{World}
+use Rattle.floor_hub.specs.Calls.{IsWant, Fails, Turns}
+use Rattle.floor_hub.specs.World.{turn, World}
 use Rattle.floor_hub.proofs.Closing.{ended, good, stood}
 use Rattle.floor_hub.proofs.Outboxes.{grows-one, keeps-outboxes, were-same}
 use Rattle.floor_hub.proofs.hub.Hub.admin.Goals as goal
@@ -31,13 +31,10 @@ old c = record { rooms = c.self.inside.rooms.entries; connections = c.self.insid
 abbrev new : goal.After-admin_at → Hub
 new c = record { rooms = c.admin_at.new.rooms.entries; connections = c.self.inside.connections; arrivals = c.self.inside.arrivals }
 
-abbrev Want : HubRefusal → Type 0
-Want r = (r ≡ ByRoom (ByMachine Memory)) ⊎ (r ≡ ByRoom (ByMachine Broken))
-
 turns : (c : goal.After-admin_at) (w : World) → StandsFor (old c) w → MatchResult c.admin_at.result (λ v. Turns (new c) w (Admin c.args.conference c.args.act) (Done)) (λ r. Fails (new c) w (Admin c.args.conference c.args.act) r)
 turns c w st =
     let g = good (old c) w st in
-    ended (new c) w w (Admin c.args.conference c.args.act) Want (λ v. Done) tt g g c.admin_at.result
+    ended (new c) w w (Admin c.args.conference c.args.act) (IsWant (turn w (Admin c.args.conference c.args.act)).answer) (λ v. Done) tt g g c.admin_at.result
     (admin_acted (room_at (old c)) (room_at (new c)) (connection_at c.self.inside.connections) c.self.inside.arrivals w c.args.conference c.args.act st.stands c.admin_at.result
     (acted (room_at (old c)) (room_at (new c)) (connection_at c.self.inside.connections) c.self.inside.arrivals w c.args.conference (event_of_act c.args.act) (quiet-act c.args.act) st.stands
     c.admin_at.result (room_at (old c) c.args.conference) refl c.admin_at.ensures.room.absent
@@ -51,7 +48,7 @@ room c =
 pub invariant_of-self : goal.invariant_of-self
 invariant_of-self c =
     let w = c.self.invariant.0 in
-    stood (new c) w w (Admin c.args.conference c.args.act) Want (λ v. Done) c.admin_at.result (turns c w c.self.invariant.1)
+    stood (new c) w w (Admin c.args.conference c.args.act) (IsWant (turn w (Admin c.args.conference c.args.act)).answer) (λ v. Done) c.admin_at.result (turns c w c.self.invariant.1)
     (keeps-outboxes (old c) (new c) (grows-one by_broken (refusal_in c.admin_at.result) (admin_event c.args.act) c.args.conference (old c) (new c) (room c))
     (were-same (old c).connections (new c).connections (λ k. refl)) c.self.invariant.2)
 
@@ -64,9 +61,9 @@ returns-clause-room c = subst (λ h. OneRoom by_broken (refusal_in c.admin_at.re
 -- what the room's refusal has left
 fails : (c : goal.After-admin_at) (r s : Room) (res : Result (Unit {0}) HubRefusal) →
     IfErr res (λ x. (why : RoomRefusal) × (x ≡ ByRoom why) × IsRefusedBy {T = Unit {0}} (refusal r.ledger (event_of_act c.args.act)) (Err why) × Left r s (event_of_act c.args.act) why) →
-    IfErr res (λ x. (why : RoomRefusal) × (x ≡ ByRoom why) × Left r s (event_of_act c.args.act) why)
+    IfErr res (λ x. (why : RoomRefusal) × (x ≡ ByRoom why) × (why ≡ ByMachine Memory → refusal r.ledger (event_of_act c.args.act) ≡ None) × Left r s (event_of_act c.args.act) why)
 fails c r s (Ok v) h = tt
-fails c r s (Err x) h = (h.0, h.1, h.3)
+fails c r s (Err x) h = (h.0, h.1, free r (event_of_act c.args.act) h.0 h.2, h.3)
 
 -- an act leaves the connections
 same : (c : goal.After-admin_at) (res : Result (Unit {0}) HubRefusal) → OnErr res (SameConnections (old c).connections (new c).connections)

@@ -1,9 +1,7 @@
-use Rattle.std.proofs.Common.{◌≡◌, ◌⊎◌, ℕ, ◌+◌, ◌≤◌, [], Some, None, arith, length, refl, sym, subst}
+use Rattle.std.proofs.Common.{◌≡◌, ℕ, ◌+◌, ◌≤◌, [], Some, None, arith, length, refl, sym, subst}
 use Rattle.std.specs.Prelude.{Ok, Err, Option, Result}
-use Rattle.floor_machine.specs.declared.machine.Refusal.TheVariants.{Memory, Broken}
-use Rattle.floor_room.specs.declared.refusal.RoomRefusal.TheVariants.{Refused as ByMachine}
 use Rattle.floor_hub.specs.declared.refusal.HubRefusal.{HubRefusal}
-use Rattle.floor_hub.specs.declared.refusal.HubRefusal.TheVariants.{ByRoom, NoConference}
+use Rattle.floor_hub.specs.declared.refusal.HubRefusal.TheVariants.{NoConference}
 use Rattle.floor_hub.specs.declared.step.Step.TheVariants.{Attach}
 use Rattle.floor_hub.specs.declared.step.Answer.TheVariants.{Attached}
 use Rattle.floor_hub.specs.Connections.{connection_at}
@@ -11,8 +9,8 @@ use Rattle.floor_hub.specs.Hub.{Hub, room_at}
 use Rattle.floor_hub.specs.Left.{LeftAt}
 use Rattle.floor_hub.specs.Rooms.{OneRoom, attach_event, by_broken}
 use Rattle.floor_hub.specs.StandsFor.{HasOutbox, HaveOutboxes, StandsFor}
-use Rattle.floor_hub.specs.Calls.{Fails, Turns}
-use Rattle.floor_hub.specs.World.{World}
+use Rattle.floor_hub.specs.Calls.{IsWant, Fails, Turns}
+use Rattle.floor_hub.specs.World.{turn, World}
 use Rattle.floor_hub.proofs.Arriving.{attach_result}
 use Rattle.floor_hub.proofs.Closing.{ended, good, stood}
 use Rattle.floor_hub.proofs.Left.{left-attach}
@@ -22,9 +20,6 @@ use Rattle.floor_room.specs.Ledger.{conference_of}
 use Rattle.floor_room.specs.Room.{Room}
 use Rattle.floor_hub.proofs.Outboxes.{grows-one, has-joined, keeps-outboxes, were-same}
 use Rattle.floor_hub.proofs.hub.Hub.attach.Goals as goal
-
-abbrev Want : HubRefusal → Type 0
-Want r = (r ≡ ByRoom (ByMachine Memory)) ⊎ (r ≡ ByRoom (ByMachine Broken))
 
 pub overflow_add-number : goal.overflow_add-number
 overflow_add-number c =
@@ -41,7 +36,7 @@ new_ok c = record { rooms = c.attach_at-joined.new.rooms.entries; connections = 
 turns_ok : (c : goal.After-self-1) (w : World) → StandsFor (old_ok c) w → Turns (new_ok c) w (Attach c.args.conference c.args.user) (Attached (c.self.inside.arrivals + 1))
 turns_ok c w st =
     let g = good (old_ok c) w st in
-    ended {T = Unit {0}} (new_ok c) w w (Attach c.args.conference c.args.user) Want (λ v. Attached (c.self.inside.arrivals + 1)) tt g g (Ok tt)
+    ended {T = Unit {0}} (new_ok c) w w (Attach c.args.conference c.args.user) (IsWant (turn w (Attach c.args.conference c.args.user)).answer) (λ v. Attached (c.self.inside.arrivals + 1)) tt g g (Ok tt)
     (attach_result (room_at (old_ok c)) (room_at (new_ok c)) (connection_at c.self.inside.connections) (connection_at c.attach_at-joined.new.connections) c.self.inside.arrivals w
     c.args.conference c.args.user st.stands st.kept (Ok tt) (room_at (old_ok c) c.args.conference) refl c.in-Ok.ensures.room.absent c.in-Ok.ensures.left
     (λ r is. let t = c.in-Ok.ensures.room.there r is in (t.0, t.1, t.2, (t.3.0.0, (t.3.0.1.here, t.3.0.1.others)), tt)))
@@ -68,7 +63,7 @@ has_outboxes c (Some r) is =
 pub invariant_of-self : goal.invariant_of-self
 invariant_of-self c =
     let w = c.self.invariant.0 in
-    stood {T = Unit {0}} (new_ok c) w w (Attach c.args.conference c.args.user) Want (λ v. Attached (c.self.inside.arrivals + 1)) (Ok tt) (turns_ok c w c.self.invariant.1)
+    stood {T = Unit {0}} (new_ok c) w w (Attach c.args.conference c.args.user) (IsWant (turn w (Attach c.args.conference c.args.user)).answer) (λ v. Attached (c.self.inside.arrivals + 1)) (Ok tt) (turns_ok c w c.self.invariant.1)
     (has_outboxes c (room_at (old_ok c) c.args.conference) refl)
 
 pub returns-in-Ok-clause-next : goal.returns-in-Ok-clause-next
@@ -87,7 +82,7 @@ new_err c = record { rooms = c.attach_at-joined.new.rooms.entries; connections =
 turns_err : (c : goal.In-Err) (w : World) → StandsFor (old_err c) w → Fails (new_err c) w (Attach c.args.conference c.args.user) c.in-Err.refusal
 turns_err c w st =
     let g = good (old_err c) w st in
-    ended {T = Unit {0}} (new_err c) w w (Attach c.args.conference c.args.user) Want (λ v. Attached (c.self.inside.arrivals + 1)) tt g g (Err c.in-Err.refusal)
+    ended {T = Unit {0}} (new_err c) w w (Attach c.args.conference c.args.user) (IsWant (turn w (Attach c.args.conference c.args.user)).answer) (λ v. Attached (c.self.inside.arrivals + 1)) tt g g (Err c.in-Err.refusal)
     (attach_result (room_at (old_err c)) (room_at (new_err c)) (connection_at c.self.inside.connections) (connection_at c.attach_at-joined.new.connections) c.self.inside.arrivals w
     c.args.conference c.args.user st.stands st.kept (Err c.in-Err.refusal) (room_at (old_err c) c.args.conference) refl c.in-Err.ensures.room.absent c.in-Err.ensures.left
     (λ r is. let t = c.in-Err.ensures.room.there r is in (t.0, t.1, t.2, t.3.0, t.3.1)))
@@ -100,7 +95,7 @@ room_err c =
 pub invariant_of-self-in-Err : goal.invariant_of-self-in-Err
 invariant_of-self-in-Err c =
     let w = c.self.invariant.0 in
-    stood {T = Unit {0}} (new_err c) w w (Attach c.args.conference c.args.user) Want (λ v. Attached (c.self.inside.arrivals + 1)) (Err c.in-Err.refusal) (turns_err c w c.self.invariant.1)
+    stood {T = Unit {0}} (new_err c) w w (Attach c.args.conference c.args.user) (IsWant (turn w (Attach c.args.conference c.args.user)).answer) (λ v. Attached (c.self.inside.arrivals + 1)) (Err c.in-Err.refusal) (turns_err c w c.self.invariant.1)
     (keeps-outboxes (old_err c) (new_err c) (grows-one by_broken (Some c.in-Err.refusal) (attach_event c.args.user) c.args.conference (old_err c) (new_err c) (room_err c))
     (were-same (old_err c).connections (new_err c).connections c.in-Err.ensures.left) c.self.invariant.2)
 

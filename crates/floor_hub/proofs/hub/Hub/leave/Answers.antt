@@ -19,10 +19,11 @@ use Rattle.floor_hub.specs.Left.{LeftLeaving}
 use Rattle.floor_hub.specs.Rooms.{RoomOf, leave_event, refusal_in}
 use Rattle.floor_hub.specs.StandsFor.{StandsFor}
 use Rattle.floor_hub.specs.Calls.{FailsGone, Turns}
-use Rattle.floor_hub.specs.World.{World, turn}
+use Rattle.floor_hub.specs.World.{IsIdle, World, turn}
 use Rattle.floor_hub.proofs.Closing.{ended, good, good_next, stood}
 use Rattle.floor_hub.proofs.Outboxes.{grows-of, keeps-outboxes, outbox-room, were-of}
 use Rattle.floor_hub.proofs.hub.Hub.leave.Goals as goal
+use Rattle.floor_hub.specs.declared.step.Answer.{Answer}
 
 abbrev old : goal.After-leave_at → Hub
 old c = record { rooms = c.self.inside.rooms.entries; connections = c.self.inside.connections; arrivals = c.self.inside.arrivals }
@@ -30,8 +31,8 @@ old c = record { rooms = c.self.inside.rooms.entries; connections = c.self.insid
 abbrev new : goal.After-leave_at → Hub
 new c = record { rooms = c.leave_at.new.rooms.entries; connections = c.leave_at.new.connections; arrivals = c.self.inside.arrivals }
 
-abbrev Want : HubRefusal → Type 0
-Want r = r ≡ ByRoom (ByMachine Memory)
+abbrev Want : Answer → HubRefusal → Type 0
+Want answer r = (r ≡ ByRoom (ByMachine Memory)) × (¬ IsIdle answer)
 
 -- its connection is gone, since each live one has a room
 gone : (c : goal.After-leave_at) (x : Connection) → connection_at (old c).connections c.args.number ≡ Some x → Puts (old c).connections (new c).connections c.args.number None
@@ -48,7 +49,7 @@ there c x is r room = let t = c.leave_at.ensures.connection.there x is r room in
 turns : (c : goal.After-leave_at) (w : World) → StandsFor (old c) w → MatchResult c.leave_at.result (λ v. Turns (new c) w (Leave c.args.number) (Done)) (λ r. FailsGone (new c) w (Leave c.args.number) r)
 turns c w st =
     let g = good (old c) w st in
-    ended (new c) w (turn w (Leave c.args.number)).world (Leave c.args.number) Want (λ v. Done) tt g (good_next w (Leave c.args.number) tt g) c.leave_at.result
+    ended (new c) w (turn w (Leave c.args.number)).world (Leave c.args.number) (Want (turn w (Leave c.args.number)).answer) (λ v. Done) tt g (good_next w (Leave c.args.number) tt g) c.leave_at.result
     (leave_result (room_at (old c)) (room_at (new c)) (connection_at c.self.inside.connections) (connection_at c.leave_at.new.connections) c.self.inside.arrivals w c.args.number st.stands st.kept
     c.leave_at.result (connection_at c.self.inside.connections c.args.number) refl c.leave_at.ensures.connection.absent
     (λ x is. let t = gone c x is in (t.here, t.others)) (there c))
@@ -61,7 +62,7 @@ room c =
 pub invariant_of-self : goal.invariant_of-self
 invariant_of-self c =
     let w = c.self.invariant.0 in
-    stood (new c) w (turn w (Leave c.args.number)).world (Leave c.args.number) Want (λ v. Done) c.leave_at.result (turns c w c.self.invariant.1)
+    stood (new c) w (turn w (Leave c.args.number)).world (Leave c.args.number) (Want (turn w (Leave c.args.number)).answer) (λ v. Done) c.leave_at.result (turns c w c.self.invariant.1)
     (keeps-outboxes (old c) (new c) (grows-of None (refusal_in c.leave_at.result) leave_event (connection_at (old c).connections c.args.number) (old c) (new c) (room c))
     (were-of (old c).connections (new c).connections c.args.number (connection_at (old c).connections c.args.number) refl (λ absent. (c.leave_at.ensures.connection.absent absent).2)
     (λ x there. (None, tt, gone c x there)))

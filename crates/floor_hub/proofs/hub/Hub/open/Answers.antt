@@ -9,10 +9,11 @@ use Rattle.floor_hub.specs.Connections.{connection_at}
 use Rattle.floor_hub.specs.Hub.{Hub, room_at}
 use Rattle.floor_hub.specs.StandsFor.{StandsFor}
 use Rattle.floor_hub.specs.Calls.{FailsSame, Turns}
-use Rattle.floor_hub.specs.World.{World}
+use Rattle.floor_hub.specs.World.{IsIdle, turn, World}
 use Rattle.floor_hub.proofs.Closing.{ended, good, stood}
 use Rattle.floor_hub.proofs.Outboxes.{grows-opened, keeps-outboxes, were-same}
 use Rattle.floor_hub.proofs.hub.Hub.open.Goals as goal
+use Rattle.floor_hub.specs.declared.step.Answer.{Answer}
 
 abbrev old : goal.After-open_at → Hub
 old c = record { rooms = c.self.inside.rooms.entries; connections = c.self.inside.connections; arrivals = c.self.inside.arrivals }
@@ -20,20 +21,20 @@ old c = record { rooms = c.self.inside.rooms.entries; connections = c.self.insid
 abbrev new : goal.After-open_at → Hub
 new c = record { rooms = c.open_at.new.rooms.entries; connections = c.self.inside.connections; arrivals = c.self.inside.arrivals }
 
-abbrev Want : HubRefusal → Type 0
-Want r = r ≡ NoMemory
+abbrev Want : Answer → HubRefusal → Type 0
+Want answer r = (r ≡ NoMemory) × (¬ IsIdle answer)
 
 turns : (c : goal.After-open_at) (w : World) → StandsFor (old c) w → MatchResult c.open_at.result (λ v. Turns (new c) w (Open c.args.config) (Done)) (λ r. FailsSame (new c) w (Open c.args.config) r)
 turns c w st =
     let g = good (old c) w st in
-    ended (new c) w w (Open c.args.config) Want (λ v. Done) c.open_at.ensures.range g g c.open_at.result
+    ended (new c) w w (Open c.args.config) (Want (turn w (Open c.args.config)).answer) (λ v. Done) c.open_at.ensures.range g g c.open_at.result
     (open_result (room_at (old c)) (room_at (new c)) (connection_at c.self.inside.connections) c.self.inside.arrivals w c.args.config st.stands
     c.open_at.result c.open_at.ensures.done c.open_at.ensures.left)
 
 pub invariant_of-self : goal.invariant_of-self
 invariant_of-self c =
     let w = c.self.invariant.0 in
-    stood (new c) w w (Open c.args.config) Want (λ v. Done) c.open_at.result (turns c w c.self.invariant.1)
+    stood (new c) w w (Open c.args.config) (Want (turn w (Open c.args.config)).answer) (λ v. Done) c.open_at.result (turns c w c.self.invariant.1)
     (keeps-outboxes (old c) (new c) (grows-opened _ c.open_at.result c.args.config (old c) (new c) c.open_at.ensures.done c.open_at.ensures.left)
     (were-same (old c).connections (new c).connections (λ k. refl)) c.self.invariant.2)
 

@@ -9,10 +9,11 @@ use Rattle.floor_hub.specs.Connections.{Puts, SameConnections, connection_at}
 use Rattle.floor_hub.specs.Hub.{Hub, room_at}
 use Rattle.floor_hub.specs.StandsFor.{StandsFor}
 use Rattle.floor_hub.specs.Calls.{FailsSame, Turns}
-use Rattle.floor_hub.specs.World.{World}
+use Rattle.floor_hub.specs.World.{IsIdle, turn, World}
 use Rattle.floor_hub.proofs.Closing.{ended, good, stood}
 use Rattle.floor_hub.proofs.Outboxes.{WasThere, grows-same, keeps-outboxes, were-of, were-same}
 use Rattle.floor_hub.proofs.hub.Hub.piece.Goals as goal
+use Rattle.floor_hub.specs.declared.step.Answer.{Answer}
 
 abbrev old : goal.After-push_at → Hub
 old c = record { rooms = c.self.inside.rooms.entries; connections = c.self.inside.connections; arrivals = c.self.inside.arrivals }
@@ -20,13 +21,13 @@ old c = record { rooms = c.self.inside.rooms.entries; connections = c.self.insid
 abbrev new : goal.After-push_at → Hub
 new c = record { rooms = c.self.inside.rooms.entries; connections = c.push_at.new.connections; arrivals = c.self.inside.arrivals }
 
-abbrev Want : HubRefusal → Type 0
-Want r = r ≡ NoMemory
+abbrev Want : Answer → HubRefusal → Type 0
+Want answer r = (r ≡ NoMemory) × (¬ IsIdle answer)
 
 turns : (c : goal.After-push_at) (w : World) → StandsFor (old c) w → MatchResult c.push_at.result (λ v. Turns (new c) w (Piece c.args.number c.args.bytes.now) (Done)) (λ r. FailsSame (new c) w (Piece c.args.number c.args.bytes.now) r)
 turns c w st =
     let g = good (old c) w st in
-    ended (new c) w w (Piece c.args.number c.args.bytes.now) Want (λ v. Done) tt g g c.push_at.result
+    ended (new c) w w (Piece c.args.number c.args.bytes.now) (Want (turn w (Piece c.args.number c.args.bytes.now)).answer) (λ v. Done) tt g g c.push_at.result
     (piece_result (room_at (old c)) c.self.inside.connections c.push_at.new.connections c.self.inside.arrivals w c.args.number c.args.bytes.now c.push_at.result
     (connection_at c.self.inside.connections c.args.number) refl st.stands c.push_at.ensures.absent c.push_at.ensures.there c.push_at.ensures.left)
 
@@ -47,7 +48,7 @@ were c (Ok v) is = were-of (old c).connections (new c).connections c.args.number
 pub invariant_of-self : goal.invariant_of-self
 invariant_of-self c =
     let w = c.self.invariant.0 in
-    stood (new c) w w (Piece c.args.number c.args.bytes.now) Want (λ v. Done) c.push_at.result (turns c w c.self.invariant.1)
+    stood (new c) w w (Piece c.args.number c.args.bytes.now) (Want (turn w (Piece c.args.number c.args.bytes.now)).answer) (λ v. Done) c.push_at.result (turns c w c.self.invariant.1)
     (keeps-outboxes (old c) (new c) (λ d. grows-same (room_at (old c) d) (room_at (new c) d) refl) (were c c.push_at.result refl) c.self.invariant.2)
 
 pub returns-clause-next : goal.returns-clause-next

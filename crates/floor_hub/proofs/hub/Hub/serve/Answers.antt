@@ -1,21 +1,17 @@
 use Rattle.floor_hub.proofs.Attending.{serve_result}
 use Rattle.floor_hub.proofs.Left.{left-serve}
 use Rattle.floor_hub.proofs.RoomSteps.{serve-room}
-use Rattle.std.proofs.Common.{◌≡◌, ◌⊎◌, ℕ, List, Some, refl, sym, ◌∙◌, subst}
+use Rattle.std.proofs.Common.{◌≡◌, ℕ, List, Some, refl, sym, ◌∙◌, subst}
 use Rattle.std.specs.Prelude.{IfErr, MatchResult, Option}
-use Rattle.floor_machine.specs.declared.machine.Refusal.TheVariants.{Memory, Broken}
-use Rattle.floor_room.specs.declared.refusal.RoomRefusal.TheVariants.{Refused as ByMachine}
 use Rattle.floor_hub.specs.declared.connection.Connection.{Connection}
-use Rattle.floor_hub.specs.declared.refusal.HubRefusal.{HubRefusal}
-use Rattle.floor_hub.specs.declared.refusal.HubRefusal.TheVariants.{ByRoom}
 use Rattle.floor_hub.specs.declared.step.Step.TheVariants.{Serve}
 use Rattle.floor_hub.specs.Connections.{Puts, connection_at}
 use Rattle.floor_hub.specs.Hub.{Hub, room_at}
 use Rattle.floor_hub.specs.Left.{LeftServing}
 use Rattle.floor_hub.specs.Rooms.{RoomOf, by_broken, refusal_in, serve_event}
 use Rattle.floor_hub.specs.StandsFor.{StandsFor}
-use Rattle.floor_hub.specs.Calls.{Fails, Turns, answer_of}
-use Rattle.floor_hub.specs.World.{World}
+use Rattle.floor_hub.specs.Calls.{IsWant, Fails, Turns, answer_of}
+use Rattle.floor_hub.specs.World.{turn, World}
 use Rattle.floor_hub.proofs.Closing.{ended, good, stood}
 use Rattle.floor_hub.proofs.Outboxes.{grows-of, keeps-outboxes, outbox-room, were-of}
 use Rattle.floor_hub.proofs.hub.Hub.serve.Goals as goal
@@ -26,9 +22,6 @@ old c = record { rooms = c.self.inside.rooms.entries; connections = c.self.insid
 abbrev new : goal.After-serve_at → Hub
 new c = record { rooms = c.serve_at.new.rooms.entries; connections = c.serve_at.new.connections; arrivals = c.self.inside.arrivals }
 
-abbrev Want : HubRefusal → Type 0
-Want r = (r ≡ ByRoom (ByMachine Memory)) ⊎ (r ≡ ByRoom (ByMachine Broken))
-
 -- what stands under the number afterwards
 served : (c : goal.After-serve_at) (x : Connection) (y : Option Connection) (rest : List ℕ) → Puts (old c).connections (new c).connections c.args.number y →
     y ≡ Some (record { conference = x.conference; n = x.n; held = rest }) →
@@ -38,7 +31,7 @@ served c x y rest puts is = subst (Puts (old c).connections (new c).connections 
 turns : (c : goal.After-serve_at) (w : World) → StandsFor (old c) w → MatchResult c.serve_at.result (λ v. Turns (new c) w (Serve c.args.number) (answer_of v)) (λ r. Fails (new c) w (Serve c.args.number) r)
 turns c w st =
     let g = good (old c) w st in
-    ended (new c) w w (Serve c.args.number) Want (λ v. answer_of v) tt g g c.serve_at.result
+    ended (new c) w w (Serve c.args.number) (IsWant (turn w (Serve c.args.number)).answer) (λ v. answer_of v) tt g g c.serve_at.result
     (serve_result (room_at (old c)) (room_at (new c)) (connection_at c.self.inside.connections) (connection_at c.serve_at.new.connections) c.self.inside.arrivals w c.args.number st.stands st.kept
     c.serve_at.result (connection_at c.self.inside.connections c.args.number) refl c.serve_at.ensures.connection.absent
     (λ x is r room. let t = c.serve_at.ensures.connection.there x is r room in (t.0, t.5.0, t.2, t.3, t.4.here ∙ t.5.1, t.4.others, t.5.2)))
@@ -51,7 +44,7 @@ room c =
 pub invariant_of-self : goal.invariant_of-self
 invariant_of-self c =
     let w = c.self.invariant.0 in
-    stood (new c) w w (Serve c.args.number) Want (λ v. answer_of v) c.serve_at.result (turns c w c.self.invariant.1)
+    stood (new c) w w (Serve c.args.number) (IsWant (turn w (Serve c.args.number)).answer) (λ v. answer_of v) c.serve_at.result (turns c w c.self.invariant.1)
     (keeps-outboxes (old c) (new c) (grows-of by_broken (refusal_in c.serve_at.result) serve_event (connection_at (old c).connections c.args.number) (old c) (new c) (room c))
     (were-of (old c).connections (new c).connections c.args.number (connection_at (old c).connections c.args.number) refl (λ none. (c.serve_at.ensures.connection.absent none).2)
     (λ x there.

@@ -1,10 +1,10 @@
 use Rattle.floor_hub.proofs.Acknowledging.{took_result}
-use Rattle.floor_hub.proofs.Left.{left-took}
+use Rattle.floor_hub.proofs.Left.{free, left-took}
 use Rattle.floor_hub.proofs.RoomSteps.{took-room}
-use Rattle.std.proofs.Common.{◌≡◌, ◌⊎◌, ℕ, false, Some, refl, sym, subst}
+use Rattle.std.proofs.Common.{◌≡◌, ℕ, false, Some, refl, sym, subst, None}
 use Rattle.std.specs.Prelude.{IfErr, MatchResult, Result, Ok, Err, nat_eq}
 use Rattle.floor_machine.specs.declared.event.Event.TheVariants.{Took as Takes}
-use Rattle.floor_machine.specs.declared.machine.Refusal.TheVariants.{Memory, Broken}
+use Rattle.floor_machine.specs.declared.machine.Refusal.TheVariants.{Memory}
 use Rattle.floor_room.specs.declared.refusal.RoomRefusal.{RoomRefusal}
 use Rattle.floor_room.specs.declared.refusal.RoomRefusal.TheVariants.{Refused as ByMachine}
 use Rattle.floor_room.specs.Calls.{Left}
@@ -19,21 +19,19 @@ use Rattle.floor_hub.specs.Hub.{Hub, room_at}
 use Rattle.floor_hub.specs.Left.{LeftTaking}
 use Rattle.floor_hub.specs.Rooms.{RoomOf, by_broken, refusal_in, took_event}
 use Rattle.floor_hub.specs.StandsFor.{StandsFor}
-use Rattle.floor_hub.specs.Calls.{Fails, Turns}
+use Rattle.floor_hub.specs.Calls.{IsWant, Fails, Turns}
 use Rattle.floor_hub.specs.steps.Serving.{EventIn}
-use Rattle.floor_hub.specs.World.{World}
+use Rattle.floor_hub.specs.World.{turn, World}
 use Rattle.floor_hub.proofs.Closing.{ended, good, stood}
 use Rattle.floor_hub.proofs.Outboxes.{grows-of, keeps-outboxes, outbox-room, were-same}
 use Rattle.floor_hub.proofs.hub.Hub.took.Goals as goal
+use Rattle.floor_room.specs.Ledger.{refusal}
 
 abbrev old : goal.After-took_at → Hub
 old c = record { rooms = c.self.inside.rooms.entries; connections = c.self.inside.connections; arrivals = c.self.inside.arrivals }
 
 abbrev new : goal.After-took_at → Hub
 new c = record { rooms = c.took_at.new.rooms.entries; connections = c.self.inside.connections; arrivals = c.self.inside.arrivals }
-
-abbrev Want : HubRefusal → Type 0
-Want r = (r ≡ ByRoom (ByMachine Memory)) ⊎ (r ≡ ByRoom (ByMachine Broken))
 
 there : (c : goal.After-took_at) (x : Connection) → connection_at (old c).connections c.args.number ≡ Some x → (r : Room) → room_at (old c) x.conference ≡ Some r →
     (s : Room) × (room_at (new c) x.conference ≡ Some s) × ((d : ℕ) → nat_eq x.conference d ≡ false → room_at (new c) d ≡ room_at (old c) d) × EventIn (Takes x.n c.args.k) r s c.took_at.result
@@ -42,7 +40,7 @@ there c x is r room = let t = c.took_at.ensures.connection.there x is r room in 
 turns : (c : goal.After-took_at) (w : World) → StandsFor (old c) w → MatchResult c.took_at.result (λ v. Turns (new c) w (Took c.args.number c.args.k) Done) (λ r. Fails (new c) w (Took c.args.number c.args.k) r)
 turns c w st =
     let g = good (old c) w st in
-    ended (new c) w w (Took c.args.number c.args.k) Want (λ v. Done) tt g g c.took_at.result
+    ended (new c) w w (Took c.args.number c.args.k) (IsWant (turn w (Took c.args.number c.args.k)).answer) (λ v. Done) tt g g c.took_at.result
     (took_result (room_at (old c)) (room_at (new c)) (connection_at c.self.inside.connections) c.self.inside.arrivals w c.args.number c.args.k st.stands
     c.took_at.result (connection_at c.self.inside.connections c.args.number) refl
     (λ none. let a = c.took_at.ensures.connection.absent none in (a.0, a.1)) (there c))
@@ -55,7 +53,7 @@ room c =
 pub invariant_of-self : goal.invariant_of-self
 invariant_of-self c =
     let w = c.self.invariant.0 in
-    stood (new c) w w (Took c.args.number c.args.k) Want (λ v. Done) c.took_at.result (turns c w c.self.invariant.1)
+    stood (new c) w w (Took c.args.number c.args.k) (IsWant (turn w (Took c.args.number c.args.k)).answer) (λ v. Done) c.took_at.result (turns c w c.self.invariant.1)
     (keeps-outboxes (old c) (new c) (grows-of by_broken (refusal_in c.took_at.result) (took_event c.args.k) (connection_at (old c).connections c.args.number) (old c) (new c) (room c))
     (were-same (old c).connections (new c).connections (λ k. refl)) c.self.invariant.2)
 
@@ -67,9 +65,9 @@ returns-clause-room c = subst (λ h. RoomOf by_broken (refusal_in c.took_at.resu
 
 -- what the room's refusal has left
 fails : (c : goal.After-took_at) (x : Connection) (r s : Room) (res : Result (Unit {0}) HubRefusal) → EventIn (Takes x.n c.args.k) r s res →
-    IfErr res (λ z. (why : RoomRefusal) × (z ≡ ByRoom why) × Left r s (Takes x.n c.args.k) why)
+    IfErr res (λ z. (why : RoomRefusal) × (z ≡ ByRoom why) × (why ≡ ByMachine Memory → refusal r.ledger (Takes x.n c.args.k) ≡ None) × Left r s (Takes x.n c.args.k) why)
 fails c x r s (Ok v) h = tt
-fails c x r s (Err z) h = (h.1.0, h.1.1, h.1.3)
+fails c x r s (Err z) h = (h.1.0, h.1.1, free r (Takes x.n c.args.k) h.1.0 h.1.2, h.1.3)
 
 pub returns-clause-left : goal.returns-clause-left
 returns-clause-left c =

@@ -1,8 +1,8 @@
-use Rattle.std.proofs.Common.{◌≡◌, drop}
-use Rattle.floor_message.specs.steps.Reasons.{reason_behind}
+use Rattle.std.proofs.Common.{◌≡◌, drop, take}
+use Rattle.floor_message.specs.steps.Reasons.{floors_named, reason_behind}
 use Rattle.floor_message.specs.Picked.{groups}
 use Rattle.floor_message.specs.Fields.{floor_reason}
 use Rattle.floor_message.proofs.format.status_info.floor_reason.Given as goal
 
-abbrev pub invariant-loop-attr : goal.invariant-loop-attr
-invariant-loop-attr l = reason_behind l.named.items (groups 17 (drop l.attr-index l.inside)) ≡ floor_reason l.inside
+abbrev pub invariant-loop-place : goal.invariant-loop-place
+invariant-loop-place l = reason_behind (floors_named (take l.place l.inside)) (groups 17 (drop l.place l.inside)) ≡ floor_reason l.inside
