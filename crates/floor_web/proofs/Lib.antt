@@ -9,4 +9,6 @@ mod Calls
 mod Appending
 mod Paths
 mod Ends
-mod Differing
+mod Found
+mod Standing
+mod Doubles

@@ -82,6 +82,16 @@ abbrev pub asked_page : Option (List ℕ) → (is_head : Bool) → Result Wanted
 asked_page None is_head = Err BadRequest
 asked_page (Some name) is_head = Ok (page (name_of_page name) is_head)
 
+-- the token behind `Bearer ` (RFC 6750, section 2.1); none is an empty one, which nobody has
+abbrev pub bearer_of : List (List ℕ) → List ℕ
+bearer_of [] = []
+bearer_of (v ∷ vs) = unwrap_or (behind v (codes "Bearer ")) (bearer_of vs)
+
+-- where the path is, or begins with, `/meeting`
+abbrev pub bearer_at : Fields → (path : List ℕ) → Option (List ℕ)
+bearer_at fields path =
+    if bytes_eq path (codes "/meeting") then Some (bearer_of (values_of fields (codes "Authorization"))) else behind path (codes "/meeting/")
+
 abbrev pub asked_meeting : Option (List ℕ) → (path : List ℕ) → (is_head : Bool) → Result Wanted Refusal
 asked_meeting (Some token) path is_head = Ok (meeting token is_head)
 asked_meeting None path is_head = asked_page (behind path (codes "/")) is_head
@@ -93,7 +103,7 @@ token_at fields path =
 
 abbrev pub at_token : List (List ℕ) → Fields → (host path : List ℕ) → (is_head : Bool) → Option (List ℕ) → Result Wanted Refusal
 at_token listed fields host path is_head (Some token) = asked_socket listed fields host is_head token
-at_token listed fields host path is_head None = asked_meeting (behind path (codes "/meeting/")) path is_head
+at_token listed fields host path is_head None = asked_meeting (bearer_at fields path) path is_head
 
 abbrev pub at_path : List (List ℕ) → Fields → (host path : List ℕ) → (is_head : Bool) → Result Wanted Refusal
 at_path listed fields host path is_head = at_token listed fields host path is_head (token_at fields path)

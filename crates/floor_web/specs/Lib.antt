@@ -9,6 +9,6 @@ pub mod Asked
 pub mod Head
 pub mod Kinds
 pub mod Replies
-pub mod Tokens
+pub mod Participants
 -- the steps of the proofs
 pub mod steps

@@ -2,3 +2,4 @@
 pub mod Hearing
 pub mod Telling
 pub mod Asking
+pub mod Reading

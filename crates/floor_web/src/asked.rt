@@ -4,6 +4,7 @@
 //! |---|---|
 //! | `/` and `/NAME` | a file of the page |
 //! | `/meeting/TOKEN` | what the user with the token is told of the meeting |
+//! | `/meeting` | the same; the token stands in the field Authorization, as `Bearer TOKEN` (RFC 6750) |
 //! | `/bfcp/TOKEN` | a WebSocket for the user with the token |
 //! | `/bfcp` | the same; the token is offered beside the subprotocol, as `bfcp, token.TOKEN` |
 
@@ -97,7 +98,7 @@ fn at_path<'a>(
 {
     match token_at(head, spans, path) {
         Some(token) => socket(origins, head, spans, host, is_head, token),
-        None => match behind(path, b"/meeting/") {
+        None => match bearer_at(head, spans, path) {
             Some(token) => Ok(Asked::Meeting { token, is_head }),
             None => page(path, is_head),
         },
@@ -116,6 +117,35 @@ fn page(path: &[u8], is_head: bool) -> Result<Asked<'_>, Refusal>
         Some(name) => Ok(Asked::Page { name, is_head }),
         None => Err(Refusal::BadRequest),
     }
+}
+
+/// The token that a path asks for what is told of a meeting by.
+fn bearer_at<'a>(head: &'a [u8], spans: &[HeaderSpan], path: &'a [u8]) -> Option<&'a [u8]>
+    requires within { All (IsHeaderWithin (length head.now)) spans.now }
+    ensures value { option_copied result
+        ≡ spec.bearer_at (fields_of head.now spans.now) path.now }
+{
+    if path == b"/meeting".as_slice() {
+        return Some(token_borne(head, spans, b"Authorization"));
+    }
+    behind(path, b"/meeting/")
+}
+
+/// The token behind `Bearer ` in the fields with this name; empty where there is none.
+fn token_borne<'a>(head: &'a [u8], spans: &[HeaderSpan], name: &[u8]) -> &'a [u8]
+    requires within { All (IsHeaderWithin (length head.now)) spans.now }
+    ensures value { result.now
+        ≡ spec.bearer_of (values_of (fields_of head.now spans.now) name.now) }
+{
+    for span in spans {
+        if is_same_word(span.name.of(head), name) {
+            match behind(span.value.of(head), b"Bearer ") {
+                Some(token) => return token,
+                None => {}
+            }
+        }
+    }
+    &[]
 }
 
 /// The token that a path asks for a WebSocket by.

@@ -35,7 +35,7 @@ pub enum End {
 impl End {
     /// Its name.
     pub fn name(self) -> &'static str
-        ensures { result.now ≡ spec.name_of self }
+        ensures value { result.now ≡ spec.name_of self }
     {
         match self {
             End::Closed => "Closed",
@@ -54,7 +54,7 @@ impl End {
     /// The code of the close that the browser is sent for it; none where the browser's own close is
     /// answered, or nothing reaches the browser any more.
     pub fn code(self) -> Option<CloseCode>
-        ensures { result ≡ spec.code_of self }
+        ensures value { result ≡ spec.code_of self }
     {
         match self {
             End::Closed | End::Gone => None,
@@ -70,7 +70,7 @@ impl End {
 
 /// The end that an error of the WebSocket is.
 pub(crate) fn end_of_error(error: Error) -> End
-    ensures { result ≡ spec.end_of_error error }
+    ensures value { result ≡ spec.end_of_error error }
 {
     match error {
         Error::Capacity(_) => End::TooLong,

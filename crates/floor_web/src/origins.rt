@@ -19,7 +19,7 @@ impl Origins {
     /// Whether a page of this origin may, where its request names this host. A program that isn't a
     /// browser sends no origin, and may: what proves who it is is the token alone.
     pub fn allow(&self, origin: Option<&[u8]>, host: &[u8]) -> bool
-        ensures { result ≡ spec.allows (map string_bytes self.now.listed.items)
+        ensures value { result ≡ spec.allows (map string_bytes self.now.listed.items)
             (option_copied origin.entry) host.now }
     {
         match origin {

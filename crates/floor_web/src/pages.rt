@@ -21,7 +21,7 @@ pub enum Kind {
 
 /// Which kind an end of a name stands for, behind its dot.
 pub fn kind_of(end: &str) -> Option<Kind>
-    ensures { result ≡ spec.kind_of end.now }
+    ensures value { result ≡ spec.kind_of end.now }
 {
     match end {
         "html" => Some(Kind::Html),
@@ -38,7 +38,7 @@ pub fn kind_of(end: &str) -> Option<Kind>
 impl Kind {
     /// Its media type.
     pub fn media_type(self) -> &'static str
-        ensures { result.now ≡ spec.media_type_of self }
+        ensures value { result.now ≡ spec.media_type_of self }
     {
         match self {
             Kind::Html => "text/html; charset=utf-8",
@@ -83,7 +83,7 @@ impl Model for Pages {
 impl Pages {
     /// No file. Takes no memory.
     pub fn new(alloc: Global) -> Pages
-        ensures { result ≡ [] }
+        ensures value { result ≡ [] }
     {
         Pages {
             files: Vec::new(alloc),
@@ -103,7 +103,7 @@ impl Pages {
 
     /// The first file with this name.
     pub fn find(&self, name: &[u8]) -> Option<&File>
-        ensures { option_copied result
+        ensures found { option_copied result
             ≡ find (λ f. bytes_eq (string_bytes f.name) name.now) self.now }
     {
         self.files.iter().find(|file| file.name.as_bytes() == name)
@@ -111,14 +111,14 @@ impl Pages {
 
     /// How many there are.
     pub fn len(&self) -> usize
-        ensures { result ≡ length self.now }
+        ensures value { result ≡ length self.now }
     {
         self.files.len()
     }
 
     /// Whether there is none.
     pub fn is_empty(&self) -> bool
-        ensures { result ≡ (length self.now == 0) }
+        ensures value { result ≡ (length self.now == 0) }
     {
         self.files.is_empty()
     }

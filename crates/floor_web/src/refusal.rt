@@ -29,7 +29,7 @@ pub enum Refusal {
 impl Refusal {
     /// Its status, with the phrase.
     pub fn status(self) -> &'static str
-        ensures { result.now ≡ spec.status self }
+        ensures value { result.now ≡ spec.status self }
     {
         match self {
             Refusal::BadRequest => "400 Bad Request",
@@ -46,7 +46,7 @@ impl Refusal {
 
     /// The fields that its status asks for.
     pub fn fields(self) -> &'static str
-        ensures { result.now ≡ spec.fields self }
+        ensures value { result.now ≡ spec.fields self }
     {
         match self {
             Refusal::MethodNotAllowed => "Allow: GET, HEAD\r\n",

@@ -86,7 +86,7 @@ impl Relay {
 
     /// How it ended, if it has.
     pub fn end(&self) -> Option<End>
-        ensures { result ≡ self.now.end }
+        ensures value { result ≡ self.now.end }
     {
         self.end
     }

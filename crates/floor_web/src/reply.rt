@@ -14,14 +14,14 @@ const POLICY: &str =
 
 /// The answer 200 with this body, of this kind; its head alone, where `is_head` says so.
 pub fn serve(alloc: Global, kind: Kind, body: &[u8], is_head: bool) -> Result<Vec<u8>, AllocError>
-    ensures { IfOk result (λ bytes. bytes.items ≡ spec.served kind body.now is_head) }
+    ensures value { IfOk result (λ bytes. bytes.items ≡ spec.served kind body.now is_head) }
 {
     answer(alloc, "200 OK", kind.media_type(), "", body, is_head)
 }
 
 /// The answer that refuses: its status is its body; its head alone, where `is_head` says so.
 pub fn refuse(alloc: Global, refusal: Refusal, is_head: bool) -> Result<Vec<u8>, AllocError>
-    ensures { IfOk result (λ bytes. bytes.items ≡ spec.refused refusal is_head) }
+    ensures value { IfOk result (λ bytes. bytes.items ≡ spec.refused refusal is_head) }
 {
     let status = refusal.status();
     answer(
@@ -37,7 +37,7 @@ pub fn refuse(alloc: Global, refusal: Refusal, is_head: bool) -> Result<Vec<u8>,
 /// The answer that makes the connection a WebSocket of the subprotocol `bfcp` (RFC 8857, section
 /// 4.1), under the key of its handshake.
 pub fn welcome(alloc: Global, accept: &[u8; 28]) -> Result<Vec<u8>, AllocError>
-    ensures { IfOk result (λ bytes. bytes.items ≡ spec.welcomed accept.now) }
+    ensures value { IfOk result (λ bytes. bytes.items ≡ spec.welcomed accept.now) }
 {
     let mut bytes = Vec::new(alloc);
     bytes.extend_from_slice(

@@ -2,9 +2,10 @@
 //! call that takes memory, run once.
 
 use crate::{
-    Asked, DoorsFault, End, File, Kind, Origins, Pages, Reading, Refusal, Relay, Side, kind_of,
-    read_doors, read_request, refuse, serve, welcome,
+    Asked, End, File, Kind, Origins, Pages, ParticipantsFault, Reading, Refusal, Relay, Side,
+    kind_of, read_participants, read_request, refuse, serve, welcome,
 };
+use floor_config::ConfigFault;
 use std::alloc::{AllocError, Global};
 use std::test::Fail;
 
@@ -252,6 +253,16 @@ fn requests_ask_for_what_their_paths_say(rt: HostRuntime) -> Result<(), Fail> {
         len: meeting.len(),
     };
     assert!(rt; read_request(&origins, meeting) == wanted);
+    let borne =
+        b"GET /meeting HTTP/1.1\r\nHost: a\r\nauthorization: Basic x\r\nAuthorization: Bearer abc\r\n\r\n".as_slice();
+    let wanted = Reading::Whole {
+        asked: Asked::Meeting {
+            token: b"abc",
+            is_head: false,
+        },
+        len: borne.len(),
+    };
+    assert!(rt; read_request(&origins, borne) == wanted);
     Ok(())
 }
 
@@ -412,47 +423,95 @@ fn a_listed_origin_is_allowed_and_no_other(rt: HostRuntime) -> Result<(), Fail> 
     Ok(())
 }
 
+/// A conference of two users and a floor; the first has a token.
+const MEETING: &str =
+    "[[conference]]\nid = 1\ntitle = \"Board\"\n[[conference.user]]\nid = 10\nname = \"A\\\"nn\"\nport = 7010\ntoken = \"0123456789012345678-_A\"\n[[conference.user]]\nid = 11\n[[conference.floor]]\nid = 2\nchair = 10\ntitle = \"Microphone\"\n";
+
 #[test]
-fn a_door_and_the_faults_of_tokens(rt: HostRuntime) -> Result<(), Fail> {
+fn a_token_stands_for_a_user_of_a_conference(rt: HostRuntime) -> Result<(), Fail> {
     let alloc = rt.alloc();
-    let text =
-        "[[conference]]\nid = 1\n[[conference.user]]\nid = 10\nname = \"A\\\"nn\"\nport = 7010\ntoken = \"0123456789012345678-_A\"\n[[conference.user]]\nid = 11\n[[conference.floor]]\nid = 2\nchair = 10\n";
-    let Ok(doors) = read_doors(alloc, text) else {
-        return Err(Fail::from("no doors"));
+    let Ok(participants) = read_participants(alloc, MEETING) else {
+        return Err(Fail::from("no participants"));
     };
-    assert_eq!(rt; doors.len(), 1);
-    assert!(rt; doors.find(b"0123456789012345678-_a").is_none());
-    let Some(door) = doors.find(b"0123456789012345678-_A") else {
-        return Err(Fail::from("no door"));
+    assert_eq!(rt; participants.len(), 1);
+    assert!(rt; participants.find(b"0123456789012345678-_a").is_none());
+    let Some(participant) = participants.find(b"0123456789012345678-_A") else {
+        return Err(Fail::from("nobody"));
     };
-    assert_eq!(rt; door.port, 7010);
+    assert_eq!(rt; participant.conference, 1);
+    assert_eq!(rt; participant.user, 10);
+    assert_eq!(rt; participant.port, 7010);
     assert_eq!(rt;
-        door.meeting.as_str(),
-        "{\"conference\":1,\"title\":\"\",\"user\":10,\"name\":\"A\\\"nn\",\"proxy\":false,\"floors\":[{\"id\":2,\"title\":\"\",\"room\":1,\"chair\":10}],\"users\":[{\"id\":10,\"name\":\"A\\\"nn\"},{\"id\":11,\"name\":\"\"}]}"
+        participant.meeting.as_str(),
+        "{\"conference\":1,\"title\":\"Board\",\"user\":10,\"name\":\"A\\\"nn\",\"proxy\":false,\"floors\":[{\"id\":2,\"title\":\"Microphone\",\"room\":1,\"chair\":10}],\"users\":[{\"id\":10,\"name\":\"A\\\"nn\"},{\"id\":11,\"name\":\"\"}]}"
     );
+    Ok(())
+}
+
+#[test]
+fn the_first_fault_of_the_tokens_is_told(rt: HostRuntime) -> Result<(), Fail> {
+    let alloc = rt.alloc();
+    let weak = ParticipantsFault::WeakToken {
+        conference: 1,
+        user: 10,
+    };
     let faults = [
-        ("no TOML", "[[conference", DoorsFault::Syntax),
-        ("no token", "[[conference]]\nid = 1\n", DoorsFault::NoToken),
         (
-            "a short token",
-            "[[conference]]\n[[conference.user]]\nport = 1\ntoken = \"012345678901234567890\"\n",
-            DoorsFault::WeakToken,
+            "no TOML",
+            "[[conference",
+            ParticipantsFault::Config(ConfigFault::Syntax),
         ),
         (
-            "no port",
-            "[[conference]]\n[[conference.user]]\ntoken = \"0123456789012345678901\"\n",
-            DoorsFault::MissingPort,
+            "a server's fault ahead of a weak token",
+            "[[conference]]\nid = 1\nlimit = 17\n[[conference.user]]\nid = 10\ntoken = 1\n",
+            ParticipantsFault::Config(ConfigFault::OutOfRange),
         ),
         (
-            "one token twice",
-            "[[conference]]\n[[conference.user]]\nport = 1\ntoken = \"0123456789012345678901\"\n[[conference.user]]\nport = 2\ntoken = \"0123456789012345678901\"\n",
-            DoorsFault::DoubleToken,
+            "no token",
+            "[[conference]]\nid = 1\n[[conference.user]]\nid = 10\n",
+            ParticipantsFault::NoToken,
+        ),
+        (
+            "no conference",
+            "conference = []\n",
+            ParticipantsFault::NoToken,
+        ),
+        (
+            "a number",
+            "[[conference]]\nid = 1\n[[conference.user]]\nid = 10\ntoken = 7\n",
+            weak,
+        ),
+        (
+            "a short token without a port",
+            "[[conference]]\nid = 1\n[[conference.user]]\nid = 10\ntoken = \"012345678901234567890\"\n",
+            weak,
+        ),
+        (
+            "a token with a dot",
+            "[[conference]]\nid = 1\n[[conference.user]]\nid = 10\ntoken = \"0123456789012345678901.\"\n",
+            weak,
+        ),
+        (
+            "no port, ahead of a weak token",
+            "[[conference]]\nid = 1\n[[conference.user]]\nid = 9\ntoken = \"0123456789012345678901\"\n[[conference.user]]\nid = 10\nport = 1\ntoken = \"\"\n",
+            ParticipantsFault::MissingPort {
+                conference: 1,
+                user: 9,
+            },
+        ),
+        (
+            "one token in two conferences",
+            "[[conference]]\nid = 1\n[[conference.user]]\nid = 9\nport = 1\ntoken = \"0123456789012345678901\"\n[[conference]]\nid = 2\n[[conference.user]]\nid = 9\nport = 2\ntoken = \"0123456789012345678901\"\n",
+            ParticipantsFault::DoubleToken {
+                conference: 1,
+                user: 9,
+            },
         ),
     ];
     for (name, text, fault) in faults {
-        match read_doors(alloc, text) {
-            Ok(_) => return Err(Fail::from("doors")),
-            Err(found) => assert_eq!(rt; found.name(), fault.name(), "{name}"),
+        match read_participants(alloc, text) {
+            Ok(_) => return Err(Fail::from("participants")),
+            Err(found) => assert!(rt; found == fault, "{name}: {}", found.name()),
         }
     }
     Ok(())
