@@ -19,5 +19,5 @@ pub use floor_machine::Parcel;
 pub use mark::ClosedMark;
 pub use outbox::{Outbox, pair, rejoin};
 pub use sender::Sender;
-pub use taker::Taker;
+pub use taker::{Taken, Taker};
 pub use waker::Waker;

@@ -1,6 +1,6 @@
 //! The end of an outbox that puts.
 
-ghost use Rattle.std.specs.Prelude.{◌≡◌, [], ◌∷◌, ◌++◌, OnOk, IfErr};
+ghost use Rattle.std.specs.Prelude.{◌≡◌, [], ◌∷◌, ◌++◌, OnOk, IfErr, IfOk};
 
 use crate::line::Line;
 use crate::rule::{Pass, Puts};
@@ -61,19 +61,17 @@ impl Sender {
     }
 
     /// What wakes the taker.
-    pub fn waker(&self) -> Result<Waker, AllocError> {
+    pub fn waker(&self) -> Result<Waker, AllocError>
+        ensures pair { IfOk result (λ waker. waker ≡ self.now.pair) }
+    {
         Ok(Waker {
             line: Arc::try_clone(&self.line)?,
         })
     }
 
-    /// Wakes the taker, or lets its next sleep end at once. Takes no memory.
-    pub fn wake(&self) {
-        self.line.parker.unpark();
-    }
-
     /// Sets the pair's closed mark, for good, and wakes the taker. Takes no memory.
     pub fn close(&self) {
+        // The mark first: whoever wakes finds it.
         self.line.closed.store(true, Ordering::SeqCst);
         self.line.parker.unpark();
     }

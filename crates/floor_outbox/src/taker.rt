@@ -1,6 +1,7 @@
 //! The end of an outbox that takes.
 
-ghost use Rattle.std.specs.Prelude.{◌≡◌, [], ◌∷◌, ◌++◌, IfNone, IfSome};
+ghost use Rattle.std.specs.Prelude.{◌≡◌};
+ghost use Rattle.floor_outbox.specs.Taking.{after_take};
 
 use crate::line::Line;
 use crate::mark::ClosedMark;
@@ -10,6 +11,17 @@ use std::alloc::{AllocError, Global};
 use std::marker::Model;
 use std::sync::atomic::Ordering;
 use std::sync::{Arc, Wait};
+
+/// What a taker finds.
+#[derive(Debug, Drop)]
+pub enum Taken {
+    /// The parcel at the front.
+    Parcel(Parcel),
+    /// No parcel, at one moment of the call.
+    Empty,
+    /// No parcel, at a moment behind the closed mark: what was put before the mark was set is taken.
+    Closed,
+}
 
 /// The end of an outbox that takes. Contracts see the pair that it belongs to, and what it took.
 #[derive(Drop)]
@@ -37,19 +49,17 @@ impl Model for Taker {
 }
 
 impl Taker {
-    /// Takes the parcel at the front. `None` only where there was none at one moment of the call.
-    /// Takes no memory.
-    pub fn take<R: Wait>(&mut self, rt: &R) -> Option<Parcel>
-        ensures took { IfSome result (λ parcel. self.new
-            ≡ record self.old { taken = self.old.taken ++ parcel ∷ [] }) }
-        ensures none { IfNone result (self.new ≡ self.old) }
+    /// Takes the parcel at the front, or tells why there is none. Takes no memory.
+    pub fn take<R: Wait>(&mut self, rt: &R) -> Taken
+        ensures next { self.new ≡ after_take self.old result }
     {
-        self.line.queue.pop_as::<Takes, R>(rt, &mut self.pass)
-    }
-
-    /// Whether the pair's closed mark is set. Takes no memory.
-    pub fn closed(&self) -> bool {
-        self.line.closed.load(Ordering::SeqCst)
+        // The mark first: a parcel that is put and then closed behind is found after it.
+        let is_closed = self.line.closed.load(Ordering::SeqCst);
+        match self.line.queue.pop_as::<Takes, R>(rt, &mut self.pass) {
+            Some(parcel) => Taken::Parcel(parcel),
+            None if is_closed => Taken::Closed,
+            None => Taken::Empty,
+        }
     }
 
     /// What reads the closed mark where the taker is lent to somebody else.

@@ -2,12 +2,23 @@
 
 use crate::line::Line;
 use std::alloc::Global;
+use std::marker::Model;
 use std::sync::Arc;
 
-/// Wakes the taker of one pair, when what was put may be taken. Of waking nothing is proved.
+/// Wakes the taker of one pair, when what was put may be taken. Contracts see the pair; that the
+/// taker wakes is not proved.
 #[derive(Drop)]
 pub struct Waker {
     pub(crate) line: Arc<Line, Global>,
+}
+
+impl Model for Waker {
+    ghost use Rattle.std.specs.Arc.{arc_value};
+    ghost use Rattle.floor_outbox.specs.Ends.{PairId};
+
+    ghost Value = { PairId };
+
+    ghost view = { λ w. (arc_value w.line).queue.web };
 }
 
 impl Waker {

@@ -26,7 +26,7 @@ use Rattle.floor_room.proofs.Joining.{members-next, parcels_to-before}
 use Rattle.floor_room.proofs.Ledgers.{IsOpen, allowed-open, journal-more}
 use Rattle.floor_outbox.specs.Ends.{Sender}
 use Rattle.floor_serve.specs.Senders.{AreFed, IsFed, IsInPart, IsPut, fed, sender_of, with_put, without}
-use Rattle.floor_serve.specs.Booth.{Booth, IsBooth, IsGone, off}
+use Rattle.floor_serve.specs.Booth.{AreKept, Booth, IsBooth, IsGone, off}
 
 -- senders into which nothing was put yet
 abbrev pub AreNew : List (Option Sender) → Type 0
@@ -141,7 +141,7 @@ open-of l new e out a = allowed-open l e a.allowed
 
 -- what a booth keeps after an event of which these parcels were put
 pub booth-event : (b : Booth) (new : Ledger) (e : Event) (out put rest : List Parcel) (more : List (Option Sender)) (k : Bool) → IsBooth b → Added b.ledger new e out → out ≡ put ++ rest → (k ≡ false → rest ≡ []) →
-    AreNew more → length more ≡ length (joined e) → IsBooth (record { ledger = record (with_entry b.ledger e) { is_broken = k }; senders = fed put 1 (b.senders ++ more) })
+    AreNew more → length more ≡ length (joined e) → AreKept (record (with_entry b.ledger e) { is_broken = k }) (fed put 1 (b.senders ++ more))
 booth-event b new e out put rest more k h a parts whole fresh same =
     let o : IsOpen b.ledger = open-of b.ledger new e out a in
     let l : Ledger = b.ledger in
@@ -202,9 +202,9 @@ sender-none n zero os apart low h = h
 sender-none n (suc k) os apart low h = other-none (n - 1) k os (λ e. apart (omega arith)) h
 
 -- what a booth keeps that gave back a sender
-pub booth-reclaimed : (b : Booth) (n : ℕ) (x : Option Sender) → IsBooth b → IsGone b n → 0 < n → x ≡ None → IsBooth (record { ledger = b.ledger; senders = slice_set b.senders (n - 1) x })
+pub booth-reclaimed : (b : Booth) (n : ℕ) (x : Option Sender) → IsBooth b → IsGone b n → 0 < n → x ≡ None → AreKept b.ledger (slice_set b.senders (n - 1) x)
 booth-reclaimed b n x h gone low is =
-    subst (λ (y : Option Sender). IsBooth (record { ledger = b.ledger; senders = slice_set b.senders (n - 1) y })) (sym is)
+    subst (λ (y : Option Sender). AreKept b.ledger (slice_set b.senders (n - 1) y)) (sym is)
     (record {
       journal = h.journal;
       members = length-none (n - 1) b.senders ∙ h.members;
@@ -220,11 +220,11 @@ booth-reclaimed b n x h gone low is =
     })
 
 -- what a booth keeps that let go of a sender
-pub booth-released : (b : Booth) (n : ℕ) (os : List (Option Sender)) → IsBooth b → IsGone b n → os ≡ without b.senders n → IsBooth (record { ledger = b.ledger; senders = os })
-booth-released b zero os h gone e = subst (λ (s : List (Option Sender)). IsBooth (record { ledger = b.ledger; senders = s })) (sym e) h
+pub booth-released : (b : Booth) (n : ℕ) (os : List (Option Sender)) → IsBooth b → IsGone b n → os ≡ without b.senders n → AreKept b.ledger os
+booth-released b zero os h gone e = subst (λ (s : List (Option Sender)). AreKept b.ledger s) (sym e) h
 booth-released b (suc k) os h gone e =
     let i : suc k - 1 ≡ k = omega arith in
-    subst (λ (s : List (Option Sender)). IsBooth (record { ledger = b.ledger; senders = s })) (ap (λ (j : ℕ). slice_set b.senders j None) i ∙ sym e)
+    subst (λ (s : List (Option Sender)). AreKept b.ledger s) (ap (λ (j : ℕ). slice_set b.senders j None) i ∙ sym e)
     (booth-reclaimed b (suc k) None h gone (omega arith) refl)
 
 -- who has a sender isn't 0
@@ -249,16 +249,16 @@ reclaimed-sent P b n x s put h there e f is =
     (sent-at b.ledger.config b.ledger.journal b.ledger.is_broken 1 (n - 1) b.senders x s h.sent (within P b.senders n there) e f))
 
 -- two booths are equal where their ledgers and senders are
-same_booth : (l now : Ledger) (os senders : List (Option Sender)) → now ≡ l → senders ≡ os → IsBooth (record { ledger = l; senders = os }) → IsBooth (record { ledger = now; senders = senders })
+same_booth : (l now : Ledger) (os senders : List (Option Sender)) → now ≡ l → senders ≡ os → AreKept l os → AreKept now senders
 same_booth l now os senders e f h =
-    subst (λ (x : Ledger). IsBooth (record { ledger = x; senders = senders })) (sym e)
-    (subst (λ (y : List (Option Sender)). IsBooth (record { ledger = l; senders = y })) (sym f) h)
+    subst (λ (x : Ledger). AreKept x senders) (sym e)
+    (subst (λ (y : List (Option Sender)). AreKept l y) (sym f) h)
 
 -- what a booth keeps after an event whose parcels were put, or after some first of them
 pub booth-fed : (b : Booth) (new now : Ledger) (e : Event) (out : List Parcel) (more senders put : List (Option Sender)) (result : Result (Unit {0}) RoomRefusal) → IsBooth b → Added b.ledger new e out →
     AreNew more → length more ≡ length (joined e) → senders ≡ b.senders ++ more →
     OnOk result (put ≡ fed out 1 senders) → OnOk result (now ≡ new) → OnErr result (IsInPart out senders put) → OnErr result (now ≡ record new { is_broken = true }) →
-    IsBooth (record { ledger = now; senders = put })
+    AreKept now put
 booth-fed b new now e out more senders put (Ok x) h a fresh same is all kept part broken =
     same_booth (with_entry b.ledger e) now (fed out 1 (b.senders ++ more)) put (kept ∙ a.next) (all ∙ ap (fed out 1) is)
     (booth-event b new e out out [] more false h a (sym (append-nil out)) (λ _. refl) fresh same)
@@ -268,7 +268,7 @@ booth-fed b new now e out more senders put (Err x) h a fresh same is all kept pa
     (booth-event b new e out part.put part.rest more true h a part.all (λ h. cc) fresh same)
 
 -- what a booth keeps whose ledger took no event
-pub booth-unadded : (b : Booth) (now : Ledger) (senders : List (Option Sender)) (refusal : RoomRefusal) → IsBooth b → Unadded b.ledger now refusal → senders ≡ b.senders → IsBooth (record { ledger = now; senders = senders })
+pub booth-unadded : (b : Booth) (now : Ledger) (senders : List (Option Sender)) (refusal : RoomRefusal) → IsBooth b → Unadded b.ledger now refusal → senders ≡ b.senders → AreKept now senders
 booth-unadded b now senders JournalFull h e f = same_booth b.ledger now b.senders senders e f h
 booth-unadded b now senders (Refused Memory) h e f = same_booth (record b.ledger { is_broken = true }) now b.senders senders e f (booth-off b h)
 booth-unadded b now senders (Refused Broken) h e f = same_booth b.ledger now b.senders senders e f h

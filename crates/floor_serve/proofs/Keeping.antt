@@ -1,5 +1,5 @@
 -- What a seat keeps of a message that its booth took.
-use Rattle.std.proofs.Common.{◌≡◌, ℕ, ◌-◌, List, [], ◌∷◌, ◌++◌, length, Some, refl, sym, ap, ◌∙◌, arith, append-nil, length-append}
+use Rattle.std.proofs.Common.{◌≡◌, ℕ, ◌-◌, List, [], ◌∷◌, ◌++◌, length, Some, true, refl, sym, ap, ◌∙◌, arith, append-nil, length-append}
 use Rattle.std.specs.Prelude.{slice_get, option_and_then}
 use Rattle.floor_machine.specs.declared.event.Event.{Event}
 use Rattle.floor_machine.specs.declared.event.Event.TheVariants.{Message}
@@ -30,5 +30,6 @@ began_whole old mid new e h is =
       put = parcels_of (conference_of old.ledger) e;
       rest = [];
       all = sym (append-nil (parcels_of (conference_of old.ledger) e));
-      next = is ∙ ap off h.next;
+      ledger = ap (λ (b : Booth). b.ledger) is ∙ ap (λ (b : Booth). record b.ledger { is_broken = true }) h.next;
+      senders = ap (λ (b : Booth). b.senders) is ∙ ap (λ (b : Booth). b.senders) h.next;
     }

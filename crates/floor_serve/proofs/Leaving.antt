@@ -1,5 +1,5 @@
 -- Who has left a booth.
-use Rattle.std.proofs.Common.{◌≡◌, ◌⊎◌, inl, inr, ℕ, Bool, true, false, cond, List, [], ◌∷◌, map, Option, refl, sym, ap, subst, ◌∙◌}
+use Rattle.std.proofs.Common.{◌≡◌, ◌⊎◌, inl, inr, ℕ, zero, suc, Bool, true, false, true≢false, cond, List, [], ◌∷◌, map, Option, None, refl, sym, ap, subst, ◌∙◌}
 use Rattle.std.specs.Prelude.{◌==◌, is_some}
 use Rattle.floor_machine.specs.declared.event.Event.TheVariants.{Leave}
 use Rattle.floor_machine.specs.declared.member.Member.{Member}
@@ -13,7 +13,8 @@ use Rattle.floor_room.specs.declared.status.Phase.TheVariants.{Running}
 use Rattle.floor_room.specs.declared.status.Status.{Status}
 use Rattle.floor_room.specs.Status.{IsStatus, phase_of}
 use Rattle.floor_outbox.specs.Ends.{Sender}
-use Rattle.floor_serve.specs.Booth.{Applied, Booth, IsGone}
+use Rattle.floor_serve.specs.Booth.{Applied, Booth, IsClosed, IsGone}
+use Rattle.floor_serve.specs.Senders.{sender_of, without}
 
 gone-members : (n : ℕ) (ms : List Member) → is_some (member_with (map (leaving n) ms) n) ≡ false
 gone-members n [] = refl
@@ -36,11 +37,30 @@ gone-left l n = subst (λ (s : Conference). is_live s n ≡ false) (sym (after_f
 pub gone_took : (old new : Booth) (n : ℕ) (more : List (Option Sender)) → Applied old new (Leave n) more → IsGone new n
 gone_took old new n more h = inr (inr (ap (λ (b : Booth). is_live (conference_of b.ledger) n) h.next ∙ gone-left old.ledger n))
 
--- a conference that doesn't run has ended or is broken off
-pub closed_of : (l : Ledger) (s : Status) → IsStatus l s → (s.phase ≡ Running → ⊥) → (l.is_broken ≡ true) ⊎ ((conference_of l).is_open ≡ false)
-closed_of l s h other = by l.is_broken (conference_of l).is_open refl refl
+-- a conference is closed unless it runs
+pub closed_of : (b : Booth) (s : Status) → IsStatus b.ledger s → (s.phase ≡ Running → ⊥) → IsClosed b
+closed_of b s h other = by b.ledger.is_broken (conference_of b.ledger).is_open refl refl
   where
-    by : (b o : Bool) → l.is_broken ≡ b → (conference_of l).is_open ≡ o → (l.is_broken ≡ true) ⊎ ((conference_of l).is_open ≡ false)
+    by : (k o : Bool) → b.ledger.is_broken ≡ k → (conference_of b.ledger).is_open ≡ o → IsClosed b
     by true o e f = inl e
     by false false e f = inr f
-    by false true e f = absurd (other (h.phase ∙ ap (λ (b : Bool). phase_of b (conference_of l).is_open) e ∙ ap (phase_of false) f))
+    by false true e f = absurd (other (h.phase ∙ ap (λ (k : Bool). phase_of k (conference_of b.ledger).is_open) e ∙ ap (phase_of false) f))
+
+pub open_of : (b : Booth) (s : Status) → IsStatus b.ledger s → s.phase ≡ Running → IsClosed b → ⊥
+open_of b s h runs closed = by b.ledger.is_broken (conference_of b.ledger).is_open refl refl closed
+  where
+    phase : (k o : Bool) → b.ledger.is_broken ≡ k → (conference_of b.ledger).is_open ≡ o → phase_of k o ≡ Running
+    phase k o e f = ap (λ (x : Bool). phase_of x o) (sym e) ∙ ap (phase_of b.ledger.is_broken) (sym f) ∙ sym h.phase ∙ runs
+
+    by : (k o : Bool) → b.ledger.is_broken ≡ k → (conference_of b.ledger).is_open ≡ o → IsClosed b → ⊥
+    by true o e f c = let p : phase_of true o ≡ Running = phase true o e f in absurd cc
+    by false false e f c = let p : phase_of false false ≡ Running = phase false false e f in absurd cc
+    by false true e f (inl x) = absurd (true≢false (sym x ∙ e))
+    by false true e f (inr x) = absurd (true≢false (sym f ∙ x))
+
+-- who was parted from has no sender
+pub without-none : (os : List (Option Sender)) (n : ℕ) → sender_of (without os n) n ≡ None
+without-none os zero = refl
+without-none [] (suc k) = refl
+without-none (o ∷ os) (suc zero) = refl
+without-none (o ∷ os) (suc (suc k)) = without-none os (suc k)

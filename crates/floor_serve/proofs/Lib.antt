@@ -8,3 +8,4 @@ pub mod Leaving
 pub mod Ordered
 pub mod Counts
 pub mod Keeping
+pub mod Pieces

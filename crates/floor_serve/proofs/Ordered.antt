@@ -139,7 +139,7 @@ block-found seats conference from to a b lower others also higher =
     back k d l e true f = absurd (omega (arith, higher k d (below to k f) l))
     back k d l e false f = above to k f
 
-drop-get : {A : Type 0} (xs : List A) (from j : ℕ) → slice_get (drop from xs) j ≡ slice_get xs (from + j)
+pub drop-get : {A : Type 0} (xs : List A) (from j : ℕ) → slice_get (drop from xs) j ≡ slice_get xs (from + j)
 drop-get xs zero j = ap (λ (k : ℕ). slice_get xs k) (omega arith)
 drop-get [] (suc from) j = refl
 drop-get (y ∷ ys) (suc from) j = drop-get ys from j ∙ ap (λ (k : ℕ). slice_get (y ∷ ys) k) (more from j)
@@ -147,7 +147,7 @@ drop-get (y ∷ ys) (suc from) j = drop-get ys from j ∙ ap (λ (k : ℕ). slic
     more : (a b : ℕ) → suc (a + b) ≡ suc a + b
     more a b = omega arith
 
-take-get : {A : Type 0} (xs : List A) (m j : ℕ) → j < m → slice_get (take m xs) j ≡ slice_get xs j
+pub take-get : {A : Type 0} (xs : List A) (m j : ℕ) → j < m → slice_get (take m xs) j ≡ slice_get xs j
 take-get xs zero j h = absurd (omega arith)
 take-get [] (suc m) j h = refl
 take-get (y ∷ ys) (suc m) zero h = refl

@@ -1,8 +1,9 @@
 -- The messages of bytes that come in pieces, and the record of the seat that submits them.
-use Rattle.std.proofs.Common.{◌≡◌, ℕ, suc, ◌+◌, ◌<◌, List, [], ◌∷◌, ◌++◌, length, take, drop, Option, refl, sym, ap, subst, ◌∙◌, append_assoc, append-nil, length-append, arith, Bool, true, false}
+use Rattle.std.proofs.Common.{◌≡◌, ℕ, suc, ◌+◌, ◌<◌, ◌≤◌, List, [], ◌∷◌, ◌++◌, length, take, drop, Option, refl, sym, ap, subst, ◌∙◌, append_assoc, append-nil, length-append, arith, Bool, true, false}
 use Rattle.std.specs.List.{concat}
-use Rattle.std.specs.Prelude.{Ok, Err}
-use Rattle.std.specs.Io.KnownBytes.{Consumes, Keeps}
+use Rattle.std.specs.Prelude.{Result, Ok, Err, IfErr}
+use Rattle.std.specs.Result.{IsErrAnd}
+use Rattle.std.specs.Io.KnownBytes.{Consumes, IsAtEnd, Keeps}
 use Rattle.std.proofs.KnownBytes.{Consumes-nil, Consumes-trans, Consumes-kept}
 use Rattle.std.proofs.lemmas.List.{map-append}
 use Rattle.floor_wire.specs.Message.{messages, messages_of_at_most, rest}
@@ -13,7 +14,7 @@ use Rattle.floor_room.specs.declared.refusal.RoomRefusal.TheVariants.{JournalFul
 use Rattle.floor_serve.specs.declared.fault.ReadFault.{ReadFault}
 use Rattle.floor_serve.specs.declared.reading.ReadEnd.{ReadEnd}
 use Rattle.floor_serve.specs.declared.seat.Sent.{Sent}
-use Rattle.floor_serve.specs.Read.{Began, Ended, Gained, IsEnd, bytes_of, fault_of}
+use Rattle.floor_serve.specs.Read.{Began, Ended, Gained, IsEnd, Missed, Refuses, bytes_of, fault_of}
 use Rattle.floor_serve.specs.Seat.{Seat}
 
 pub gained-none : (s : Seat) → Gained s s []
@@ -94,24 +95,65 @@ served-all old new held left h none =
 pub served-rest : (old new : Seat) (held left now : List ℕ) → IsServed old new held left → messages left ≡ [] → now ≡ left → now ≡ rest held
 served-rest old new held left now h none same = same ∙ sym (rest-alone left none) ∙ sym h.rest_is
 
-pub served-part : (old mid new : Seat) (held left : List ℕ) → IsServed old mid held left → new ≡ mid → Began old new (messages held)
-served-part old mid new held left h same =
-    record { gained = h.gained; left = messages left; parts = h.parts; record_is = subst (λ (s : Seat). Gained old s h.gained) (sym same) h.record_is }
+-- a message was refused, or memory to take it up
+missed-began : (old new : Seat) (all : List (List ℕ)) → Missed old new all → Began old new all
+missed-began old new all h = record { gained = h.gained; left = h.missed ∷ h.left; parts = h.parts; record_is = h.record_is }
 
--- All messages of the bytes that were read are recorded, and the framer holds what follows them.
-pub record IsRead (old new : Seat) (was is : Option (List ℕ)) (held : List ℕ) : Type 0 where
+refuses-missed : (refusal : RoomRefusal) (old new : Seat) (all : List (List ℕ)) → Missed old new all → Refuses refusal old new all
+refuses-missed JournalFull old new all h = h
+refuses-missed (Refused Refusal.Broken) old new all h = h
+refuses-missed (Refused Refusal.Ended) old new all h = h
+refuses-missed (Refused Refusal.NoMember) old new all h = h
+refuses-missed (Refused Refusal.NoUser) old new all h = h
+refuses-missed (Refused Refusal.Full) old new all h = h
+refuses-missed (Refused Refusal.NoRequest) old new all h = h
+refuses-missed (Refused Refusal.Cut) old new all h = h
+refuses-missed (Refused Refusal.BadCount) old new all h = h
+refuses-missed (Refused Refusal.OutOfRange) old new all h = h
+refuses-missed (Refused Refusal.DoubleUser) old new all h = h
+refuses-missed (Refused Refusal.DoubleFloor) old new all h = h
+refuses-missed (Refused Refusal.NoFloor) old new all h = h
+refuses-missed (Refused Refusal.UnknownChair) old new all h = h
+refuses-missed (Refused Refusal.Memory) old new all h = missed-began old new all h
+
+err-is : {A : Type 0} (P : RoomRefusal → Type 0) (result : Result A RoomRefusal) (e : RoomRefusal) → IsErrAnd result (λ x. x ≡ e) → P e → IfErr result P
+err-is P (Ok x) e h p = absurd h
+err-is P (Err x) e h p = subst P (sym h) p
+
+pub served-refused : {A : Type 0} (result : Result A RoomRefusal) (e : RoomRefusal) (old mid new : Seat) (held before left frame : List ℕ) → IsErrAnd result (λ x. x ≡ e) → IsServed old mid held before →
+    messages before ≡ frame ∷ messages left → new ≡ mid → IfErr result (λ r. Refuses r old new (messages held))
+served-refused result e old mid new held before left frame is h next same =
+    err-is (λ r. Refuses r old new (messages held)) result e is
+    (refuses-missed e old new (messages held)
+    (record {
+      gained = h.gained;
+      missed = frame;
+      left = messages left;
+      parts = h.parts ∙ ap (λ (l : List (List ℕ)). h.gained ++ l) next;
+      record_is = subst (λ (s : Seat). Gained old s h.gained) (sym same) h.record_is;
+    }))
+
+pub served-stopped : {A : Type 0} (result : Result A RoomRefusal) (old mid new : Seat) (held left : List ℕ) → IsErrAnd result (λ x. x ≡ Refused Refusal.Memory) → IsServed old mid held left → new ≡ mid →
+    IfErr result (λ r. Refuses r old new (messages held))
+served-stopped result old mid new held left is h same =
+    err-is (λ r. Refuses r old new (messages held)) result (Refused Refusal.Memory) is
+    (record { gained = h.gained; left = messages left; parts = h.parts; record_is = subst (λ (s : Seat). Gained old s h.gained) (sym same) h.record_is })
+
+-- All messages of the bytes that were read, at least so many, are recorded, and the framer holds what follows them.
+pub record IsRead (many : ℕ) (old new : Seat) (was is : Option (List ℕ)) (held : List ℕ) : Type 0 where
   pub read : List ℕ
   pub consumed : Consumes was is read
   pub gained : Gained old new (messages read)
   pub held_is : held ≡ rest read
+  pub enough : many ≤ length read
 
-pub read-none : (s : Seat) (was : Option (List ℕ)) (held : List ℕ) → held ≡ [] → IsRead s s was was held
+pub read-none : (s : Seat) (was : Option (List ℕ)) (held : List ℕ) → held ≡ [] → IsRead 0 s s was was held
 unfolding messages messages_of_at_most rest
-read-none s was held none = record { read = []; consumed = Consumes-nil was; gained = gained-none s; held_is = none }
+read-none s was held none = record { read = []; consumed = Consumes-nil was; gained = gained-none s; held_is = none; enough = omega arith }
 
-pub read-more : (old mid new : Seat) (a b c : Option (List ℕ)) (held piece pushed left : List ℕ) → IsRead old mid a b held → Consumes b c piece → pushed ≡ held ++ piece →
-    Gained mid new (messages pushed) → left ≡ rest pushed → IsRead old new a c left
-read-more old mid new a b c held piece pushed left h more e g l =
+pub read-more : (many next : ℕ) (old mid new : Seat) (a b c : Option (List ℕ)) (held piece pushed left : List ℕ) → IsRead many old mid a b held → Consumes b c piece → pushed ≡ held ++ piece →
+    Gained mid new (messages pushed) → left ≡ rest pushed → 0 < length piece → next ≡ many + 1 → IsRead next old new a c left
+read-more many next old mid new a b c held piece pushed left h more e g l some one =
     let same : pushed ≡ rest h.read ++ piece = e ∙ ap (λ (s : List ℕ). s ++ piece) h.held_is in
     record {
       read = h.read ++ piece;
@@ -120,40 +162,53 @@ read-more old mid new a b c held piece pushed left h more e g l =
           (ap (λ (s : List ℕ). messages h.read ++ messages s) same ∙ sym (messages-append h.read piece))
           (gained-both old mid new (messages h.read) (messages pushed) h.gained g);
       held_is = l ∙ ap rest same ∙ sym (rest-append h.read piece);
+      enough = omega (arith, h.enough, some, one, length-append h.read piece);
+    }
+
+missed-behind : (a b c : Seat) (all xs ys : List (List ℕ)) → all ≡ xs ++ ys → Gained a b xs → Missed b c ys → Missed a c all
+missed-behind a b c all xs ys e h k =
+    record {
+      gained = xs ++ k.gained;
+      missed = k.missed;
+      left = k.left;
+      parts = e ∙ ap (λ (l : List (List ℕ)). xs ++ l) k.parts ∙ sym (append_assoc xs k.gained (k.missed ∷ k.left));
+      record_is = gained-both a b c xs k.gained h k.record_is;
     }
 
 -- a message of a piece was refused
-pub read-refused : (old mid new : Seat) (a b c : Option (List ℕ)) (held piece pushed : List ℕ) (refusal : RoomRefusal) (marked : Bool) → IsRead old mid a b held → Consumes b c piece → pushed ≡ held ++ piece →
-    Began mid new (messages pushed) → marked ≡ false → Ended (Err (fault_of refusal)) old new a c marked
-read-refused old mid new a b c held piece pushed refusal marked h more e g unmarked =
+pub read-refused : (limit many : ℕ) (old mid new : Seat) (a b c : Option (List ℕ)) (held piece pushed : List ℕ) (refusal : RoomRefusal) (marked : Bool) → IsRead many old mid a b held → Consumes b c piece → pushed ≡ held ++ piece →
+    Refuses refusal mid new (messages pushed) → marked ≡ false → Ended limit (Err (fault_of refusal)) old new a c marked
+read-refused limit many old mid new a b c held piece pushed refusal marked h more e g unmarked =
     let same : pushed ≡ rest h.read ++ piece = e ∙ ap (λ (s : List ℕ). s ++ piece) h.held_is in
     let all : messages (h.read ++ piece) ≡ messages h.read ++ messages pushed = messages-append h.read piece ∙ sym (ap (λ (s : List ℕ). messages h.read ++ messages s) same) in
     record {
       read = h.read ++ piece;
       consumed = Consumes-trans a b c h.read piece h.consumed more;
-      after = by refusal (began-behind old mid new (messages (h.read ++ piece)) (messages h.read) (messages pushed) all h.gained g);
+      after = by refusal g (λ k. missed-behind old mid new (messages (h.read ++ piece)) (messages h.read) (messages pushed) all h.gained k)
+          (λ k. began-behind old mid new (messages (h.read ++ piece)) (messages h.read) (messages pushed) all h.gained k);
     }
   where
-    by : (r : RoomRefusal) → Began old new (messages (h.read ++ piece)) → IsEnd (Err (fault_of r)) old new marked (h.read ++ piece)
-    by JournalFull k = (k, refl, unmarked)
-    by (Refused Refusal.Broken) k = (k, refl, unmarked)
-    by (Refused Refusal.Ended) k = (k, refl, unmarked)
-    by (Refused Refusal.NoMember) k = (k, refl, unmarked)
-    by (Refused Refusal.NoUser) k = (k, refl, unmarked)
-    by (Refused Refusal.Full) k = (k, refl, unmarked)
-    by (Refused Refusal.NoRequest) k = (k, refl, unmarked)
-    by (Refused Refusal.Cut) k = (k, refl, unmarked)
-    by (Refused Refusal.BadCount) k = (k, refl, unmarked)
-    by (Refused Refusal.OutOfRange) k = (k, refl, unmarked)
-    by (Refused Refusal.DoubleUser) k = (k, refl, unmarked)
-    by (Refused Refusal.DoubleFloor) k = (k, refl, unmarked)
-    by (Refused Refusal.NoFloor) k = (k, refl, unmarked)
-    by (Refused Refusal.UnknownChair) k = (k, refl, unmarked)
-    by (Refused Refusal.Memory) k = (k, unmarked)
+    by : (r : RoomRefusal) → Refuses r mid new (messages pushed) → (Missed mid new (messages pushed) → Missed old new (messages (h.read ++ piece))) → (Began mid new (messages pushed) → Began old new (messages (h.read ++ piece))) →
+        IsEnd limit (Err (fault_of r)) old new c marked (h.read ++ piece)
+    by JournalFull k m n = (m k, refl, unmarked)
+    by (Refused Refusal.Broken) k m n = (m k, refl, unmarked)
+    by (Refused Refusal.Ended) k m n = (m k, refl, unmarked)
+    by (Refused Refusal.NoMember) k m n = (m k, refl, unmarked)
+    by (Refused Refusal.NoUser) k m n = (m k, refl, unmarked)
+    by (Refused Refusal.Full) k m n = (m k, refl, unmarked)
+    by (Refused Refusal.NoRequest) k m n = (m k, refl, unmarked)
+    by (Refused Refusal.Cut) k m n = (m k, refl, unmarked)
+    by (Refused Refusal.BadCount) k m n = (m k, refl, unmarked)
+    by (Refused Refusal.OutOfRange) k m n = (m k, refl, unmarked)
+    by (Refused Refusal.DoubleUser) k m n = (m k, refl, unmarked)
+    by (Refused Refusal.DoubleFloor) k m n = (m k, refl, unmarked)
+    by (Refused Refusal.NoFloor) k m n = (m k, refl, unmarked)
+    by (Refused Refusal.UnknownChair) k m n = (m k, refl, unmarked)
+    by (Refused Refusal.Memory) k m n = (n k, unmarked)
 
 -- a piece finds no memory
-pub read-unpushed : (old mid : Seat) (a b c : Option (List ℕ)) (held piece : List ℕ) (marked : Bool) → IsRead old mid a b held → Consumes b c piece → marked ≡ false → Ended (Err ReadFault.Memory) old mid a c marked
-read-unpushed old mid a b c held piece marked h more unmarked =
+pub read-unpushed : (limit many : ℕ) (old mid : Seat) (a b c : Option (List ℕ)) (held piece : List ℕ) (marked : Bool) → IsRead many old mid a b held → Consumes b c piece → marked ≡ false → Ended limit (Err ReadFault.Memory) old mid a c marked
+read-unpushed limit many old mid a b c held piece marked h more unmarked =
     record {
       read = h.read ++ piece;
       consumed = Consumes-trans a b c h.read piece h.consumed more;
@@ -163,27 +218,27 @@ read-unpushed old mid a b c held piece marked h more unmarked =
       );
     }
 
-pub read-failed : (old mid : Seat) (a b c : Option (List ℕ)) (held : List ℕ) (marked : Bool) → IsRead old mid a b held → Keeps b c → marked ≡ true → Ended (Err ReadFault.Read) old mid a c marked
-read-failed old mid a b c held marked h kept e = record { read = h.read; consumed = Consumes-kept a b c h.read h.consumed kept; after = (h.gained, e) }
+pub read-failed : (limit many : ℕ) (old mid : Seat) (a b c : Option (List ℕ)) (held : List ℕ) (marked : Bool) → IsRead many old mid a b held → Keeps b c → marked ≡ true → Ended limit (Err ReadFault.Read) old mid a c marked
+read-failed limit many old mid a b c held marked h kept e = record { read = h.read; consumed = Consumes-kept a b c h.read h.consumed kept; after = (h.gained, e) }
 
-pub read-limit : (old mid : Seat) (a b : Option (List ℕ)) (held : List ℕ) (marked : Bool) → IsRead old mid a b held → marked ≡ false → Ended (Err ReadFault.TurnLimit) old mid a b marked
-read-limit old mid a b held marked h unmarked = record { read = h.read; consumed = h.consumed; after = (h.gained, unmarked) }
+pub read-limit : (limit many : ℕ) (old mid : Seat) (a b : Option (List ℕ)) (held : List ℕ) (marked : Bool) → IsRead many old mid a b held → limit ≤ many → marked ≡ false → Ended limit (Err ReadFault.TurnLimit) old mid a b marked
+read-limit limit many old mid a b held marked h met unmarked = record { read = h.read; consumed = h.consumed; after = (h.gained, omega (arith, met, h.enough), unmarked) }
 
 at-end : (a b c : Option (List ℕ)) (read piece : List ℕ) (k : ℕ) → Consumes a b read → Consumes b c (take k piece) → k ≡ 0 → Consumes a c read
 at-end a b c read piece k h more none =
     subst (λ (l : List ℕ). Consumes a c l) (append-nil read)
     (Consumes-trans a b c read [] h (subst (λ (n : ℕ). Consumes b c (take n piece)) none more))
 
-pub read-closed : (old mid : Seat) (a b c : Option (List ℕ)) (held piece : List ℕ) (k left : ℕ) (marked : Bool) → IsRead old mid a b held → Consumes b c (take k piece) → k ≡ 0 → left ≡ length held → left ≡ 0 →
-    marked ≡ false → Ended (Ok ReadEnd.Closed) old mid a c marked
-read-closed old mid a b c held piece k left marked h more none e z unmarked =
-    record { read = h.read; consumed = at-end a b c h.read piece k h.consumed more none; after = (h.gained, sym h.held_is ∙ empty held (sym e ∙ z), unmarked) }
+pub read-closed : (limit many : ℕ) (old mid : Seat) (a b c : Option (List ℕ)) (held piece : List ℕ) (k left : ℕ) (marked : Bool) → IsRead many old mid a b held → Consumes b c (take k piece) → k ≡ 0 → left ≡ length held → left ≡ 0 →
+    IsAtEnd c → marked ≡ false → Ended limit (Ok ReadEnd.Closed) old mid a c marked
+read-closed limit many old mid a b c held piece k left marked h more none e z ended unmarked =
+    record { read = h.read; consumed = at-end a b c h.read piece k h.consumed more none; after = (h.gained, sym h.held_is ∙ empty held (sym e ∙ z), ended, unmarked) }
   where
     empty : (s : List ℕ) → length s ≡ 0 → s ≡ []
     empty [] n = refl
     empty (x ∷ s) n = absurd (omega arith)
 
-pub read-cut : (old mid : Seat) (a b c : Option (List ℕ)) (held piece : List ℕ) (k left : ℕ) (marked : Bool) → IsRead old mid a b held → Consumes b c (take k piece) → k ≡ 0 → left ≡ length held → 0 < left →
-    marked ≡ false → Ended (Ok (ReadEnd.Cut left)) old mid a c marked
-read-cut old mid a b c held piece k left marked h more none e z unmarked =
-    record { read = h.read; consumed = at-end a b c h.read piece k h.consumed more none; after = (h.gained, e ∙ ap length h.held_is, z, unmarked) }
+pub read-cut : (limit many : ℕ) (old mid : Seat) (a b c : Option (List ℕ)) (held piece : List ℕ) (k left : ℕ) (marked : Bool) → IsRead many old mid a b held → Consumes b c (take k piece) → k ≡ 0 → left ≡ length held → 0 < left →
+    IsAtEnd c → marked ≡ false → Ended limit (Ok (ReadEnd.Cut left)) old mid a c marked
+read-cut limit many old mid a b c held piece k left marked h more none e z ended unmarked =
+    record { read = h.read; consumed = at-end a b c h.read piece k h.consumed more none; after = (h.gained, e ∙ ap length h.held_is, z, ended, unmarked) }

@@ -1,6 +1,7 @@
 pub mod Seat
 pub mod Senders
 pub mod Booth
+pub mod Held
 pub mod Fits
 pub mod Read
 pub mod Written

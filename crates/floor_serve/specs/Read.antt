@@ -1,6 +1,6 @@
 -- What a reader submitted of the bytes that it read.
-use Rattle.std.specs.Prelude.{◌≡◌, ℕ, ◌<◌, Bool, true, false, List, [], ◌++◌, length, map, Option, Result, Ok, Err}
-use Rattle.std.specs.Io.KnownBytes.{Consumes}
+use Rattle.std.specs.Prelude.{◌≡◌, ℕ, ◌<◌, ◌≤◌, Bool, true, false, List, [], ◌∷◌, ◌++◌, length, map, Option, Result, Ok, Err}
+use Rattle.std.specs.Io.KnownBytes.{Consumes, IsAtEnd}
 use Rattle.floor_wire.specs.Message.{messages, rest}
 use Rattle.floor_machine.specs.declared.machine.Refusal.TheVariants.{Memory}
 use Rattle.floor_room.specs.declared.refusal.RoomRefusal.{RoomRefusal}
@@ -33,18 +33,33 @@ pub record Began (old new : Seat) (all : List (List ℕ)) : Type 0 where
   pub parts : all ≡ gained ++ left
   pub record_is : Gained old new gained
 
--- how reading ended after these bytes: all their messages were submitted, but where the conference or memory refused one. The source is marked after a
--- failed read alone, and a refusal that is Memory is no other one.
-abbrev pub IsEnd : Result ReadEnd ReadFault → Seat → Seat → Bool → List ℕ → Type 0
-IsEnd (Ok ReadEnd.Closed) old new marked read = Gained old new (messages read) × (rest read ≡ []) × (marked ≡ false)
-IsEnd (Ok (ReadEnd.Cut k)) old new marked read = Gained old new (messages read) × (k ≡ length (rest read)) × (0 < k) × (marked ≡ false)
-IsEnd (Err ReadFault.Read) old new marked read = Gained old new (messages read) × (marked ≡ true)
-IsEnd (Err ReadFault.TurnLimit) old new marked read = Gained old new (messages read) × (marked ≡ false)
-IsEnd (Err (ReadFault.Refused refusal)) old new marked read = Began old new (messages read) × (fault_of refusal ≡ ReadFault.Refused refusal) × (marked ≡ false)
-IsEnd (Err ReadFault.Memory) old new marked read = Began old new (messages read) × (marked ≡ false)
+-- The record of the seat gained some first of these messages, but not the one behind them.
+pub record Missed (old new : Seat) (all : List (List ℕ)) : Type 0 where
+  pub gained : List (List ℕ)
+  pub missed : List ℕ
+  pub left : List (List ℕ)
+  pub parts : all ≡ gained ++ missed ∷ left
+  pub record_is : Gained old new gained
 
--- Some bytes were read from the source, and reading ended so after them.
-pub record Ended (result : Result ReadEnd ReadFault) (old new : Seat) (was is : Option (List ℕ)) (marked : Bool) : Type 0 where
+-- what a refusal left: but for Memory, the message that was refused is the first that isn't recorded
+abbrev pub Refuses : RoomRefusal → Seat → Seat → List (List ℕ) → Type 0
+Refuses (Refused Memory) old new all = Began old new all
+Refuses JournalFull old new all = Missed old new all
+Refuses (Refused refusal) old new all = Missed old new all
+
+-- how reading ended after these bytes, of a source that has these left, in at most so many reads: all their messages were submitted, but where the
+-- conference or memory refused one. The source is at its end where reading says so, and is marked after a failed read alone; the limit was met where each
+-- read of so many gave a byte; and a refusal that is Memory is no other one.
+abbrev pub IsEnd : ℕ → Result ReadEnd ReadFault → Seat → Seat → Option (List ℕ) → Bool → List ℕ → Type 0
+IsEnd limit (Ok ReadEnd.Closed) old new is marked read = Gained old new (messages read) × (rest read ≡ []) × IsAtEnd is × (marked ≡ false)
+IsEnd limit (Ok (ReadEnd.Cut k)) old new is marked read = Gained old new (messages read) × (k ≡ length (rest read)) × (0 < k) × IsAtEnd is × (marked ≡ false)
+IsEnd limit (Err ReadFault.Read) old new is marked read = Gained old new (messages read) × (marked ≡ true)
+IsEnd limit (Err ReadFault.TurnLimit) old new is marked read = Gained old new (messages read) × (limit ≤ length read) × (marked ≡ false)
+IsEnd limit (Err (ReadFault.Refused refusal)) old new is marked read = Missed old new (messages read) × (fault_of refusal ≡ ReadFault.Refused refusal) × (marked ≡ false)
+IsEnd limit (Err ReadFault.Memory) old new is marked read = Began old new (messages read) × (marked ≡ false)
+
+-- Some bytes were read from the source, in at most so many reads, and reading ended so after them.
+pub record Ended (limit : ℕ) (result : Result ReadEnd ReadFault) (old new : Seat) (was is : Option (List ℕ)) (marked : Bool) : Type 0 where
   pub read : List ℕ
   pub consumed : Consumes was is read
-  pub after : IsEnd result old new marked read
+  pub after : IsEnd limit result old new is marked read

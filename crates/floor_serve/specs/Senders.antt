@@ -5,7 +5,7 @@ use Rattle.floor_machine.specs.declared.event.Event.{Event}
 use Rattle.floor_machine.specs.Parcel.{Parcel}
 use Rattle.floor_machine.specs.Journal.{sent_to}
 use Rattle.floor_room.specs.Room.{parcels_to}
-use Rattle.floor_outbox.specs.Ends.{Sender}
+use Rattle.floor_outbox.specs.Ends.{PairId, Sender}
 
 -- a sender that was put more; nothing is put where it was taken out
 abbrev pub with_put : Option Sender → List Parcel → Option Sender
@@ -28,6 +28,16 @@ pub record IsInPart (out : List Parcel) (old new : List (Option Sender)) : Type 
 abbrev pub sender_of : List (Option Sender) → ℕ → Option Sender
 sender_of os zero = None
 sender_of os (suc k) = get_or os k None
+
+-- the pair of a sender that is there
+abbrev pub pair_of : Option Sender → List PairId
+pair_of None = []
+pair_of (Some s) = s.pair ∷ []
+
+-- the pairs of the members that parcels are for, parcel by parcel
+abbrev pub pairs_of : List (Option Sender) → List Parcel → List PairId
+pairs_of os [] = []
+pairs_of os (p ∷ ps) = pair_of (sender_of os p.n) ++ pairs_of os ps
 
 -- the senders without that of the member n
 abbrev pub without : List (Option Sender) → ℕ → List (Option Sender)

@@ -4,3 +4,5 @@ pub mod First
 pub mod Ascending
 pub mod Parts
 pub mod Last
+pub mod Waking
+pub mod Pieces

@@ -1,7 +1,7 @@
 //! One conference with its journal, and a place for each member that ever joined, with its sender
 //! until it has left.
 
-ghost use Rattle.std.specs.Prelude.{◌≡◌, ◌+◌, ◌-◌, ◌++◌, ◌⊎◌, [], true, None, IfErr, IfOk, IsSomeAnd, OnOk, OnErr, Err, length, slice_set, false};
+ghost use Rattle.std.specs.Prelude.{◌≡◌, ◌↔◌, ◌+◌, ◌-◌, ◌++◌, ◌⊎◌, [], None, IfErr, IfOk, IsSomeAnd, IsTrue, OnOk, OnErr, Err, length, slice_set};
 ghost use Rattle.floor_machine.specs.declared.event.Event.TheVariants.{Join, Leave, Message, Took};
 ghost use Rattle.floor_machine.specs.Machine.{event_of_act};
 ghost use Rattle.floor_room.specs.declared.refusal.RoomRefusal.TheVariants.{Refused};
@@ -9,9 +9,9 @@ ghost use Rattle.floor_machine.specs.declared.machine.Refusal.TheVariants.{Memor
 ghost use Rattle.floor_room.specs.Ledger.{Added, IsRefusedBy, Unadded, broken_off, conference_of, refusal};
 ghost use Rattle.floor_room.specs.Room.{joined, parcels_to};
 ghost use Rattle.floor_room.specs.Status.{IsStatus};
-ghost use Rattle.floor_serve.specs.Booth.{Applied, IsBooth, IsGone, Left, LeftJoin, new_booth, off, opened};
+ghost use Rattle.floor_serve.specs.Booth.{Applied, IsBooth, HasParted, IsClosed, IsGone, Left, LeftJoin, new_booth, off, opened};
 ghost use Rattle.floor_serve.specs.steps.Last.{last_message};
-ghost use Rattle.floor_serve.specs.Senders.{IsInPart, IsPut, fed, sender_of, without};
+ghost use Rattle.floor_serve.specs.Senders.{IsInPart, IsPut, fed, pairs_of, sender_of, without};
 
 use crate::seat::Sent;
 use crate::senders::{close, close_all, deliver};
@@ -37,13 +37,17 @@ pub struct Booth {
 }
 
 impl Model for Booth {
-    ghost use Rattle.floor_serve.specs.Booth.{Booth, IsBooth};
+    ghost use Rattle.floor_serve.specs.Booth.{AreKept, Booth};
 
     ghost Value = { Booth };
 
-    ghost view = { λ b. record { ledger = b.ledger; senders = b.senders.items } };
+    ghost view = { λ b. record {
+      ledger = b.ledger;
+      senders = b.senders.items;
+      waking = b.wakers;
+    } };
 
-    ghost invariant = { λ b. IsBooth record { ledger = b.ledger; senders = b.senders.items } };
+    ghost invariant = { λ b. AreKept b.ledger b.senders.items };
 }
 
 impl Booth {
@@ -61,7 +65,8 @@ impl Booth {
 
     /// Whom to wake of those for whom something was put since the last such call. Takes no memory.
     pub fn wakers(&mut self) -> Wakers
-        ensures kept { self.new ≡ self.old }
+        ensures value { result ≡ self.old.waking }
+        ensures next { self.new ≡ record self.old { waking = [] } }
     {
         self.wakers.take()
     }
@@ -77,7 +82,10 @@ impl Booth {
     /// How the conference stands. Takes no memory.
     pub fn status(&self) -> Status
         ensures value { IsStatus self.now.ledger result }
+        ensures kept { IsBooth self.now }
     {
+        // The booth's own facts are those of its ledger and its senders.
+        let _journal = self.journal();
         self.ledger.status()
     }
 
@@ -90,10 +98,8 @@ impl Booth {
 
     /// Whether no event is taken any more: the conference has ended, or an event was broken off.
     /// Takes no memory.
-    #[tactic(auto, using(crate::proofs::Leaving::closed_of))]
     pub(crate) fn is_closed(&self) -> bool
-        ensures { result ≡ true → (self.now.ledger.is_broken ≡ true)
-            ⊎ ((conference_of self.now.ledger).is_open ≡ false) }
+        ensures { IsTrue result ↔ IsClosed self.now }
     {
         match self.status().phase {
             Phase::Running => false,
@@ -210,7 +216,7 @@ impl Booth {
     }
 
     /// Breaks the conference off, and sets every closed mark. Takes no memory.
-    fn break_off(&mut self)
+    pub(crate) fn break_off(&mut self)
         ensures { self.new ≡ off self.old }
     {
         self.ledger.break_off();
@@ -235,6 +241,19 @@ impl Booth {
     {
         let left = self.tell(rt, Event::Leave { n });
         close_of(&self.senders, n);
+        left
+    }
+
+    /// Takes it that a member has left, and takes its sender out: also where the leave is refused and
+    /// the conference has ended or is broken off. Its taker still takes what was put.
+    #[tactic(auto, using(crate::proofs::Leaving::gone_took))]
+    pub fn part<R: Wait>(&mut self, rt: &R, n: u32) -> Result<(), RoomRefusal>
+        ensures done { HasParted result self.old self.new n }
+    {
+        let left = self.leave(rt, n);
+        if left.is_ok() || self.is_closed() {
+            self.release(n);
+        }
         left
     }
 
@@ -333,6 +352,7 @@ fn feed<R: Wait>(
     wakers: &mut Wakers,
 ) -> Result<(), RoomRefusal>
     ensures senders { OnOk result (senders.new.items ≡ fed out.items 1 senders.old.items) }
+    ensures told { OnOk result (wakers.new ≡ wakers.old ++ pairs_of senders.old.items out.items) }
     ensures ledger { OnOk result (ledger.new ≡ ledger.old) }
     ensures memory { IfErr result (λ refusal. refusal ≡ Refused Memory) }
     ensures left { OnErr result (IsInPart out.items senders.old.items senders.new.items) }

@@ -1,6 +1,9 @@
 //! One conference as threads share it.
 
-ghost use Rattle.std.specs.Prelude.{◌≡◌, ◌∷◌, ◌++◌, [], IfOk, OnErr, OnOk};
+ghost use Rattle.std.specs.Prelude.{◌≡◌, ◌∷◌, ◌++◌, [], IfOk, OnErr, length, string_bytes};
+ghost use Rattle.floor_room.specs.Status.{IsStatus};
+ghost use Rattle.floor_serve.specs.Held.{IsFound, IsText};
+ghost use Rattle.floor_serve.specs.steps.Pieces.{IsPiece};
 
 use crate::booth::Booth;
 use crate::gate::Gate;
@@ -109,16 +112,12 @@ impl Desk {
     /// Takes it that the seat's member has left, and lets its writer end, also after a refusal.
     /// Refused as [`Booth::leave`]. Of a member that is gone nothing stays but its taker, until the
     /// writer has taken what was put.
-    #[tactic(auto, using(crate::proofs::Leaving::gone_took))]
     pub fn leave<R: Wait>(&self, rt: &R, seat: &mut Seat) -> Result<(), RoomRefusal>
         requires { seat.old.conference ≡ self.now.conference }
         ensures kept { seat.new ≡ seat.old }
     {
         let mut booth = self.booth.lock(rt);
-        let left = booth.leave(rt, seat.n());
-        if left.is_ok() || booth.is_closed() {
-            booth.release(seat.n());
-        }
+        let left = booth.part(rt, seat.n());
         let wakers = booth.wakers();
         drop(booth);
         wakers.wake();
@@ -137,19 +136,24 @@ impl Desk {
     }
 
     /// How the conference stands. Takes no memory.
-    pub fn status<R: Wait>(&self, rt: &R) -> Status {
-        self.booth.lock(rt).status()
+    pub fn status<R: Wait>(&self, rt: &R) -> Status
+        ensures value { IsFound (λ booth. IsStatus booth.ledger result) }
+    {
+        let booth = self.booth.lock(rt);
+        booth.status()
     }
 
     /// The lines of the conference's journal, a line for each event, and their number: of all events
     /// that it had when the call began, and perhaps of some behind them. Taken in pieces, a hold of the
     /// lock each ([`add_lines`]), so that nobody in the conference waits for a long journal.
-    pub fn journal_text<R: Wait>(&self, rt: &R) -> Result<String, AllocError> {
+    pub fn journal_text<R: Wait>(&self, rt: &R) -> Result<String, AllocError>
+        ensures value { IfOk result (λ text. IsText (string_bytes text)) }
+    {
         let mut text = String::new(self.alloc);
-        let count = self.booth.lock(rt).journal().len();
+        let count = self.count(rt);
         let mut done = 0;
         while done < count {
-            let added = add_lines(self.alloc, &mut text, self.booth.lock(rt).journal(), done)?;
+            let added = self.add_piece(rt, &mut text, done)?;
             if added == 0 {
                 break; // never: a journal only grows
             }
@@ -157,5 +161,28 @@ impl Desk {
         }
         add_end(self.alloc, &mut text, done)?;
         Ok(text)
+    }
+
+    /// How many events there are.
+    fn count<R: Wait>(&self, rt: &R) -> usize
+        ensures value { IsFound (λ booth. result ≡ length booth.ledger.journal) }
+    {
+        let booth = self.booth.lock(rt);
+        booth.journal().len()
+    }
+
+    /// Adds the lines of some events behind the first `done`, and gives how many it added: none only
+    /// where there is none.
+    fn add_piece<R: Wait>(
+        &self,
+        rt: &R,
+        text: &mut String,
+        done: usize,
+    ) -> Result<usize, AllocError>
+        ensures value { IfOk result (λ added.
+            IsPiece (string_bytes text.old) (string_bytes text.new) done added) }
+    {
+        let booth = self.booth.lock(rt);
+        add_lines(self.alloc, text, booth.journal(), done)
     }
 }

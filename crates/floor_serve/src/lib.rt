@@ -26,7 +26,7 @@ pub use booth::Booth;
 pub use desk::Desk;
 pub use end::finish::{Report, finish};
 pub use fault::{DeskRefusal, FinishFault, OpenRefusal, ReadFault, WriteFault};
-pub use floor_outbox::{ClosedMark, Outbox, Parcel, Sender, Taker};
+pub use floor_outbox::{ClosedMark, Outbox, Parcel, Sender, Taken, Taker};
 pub use floor_room::{
     Act, Config, Event, Floor, Frame, Phase, Place, Refusal, RoomRefusal, Status, User,
 };

@@ -1,8 +1,8 @@
 //! What the reader of a connection does.
 
-ghost use Rattle.std.specs.Prelude.{◌≡◌, false, OnErr, OnOk};
+ghost use Rattle.std.specs.Prelude.{◌≡◌, false, IfErr, OnOk};
 ghost use Rattle.floor_wire.specs.Message.{messages, rest};
-ghost use Rattle.floor_serve.specs.Read.{Began, Ended, Gained, fault_of};
+ghost use Rattle.floor_serve.specs.Read.{Ended, Gained, Refuses, fault_of};
 
 use crate::desk::Desk;
 use crate::fault::ReadFault;
@@ -40,7 +40,7 @@ pub fn read_loop<S: Source, G: Gate, R: Wait>(
 ) -> Result<ReadEnd, ReadFault>
     requires unmarked { S.marked source.old ≡ false }
     requires seat { seat.old.conference ≡ desk.now.conference }
-    ensures { Ended result seat.old seat.new
+    ensures { Ended MAX_TURNS result seat.old seat.new
         (S.remaining source.old) (S.remaining source.new) (S.marked source.new) }
 {
     read_turns(MAX_TURNS, rt, source, desk, seat, gate)
@@ -57,12 +57,12 @@ pub fn read_turns<S: Source, G: Gate, R: Wait>(
 ) -> Result<ReadEnd, ReadFault>
     requires unmarked { S.marked source.old ≡ false }
     requires seat { seat.old.conference ≡ desk.now.conference }
-    ensures { Ended result seat.old seat.new
+    ensures { Ended limit result seat.old seat.new
         (S.remaining source.old) (S.remaining source.new) (S.marked source.new) }
 {
     let mut framer = Framer::new(desk.alloc);
     let mut buffer = [0u8; READ_LEN];
-    for _ in 0..limit {
+    for _turn in 0..limit {
         let Some(count) = source.read(&mut buffer) else {
             return Err(ReadFault::Read);
         };
@@ -95,7 +95,8 @@ fn submit_all<G: Gate, R: Wait>(
     requires { seat.old.conference ≡ desk.now.conference }
     ensures took { OnOk result (Gained seat.old seat.new (messages framer.old)) }
     ensures rest { OnOk result (framer.new ≡ rest framer.old) }
-    ensures left { OnErr result (Began seat.old seat.new (messages framer.old)) }
+    ensures left { IfErr result (λ refusal.
+        Refuses refusal seat.old seat.new (messages framer.old)) }
 {
     while let Some(frame) = framer.next()? {
         desk.submit(rt, seat, frame, gate)?;

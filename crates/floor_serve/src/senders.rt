@@ -1,7 +1,7 @@
 //! What is put for the members of a conference.
 
-ghost use Rattle.std.specs.Prelude.{◌≡◌, ◌∷◌, [], OnOk, OnErr};
-ghost use Rattle.floor_serve.specs.Senders.{IsInPart, fed, with_put};
+ghost use Rattle.std.specs.Prelude.{◌≡◌, ◌∷◌, ◌++◌, [], OnOk, OnErr};
+ghost use Rattle.floor_serve.specs.Senders.{IsInPart, fed, pair_of, pairs_of, sender_of, with_put};
 
 use crate::wakers::Wakers;
 use floor_outbox::{Parcel, Sender};
@@ -17,16 +17,18 @@ fn put_by<R: Wait>(
     wakers: &mut Wakers,
 ) -> Result<(), AllocError>
     ensures next { OnOk result (place.new ≡ with_put place.old (parcel ∷ [])) }
+    ensures told { OnOk result (wakers.new ≡ wakers.old ++ pair_of place.old) }
     ensures left { OnErr result (place.new ≡ place.old) }
 {
     match place {
-        Some(sender) => match sender.put_asleep(rt, parcel) {
-            Ok(()) => {
-                wakers.add(sender);
-                Ok(())
+        Some(sender) => {
+            // The waker first: its memory may be refused, and then nothing is put.
+            wakers.add(sender)?;
+            match sender.put_asleep(rt, parcel) {
+                Ok(()) => Ok(()),
+                Err(_) => Err(AllocError),
             }
-            Err(_) => Err(AllocError),
-        },
+        }
         None => Ok(()),
     }
 }
@@ -39,6 +41,8 @@ fn put<R: Wait>(
     wakers: &mut Wakers,
 ) -> Result<(), AllocError>
     ensures next { OnOk result (senders.new.items ≡ fed (parcel ∷ []) 1 senders.old.items) }
+    ensures told { OnOk result (wakers.new
+        ≡ wakers.old ++ pair_of (sender_of senders.old.items parcel.n)) }
     ensures left { OnErr result (senders.new.items ≡ senders.old.items) }
 {
     let Some(index) = (parcel.n() as usize).checked_sub(1) else {
@@ -59,6 +63,7 @@ pub(crate) fn deliver<R: Wait>(
     wakers: &mut Wakers,
 ) -> Result<(), AllocError>
     ensures next { OnOk result (senders.new.items ≡ fed out.items 1 senders.old.items) }
+    ensures told { OnOk result (wakers.new ≡ wakers.old ++ pairs_of senders.old.items out.items) }
     ensures left { OnErr result (IsInPart out.items senders.old.items senders.new.items) }
 {
     for parcel in out {

@@ -14,9 +14,13 @@ mod booths;
 mod ends;
 mod gates;
 mod journals;
+mod leaving;
 mod many;
+mod numbers;
+mod outboxes;
 mod registries;
 mod threads;
+mod waking;
 mod writers;
 mod writes;
 

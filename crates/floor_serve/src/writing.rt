@@ -7,7 +7,7 @@ ghost use Rattle.floor_serve.specs.Written.{Failed, Moved, Stopped, Wrote, cappe
 use crate::desk::Desk;
 use crate::fault::WriteFault;
 use crate::marked::Sink;
-use floor_outbox::{Parcel, Taker};
+use floor_outbox::{Parcel, Taken, Taker};
 use std::alloc::Global;
 use std::sync::Wait;
 
@@ -61,9 +61,8 @@ pub fn write_loop<S: Sink, R: Wait>(
         parcels: 0,
     };
     for _ in rt.forever() {
-        let closed = taker.closed();
         match taker.take(rt) {
-            Some(parcel) => {
+            Taken::Parcel(parcel) => {
                 parcels = parcels.saturating_add(1);
                 match take_up(
                     rt,
@@ -77,7 +76,7 @@ pub fn write_loop<S: Sink, R: Wait>(
                     Err(fault) => return Err(fault),
                 }
             }
-            None => {
+            Taken::Empty => {
                 match flush_and_acknowledge(
                     rt,
                     sink,
@@ -85,13 +84,21 @@ pub fn write_loop<S: Sink, R: Wait>(
                     &mut bytes,
                     &mut unacknowledged,
                 ) {
-                    Ok(()) => {}
+                    Ok(()) => taker.wait(rt),
                     Err(fault) => return Err(fault),
                 }
-                if closed {
-                    return Ok(Written { parcels, bytes });
+            }
+            Taken::Closed => {
+                match flush_and_acknowledge(
+                    rt,
+                    sink,
+                    &mut buffer,
+                    &mut bytes,
+                    &mut unacknowledged,
+                ) {
+                    Ok(()) => return Ok(Written { parcels, bytes }),
+                    Err(fault) => return Err(fault),
                 }
-                taker.wait(rt);
             }
         }
     }

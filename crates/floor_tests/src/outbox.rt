@@ -2,7 +2,7 @@
 
 use floor_outbox::*;
 use floor_wire::Frame;
-use std::alloc::{AllocError, Global};
+use std::alloc::Global;
 use std::test::*;
 
 /// A parcel for member 1: a Hello with this transaction.
@@ -12,11 +12,16 @@ fn parcel(alloc: Global, transaction: u8) -> Result<Parcel, Fail> {
     Ok(Parcel::new(1, hello))
 }
 
-/// The transaction of a parcel, where there is one.
-fn transaction_of(parcel: &Option<Parcel>) -> Option<u8> {
-    match parcel {
-        Some(parcel) => parcel.header().get(9).copied(),
-        None => None,
+/// The transaction of a parcel.
+fn transaction_of(parcel: &Parcel) -> Option<u8> {
+    parcel.header().get(9).copied()
+}
+
+/// The transaction of the parcel that was taken, if one was.
+fn transaction_in(taken: &Taken) -> Option<u8> {
+    match taken {
+        Taken::Parcel(parcel) => transaction_of(parcel),
+        Taken::Empty | Taken::Closed => None,
     }
 }
 
@@ -25,23 +30,39 @@ fn parcels_are_taken_in_order_and_the_rest_is_popped(rt: HostRuntime) -> Result<
     let alloc = rt.alloc();
     let (first, second) = (parcel(alloc, 1)?, parcel(alloc, 2)?);
     let (mut sender, mut taker) = pair(alloc)?;
-    assert!(rt; taker.take(&rt).is_none());
+    assert!(rt; matches!(taker.take(&rt), Taken::Empty));
     assert!(rt; sender.put(&rt, first).is_ok() && sender.put(&rt, second).is_ok());
     taker.wait(&rt);
     let first = taker.take(&rt);
-    assert!(rt; transaction_of(&first) == Some(1));
+    assert_eq!(rt; transaction_in(&first), Some(1));
     let mut outbox = rejoin(&rt, sender, taker);
-    let second = outbox.pop(&rt);
-    assert!(rt; transaction_of(&second) == Some(2) && outbox.pop(&rt).is_none());
+    let second = outbox.pop(&rt).ok_or("nothing is left")?;
+    assert_eq!(rt; transaction_of(&second), Some(2));
+    assert!(rt; outbox.pop(&rt).is_none());
     Ok(())
 }
 
 #[test]
-fn the_closed_mark_stays_and_wakes(rt: HostRuntime) -> Result<(), AllocError> {
-    let (sender, mut taker) = pair(rt.alloc())?;
-    assert!(rt; !taker.closed());
+fn the_closed_mark_stays_and_wakes(rt: HostRuntime) -> Result<(), Fail> {
+    let alloc = rt.alloc();
+    let (mut sender, mut taker) = pair(alloc)?;
+    let mark = taker.mark()?;
+    assert!(rt; !mark.is_set());
+    assert!(rt; sender.put(&rt, parcel(alloc, 1)?).is_ok());
+    taker.wait(&rt);
     sender.close();
     taker.wait(&rt);
-    assert!(rt; taker.closed() && taker.take(&rt).is_none() && taker.closed());
+    assert!(rt; mark.is_set());
+    let first = taker.take(&rt);
+    assert_eq!(rt;
+        transaction_in(&first),
+        Some(1),
+        "what was put before the mark"
+    );
+    assert!(rt; matches!(taker.take(&rt), Taken::Closed) && mark.is_set());
+    assert!(rt; sender.put(&rt, parcel(alloc, 2)?).is_ok());
+    let behind = taker.take(&rt);
+    assert_eq!(rt; transaction_in(&behind), Some(2), "what was put behind it");
+    assert!(rt; matches!(taker.take(&rt), Taken::Closed));
     Ok(())
 }

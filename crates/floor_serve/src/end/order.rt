@@ -1,6 +1,6 @@
 //! The order of seats, and where those of one conference stand among them.
 
-ghost use Rattle.std.specs.Prelude.{◌≡◌, ◌<◌, ◌≤◌, length, true};
+ghost use Rattle.std.specs.Prelude.{◌≡◌, ◌↔◌, ◌<◌, ◌≤◌, IsTrue, length};
 ghost use Rattle.std.specs.List.{AllWithin};
 ghost use Rattle.std.specs.List.Sorted.{IsNonDecreasingBy};
 ghost use Rattle.floor_serve.specs.steps.Ascending.{Ascend, IsBefore, IsBlock};
@@ -27,7 +27,7 @@ pub(crate) struct Block {
 
 /// In which order the seats stand.
 pub(crate) fn order_of(seats: &[Seat]) -> Order
-    ensures { result ≡ Order.Ascending → Ascend seats.now }
+    ensures { (result ≡ Order.Ascending) ↔ Ascend seats.now }
 {
     for at in 1..seats.len() {
         if !is_before(&seats[at - 1], &seats[at]) {
@@ -39,7 +39,7 @@ pub(crate) fn order_of(seats: &[Seat]) -> Order
 
 /// Whether a seat stands before another.
 fn is_before(a: &Seat, b: &Seat) -> bool
-    ensures { result ≡ true → IsBefore a.now b.now }
+    ensures { IsTrue result ↔ IsBefore a.now b.now }
 {
     if a.conference() == b.conference() {
         a.n() < b.n()

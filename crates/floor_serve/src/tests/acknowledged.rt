@@ -72,9 +72,9 @@ fn of_a_write_that_fails_nothing_is_acknowledged(rt: HostRuntime) -> Result<(), 
 #[test]
 fn the_event_that_cuts_closes(rt: HostRuntime) -> Result<(), Fail> {
     let (_desk, _seat, before) = greeted(&rt, rt.alloc(), 1024)?;
-    assert!(rt; !before.closed());
+    assert!(rt; !before.mark()?.is_set());
     let (_desk, _seat, behind) = greeted(&rt, rt.alloc(), 1025)?;
-    assert!(rt; behind.closed());
+    assert!(rt; behind.mark()?.is_set());
     Ok(())
 }
 
@@ -146,9 +146,9 @@ fn watched<R: Wait>(rt: &R, alloc: Global) -> Result<(Desk, Seat, Taker), Fail> 
 #[test]
 fn a_leave_closes_whom_it_cuts(rt: HostRuntime) -> Result<(), Fail> {
     let (desk, mut seat, taker) = watched(&rt, rt.alloc())?;
-    assert!(rt; !taker.closed());
+    assert!(rt; !taker.mark()?.is_set());
     assert!(rt; leaves(&rt, &desk, &mut seat));
-    assert!(rt; taker.closed());
+    assert!(rt; taker.mark()?.is_set());
     Ok(())
 }
 
@@ -156,6 +156,6 @@ fn a_leave_closes_whom_it_cuts(rt: HostRuntime) -> Result<(), Fail> {
 fn a_revoke_closes_whom_it_cuts(rt: HostRuntime) -> Result<(), Fail> {
     let (desk, _seat, taker) = watched(&rt, rt.alloc())?;
     assert!(rt; desk.admin(&rt, Act::Revoke(1)).is_ok());
-    assert!(rt; taker.closed());
+    assert!(rt; taker.mark()?.is_set());
     Ok(())
 }

@@ -1,10 +1,11 @@
 //! Streams that are cut, and reads that fail.
 
-ghost use Rattle.std.specs.Prelude.{None};
+ghost use Rattle.std.specs.Prelude.{None, false};
 
 use super::{HELLO, answer_of, frame, joined, opened};
 use crate::*;
 use std::alloc::Global;
+use std::io::Cursor;
 use std::sync::Wait;
 use std::test::*;
 
@@ -173,5 +174,95 @@ fn a_message_that_a_closed_conference_refuses_is_not_recorded(rt: HostRuntime) -
         Some(Err(RoomRefusal::Refused(Refusal::Ended)))
     );
     assert_eq!(rt; seat.sent().len(), 0);
+    Ok(())
+}
+
+#[test]
+fn reading_into_a_closed_conference_ends_at_its_first_message(rt: HostRuntime) -> Result<(), Fail> {
+    let alloc = rt.alloc();
+    let (_registry, desk) = opened(&rt, alloc)?;
+    let (mut seat, _taker) = joined(&rt, &desk, 10)?;
+    let Ok(()) = desk.admin(&rt, Act::Close) else {
+        return Err(Fail::from("the conference doesn't close"));
+    };
+    let mut source = Marked::new(Cursor::new([HELLO.as_slice(), &HELLO].concat(alloc)?));
+    assert_eq!(rt;
+        read_loop(&rt, &mut source, &desk, &mut seat, &FreePass),
+        Err(ReadFault::Refused(RoomRefusal::Refused(Refusal::Ended)))
+    );
+    assert!(rt; !Source::failed(&source));
+    assert_eq!(rt; seat.sent().len(), 0);
+    let mut empty = Marked::new(Cursor::new(Vec::new(alloc)));
+    assert_eq!(rt;
+        read_loop(&rt, &mut empty, &desk, &mut seat, &FreePass),
+        Ok(ReadEnd::Closed)
+    );
+    Ok(())
+}
+
+/// Gives Errors of user 10, which nobody is told anything of, a byte a read, so many bytes in all.
+#[derive(Drop)]
+struct Slow {
+    left: u64,
+    at: usize,
+}
+
+impl Source for Slow {
+    ghost remaining = { λ _. None };
+
+    ghost marked = { λ _. false };
+
+    fn read(&mut self, buffer: &mut [u8]) -> Option<usize> {
+        if self.left == 0 {
+            return Some(0);
+        }
+        self.left -= 1;
+        let ignored = [0x20, 13, 0, 0, 0, 0, 0, 1, 0, 1, 0, 10];
+        buffer[0] = ignored[self.at % HELLO_LEN];
+        self.at = (self.at % HELLO_LEN) + 1;
+        Some(1)
+    }
+
+    fn failed(&self) -> bool {
+        false
+    }
+}
+
+#[test]
+fn a_million_reads_are_no_limit(rt: HostRuntime) -> Result<(), Fail> {
+    let (_registry, desk) = opened(&rt, rt.alloc())?;
+    let (mut seat, _taker) = joined(&rt, &desk, 10)?;
+    let mut slow = Slow {
+        left: 1_000_001,
+        at: 0,
+    };
+    assert_eq!(rt;
+        read_loop(&rt, &mut slow, &desk, &mut seat, &FreePass),
+        Ok(ReadEnd::Cut(5))
+    );
+    assert_eq!(rt; seat.sent().len(), 83_333);
+    Ok(())
+}
+
+#[test]
+fn a_broken_conference_is_found_without_seats(rt: HostRuntime) -> Result<(), Fail> {
+    let (registry, desk) = opened(&rt, rt.alloc())?;
+    assert_eq!(rt;
+        finish(&rt, &registry, &[]),
+        Ok(Report {
+            seats: 0,
+            events: 0
+        })
+    );
+    {
+        let table = registry.table.lock(&rt);
+        let slot = table.slots.first().ok_or("no conference")?;
+        slot.booth.lock(&rt).break_off();
+    }
+    assert_eq!(rt;
+        finish(&rt, &registry, &[]),
+        Err(FinishFault::Broken { conference: 1 })
+    );
+    assert_eq!(rt; desk.status(&rt).phase, Phase::Broken);
     Ok(())
 }

@@ -67,7 +67,7 @@ fn is_answered<R: Wait>(
 ) -> bool {
     is_set(&gate.is_held)
         && place_of(rt, desk, seat, hello, gate) == Some(2)
-        && taker.take(rt).is_some()
+        && matches!(taker.take(rt), Taken::Parcel(_))
 }
 
 #[test]

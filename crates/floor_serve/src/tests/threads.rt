@@ -55,7 +55,9 @@ fn asked<R: Threads + Wait + Sync>(
     if !submits(rt, &desk, &mut twelve, frame(alloc, &query(request))?) {
         return Err(Fail::from("the query is refused"));
     }
-    let parcel = taker.take(rt).ok_or("no answer")?;
+    let Taken::Parcel(parcel) = taker.take(rt) else {
+        return Err(Fail::from("no answer"));
+    };
     Ok((registry, desk, [twelve, ten, eleven], parcel))
 }
 

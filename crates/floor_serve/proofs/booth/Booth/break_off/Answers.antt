@@ -7,5 +7,5 @@ use Rattle.floor_serve.proofs.booth.Booth.break_off.Goals as goal
 
 pub invariant_of-self : goal.invariant_of-self
 invariant_of-self c =
-    let b : spec.Booth = record { ledger = c.self.inside.ledger; senders = c.self.inside.senders.items } in
+    let b : spec.Booth = record { ledger = c.self.inside.ledger; senders = c.self.inside.senders.items; waking = c.self.inside.wakers } in
     booth-unadded b c.break_off.new.self c.self.inside.senders.items (Refused Memory) c.self.invariant c.break_off.ensures.next refl
