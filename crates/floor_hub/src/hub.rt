@@ -1,6 +1,6 @@
 //! All conferences at once: their rooms and their connections.
 
-ghost use Rattle.std.specs.Prelude.{◌≡◌, ◌++◌, ℕ, Err, nat_eq, IfErr, IfSome, MatchResult, None, OnErr, OnOk, Some};
+ghost use Rattle.std.specs.Prelude.{◌≡◌, ◌++◌, ℕ, Err, nat_eq, IfErr, IfNone, IfOk, IfSome, MatchResult, None, OnErr, OnOk, Some};
 ghost use Rattle.indexmap.specs.IndexMap.{get};
 ghost use Rattle.floor_room.specs.Room.{IsRoom, Room as Kept};
 ghost use Rattle.floor_room.specs.Status.{IsStatus};
@@ -109,6 +109,9 @@ impl Hub {
         ensures room { OneRoom by_broken (refusal_in result) (attach_event user) conference
             self.old self.new }
         ensures left { IfErr result (LeftAt (attach_event user) conference self.old self.new) }
+        ensures found { IfOk result (λ number. (x : Connection)
+            × (connection_at self.new.connections number ≡ Some x)
+            × (x.conference ≡ conference)) }
     {
         let number = self.arrivals + 1;
         let joined = attach_at(
@@ -241,6 +244,7 @@ impl Hub {
         ensures found { IfSome result (λ place. (x : Connection)
             × (connection_at self.now.connections number ≡ Some x)
             × (place.conference ≡ x.conference) × (place.n ≡ x.n)) }
+        ensures none { IfNone result (connection_at self.now.connections number ≡ None) }
     {
         match self.connections.get(number) {
             Some(connection) => Some(Place {

@@ -115,7 +115,7 @@ fn attach(
                 Ok(()) => Ok(Answer::Attached(number)),
                 Err(_) => Err(Memory),
             },
-            None => Err(Memory),
+            None => unreachable!(),
         },
         Err(refusal) => refused(refusal),
     }

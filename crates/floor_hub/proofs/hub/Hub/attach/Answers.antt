@@ -5,6 +5,7 @@ use Rattle.floor_hub.specs.declared.refusal.HubRefusal.TheVariants.{NoConference
 use Rattle.floor_hub.specs.declared.step.Step.TheVariants.{Attach}
 use Rattle.floor_hub.specs.declared.step.Answer.TheVariants.{Attached}
 use Rattle.floor_hub.specs.Connections.{connection_at}
+use Rattle.floor_hub.specs.declared.connection.Connection.{Connection}
 use Rattle.floor_hub.specs.Hub.{Hub, room_at}
 use Rattle.floor_hub.specs.Left.{LeftAt}
 use Rattle.floor_hub.specs.Rooms.{OneRoom, attach_event, by_broken}
@@ -72,6 +73,17 @@ returns-in-Ok-clause-next c = λ w st. turns_ok c w (subst (λ h. StandsFor h w)
 pub returns-in-Ok-clause-room : goal.returns-in-Ok-clause-room
 returns-in-Ok-clause-room c =
     subst (λ h. OneRoom by_broken None (attach_event c.args.user) c.args.conference h (new_ok c)) c.self.view_is (room_ok c)
+
+-- the connection that was made
+made : (c : goal.After-self-1) (y : Option Room) → room_at (old_ok c) c.args.conference ≡ y →
+    (x : Connection) × (connection_at (new_ok c).connections (c.self.inside.arrivals + 1) ≡ Some x) × (x.conference ≡ c.args.conference)
+made c None is = absurd (ok_err (c.in-Ok.ensures.room.absent is).0)
+made c (Some r) is =
+    let t = c.in-Ok.ensures.room.there r is in
+    (record { conference = c.args.conference; n = length (conference_of r.ledger).members + 1; held = [] }, t.3.0.1.here, refl)
+
+pub returns-in-Ok-clause-found : goal.returns-in-Ok-clause-found
+returns-in-Ok-clause-found c = made c (room_at (old_ok c) c.args.conference) refl
 
 abbrev old_err : goal.In-Err → Hub
 old_err c = record { rooms = c.self.inside.rooms.entries; connections = c.self.inside.connections; arrivals = c.self.inside.arrivals }
