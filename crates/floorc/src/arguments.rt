@@ -5,7 +5,10 @@ use floor_words::{read_u16, read_u32};
 use std::alloc::{AllocError, Global};
 use std::convert::AsStr;
 
-/// What the lines are, below the help of the words.
+/// The version, and the line of the toolchain that the program is proved with.
+const VERSION: &str = "0.1.0 (rattle-kit-13f logic dac8208d650f15bf)";
+
+/// What the lines are, and what is printed, below the help of the words.
 const LINES: &str = "\
 Lines of standard input, each with an example:
   hello                                        what the server supports
@@ -28,7 +31,35 @@ Lines of standard input, each with an example:
   listen <count>                               prints so many further messages
       listen 3
   quit                                         ends
-      quit";
+      quit
+
+What is printed, a line for each message that is heard:
+  reply <transaction> <message>                a response
+  notice <message>                             what the server starts
+  stray                                        what is another's
+  bad                                          what can't be read
+  error BadLine                                a line that asks for nothing
+
+Error codes, as in reply 2 Error 5:
+   1  Conference Does Not Exist
+   2  User Does Not Exist
+   3  Unknown Primitive
+   4  Unknown Mandatory Attribute
+   5  Unauthorized Operation
+   6  Invalid Floor ID
+   7  Floor Request ID Does Not Exist
+   8  You have Already Reached the Maximum Number of Ongoing Floor Requests for This Floor
+   9  Use TLS
+  10  Unable to Parse Message
+  11  Use DTLS
+  12  Unsupported Version
+  13  Incorrect Message Length
+  14  Generic Error
+
+Exit status:
+  0  at the end of the lines
+  1  after a fault, whose name is the last line of standard error
+  2  where the words are refused";
 
 /// Where to connect to, and as whom.
 #[derive(Clone, Copy, Debug)]
@@ -69,6 +100,7 @@ pub fn parse_arguments<'a, S: AsStr>(
 ) -> Result<Arguments<'a>, ArgumentFault> {
     let command = Command::new(alloc, "floorc")
         .about("A client of a floor control server")
+        .version(VERSION)
         .after_help(LINES)
         .arg(required(
             alloc,

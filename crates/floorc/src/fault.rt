@@ -1,5 +1,6 @@
 //! Why a session or a run ends early.
 
+use crate::socket_fault::SocketFault;
 use floor_client::AskRefusal;
 use std::alloc::{AllocError, AllocFailed};
 
@@ -7,7 +8,7 @@ use std::alloc::{AllocError, AllocFailed};
 #[derive(Clone, Copy, Debug, PartialEq, Eq)]
 pub enum SessionFault {
     /// The stream failed, or ended while a message was awaited.
-    Socket,
+    Socket(SocketFault),
     /// All transactions are open.
     NoTransaction,
     /// A line couldn't be written.
@@ -18,17 +19,28 @@ pub enum SessionFault {
 
 impl SessionFault {
     ghost use Rattle.std.specs.Prelude.{◌≡◌};
-    ghost use Rattle.floorc.specs.Names.{name_of_session_fault};
+    ghost use Rattle.std.specs.Option.{option_map};
+    ghost use Rattle.floorc.specs.Names.{name_of_session_fault, reason_of_session_fault};
 
     /// The name that is printed. Takes no memory.
     pub fn name(&self) -> &'static str
         ensures value { result.now ≡ name_of_session_fault self.now }
     {
         match self {
-            SessionFault::Socket => "Socket",
+            SessionFault::Socket(_) => "Socket",
             SessionFault::NoTransaction => "NoTransaction",
             SessionFault::CannotWrite => "CannotWrite",
             SessionFault::Memory => "Memory",
+        }
+    }
+
+    /// What a person is told above the name, where there is more to say. Takes no memory.
+    pub fn reason(&self) -> Option<&'static str>
+        ensures value { option_map (λ text. text.now) result ≡ reason_of_session_fault self.now }
+    {
+        match self {
+            SessionFault::Socket(fault) => Some(fault.reason()),
+            SessionFault::NoTransaction | SessionFault::CannotWrite | SessionFault::Memory => None,
         }
     }
 }
@@ -68,7 +80,7 @@ pub enum RunFault {
 impl RunFault {
     ghost use Rattle.std.specs.Prelude.{◌≡◌};
     ghost use Rattle.std.specs.Option.{option_map};
-    ghost use Rattle.floorc.specs.Names.{name_of_run_fault, status_of};
+    ghost use Rattle.floorc.specs.Names.{name_of_run_fault, reason_of_run_fault, status_of};
 
     /// The name that is printed, where no other text tells the fault. Takes no memory.
     pub fn name(&self) -> Option<&'static str>
@@ -78,6 +90,16 @@ impl RunFault {
             RunFault::Refused => None,
             RunFault::BadNumber => Some("BadNumber"),
             RunFault::Session(fault) => Some(fault.name()),
+        }
+    }
+
+    /// What a person is told above the name, where there is more to say. Takes no memory.
+    pub fn reason(&self) -> Option<&'static str>
+        ensures value { option_map (λ text. text.now) result ≡ reason_of_run_fault self.now }
+    {
+        match self {
+            RunFault::Refused | RunFault::BadNumber => None,
+            RunFault::Session(fault) => fault.reason(),
         }
     }
 

@@ -12,6 +12,7 @@ mod lines;
 mod messages;
 mod run;
 mod session;
+mod socket_fault;
 mod stream;
 #[cfg(test)]
 mod tests;

@@ -5,6 +5,7 @@ ghost use Rattle.floorc.specs.Session.{Received};
 
 use crate::fault::SessionFault;
 use crate::lines::MAX_TURNS;
+use crate::socket_fault::SocketFault;
 use crate::stream::Stream;
 use floor_wire::{Frame, Framer};
 
@@ -12,7 +13,7 @@ use floor_wire::{Frame, Framer};
 const RECEIVE_LEN: usize = 4096;
 
 /// The next message, which the framer doesn't hold afterwards. A stream that fails or ends before
-/// it is `Socket`.
+/// it is `Socket`, with what it failed by, or `Closed` where it ended.
 pub fn next_message<S: Stream>(framer: &mut Framer, stream: &mut S) -> Result<Frame, SessionFault>
     ensures took { IfOk result (λ frame. Received
         (S.remaining stream.old) (S.remaining stream.new)
@@ -33,7 +34,7 @@ pub fn next_message<S: Stream>(framer: &mut Framer, stream: &mut S) -> Result<Fr
             Err(fault) => return Err(fault),
         }
     }
-    Err(SessionFault::Socket)
+    Err(SessionFault::Socket(SocketFault::Unanswered))
 }
 
 /// Receives once.
@@ -46,11 +47,12 @@ fn receive<S: Stream>(framer: &mut Framer, stream: &mut S) -> Result<(), Session
         (S.contents stream.old) (S.contents stream.new) framer.old [] held) }
 {
     let mut chunk = [0u8; RECEIVE_LEN];
-    let Ok(count) = stream.receive(&mut chunk) else {
-        return Err(SessionFault::Socket);
+    let count = match stream.receive(&mut chunk) {
+        Ok(count) => count,
+        Err(error) => return Err(SessionFault::Socket(SocketFault::of(&error))),
     };
     if count == 0 {
-        return Err(SessionFault::Socket);
+        return Err(SessionFault::Socket(SocketFault::Closed));
     }
     let Ok(()) = framer.push(&chunk[..count]) else {
         return Err(SessionFault::Memory);

@@ -7,12 +7,14 @@ use crate::arguments::{ArgumentFault, parse_arguments};
 use crate::fault::{RunFault, SessionFault};
 use crate::lines::Lines;
 use crate::session::session;
+use crate::socket_fault::SocketFault;
 use crate::stream::Socket;
 use crate::writing::write_whole;
 use clap::error::ErrorKind;
 use floor_client::Client;
 use std::alloc::Global;
 use std::convert::AsStr;
+use std::io;
 use std::io::{Read, Write};
 use std::net::{Net, TcpStream};
 
@@ -47,8 +49,9 @@ fn serve<N: Net, S: AsStr, R: Read, W: Write, E: Write>(
         Err(ArgumentFault::BadNumber) => return Err(RunFault::BadNumber),
         Err(ArgumentFault::Words(error)) => return explain(alloc, &error, output, errors),
     };
-    let Ok(stream) = TcpStream::connect(rt, arguments.address) else {
-        return Err(RunFault::Session(SessionFault::Socket));
+    let stream = match TcpStream::connect(rt, arguments.address) {
+        Ok(stream) => stream,
+        Err(error) => return Err(RunFault::Session(unconnected(&error))),
     };
     let mut client = Client::new(alloc, arguments.conference, arguments.user);
     let mut lines = Lines::new(alloc, input);
@@ -56,6 +59,18 @@ fn serve<N: Net, S: AsStr, R: Read, W: Write, E: Write>(
     match session(alloc, &mut client, &mut lines, output, &mut stream) {
         Ok(()) => Ok(()),
         Err(fault) => Err(RunFault::Session(fault)),
+    }
+}
+
+/// Why no connection came about. What is neither an error of the system's nor want of memory is one of the
+/// look-up of the address.
+fn unconnected(error: &io::Error) -> SessionFault {
+    if error.kind() == io::ErrorKind::OutOfMemory {
+        return SessionFault::Memory;
+    }
+    match error.raw_os_error() {
+        None => SessionFault::Socket(SocketFault::Unresolved),
+        Some(_) => SessionFault::Socket(SocketFault::of(error)),
     }
 }
 
@@ -82,11 +97,17 @@ fn explain<W: Write, E: Write>(
     }
 }
 
-/// Prints the fault's name, where it has one, and gives its status. Takes no memory, so that want of
-/// memory has its name.
+/// Prints what a person is told of the fault and the fault's name, each where it has one, and gives
+/// its status. Takes no memory, so that want of memory has its name.
 fn tell<E: Write>(errors: &mut E, fault: RunFault) -> u8
     ensures status { result ≡ status_of fault }
 {
+    match fault.reason() {
+        None => {}
+        Some(reason) => {
+            let _written = writeln!(errors, "{reason}");
+        }
+    }
     match fault.name() {
         None => {}
         Some(name) => {

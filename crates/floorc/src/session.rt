@@ -14,6 +14,7 @@ use crate::command::{Command, LineFault, parse_line};
 use crate::fault::SessionFault;
 use crate::lines::{Input, MAX_TURNS};
 use crate::messages::next_message;
+use crate::socket_fault::SocketFault;
 use crate::stream::Stream;
 use crate::writing::write_whole;
 use floor_client::{Ask, Client, Heard, render};
@@ -152,7 +153,7 @@ fn converse<W: Write, S: Stream>(
             Err(fault) => return Err(fault),
         }
     }
-    Err(SessionFault::Socket)
+    Err(SessionFault::Socket(SocketFault::Unanswered))
 }
 
 /// Whether the transaction that ended is the one of this number.
@@ -181,9 +182,10 @@ fn send<S: Stream>(client: &mut Client, ask: Ask, stream: &mut S) -> Result<u16,
         Ok(frame) => frame,
         Err(refusal) => return Err(SessionFault::from(refusal)),
     };
-    let Ok(()) = stream.send(frame.bytes()) else {
-        return Err(SessionFault::Socket);
-    };
+    match stream.send(frame.bytes()) {
+        Ok(()) => {}
+        Err(error) => return Err(SessionFault::Socket(SocketFault::of(&error))),
+    }
     Ok(frame.header().transaction())
 }
 

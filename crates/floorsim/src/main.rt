@@ -6,6 +6,9 @@
 //! words, a refused configuration or a bad line.
 #![tactic(auto)]
 
+mod refusal;
+#[cfg(test)]
+mod tests;
 mod usage;
 
 use std::env;

@@ -1,23 +1,62 @@
 //! The program's words, and how it ends.
 
+use crate::refusal::tell_place;
 use floor_script::{RunFault, run_script};
 use std::alloc::Global;
-use std::io::{Read, Write};
+use std::io::{ErrorKind, Read, Write};
+
+/// What `--version` prints: the version, and the line of the toolchain that the program is proved with.
+const VERSION: &str = "floorsim 0.1.0 (rattle-kit-13f logic dac8208d650f15bf)
+";
 
 /// What `--help` prints.
-const USAGE: &str = "Usage: floorsim < script
+const USAGE: &str = "\
+Runs a script of connections and messages over conferences, and prints what each connection is sent
 
-Runs a script of connections and messages over conferences, and prints what each connection is
-sent. Standard input holds configurations, a line --- and the script, or the script alone.
+Usage: floorsim < script
 
-  --help  Prints this text.
+Options:
+  --help     Print help
+  --version  Print version
+
+Standard input:
+  A configuration, a line --- and the script; or the script alone, over conference 1 with users 10, 11
+  and 12 and floor 1, which has room for one. An empty line and one that begins with # say nothing.
+
+Lines of the script:
+  attach <conference> <user>                   connects; connections are numbered from 1 on
+  send <connection> <hex ..>                   bytes come in, and each whole message is served
+  piece <connection> <hex ..>                  bytes come in, cut anywhere
+  serve <connection>                           serves the next whole message
+  leave <connection>                           the connection ends
+  slow <connection>                            from now on what it is sent waits
+  fast <connection>                            from now on it is taken again
+  revoke <conference> <request>                the administrator revokes a floor request
+  close <conference>                           the administrator closes the conference
+  user <conference> <id> [proxy] [port <port>] [name <text to the end>]
+                                               the administrator adds a user; the port says nothing
+  floor <conference> <id> [room <room>] [chair <user>]
+                                               the administrator adds a floor
+  chair <conference> <floor> [<user>]          the administrator gives the floor this chair, or none
+
+What is printed:
+  attached <connection>                        the number of a connection that joined
+  <connection> <hex>                           a message that the connection is sent
+  nothing                                      there is no whole message to serve
+  refused <name>                               the line is refused, and the script goes on
+  error <line> <name>                          the line is bad, or line 0: the configuration
+
+Exit status:
+  0  at the end of the script
+  1  after a fault, whose name is the last line of standard error
+  2  where a word, the configuration or a line is refused
 ";
 
 /// The exit status of refused words.
 const REFUSED_WORDS: u8 = 2;
 
-/// Runs the program on the first word behind its name, of which it takes none but `--help`, and
-/// gives the exit status. A fault of status 1 is named on `errors`.
+/// Runs the program on the first word behind its name, of which it takes none but `--help` and
+/// `--version`, and gives the exit status. A fault of status 1 is named on `errors`.
 pub fn run_words<R: Read, W: Write + Drop, E: Write>(
     alloc: Global,
     word: Option<&str>,
@@ -27,10 +66,8 @@ pub fn run_words<R: Read, W: Write + Drop, E: Write>(
 ) -> u8 {
     match word {
         None => run_named(alloc, input, output, errors),
-        Some("--help") => match output.write_all(USAGE.as_bytes()) {
-            Ok(()) => 0,
-            Err(_) => name_fault(RunFault::CannotWrite, errors),
-        },
+        Some("--help") => print(USAGE, output, errors),
+        Some("--version") => print(VERSION, output, errors),
         Some(_) => {
             let _written = errors.write_all(USAGE.as_bytes());
             REFUSED_WORDS
@@ -38,15 +75,43 @@ pub fn run_words<R: Read, W: Write + Drop, E: Write>(
     }
 }
 
+/// Prints a text.
+fn print<W: Write, E: Write>(text: &str, output: &mut W, errors: &mut E) -> u8 {
+    match output.write_all(text.as_bytes()) {
+        Ok(()) => 0,
+        Err(_) => name_fault(RunFault::CannotWrite, errors),
+    }
+}
+
+/// Runs the script of the input. Where its configuration is refused, `errors` is told where.
 fn run_named<R: Read, W: Write + Drop, E: Write>(
     alloc: Global,
     input: &mut R,
     output: &mut W,
     errors: &mut E,
 ) -> u8 {
-    match run_script(alloc, input, output) {
+    let text = match read_all(alloc, input) {
+        Ok(text) => text,
+        Err(fault) => return name_fault(fault, errors),
+    };
+    match run_script(alloc, &mut text.as_slice(), output) {
         Ok(()) => 0,
-        Err(fault) => name_fault(fault, errors),
+        Err(fault) => {
+            if fault == RunFault::Refused {
+                tell_place(alloc, text.as_slice(), errors);
+            }
+            name_fault(fault, errors)
+        }
+    }
+}
+
+/// All bytes of the input.
+fn read_all<R: Read>(alloc: Global, input: &mut R) -> Result<Vec<u8>, RunFault> {
+    let mut bytes = Vec::new(alloc);
+    match input.read_to_end(&mut bytes) {
+        Ok(_) => Ok(bytes),
+        Err(error) if error.kind() == ErrorKind::OutOfMemory => Err(RunFault::Memory),
+        Err(_) => Err(RunFault::CannotRead),
     }
 }
 

@@ -4,6 +4,7 @@ use super::peer::{HELLO_ACK, Peer, bytes};
 use crate::fault::SessionFault;
 use crate::lines::Lines;
 use crate::session::session;
+use crate::socket_fault::SocketFault;
 use floor_client::Client;
 use std::test::Fail;
 
@@ -24,7 +25,12 @@ fn a_stream_that_ends_or_fails_within_a_response_is_a_fault(rt: HostRuntime) -> 
             let mut lines = Lines::new(alloc, LINES);
             let mut client = Client::new(alloc, 1, 10);
             let ended = session(alloc, &mut client, &mut lines, &mut output, &mut peer);
-            assert_eq!(rt; ended, Err(SessionFault::Socket), "cut at {cut}");
+            let fault = if fails {
+                SocketFault::Reset
+            } else {
+                SocketFault::Closed
+            };
+            assert_eq!(rt; ended, Err(SessionFault::Socket(fault)), "cut at {cut}");
             let printed: &[u8] = if cut < 48 {
                 b""
             } else {
@@ -55,7 +61,12 @@ fn a_stream_that_takes_no_more_is_a_fault(rt: HostRuntime) -> Result<(), Fail> {
             let mut lines = Lines::new(alloc, LINES);
             let mut client = Client::new(alloc, 1, 10);
             let ended = session(alloc, &mut client, &mut lines, &mut output, &mut peer);
-            assert_eq!(rt; ended, Err(SessionFault::Socket), "room for {room}");
+            let fault = if fails {
+                SocketFault::Reset
+            } else {
+                SocketFault::Failed
+            };
+            assert_eq!(rt; ended, Err(SessionFault::Socket(fault)), "room for {room}");
             assert_eq!(rt; peer.written.len(), room, "room for {room}");
         }
     }

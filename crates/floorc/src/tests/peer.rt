@@ -70,7 +70,7 @@ impl Read for Peer<'_> {
     fn read(&mut self, buffer: &mut [u8]) -> io::Result<usize> {
         let count = self.answers.len().min(self.piece).min(buffer.len());
         if count == 0 && self.fails {
-            return Err(io::ErrorKind::Other.into());
+            return Err(io::ErrorKind::ConnectionReset.into());
         }
         let (given, rest) = self.answers.split_at(count);
         buffer[..count].copy_from_slice(given);
@@ -83,7 +83,7 @@ impl Write for Peer<'_> {
     fn write(&mut self, buffer: &[u8]) -> io::Result<usize> {
         let count = buffer.len().min(self.piece).min(self.room);
         if count == 0 && self.fails {
-            return Err(io::ErrorKind::Other.into());
+            return Err(io::ErrorKind::BrokenPipe.into());
         }
         self.written.extend_from_slice(&buffer[..count])?;
         self.room -= count;

@@ -71,18 +71,19 @@ fn a_server_that_goes_away_ends_the_run(rt: HostRuntime) -> Result<(), Fail> {
     assert!(rt; served);
     assert_eq!(rt; status, 1);
     assert!(rt; output.is_empty());
-    let wanted: &[u8] = b"floorc: Socket\n";
+    let wanted: &[u8] = b"closed: the server ended the connection\nfloorc: Socket\n";
     assert_eq!(rt; errors.as_slice(), wanted);
     Ok(())
 }
 
-/// Words, the status, and what is printed to the errors.
+/// Words, the status, and what is printed to the errors, with `/` between its lines.
 const WORDS: &str = "127.0.0.1:9 x 10|2|floorc: BadNumber
 127.0.0.1:9 4294967296 10|2|floorc: BadNumber
 127.0.0.1:9 1 65536|2|floorc: BadNumber
 127.0.0.1:9 1 00000000010|2|floorc: BadNumber
-nowhere 1 10|1|floorc: Socket
-127.0.0.1:99999 1 10|1|floorc: Socket";
+nowhere 1 10|1|unresolved: no such address and port, as 127.0.0.1:7010/floorc: Socket
+127.0.0.1:99999 1 10|1|unresolved: no such address and port, as 127.0.0.1:7010/floorc: Socket
+127.0.0.1:9 1 10|1|refused: nothing listens at this port/floorc: Socket";
 
 #[test]
 fn words_that_are_refused_have_their_status(rt: HostRuntime) -> Result<(), Fail> {
@@ -108,6 +109,7 @@ fn words_that_are_refused_have_their_status(rt: HostRuntime) -> Result<(), Fail>
         );
         let found = format!(in alloc; "{found}")?;
         assert_eq!(rt; found.as_str(), status, "{line}");
+        let text = text.replace(alloc, "/", "\n")?;
         let text = format!(in alloc; "{text}\n")?;
         assert_eq!(rt; errors.as_slice(), text.as_bytes(), "{line}");
         assert!(rt; output.is_empty(), "{line}");
@@ -136,7 +138,9 @@ fn a_run_without_words_tells_what_is_missing(rt: HostRuntime) -> Result<(), Fail
 }
 
 #[test]
-fn the_help_explains_each_word_and_line(rt: HostRuntime) -> Result<(), Fail> {
+fn the_help_explains_each_word_and_line_and_the_version_is_told(
+    rt: HostRuntime,
+) -> Result<(), Fail> {
     let alloc = rt.alloc();
     let mut lines: &[u8] = b"hello\n";
     let mut output: Vec<u8> = Vec::new(alloc);
@@ -156,9 +160,18 @@ user 11
 watch 1 2
 chair 1 2 grant
 listen 3
-quit";
+quit
+   7  Floor Request ID Does Not Exist
+  14  Generic Error
+--version";
     for piece in wanted.lines() {
         assert!(rt; text.as_str().contains(piece), "{piece}");
     }
+    let mut output: Vec<u8> = Vec::new(alloc);
+    let words = ["floorc", "--version"];
+    let status = run(&rt, alloc, &words, &mut lines, &mut output, &mut errors);
+    assert_eq!(rt; status, 0);
+    let version: &[u8] = b"floorc 0.1.0 (rattle-kit-13f logic dac8208d650f15bf)\n";
+    assert_eq!(rt; output.as_slice(), version);
     Ok(())
 }
