@@ -1,8 +1,10 @@
 //! Why the program ends early.
 
+use floor_client::AskRefusal;
 use floor_config::ConfigFault;
 use floor_hub::HubRefusal;
-use std::alloc::AllocError;
+use floor_machine::Refusal;
+use std::alloc::{AllocError, AllocFailed};
 use std::io;
 use thiserror::Error;
 
@@ -15,6 +17,12 @@ pub enum Fault {
     /// The hub refuses a call.
     #[error("the hub: {}", .0.name())]
     Hub(HubRefusal),
+    /// The machine refuses an event.
+    #[error("the conference: {}", .0.name())]
+    Machine(Refusal),
+    /// The client asks nothing.
+    #[error("the client: {}", .0.name())]
+    Client(AskRefusal),
     /// Nothing can be written.
     #[error("standard output can't be written")]
     Output(io::Error),
@@ -29,6 +37,12 @@ impl From<AllocError> for Fault {
     }
 }
 
+impl<T: Drop> From<AllocFailed<T>> for Fault {
+    fn from(_e: AllocFailed<T>) -> Fault {
+        Fault::Memory
+    }
+}
+
 impl From<ConfigFault> for Fault {
     fn from(fault: ConfigFault) -> Fault {
         Fault::Configuration(fault)
@@ -38,6 +52,18 @@ impl From<ConfigFault> for Fault {
 impl From<HubRefusal> for Fault {
     fn from(refusal: HubRefusal) -> Fault {
         Fault::Hub(refusal)
+    }
+}
+
+impl From<Refusal> for Fault {
+    fn from(refusal: Refusal) -> Fault {
+        Fault::Machine(refusal)
+    }
+}
+
+impl From<AskRefusal> for Fault {
+    fn from(refusal: AskRefusal) -> Fault {
+        Fault::Client(refusal)
     }
 }
 

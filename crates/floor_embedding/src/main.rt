@@ -1,31 +1,20 @@
-//! A program that has a hub in it, as a conference bridge would: it hands in the bytes that its
-//! connections gave, cut anywhere, sends what waits for each, and acknowledges what it sent. Where a
-//! bridge has sockets, this one has bytes of its own, and prints what each connection was sent.
+//! Programs that have a part of the server or a client in them, each to begin from: a hub of all
+//! conferences, one conference's machine, and a client. Where they would have sockets, these have
+//! bytes of their own, and print what is sent and heard.
 #![tactic(auto)]
 
+mod client;
+mod conference;
 mod fault;
+mod hub;
 
 use fault::Fault;
-use floor_config::Config;
-use floor_hub::{ConnNo, Hub, Served};
 use std::alloc::Global;
 use std::io::Write;
 use std::process::ExitCode;
 
-/// User 10 asks for floor 1 of conference 1 (RFC 8855, section 5.3.1).
-const REQUEST: [u8; 16] = [0x20, 1, 0, 1, 0, 0, 0, 1, 0, 2, 0, 10, 0x04, 4, 0, 1];
-
-/// User 11 does.
-const ANOTHER: [u8; 16] = [0x20, 1, 0, 1, 0, 0, 0, 1, 0, 1, 0, 11, 0x04, 4, 0, 1];
-
-/// User 10 gives request 1 back (section 5.3.2).
-const RELEASE: [u8; 16] = [0x20, 2, 0, 1, 0, 0, 0, 1, 0, 3, 0, 10, 0x06, 4, 0, 1];
-
-/// The fewest bytes that a message has (section 5.1).
-const HEADER_LEN: usize = 12;
-
 fn main(rt: HostRuntime) -> ExitCode {
-    match converse(rt.alloc(), &mut rt.stdout()) {
+    match show(rt.alloc(), &mut rt.stdout()) {
         Ok(()) => ExitCode::SUCCESS,
         Err(fault) => {
             let _outcome = writeln!(rt.stderr(), "floor_embedding: {fault}");
@@ -34,64 +23,8 @@ fn main(rt: HostRuntime) -> ExitCode {
     }
 }
 
-/// Two users ask for a floor that has room for one, and the first gives it back. The second one's
-/// message comes in two pieces. A refusal ends this program; it concerns one connection or one
-/// conference, so a bridge gives up those and goes on.
-fn converse<W: Write>(alloc: Global, output: &mut W) -> Result<(), Fault> {
-    let mut hub = Hub::new(alloc);
-    hub.open(alloc, Config::demonstration(alloc)?)?;
-    let first = hub.attach(alloc, 1, 10)?;
-    let second = hub.attach(alloc, 1, 11)?;
-    receive(&mut hub, first, &REQUEST)?;
-    receive(&mut hub, second, &ANOTHER[..5])?;
-    receive(&mut hub, second, &ANOTHER[5..])?;
-    receive(&mut hub, first, &RELEASE)?;
-    tell(alloc, &mut hub, first, output)?;
-    tell(alloc, &mut hub, second, output)?;
-    hub.leave(second)?;
-    Ok(())
-}
-
-/// Hands in the bytes that a connection gave, and serves each message that is whole with them. What
-/// that tells may wait for every connection of the conference: all of them are sent to next.
-fn receive(hub: &mut Hub, connection: ConnNo, bytes: &[u8]) -> Result<(), Fault> {
-    hub.piece(connection, bytes)?;
-    for _ in 0..=bytes.len() / HEADER_LEN {
-        if hub.serve(connection)? == Served::Nothing {
-            break;
-        }
-    }
-    Ok(())
-}
-
-/// Sends all that waits for a connection, and acknowledges it: whoever is more than 1,024 messages
-/// behind is cut. What waits when it leaves can't be had any more.
-fn send<W: Write>(hub: &mut Hub, connection: ConnNo, socket: &mut W) -> Result<(), Fault> {
-    let mut sent = 0u32;
-    for _ in 0..u64::MAX {
-        let Some(parcel) = hub.take(connection)? else {
-            break;
-        };
-        socket.write_all(parcel.header())?;
-        socket.write_all(parcel.payload())?;
-        sent = sent.saturating_add(1);
-    }
-    if 0 < sent {
-        hub.took(connection, sent)?;
-    }
-    Ok(())
-}
-
-/// Prints what a connection is sent.
-fn tell<W: Write>(
-    alloc: Global,
-    hub: &mut Hub,
-    connection: ConnNo,
-    output: &mut W,
-) -> Result<(), Fault> {
-    let mut sent = Vec::new(alloc);
-    send(hub, connection, &mut sent)?;
-    let sent = hex::encode(alloc, sent.as_slice())?;
-    writeln!(output, "{connection} {}", sent.as_str())?;
-    Ok(())
+/// Runs one after another.
+fn show<W: Write>(alloc: Global, output: &mut W) -> Result<(), Fault> {
+    hub::serve_two(alloc, output)?;
+    client::ask(alloc, output)
 }
