@@ -20,7 +20,7 @@ socket_fault_of kind.TimedOut = Unreachable
 socket_fault_of kind.ConnectionReset = Reset
 socket_fault_of kind.ConnectionAborted = Reset
 socket_fault_of kind.BrokenPipe = Reset
-socket_fault_of other = Failed
+socket_fault_of _ = Failed
 
 -- what a person is told of a connection's fault
 abbrev pub reason_of : SocketFault → List ℕ
