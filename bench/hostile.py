@@ -38,6 +38,8 @@ MAX_WAITING = 1024
 AHEAD = 900
 # A connection that was cut, or has left, and takes nothing is gone after so many seconds.
 GONE = 10
+# So many seconds a slow peer takes nothing, and then reads on.
+PAUSE = 40
 
 
 class Failed(Exception):
@@ -714,14 +716,14 @@ def slow(case):
         heard += client.recv(1)
         time.sleep(0.001)
     case.exchange(neighbour, hello(), ack())
-    time.sleep(GONE + 2)
+    time.sleep(PAUSE)
     case.exchange(neighbour, hello(), ack())
     if heard != wanted[:1000]:
         raise Failed('a byte that was read alone is wrong')
     case.hear(client, wanted[1000:])
     for peer in members + [neighbour, client]:
         reset(peer)
-    return '1,000 bytes one by one, none for 12 s, then the rest of %d: all right' % len(wanted)
+    return '1,000 bytes one by one, none for %d s, then the rest of %d: all right' % (PAUSE, len(wanted))
 
 
 def unread_queries(case, count, turns=8):
