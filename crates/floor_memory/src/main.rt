@@ -1,21 +1,30 @@
-//! Three conferences of one hub hold meetings, a line of each in turn: prints what the connections
-//! of conferences 1 and 3 are sent. Memory may be refused to conference 2, which goes on as it can,
-//! and changes nothing of what is printed.
+//! Runs that go on where memory is refused, and print what may not change by it.
 //!
-//! Standard input is a number: so many allocations are made ahead of the meetings. So one build
-//! under `rt try --fail-alloc N`, which refuses the Nth allocation, has each of them refused in turn
-//! where it is run with 0, 1, 2 and so on. Standard error tells what conference 2 is refused.
-//! Status 1 where conference 1 or 3, or what is printed, is refused memory.
+//! - `meetings`: three conferences of one hub, a line of each in turn. Conference 2 may be refused, and
+//!   what the connections of the others are sent is printed.
+//! - `threads`: two conferences of a server and the calls of its threads, one after another. Either may be
+//!   refused, and all is printed: the refused conference is broken off, or as it would be without.
+//! - `client`: what a client asks and hears, which is the same whatever is refused.
+//!
+//! Standard input is a number and the names of runs: so many allocations are made ahead of each. So one
+//! build under `rt try --fail-alloc N`, which refuses the Nth allocation, has each of them refused in
+//! turn where it is run with 0, 1, 2 and so on. Standard error tells what is refused. Status 1 where what
+//! may not be refused is: a run's beginning, what is printed, conference 1 or 3 of `meetings`.
 #![tactic(auto)]
 
+mod client;
 mod meeting;
+mod meetings;
 mod run;
+mod step;
+mod threads;
 
 use run::run;
 use std::process::ExitCode;
 
 fn main(rt: HostRuntime) -> ExitCode {
     match run(
+        &rt,
         rt.alloc(),
         &mut rt.stdin(),
         &mut rt.stdout(),

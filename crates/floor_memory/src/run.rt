@@ -1,29 +1,16 @@
-//! A run of the meetings, a line of each in turn.
+//! The runs that the input names.
 
-use crate::meeting::{CONFIGURATION, LONG, Meeting, SHORT};
-use floor_config::read_configs;
-use floor_hub::Hub;
-use floor_words::read_u32;
+use crate::{client, meetings, threads};
+use floor_words::{read_u32, words};
 use std::alloc::{AllocError, AllocFailed, Global};
 use std::io;
 use std::io::{Read, Write};
+use std::sync::Wait;
 
-/// The conferences in the order of opening, and their meetings. The middle one is unlucky: it goes
-/// on whatever it is refused, and nothing of it is printed.
-const MEETINGS: [(u32, &str); 3] = [(1, SHORT), (UNLUCKY, LONG), (3, SHORT)];
+/// How often a call is made that is refused: memory is refused but once.
+pub const TRIES: u32 = 2;
 
-const UNLUCKY: u32 = 2;
-
-/// Behind how many lines of the long meeting a line of the short ones is done.
-const LONG_LINES: usize = 3;
-
-/// How many turns there are: a line of the long meeting is done in each.
-const TURNS: usize = 30;
-
-/// How many parcels wait for a connection after one line at most.
-const MAX_PARCELS: u32 = 1000;
-
-/// A run ended early: a lucky conference was refused memory, or what is printed.
+/// A run ended early: what may not be refused was, as its beginning or what it prints.
 #[derive(Clone, Copy, Debug)]
 pub struct Ended;
 
@@ -45,139 +32,63 @@ impl From<io::Error> for Ended {
     }
 }
 
-/// Opens the conferences, makes the allocations that the input asks for, holds the meetings, and
-/// prints what the lucky conferences' connections are sent, and what the unlucky one is refused.
-pub fn run<R: Read, W: Write, E: Write>(
+/// Makes the runs that the input names, one after another, each with so many allocations ahead as the
+/// input begins with.
+pub fn run<R: Wait, I: Read, W: Write, E: Write>(
+    rt: &R,
     alloc: Global,
-    input: &mut R,
+    input: &mut I,
     output: &mut W,
     errors: &mut E,
 ) -> Result<(), Ended> {
-    let ahead = read_count(input)?;
-    let mut hub = Hub::new(alloc);
-    let mut meetings = open_all(alloc, &mut hub)?;
-    allocate(alloc, ahead)?;
-    for turn in 0..TURNS {
-        for meeting in &mut meetings {
-            if meeting.conference == UNLUCKY {
-                go_on(alloc, &mut hub, meeting, turn, errors)?;
-            } else {
-                go_well(alloc, &mut hub, meeting, turn, output)?;
-            }
-        }
-    }
-    Ok(())
-}
-
-/// A turn of the unlucky conference: what it is refused is told.
-fn go_on<E: Write>(
-    alloc: Global,
-    hub: &mut Hub,
-    meeting: &mut Meeting,
-    turn: usize,
-    errors: &mut E,
-) -> Result<(), Ended> {
-    match meeting.play(alloc, hub, turn) {
-        Ok(()) => Ok(()),
-        Err(refusal) => {
-            writeln!(errors, "conference 2: {} at line {turn}", refusal.name())?;
-            Ok(())
-        }
-    }
-}
-
-/// A turn of a lucky conference: what is sent is printed, and what is refused. Want of memory ends
-/// the run.
-fn go_well<W: Write>(
-    alloc: Global,
-    hub: &mut Hub,
-    meeting: &mut Meeting,
-    turn: usize,
-    output: &mut W,
-) -> Result<(), Ended> {
-    if turn % LONG_LINES != 0 {
-        return Ok(());
-    }
-    match meeting.play(alloc, hub, turn / LONG_LINES) {
-        Ok(()) => print_waiting(alloc, hub, meeting, output),
-        Err(refusal) if refusal.is_memory() => Err(Ended),
-        Err(refusal) => {
-            writeln!(output, "{} refused {}", meeting.conference, refusal.name())?;
-            Ok(())
-        }
-    }
-}
-
-/// Opens the conferences, at whose meetings nobody is yet.
-fn open_all(alloc: Global, hub: &mut Hub) -> Result<Vec<Meeting>, Ended> {
-    let mut meetings = Vec::new(alloc);
-    for (conference, lines) in MEETINGS {
-        open(alloc, hub, conference)?;
-        let Ok(meeting) = Meeting::new(alloc, conference, lines) else {
-            return Err(Ended);
-        };
-        meetings.push(meeting)?;
-    }
-    Ok(meetings)
-}
-
-/// The number that the input begins with.
-fn read_count<R: Read>(input: &mut R) -> Result<u32, Ended> {
-    let mut buffer = [0u8; 16];
+    let mut buffer = [0u8; 64];
     let count = input.read(&mut buffer)?;
     let Ok(text) = std::str::from_utf8(&buffer[..count]) else {
         return Err(Ended);
     };
-    read_u32(text.trim()).ok_or(Ended)
+    let words = words(alloc, text.trim())?;
+    let [ahead, names @ ..] = words.as_slice() else {
+        return Err(Ended);
+    };
+    let ahead = read_u32(ahead).ok_or(Ended)?;
+    for name in names {
+        run_named(rt, alloc, name, ahead, output, errors)?;
+    }
+    Ok(())
+}
+
+fn run_named<R: Wait, W: Write, E: Write>(
+    rt: &R,
+    alloc: Global,
+    name: &str,
+    ahead: u32,
+    output: &mut W,
+    errors: &mut E,
+) -> Result<(), Ended> {
+    if name == "meetings" {
+        return meetings::run(alloc, ahead, output, errors);
+    }
+    if name == "threads" {
+        return threads::run(rt, alloc, ahead, output, errors);
+    }
+    if name == "client" {
+        return client::run(alloc, ahead, output, errors);
+    }
+    Err(Ended)
 }
 
 /// Makes so many allocations, and gives each back at once.
-fn allocate(alloc: Global, count: u32) -> Result<(), Ended> {
+pub fn allocate(alloc: Global, count: u32) -> Result<(), Ended> {
     for _ in 0..count {
         let _block = Vec::from_slice(alloc, &[0u8])?;
     }
     Ok(())
 }
 
-/// Opens a conference.
-fn open(alloc: Global, hub: &mut Hub, conference: u32) -> Result<(), Ended> {
-    let text = format!(in alloc; "[[conference]]\nid = {conference}\n{CONFIGURATION}")?;
-    let Ok(configs) = read_configs(alloc, text.as_str()) else {
-        return Err(Ended);
-    };
-    for config in configs {
-        match hub.open(alloc, config) {
-            Ok(()) => {}
-            Err(_) => return Err(Ended),
-        }
-    }
-    Ok(())
-}
-
-/// Takes and prints the parcels that wait for the connections of a meeting: the conference, the
-/// number of the connection in it, and the bytes.
-fn print_waiting<W: Write>(
-    alloc: Global,
-    hub: &mut Hub,
-    meeting: &Meeting,
-    output: &mut W,
-) -> Result<(), Ended> {
-    for (place, connection) in meeting.connections().iter().enumerate() {
-        for _ in 0..MAX_PARCELS {
-            let Ok(Some(parcel)) = hub.take(*connection) else {
-                break;
-            };
-            let header = hex::encode(alloc, parcel.header())?;
-            let payload = hex::encode(alloc, parcel.payload())?;
-            writeln!(
-                output,
-                "{} {} {}{}",
-                meeting.conference,
-                place.saturating_add(1),
-                header.as_str(),
-                payload.as_str()
-            )?;
-        }
+/// Prints bytes in hexadecimal. Takes no memory.
+pub fn print_bytes<W: Write>(bytes: &[u8], output: &mut W) -> Result<(), Ended> {
+    for byte in bytes {
+        write!(output, "{byte:02x}")?;
     }
     Ok(())
 }
