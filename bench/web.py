@@ -1,0 +1,885 @@
+#!/usr/bin/env python3
+"""A gateway for browsers, tried over sockets: ./web.py FLOORD FLOORWEB FOLDER [GROUP ..]
+
+Starts a floord and a floorweb of its own and runs each group of tries (or those that are named):
+starts, heads, sockets, floods, many, proxy (which wants nginx and openssl), service, refused (which
+wants a C compiler), ends. Each try has the answer that it wants: a status of HTTP, a close code of
+WebSocket (RFC 6455, section 7.4.1), or what is in the frames. Prints a line for each that fails, and
+how many passed; status 1 where one failed.
+"""
+import base64
+import collections
+import hashlib
+import os
+import re
+import resource
+import select
+import shlex
+import socket
+import ssl
+import struct
+import subprocess
+import sys
+import tempfile
+import threading
+import time
+
+from server import FIRST_PORT, Server, hello
+
+PORT = FIRST_PORT + 180
+HOST = '127.0.0.1:%d' % PORT
+KEY = 'dGhlIHNhbXBsZSBub25jZQ=='
+ACCEPT = base64.b64encode(
+    hashlib.sha1((KEY + '258EAFA5-E914-47DA-95CA-C5AB0DC85B11').encode()).digest())
+CONFERENCES = 8
+USERS = 4
+FLOOR_REQUEST, FLOOR_RELEASE, FLOOR_QUERY, FLOOR_STATUS = 1, 2, 7, 8
+HELLO, HELLO_ACK, ERROR = 11, 12, 13
+FLOOR_ID_1 = bytes([4, 4, 0, 1])
+LONGEST = 12 + 4 * 65_535
+QUIET = 25
+HEAD = 10
+# A browser that takes nothing is cut: a write waits 30 seconds, and as long again for each part that the
+# system's buffers still took.
+CUT = 130
+# How often a floor that 15 wait for is requested and given back beside one that reads nothing: it is
+# told more by it than all buffers hold.
+FLOOD = 3_000
+
+passed = 0
+failed = []
+
+
+def check(name, got, wanted):
+    """Takes down whether a try gave what it should."""
+    global passed
+    if got == wanted:
+        passed += 1
+    else:
+        failed.append(name)
+        print('FAILED %s: %r, wanted %r' % (name, got, wanted), flush=True)
+
+
+def token_of(conference, user):
+    return 'token-of-user-%02d-of-%02d--' % (user, conference)
+
+
+def configuration():
+    """Eight conferences of four users with tokens; in the first is a user whom no port answers."""
+    rows = []
+    port = FIRST_PORT
+    for conference in range(1, CONFERENCES + 1):
+        rows.append('[[conference]]\nid = %d\nlimit = 16\n' % conference)
+        for user in range(10, 10 + USERS):
+            rows.append('[[conference.user]]\nid = %d\nname = "U%d"\nport = %d\ntoken = "%s"\n' % (
+                user, user, port, token_of(conference, user)))
+            port += 1
+        rows.append('[[conference.floor]]\nid = 1\ntitle = "Microphone"\n')
+    return ''.join(rows)
+
+
+LOST_USER = '[[conference]]\nid = 99\n[[conference.user]]\nid = 1\nport = %d\ntoken = "%s"\n' % (
+    FIRST_PORT + 170, token_of(99, 1))
+
+
+class Gateway:
+    """A floorweb that runs."""
+
+    def __init__(self, program, folder, text, *words, address=HOST, descriptors=4_096, variables=None):
+        handle, self.path = tempfile.mkstemp(suffix='.toml')
+        with os.fdopen(handle, 'w') as file:
+            file.write(text)
+        self.process = subprocess.Popen(
+            [os.path.abspath(program), address, self.path, folder, *words], stdin=subprocess.PIPE,
+            stdout=subprocess.PIPE, stderr=subprocess.PIPE, env={**os.environ, **(variables or {})},
+            preexec_fn=lambda: resource.setrlimit(resource.RLIMIT_NOFILE, (descriptors,) * 2))
+
+    def ready(self):
+        """Waits until it listens."""
+        if self.process.stdout.readline() != b'ready\n':
+            raise SystemExit(self.process.stderr.read().decode())
+        return self
+
+    def end(self, seconds=10):
+        """Ends its standard input, and gives its status and what it printed."""
+        try:
+            printed, errors = self.process.communicate(b'', seconds)
+        except subprocess.TimeoutExpired:
+            self.process.kill()
+            printed, errors = self.process.communicate()
+        os.unlink(self.path)
+        return self.process.returncode, printed.decode(), errors.decode()
+
+    def use(self):
+        """Its resident memory in kB, its threads and its descriptors."""
+        pid = self.process.pid
+        with open('/proc/%d/status' % pid) as file:
+            rows = dict(line.split(':', 1) for line in file if ':' in line)
+        return (int(rows['VmRSS'].split()[0]), int(rows['Threads']),
+                len(os.listdir('/proc/%d/fd' % pid)))
+
+    def freed(self, before, seconds):
+        """Waits until its threads and descriptors are as they were, and gives them."""
+        end = time.monotonic() + seconds
+        while self.use()[1:] != before[1:] and time.monotonic() < end:
+            time.sleep(0.1)
+        return self.use()[1:]
+
+
+def connect(narrow=False):
+    """A connection; of what a narrow one doesn't read the sockets hold some 100 kB."""
+    stream = socket.socket()
+    if narrow:
+        stream.setsockopt(socket.SOL_SOCKET, socket.SO_RCVBUF, 4_096)
+        stream.setsockopt(socket.IPPROTO_TCP, socket.TCP_MAXSEG, 536)
+    stream.connect(('127.0.0.1', PORT))
+    stream.setsockopt(socket.IPPROTO_TCP, socket.TCP_NODELAY, 1)
+    stream.settimeout(90)
+    return stream
+
+
+def reply(stream):
+    """All bytes until the stream ends."""
+    got = b''
+    try:
+        while piece := stream.recv(65_536):
+            got += piece
+    except ConnectionResetError:
+        got += b'<reset>'
+    return got
+
+
+def status_of(got):
+    words = got.split(b'\r\n')[0].split(b' ')
+    return int(words[1]) if len(words) > 1 and words[1].isdigit() else repr(got[:40])
+
+
+def ask(request):
+    stream = connect()
+    stream.sendall(request)
+    return reply(stream)
+
+
+def get(path, method='GET', more=''):
+    return ('%s %s HTTP/1.1\r\nHost: %s\r\n%s\r\n' % (method, path, HOST, more)).encode()
+
+
+def upgrade(path, more='', **fields):
+    """A handshake, with some of its fields changed or, where they are None, left out."""
+    sent = {'Host': HOST, 'Upgrade': 'websocket', 'Connection': 'keep-alive, Upgrade',
+            'Sec-WebSocket-Key': KEY, 'Sec-WebSocket-Version': '13',
+            'Sec-WebSocket-Protocol': 'bfcp'}
+    for name, value in fields.items():
+        sent[name.replace('_', '-')] = value
+    rows = ''.join('%s: %s\r\n' % row for row in sent.items() if row[1] is not None)
+    return ('GET %s HTTP/1.1\r\n%s%s\r\n' % (path, rows, more)).encode()
+
+
+def frame(opcode, payload, mask=True, last=True, width=None, bits=0):
+    """A frame of a browser; `width` is how many bytes say its length where more do than need to."""
+    length = len(payload)
+    width = width or (0 if length < 126 else 2 if length < 65_536 else 8)
+    head = bytes([(0x80 if last else 0) | bits | opcode])
+    marked = 0x80 if mask else 0
+    head += {0: lambda: bytes([marked | length]), 2: lambda: bytes([marked | 126]) + struct.pack('>H', length),
+             8: lambda: bytes([marked | 127]) + struct.pack('>Q', length)}[width]()
+    if not mask:
+        return head + payload
+    key = os.urandom(4)
+    spread = (key * (length // 4 + 1))[:length]
+    masked = (int.from_bytes(payload, 'big') ^ int.from_bytes(spread, 'big')).to_bytes(length, 'big')
+    return head + key + masked
+
+
+def message(primitive, conference=1, transaction=1, user=10, payload=b''):
+    return struct.pack('>BBHIHH', 0x20, primitive, len(payload) // 4, conference, transaction,
+                       user) + payload
+
+
+def number_of(told):
+    """The floor request that a FloorRequestStatus tells of."""
+    return struct.unpack('>H', told[14:16])[0]
+
+
+class Browser:
+    """A WebSocket whose handshake is done."""
+
+    def __init__(self, token, request=None, behind=b'', narrow=False):
+        self.stream = connect(narrow)
+        self.stream.sendall((request or upgrade('/bfcp/' + token)) + behind)
+        got = b''
+        while b'\r\n\r\n' not in got:
+            piece = self.stream.recv(4_096)
+            if not piece:
+                raise EOFError(got)
+            got += piece
+        self.head, self.held = got.split(b'\r\n\r\n', 1)
+
+    def take(self, count):
+        while len(self.held) < count:
+            piece = self.stream.recv(65_536)
+            if not piece:
+                raise EOFError('the stream ended')
+            self.held += piece
+        got, self.held = self.held[:count], self.held[count:]
+        return got
+
+    def read(self):
+        """The next frame: its opcode and its payload. It is whole, and without a mask."""
+        first, second = self.take(2)
+        assert first & 0x70 == 0 and first & 0x80 and not second & 0x80, (first, second)
+        length = second & 127
+        if length == 126:
+            length = struct.unpack('>H', self.take(2))[0]
+        elif length == 127:
+            length = struct.unpack('>Q', self.take(8))[0]
+        return first & 15, self.take(length)
+
+    def send(self, opcode, payload, **how):
+        self.stream.sendall(frame(opcode, payload, **how))
+
+    def ends(self):
+        """The code by which it is closed; the frames before are thrown away. Behind it is nothing."""
+        try:
+            while True:
+                opcode, payload = self.read()
+                if opcode == 8:
+                    code = struct.unpack('>H', payload[:2])[0] if payload else None
+                    return code if reply(self.stream) == b'' else 'bytes behind the close'
+        except EOFError:
+            return 'end'
+        except ConnectionResetError:
+            return 'reset'
+
+    def primitive(self):
+        """The primitive of the message in the next frame, which is binary and holds it alone."""
+        opcode, payload = self.read()
+        assert opcode == 2 and len(payload) == 12 + 4 * struct.unpack('>H', payload[2:4])[0]
+        return payload[1]
+
+    def close(self):
+        self.stream.close()
+
+
+# Starts
+
+def starts(program, folder):
+    empty = tempfile.mkdtemp()
+    user = '[[conference]]\nid = 1\n[[conference.user]]\nid = 10\n'
+    strong = 'token = "0123456789012345678901"\n'
+    for name, text, at, address, fault, place in [
+            ('no TOML', '[[conference', folder, HOST, 'Syntax', ''),
+            ('a server\'s fault', '[[conference]]\nid = 1\nlimit = 17\n', folder, HOST, 'OutOfRange', ''),
+            ('no conference', '', folder, HOST, 'MissingKey', ''),
+            ('no token', user, folder, HOST, 'NoToken', ''),
+            ('a short token', user + 'port = 1\ntoken = "012345678901234567890"\n', folder, HOST,
+             'WeakToken', 'conference 1, user 10'),
+            ('a token with a space', user + 'port = 1\ntoken = "01234567890123456789 1"\n', folder,
+             HOST, 'WeakToken', 'conference 1, user 10'),
+            ('a number', user + 'port = 1\ntoken = 7\n', folder, HOST, 'WeakToken', 'user 10'),
+            ('no port', user + strong, folder, HOST, 'MissingPort', 'conference 1, user 10'),
+            ('one token twice', user + 'port = 1\n' + strong + '[[conference.user]]\nid = 11\n'
+             'port = 2\n' + strong, folder, HOST, 'DoubleToken', 'conference 1, user 10'),
+            ('no page', user + 'port = 1\n' + strong, empty, HOST, 'NoPage', empty),
+            ('no folder', user + 'port = 1\n' + strong, empty + '/none', HOST, 'CannotRead', 'none'),
+            ('no address', user + 'port = 1\n' + strong, folder, '127.0.0.1:x', 'CannotListen', ''),
+            ('an address of another', user + 'port = 1\n' + strong, folder, '192.0.2.1:80',
+             'CannotListen', '192.0.2.1:80')]:
+        status, printed, errors = Gateway(program, at, text, address=address).end()
+        rows = errors.splitlines()
+        check('start: ' + name, (status, printed, rows[-1:]), (1, '', ['floorweb: ' + fault]))
+        check('start, its place: ' + name, len(rows) == 2 and place in rows[0], True)
+    gone = subprocess.run([program, HOST, '/none.toml', folder], capture_output=True, text=True)
+    check('start: no file', (gone.returncode, gone.stderr.splitlines()[-1:]),
+          (1, ['floorweb: CannotRead']))
+    for words, status in [(['--help'], 0), ([], 2), ([HOST], 2), (['--what', HOST, 'a', 'b'], 2)]:
+        ran = subprocess.run([program] + words, capture_output=True, text=True)
+        check('words: %s' % words, ran.returncode, status)
+    os.rmdir(empty)
+
+
+# Heads
+
+def heads(program, folder):
+    token = token_of(1, 10)
+    own = 'http://' + HOST
+    bearer = 'Authorization: Bearer %s\r\n' % token
+    offered = 'bfcp, token.' + token
+    for name, request, status in [
+            ('the page', get('/'), 200), ('a file', get('/app.js'), 200),
+            ('a query', get('/app.js?v=1'), 200), ('HEAD', get('/style.css', 'HEAD'), 200),
+            ('an absent file', get('/nothing.js'), 404), ('a file without a kind', get('/NOTES'), 404),
+            ('out of the folder', get('/../meeting.toml'), 404),
+            ('out of it, escaped', get('/%2e%2e/meeting.toml'), 404),
+            ('out of it, within', get('/page/../../meeting.toml'), 404),
+            ('a root', get('//etc/passwd'), 404), ('no path', get('app.js'), 400),
+            ('a star', get('*'), 400), ('POST', get('/', 'POST'), 405),
+            ('OPTIONS', get('/', 'OPTIONS'), 405), ('a small method', get('/', 'get'), 405),
+            ('no Host', b'GET / HTTP/1.1\r\n\r\n', 400),
+            ('two Hosts', get('/', more='host: b\r\n'), 400),
+            ('a body', get('/', more='Content-Length: 3\r\n') + b'abc', 400),
+            ('a body in chunks', get('/', more='Transfer-Encoding: chunked\r\n'), 400),
+            ('a folded field', get('/', more='A: b\r\n c\r\n'), 400),
+            ('a field without a name', get('/', more=': b\r\n'), 400),
+            ('a zero byte', get('/', more='A: \0\r\n'), 400),
+            ('TLS', b'\x16\x03\x01\x02\x00\x01\x00', 400),
+            ('64 fields', get('/', more=''.join('A%d: b\r\n' % n for n in range(63))), 200),
+            ('65 fields', get('/', more=''.join('A%d: b\r\n' % n for n in range(64))), 431),
+            ('a long head', get('/', more='A: %s\r\n' % ('a' * 9_000)), 431),
+            ('a head without an end', b'GET / HTTP/1.1\r\nA: ' + b'a' * 9_000, 431),
+            ('what a user is told', get('/meeting', more=bearer), 200),
+            ('the same by its path', get('/meeting/' + token), 200),
+            ('the same, HEAD', get('/meeting', 'HEAD', bearer), 200),
+            ('without a token', get('/meeting'), 404),
+            ('by another scheme', get('/meeting', more='Authorization: Basic %s\r\n' % token), 404),
+            ('by nobody\'s token', get('/meeting/abc'), 404),
+            ('by a part of a token', get('/meeting/' + token[:-1]), 404),
+            ('by a longer one', get('/meeting/' + token + 'x'), 404),
+            ('no upgrade', get('/bfcp/' + token), 426),
+            ('HEAD of a socket', upgrade('/bfcp/' + token).replace(b'GET', b'HEAD', 1), 405),
+            ('version 8', upgrade('/bfcp/' + token, Sec_WebSocket_Version='8'), 426),
+            ('no version', upgrade('/bfcp/' + token, Sec_WebSocket_Version=None), 426),
+            ('two versions', upgrade('/bfcp/' + token, 'Sec-WebSocket-Version: 13\r\n'), 400),
+            ('another upgrade', upgrade('/bfcp/' + token, Upgrade='h2c'), 426),
+            ('no connection', upgrade('/bfcp/' + token, Connection='close'), 426),
+            ('no subprotocol', upgrade('/bfcp/' + token, Sec_WebSocket_Protocol=None), 400),
+            ('another one', upgrade('/bfcp/' + token, Sec_WebSocket_Protocol='chat'), 400),
+            ('a longer one', upgrade('/bfcp/' + token, Sec_WebSocket_Protocol='bfcp2'), 400),
+            ('a foreign origin', upgrade('/bfcp/' + token, Origin='https://evil.example'), 403),
+            ('a longer origin', upgrade('/bfcp/' + token, Origin=own + '.evil.example'), 403),
+            ('the null origin', upgrade('/bfcp/' + token, Origin='null'), 403),
+            ('two origins', upgrade('/bfcp/' + token, 'Origin: %s\r\n' % own, Origin=own), 400),
+            ('no key', upgrade('/bfcp/' + token, Sec_WebSocket_Key=None), 400),
+            ('a bad key', upgrade('/bfcp/' + token, Sec_WebSocket_Key='abc'), 400),
+            ('two keys', upgrade('/bfcp/' + token, 'Sec-WebSocket-Key: %s\r\n' % KEY), 400),
+            ('nobody\'s token', upgrade('/bfcp/nobody'), 404),
+            ('no token', upgrade('/bfcp'), 404),
+            ('nobody\'s token offered', upgrade('/bfcp', Sec_WebSocket_Protocol='bfcp, token.x'), 404),
+            ('a server that isn\'t there', upgrade('/bfcp/' + token_of(99, 1)), 502),
+            ('the version ahead of the token',
+             upgrade('/bfcp/nobody', Sec_WebSocket_Version='8'), 426),
+            ('the origin ahead of the key',
+             upgrade('/bfcp/' + token, Origin='null', Sec_WebSocket_Key='abc'), 403)]:
+        got = ask(request)
+        check('head: ' + name, status_of(got), status)
+        body = got.split(b'\r\n\r\n', 1)[-1]
+        if request.startswith(b'HEAD'):
+            check('head, no body: ' + name, body, b'')
+        if status == 200:
+            check('head, its policy: ' + name, b"default-src 'none'" in got, True)
+    for name, request in [
+            ('in the path', upgrade('/bfcp/' + token)),
+            ('offered', upgrade('/bfcp', Sec_WebSocket_Protocol=offered)),
+            ('offered first', upgrade('/bfcp', Sec_WebSocket_Protocol='token.%s,bfcp' % token)),
+            ('in a field of its own', upgrade('/bfcp', 'Sec-WebSocket-Protocol: token.%s\r\n' % token)),
+            ('of this origin', upgrade('/bfcp/' + token, Origin=own)),
+            ('of this origin by TLS', upgrade('/bfcp/' + token, Origin='https://' + HOST)),
+            ('in small letters', upgrade('/bfcp/' + token).replace(b'Upgrade: websocket', b'upgrade: WEBSOCKET'))]:
+        browser = Browser(token, request)
+        check('socket: ' + name, (b' 101 ' in browser.head, ACCEPT in browser.head,
+                                  b'Sec-WebSocket-Protocol: bfcp\r\n' in browser.head + b'\r\n'),
+              (True, True, True))
+        browser.close()
+    request = get('/hand.svg')
+    whole = ask(request)
+    for cut in range(1, len(request)):
+        stream = connect()
+        stream.sendall(request[:cut])
+        time.sleep(0.002)
+        stream.sendall(request[cut:])
+        check('head cut at %d' % cut, reply(stream), whole)
+    stream = connect()
+    for at in range(len(request)):
+        stream.sendall(request[at:at + 1])
+    check('head byte by byte', reply(stream), whole)
+    began = time.monotonic()
+    stream, other = connect(), connect()
+    stream.sendall(b'GET / HTTP/1.1\r\nHo')
+    for _ in range(8):
+        time.sleep(1)
+        other.sendall(b'G')
+    check('a head that stops', status_of(reply(stream)), 408)
+    check('in its time', HEAD <= time.monotonic() - began < HEAD + 3, True)
+    check('a head that drips', status_of(reply(other)), 408)
+
+
+# Sockets
+
+def sockets(program, folder):
+    token = token_of(1, 10)
+    ack = message(HELLO)
+    browser = Browser(token)
+    browser.send(2, ack)
+    check('an answer in one frame', browser.primitive(), HELLO_ACK)
+    browser.send(9, b'hi')
+    check('a ping is answered', browser.read(), (10, b'hi'))
+    browser.send(9, b'p' * 125)
+    check('the longest ping', browser.read(), (10, b'p' * 125))
+    browser.send(10, b'nobody asked')
+    browser.send(2, ack + b'', width=8)
+    check('a long form of a length', browser.ends(), 1002)
+    browser = Browser(token)
+    browser.send(8, struct.pack('>H', 1000))
+    check('a close is answered', browser.ends(), 1000)
+    browser = Browser(token)
+    browser.send(8, b'')
+    check('a close without a code', browser.ends(), None)
+    browser = Browser(token, behind=frame(2, ack))
+    check('a message behind the head', browser.primitive(), HELLO_ACK)
+    sent = frame(9, b'x') + frame(2, ack)
+    for cut in range(1, len(sent)):
+        browser.stream.sendall(sent[:cut])
+        time.sleep(0.002)
+        browser.stream.sendall(sent[cut:])
+        check('frames cut at %d' % cut, (browser.read(), browser.primitive()), ((10, b'x'), HELLO_ACK))
+    browser.stream.sendall(sent * 50)
+    check('many frames at once', [browser.read()[0] for _ in range(100)].count(10), 50)
+    browser.close()
+    for name, sent, code in [
+            ('a text', frame(1, b'hello'), 1003), ('a text that is a message', frame(1, ack), 1003),
+            ('a text that is no UTF-8', frame(1, b'\xff'), 1007), ('no message', frame(2, b'abc'), 1007),
+            ('nothing', frame(2, b''), 1007), ('half a message', frame(2, ack[:11]), 1007),
+            ('two messages', frame(2, ack + ack), 1007), ('a byte too much', frame(2, ack + b'\0'), 1007),
+            ('a first fragment', frame(2, ack[:5], last=False), 1002),
+            ('an empty fragment', frame(2, b'', last=False), 1002),
+            ('a fragment and a ping', frame(2, ack[:5], last=False) + frame(9, b'x'), 1002),
+            ('a last fragment', frame(0, ack), 1002), ('no mask', frame(2, ack, mask=False), 1002),
+            ('an unknown opcode', frame(3, b''), 1002), ('an unknown control', frame(11, b''), 1002),
+            ('a reserved bit', frame(2, ack, bits=0x40), 1002), ('a long ping', frame(9, b'p' * 126), 1002),
+            ('a ping in fragments', frame(9, b'p', last=False), 1002),
+            ('a close of one byte', frame(8, b'\3'), 1002),
+            ('a close by a code that isn\'t sent', frame(8, struct.pack('>H', 1005)), 1002),
+            ('a close whose reason is no UTF-8', frame(8, struct.pack('>H', 1000) + b'\xff'), 1007),
+            ('a long frame', frame(2, b'\x20' * 300_000), 1009),
+            ('a byte above the longest', frame(2, b'\x20' * (LONGEST + 1)), 1009),
+            ('a length alone', b'\x82\xff' + struct.pack('>Q', 1 << 40) + b'abcd', 1009)]:
+        browser = Browser(token)
+        browser.send(2, ack)
+        check('before: ' + name, browser.primitive(), HELLO_ACK)
+        browser.stream.sendall(sent + frame(2, ack))
+        check('close: ' + name, browser.ends(), code)
+    browser = Browser(token)
+    browser.send(2, message(HELLO, payload=bytes([0x7e, 252] + [0] * 250) * 1_040))
+    check('the longest message but some', browser.primitive() in (HELLO_ACK, ERROR), True)
+    browser.stream.shutdown(socket.SHUT_WR)
+    check('a browser that ends its side', browser.ends(), 'end')
+    browser = Browser(token)
+    pings = 1_000
+    hellos = 3_000
+
+    def feed():
+        for transaction in range(1, hellos + 1):
+            browser.send(2, message(HELLO, transaction=transaction))
+            if transaction % 3 == 0:
+                browser.send(9, b'%d' % transaction)
+    feeding = threading.Thread(target=feed)
+    feeding.start()
+    transactions, pongs = [], []
+    while len(transactions) < hellos or len(pongs) < pings:
+        opcode, payload = browser.read()
+        if opcode == 2:
+            transactions.append(struct.unpack('>H', payload[8:10])[0])
+        else:
+            pongs.append((opcode, payload))
+    feeding.join()
+    check('a storm: messages in order', transactions, list(range(1, hellos + 1)))
+    check('a storm: pongs in order', pongs, [(10, b'%d' % n) for n in range(3, hellos + 1, 3)])
+    browser.close()
+    quiet, silent = Browser(token), Browser(token_of(2, 10))
+    began = time.monotonic()
+    check('a quiet browser is pinged', quiet.read(), (9, b''))
+    check('after a while', QUIET - 1 < time.monotonic() - began < QUIET + 3, True)
+    quiet.send(10, b'')
+    check('a silent one is pinged', silent.read(), (9, b''))
+    check('a silent one is given up', silent.ends(), 'end')
+    check('after another', 2 * QUIET - 2 < time.monotonic() - began < 2 * QUIET + 5, True)
+    check('one that answered isn\'t', quiet.read(), (9, b''))
+    quiet.close()
+
+
+# Ends
+
+def ends(program, folder, floord_path, floord, gateway):
+    other = Gateway(program, folder, configuration(), '--log', '--origin', 'https://meet.example.com',
+                    address='127.0.0.1:%d' % (PORT + 1)).ready()
+    for origin, status in [('https://meet.example.com', 101), ('http://' + HOST, 403),
+                           ('https://meet.example.com.evil.example', 403), (None, 101)]:
+        stream = socket.create_connection(('127.0.0.1', PORT + 1))
+        stream.settimeout(10)
+        stream.sendall(upgrade('/bfcp/' + token_of(3, 10), Origin=origin))
+        check('listed origin: %s' % origin, status_of(stream.recv(4_096)), status)
+        stream.close()
+    stream = socket.create_connection(('127.0.0.1', PORT + 1))
+    stream.sendall(upgrade('/bfcp/' + token_of(3, 11)))
+    while not select.select([stream], [], [], 5)[0]:
+        pass
+    stream.recv(4_096)
+    told = []
+
+    def hear():
+        told.append(stream.recv(100))
+        stream.close()
+    hearing = threading.Thread(target=hear)
+    hearing.start()
+    time.sleep(0.5)
+    status, printed, errors = other.end()
+    hearing.join()
+    check('the end of its input', (status, printed), (0, ''))
+    check('browsers are told', told, [b'\x88\x02\x03\xe9'])
+    rows = [line.split(' ', 1) for line in errors.splitlines()]
+    check('the log', sorted(row[1] for row in rows), sorted(
+        ['joined conference 3 user 10', 'left conference 3 user 10: Gone'] * 2
+        + ['joined conference 3 user 11', 'left conference 3 user 11: ServerGone']
+        + ['refused 403 Forbidden'] * 2))
+    check('its times', all(len(row[0]) == 20 and row[0].endswith('Z') for row in rows), True)
+    check('no token in it', 'token-of' in errors, False)
+    browsers = [Browser(token_of(n, 10)) for n in range(1, 5)]
+    for n, browser in enumerate(browsers, 1):
+        browser.send(2, message(HELLO, conference=n))
+        browser.primitive()
+    floord.process.kill()
+    floord.process.wait()
+    check('floord is killed', [browser.ends() for browser in browsers], [1001] * 4)
+    check('nobody is there', status_of(ask(upgrade('/bfcp/' + token_of(1, 10)))), 502)
+    check('the page is', status_of(ask(get('/'))), 200)
+    back = Server(floord_path, configuration(), limits={resource.RLIMIT_NOFILE: 4_096})
+    browser = Browser(token_of(1, 10))
+    browser.send(2, message(HELLO))
+    check('floord is back', browser.primitive(), HELLO_ACK)
+    browser.close()
+    back.process.kill()
+    back.process.wait()
+
+
+# Browsers that take nothing
+
+def floods(floord, gateway):
+    """Each is cut, nobody else notices, and nothing of it stays."""
+    before = gateway.use()
+    deaf = Browser(token_of(5, 10))
+    deaf.stream.settimeout(5)
+    try:
+        while True:
+            deaf.stream.sendall(frame(9, b'p' * 125) * 500)
+    except TimeoutError:
+        pass
+    check('a flood of pings is cut', gateway.freed(before, CUT), before[1:])
+    deaf.close()
+    deaf, watcher, busy = [Browser(token_of(6, user), narrow=user == 10) for user in (10, 11, 12)]
+    for turn in range(15):
+        busy.send(2, message(FLOOR_REQUEST, 6, turn + 1, 12, FLOOR_ID_1 + bytes([16, 64]) + b'why ' * 15 + b'me'))
+        busy.read()
+    for user, browser in ((10, deaf), (11, watcher)):
+        browser.send(2, message(FLOOR_QUERY, 6, 1, user, FLOOR_ID_1))
+    check('a watcher is answered', watcher.primitive(), FLOOR_STATUS)
+    told = []
+
+    def hear():
+        try:
+            while True:
+                told.append(watcher.primitive())
+        except (EOFError, OSError, AssertionError):
+            pass
+    hearing = threading.Thread(target=hear, daemon=True)
+    hearing.start()
+    answers = 0
+    for turn in range(FLOOD):
+        busy.send(2, message(FLOOR_REQUEST, 6, 2 * turn + 1, 12, FLOOR_ID_1))
+        request = number_of(busy.read()[1])
+        busy.send(2, message(FLOOR_RELEASE, 6, 2 * turn + 2, 12, struct.pack('>BBH', 6, 4, request)))
+        answers += 1 if number_of(busy.read()[1]) == request else 0
+    check('others go on beside one that reads nothing', answers, FLOOD)
+    for _ in range(300):
+        if len(told) >= 2 * FLOOD or not hearing.is_alive():
+            break
+        time.sleep(0.1)
+    check('a watcher is told of each', told.count(FLOOR_STATUS), 2 * FLOOD)
+    for _ in range(600):
+        time.sleep(0.1)
+        if 'members 2 ' in floord.ask('status 6'):
+            break
+    check('one that reads nothing is cut', floord.ask('status 6').split()[:4],
+          ['conference', '6', 'members', '2'])
+    busy.close()
+    watcher.stream.shutdown(socket.SHUT_RDWR)
+    check('floods: all freed, also of one that still reads nothing', gateway.freed(before, CUT), before[1:])
+    deaf.close()
+    half = [connect() for _ in range(200)]
+    for stream in half:
+        stream.sendall(b'GET / HTTP/1.1\r\n')
+    check('a page beside 200 heads that stop', status_of(ask(get('/'))), 200)
+    for stream in half[:100]:
+        stream.close()
+    check('the others are told', [status_of(reply(stream)) for stream in half[100:]], [408] * 100)
+    check('heads that stop: all freed', gateway.freed(before, 5), before[1:])
+
+
+# A proxy
+
+def proxy(program, folder):
+    """nginx with the block of docs/OPERATION.md before the gateway, with a certificate made here."""
+    page = open(os.path.join(os.path.dirname(os.path.abspath(__file__)), '../docs/OPERATION.md')).read()
+    block = re.search(r'^server \{\n.*?^\}\n', page, re.M | re.S).group()
+    name = re.search(r'server_name (\S+);', block).group(1)
+    with tempfile.TemporaryDirectory() as place:
+        subprocess.run(['openssl', 'req', '-x509', '-newkey', 'rsa:2048', '-nodes', '-days', '2', '-subj',
+                        '/CN=' + name, '-addext', 'subjectAltName=DNS:' + name, '-keyout', place + '/key.pem',
+                        '-out', place + '/own.pem'], check=True, stderr=subprocess.DEVNULL)
+        block = block.replace('listen 443 ssl;', 'listen 127.0.0.1:%d ssl; ssl_certificate %s/own.pem; '
+                              'ssl_certificate_key %s/key.pem;' % (PORT + 2, place, place))
+        block = block.replace('127.0.0.1:7080', HOST)
+        paths = ''.join('%s_temp_path %s;\n' % (kind, place)
+                        for kind in ('client_body', 'proxy', 'fastcgi', 'uwsgi', 'scgi'))
+        with open(place + '/nginx.conf', 'w') as file:
+            file.write('daemon off; pid %s/pid; error_log %s/errors; events { }\nhttp { access_log %s/log;\n%s%s}\n' % (
+                place, place, place, paths, block))
+        running = subprocess.Popen(['nginx', '-p', place, '-c', place + '/nginx.conf'], stderr=subprocess.DEVNULL)
+        try:
+            through_tls(name, place)
+        finally:
+            running.terminate()
+            running.wait()
+
+
+def through_tls(name, place):
+    trust = ssl.create_default_context(cafile=place + '/own.pem')
+
+    def reach():
+        for _ in range(100):
+            try:
+                plain = socket.create_connection(('127.0.0.1', PORT + 2))
+                break
+            except ConnectionRefusedError:
+                time.sleep(0.1)
+        plain.settimeout(90)
+        return trust.wrap_socket(plain, server_hostname=name)
+
+    stream = reach()
+    stream.sendall(get('/').replace(HOST.encode(), name.encode()))
+    check('proxy: the page', status_of(stream.recv(65_536)), 200)
+    stream.close()
+    offered = 'bfcp, token.' + token_of(7, 10)
+    for origin, status in [('https://' + name, 101), ('https://evil.example', 403), ('https://' + HOST, 403)]:
+        stream = reach()
+        stream.sendall(upgrade('/bfcp', Host=name, Origin=origin, Sec_WebSocket_Protocol=offered))
+        check('proxy: from ' + origin, status_of(stream.recv(65_536)), status)
+        if status == 101:
+            quiet = stream
+        else:
+            stream.close()
+    pings = []
+    began = time.monotonic()
+    while time.monotonic() - began < 3 * QUIET:
+        pings.append(quiet.recv(100))
+        quiet.sendall(frame(10, b''))
+    check('proxy: a quiet browser is pinged', set(pings), {b'\x89\x00'})
+    quiet.sendall(frame(2, message(HELLO, conference=7)))
+    check('proxy: and answered after more than a minute', quiet.recv(100)[:4][1:], b'\x30\x20\x0c')
+    quiet.close()
+    with open(place + '/log') as file:
+        check('proxy: no token in its log', 'token' in file.read(), False)
+
+
+# Allocations
+
+def refused(program, folder):
+    """One allocation is refused, and all from one on: the first, the second, up to as many as a run makes.
+
+    A run ends by itself. What it answers is whole, or the connection ends; where one allocation alone is
+    refused, whoever comes again is answered. Where it ends early it names the fault."""
+    here = os.path.dirname(os.path.abspath(__file__))
+    with tempfile.TemporaryDirectory() as place:
+        subprocess.run(['cc', '-O2', '-shared', '-fPIC', '-o', place + '/refused.so', here + '/refused.c'], check=True)
+
+        def run(which):
+            count = place + '/count'
+            gateway = Gateway(program, folder, configuration(), '--log', address='127.0.0.1:%d' % (PORT + 3),
+                              variables={'LD_PRELOAD': place + '/refused.so', 'REFUSE': which, 'REFUSE_COUNT': count})
+            heard = []
+            if gateway.process.stdout.readline() == b'ready\n':
+                heard = [page_and_hello(), page_and_hello()]
+            status, _, errors = gateway.end()
+            rows = errors.splitlines()
+            if status == 0 and heard:
+                return 'well' if heard == [('page', 'hello')] * 2 else 'served in part', heard
+            if status == 1 and rows[-1:] and rows[-1] in ('floorweb: Memory', 'floorweb: CannotListen', 'floorweb: CannotRead'):
+                return rows[-1].split()[1], heard
+            return 'WRONG: %d, %r' % (status, errors), heard
+
+        end, _ = run('0')
+        check('allocations: none is refused', end, 'well')
+        with open(place + '/count') as file:
+            made = int(file.read())
+        for form in ('%d', '%d-'):
+            ends = collections.Counter()
+            for number in range(1, made + 10):
+                end, heard = run(form % number)
+                ends[end] += 1
+                names = [name for pair in heard for name in pair]
+                check('allocation %s refused: its end' % (form % number), end.startswith('WRONG'), False)
+                check('allocation %s refused: its answers' % (form % number), [n for n in names if n.startswith('WRONG')], [])
+                if form == '%d' and heard:
+                    check('allocation %d refused: who comes again' % number,
+                          ('page' in names, 'hello' in names), (True, True))
+            print('%d allocations, %s: %s' % (
+                made, 'one is refused' if form == '%d' else 'all from one on are refused',
+                ', '.join('%d %s' % (count, end) for end, count in ends.most_common())))
+
+
+def page_and_hello():
+    """What became of a request for a file, and of a Hello over a WebSocket."""
+    def reach():
+        stream = socket.create_connection(('127.0.0.1', PORT + 3))
+        stream.settimeout(20)
+        return stream
+    stream = reach()
+    stream.sendall(get('/hand.svg'))
+    got = reply(stream)
+    stream.close()
+    page = 'page' if got.endswith(b'</svg>\n') else 'ended' if got in (b'', b'<reset>') else 'WRONG: %r' % got
+    stream = reach()
+    stream.sendall(upgrade('/bfcp/' + token_of(4, 10)) + frame(2, message(HELLO, conference=4)))
+    got = b''
+    try:
+        while not got.endswith(b'\x88\x02\x03\xf3') and b'\r\n\r\n\x820\x20\x0c' not in got:
+            piece = stream.recv(4_096)
+            if not piece:
+                break
+            got += piece
+    except ConnectionResetError:
+        got = b''
+    stream.close()
+    if b'\x820\x20\x0c' in got:
+        return page, 'hello'
+    if got == b'' or got.endswith(b'\r\n\r\n') or got.endswith(b'\x88\x02\x03\xf3') or got.endswith(b'\x88\x02\x03\xe9'):
+        return page, 'ended'
+    return page, 'WRONG: %r' % got
+
+
+# A service
+
+def service(program, folder):
+    """The commands of examples/floorweb.service, as systemd runs them, over folders made here."""
+    page = os.path.join(os.path.dirname(os.path.abspath(__file__)), '../examples/floorweb.service')
+    text = open(page).read()
+    with tempfile.TemporaryDirectory() as place:
+        with open(place + '/conferences.toml', 'w') as file:
+            file.write(configuration())
+        for old, new in [('/run/floorweb', place), ('/usr/local/bin/floorweb', os.path.abspath(program)),
+                         ('/usr/local/share/floorweb', os.path.abspath(folder)),
+                         ('127.0.0.1:7080', '127.0.0.1:%d' % (PORT + 1))]:
+            text = text.replace(old, new)
+        commands = dict(re.findall(r'^(Exec\w+)=(.*)$', text, re.M))
+        subprocess.run(shlex.split(commands['ExecStartPre']), check=True)
+        with open(place + '/printed', 'w') as printed:
+            running = subprocess.Popen(shlex.split(commands['ExecStart']), stdin=subprocess.DEVNULL, stdout=printed,
+                                       stderr=printed, env={**os.environ, 'CREDENTIALS_DIRECTORY': place})
+        while 'ready' not in open(place + '/printed').read() and running.poll() is None:
+            time.sleep(0.1)
+        stream = socket.create_connection(('127.0.0.1', PORT + 1))
+        stream.settimeout(10)
+        stream.sendall(upgrade('/bfcp/' + token_of(8, 10)))
+        check('service: a browser', status_of(stream.recv(4_096)), 101)
+        told = []
+        hearing = threading.Thread(target=lambda: told.append(reply(stream)) or stream.close())
+        hearing.start()
+        time.sleep(2)
+        check('service: it stays', running.poll(), None)
+        # systemd takes up what has ended by itself.
+        ended = threading.Thread(target=running.wait)
+        ended.start()
+        subprocess.run(shlex.split(commands['ExecStop']), check=True, timeout=20,
+                       env={**os.environ, 'MAINPID': str(running.pid)})
+        ended.join(10)
+        hearing.join(10)
+        check('service: it is stopped', running.returncode, 0)
+        check('service: the browser is told', told, [b'\x88\x02\x03\xe9'])
+        check('service: its log', [row.split(' ', 1)[1] for row in open(place + '/printed').read().splitlines()[1:]],
+              ['joined conference 8 user 10', 'left conference 8 user 10: ServerGone'])
+
+
+# Many
+
+def many(program, folder, gateway, count=500):
+    before = gateway.use()
+    began = time.monotonic()
+    browsers = []
+    for n in range(count):
+        conference = n % CONFERENCES + 1
+        browsers.append((conference, 10 + n // CONFERENCES % USERS,
+                         Browser(token_of(conference, 10 + n // CONFERENCES % USERS))))
+    took = time.monotonic() - began
+    time.sleep(1)
+    during = gateway.use()
+    for conference, user, browser in browsers:
+        browser.send(2, message(HELLO, conference=conference, user=user))
+    check('many: answered', [b.primitive() for _, _, b in browsers].count(HELLO_ACK), count)
+    print('%d browsers in %.2f s: %.0f kB, %.1f threads and %.1f descriptors for each' % (
+        count, took, (during[0] - before[0]) / count, (during[1] - before[1]) / count,
+        (during[2] - before[2]) / count))
+    times = []
+    conference, user, browser = browsers[0]
+    for n in range(2_000):
+        start = time.perf_counter()
+        browser.send(2, message(HELLO, conference=conference, transaction=n + 1, user=user))
+        browser.read()
+        times.append(time.perf_counter() - start)
+    port = socket.create_connection(('127.0.0.1', FIRST_PORT))
+    port.setsockopt(socket.IPPROTO_TCP, socket.TCP_NODELAY, 1)
+    direct = []
+    for n in range(2_000):
+        start = time.perf_counter()
+        port.sendall(hello(1, n + 1, 10))
+        port.recv(4_096)
+        direct.append(time.perf_counter() - start)
+    port.close()
+    print('a Hello among them: %.0f us through the gateway, %.0f us at the port (medians)' % (
+        1e6 * sorted(times)[1_000], 1e6 * sorted(direct)[1_000]))
+    for _, _, browser in browsers:
+        browser.close()
+    check('many: all freed', gateway.freed(before, 10), before[1:])
+    held = []
+    for _ in range(1_024):
+        held.append(connect())
+    time.sleep(1)
+    check('one more than there may be', status_of(ask(get('/'))), 503)
+    for stream in held:
+        stream.close()
+    time.sleep(1)
+    check('and room again', status_of(ask(get('/'))), 200)
+
+
+def main():
+    if len(sys.argv) < 4:
+        raise SystemExit(__doc__)
+    floord_path, program, folder = sys.argv[1:4]
+    groups = sys.argv[4:] or ['starts', 'heads', 'sockets', 'floods', 'many', 'proxy', 'service', 'refused',
+                              'ends']
+    resource.setrlimit(resource.RLIMIT_NOFILE, (8_192, 8_192))
+    if 'starts' in groups:
+        starts(program, folder)
+    floord = Server(floord_path, configuration(), limits={resource.RLIMIT_NOFILE: 4_096})
+    gateway = Gateway(program, folder, configuration() + LOST_USER).ready()
+    if 'heads' in groups:
+        heads(program, folder)
+    if 'sockets' in groups:
+        sockets(program, folder)
+    if 'floods' in groups:
+        floods(floord, gateway)
+    if 'proxy' in groups:
+        proxy(program, folder)
+    if 'service' in groups:
+        service(program, folder)
+    if 'refused' in groups:
+        refused(program, folder)
+    if 'many' in groups:
+        many(program, folder, gateway)
+    if 'ends' in groups:
+        ends(program, folder, floord_path, floord, gateway)
+    check('it ends', gateway.end()[0], 0)
+    floord.process.kill()
+    print('%d tries passed, %d failed' % (passed, len(failed)))
+    sys.exit(1 if failed else 0)
+
+
+main()

@@ -1,0 +1,141 @@
+// A participant's connection to the floor control server: questions and their answers, what is told
+// unasked, and connecting again.
+
+import { all, decode, encode, first, floorQuery, hello, requests } from "./bfcp.js";
+
+const FIRST_WAIT = 500;
+const LONGEST_WAIT = 15_000;
+const ANSWER_WAIT = 10_000;
+
+/** An Error message of the server, by its name in RFC 8855. */
+export class Refused extends Error {
+  constructor({ code, name }, info) {
+    super(info ? `${name}: ${info}` : name);
+    this.code = code;
+  }
+}
+
+/** The connection was lost before the answer. */
+export class Lost extends Error {}
+
+/**
+ * Tells by events: `state` (its `state` is connecting, open, waiting or ended), `floor` (the requests
+ * of a floor, in `floors`), and `own` (how a request of one's own stands now).
+ */
+export class Session extends EventTarget {
+  state = "connecting";
+  /** Why the connection ended or waits, in words. */
+  reason = "";
+  /** The ongoing requests of each floor, as the server told them last. */
+  floors = new Map();
+  #token;
+  #meeting;
+  #socket;
+  #transaction = 0;
+  #waiting = new Map();
+  #wait = FIRST_WAIT;
+  #timer;
+
+  constructor(token, meeting) {
+    super();
+    this.#token = token;
+    this.#meeting = meeting;
+  }
+
+  connect() {
+    clearTimeout(this.#timer);
+    this.#enter("connecting");
+    const { protocol, host } = location;
+    const scheme = protocol === "https:" ? "wss:" : "ws:";
+    // As a subprotocol the token stands in no log: a browser sends no other field of one's own.
+    const socket = new WebSocket(`${scheme}//${host}/bfcp`, ["bfcp", `token.${this.#token}`]);
+    socket.binaryType = "arraybuffer";
+    socket.onopen = () => this.#greet();
+    socket.onmessage = (event) => this.#hear(new Uint8Array(event.data));
+    socket.onclose = (event) => this.#closed(event);
+    this.#socket = socket;
+  }
+
+  /** Sends a message, and gives the server's answer. */
+  ask({ primitive, attributes }) {
+    return new Promise((resolve, reject) => {
+      if (this.#socket?.readyState !== WebSocket.OPEN) return reject(new Lost("not connected"));
+      const transaction = (this.#transaction % 0xffff) + 1;
+      this.#transaction = transaction;
+      const timer = setTimeout(() => this.#socket.close(), ANSWER_WAIT);
+      this.#waiting.set(transaction, { resolve, reject, timer });
+      const { conference, user } = this.#meeting;
+      this.#socket.send(encode({ primitive, conference, transaction, user, attributes }));
+    });
+  }
+
+  /** Says hello, and asks to be told of each floor: the answer tells of the first. */
+  async #greet() {
+    try {
+      const ack = await this.ask(hello());
+      this.supports = new Set(first(ack.attributes, "SUPPORTED-ATTRIBUTES"));
+      this.#take(await this.ask(floorQuery(this.#meeting.floors.map((floor) => floor.id))));
+      this.#wait = FIRST_WAIT;
+      this.#enter("open");
+    } catch (error) {
+      if (!(error instanceof Lost)) this.#end(error.message);
+    }
+  }
+
+  #hear(bytes) {
+    const message = decode(bytes);
+    const asked = this.#waiting.get(message.transaction);
+    if (!asked) return this.#take(message);
+    this.#waiting.delete(message.transaction);
+    clearTimeout(asked.timer);
+    if (message.primitive === "Error") {
+      const info = first(message.attributes, "ERROR-INFO");
+      return asked.reject(new Refused(first(message.attributes, "ERROR-CODE"), info));
+    }
+    if (message.primitive === "FloorRequestStatus") this.#take(message);
+    asked.resolve(message);
+  }
+
+  /** Takes what a message tells of floors and of one's own requests. */
+  #take(message) {
+    if (message.primitive === "FloorStatus") {
+      // Without a floor it tells that none is watched any more.
+      for (const floor of all(message.attributes, "FLOOR-ID")) {
+        this.floors.set(floor, requests(message));
+        this.dispatchEvent(new CustomEvent("floor", { detail: floor }));
+      }
+    }
+    if (message.primitive === "FloorRequestStatus") {
+      for (const request of requests(message)) {
+        this.dispatchEvent(new CustomEvent("own", { detail: request }));
+      }
+    }
+  }
+
+  #closed({ code }) {
+    for (const { reject, timer } of this.#waiting.values()) {
+      clearTimeout(timer);
+      reject(new Lost("the connection was lost"));
+    }
+    this.#waiting.clear();
+    this.floors.clear();
+    if (this.state === "ended") return;
+    if (code === 1002 || code === 1003 || code === 1007) {
+      return this.#end("the server took this page's messages for no BFCP");
+    }
+    this.#enter("waiting", `again in ${Math.ceil(this.#wait / 1000)} s`);
+    this.#timer = setTimeout(() => this.connect(), this.#wait * (0.75 + Math.random() / 2));
+    this.#wait = Math.min(2 * this.#wait, LONGEST_WAIT);
+  }
+
+  #end(reason) {
+    this.#enter("ended", reason);
+    this.#socket.close();
+  }
+
+  #enter(state, reason = "") {
+    this.state = state;
+    this.reason = reason;
+    this.dispatchEvent(new Event("state"));
+  }
+}

@@ -1,0 +1,59 @@
+// What a page does at one's turn, and whether it takes a key: as each browser was asked to.
+
+/** What is on before anybody asked. */
+const FIRST = { sound: false, notice: false, key: true };
+
+let sounds;
+
+/** Whether a setting is on. */
+export function isOn(name) {
+  const kept = localStorage.getItem(name);
+  return kept === null ? FIRST[name] : kept === "on";
+}
+
+/** Shows the settings in their boxes, and keeps what is changed. */
+export function prepareSettings(node, warn) {
+  for (const box of node.querySelectorAll("input")) {
+    box.checked = isOn(box.name);
+    box.addEventListener("change", async () => {
+      if (box.name === "notice" && box.checked && (await askForNotices()) !== "granted") {
+        box.checked = false;
+        warn("This browser lets the page show no notifications.");
+      }
+      localStorage.setItem(box.name, box.checked ? "on" : "off");
+      if (box.name === "sound" && box.checked) play();
+    });
+  }
+}
+
+/** Whether notifications may be shown: a phone's browser may have none. */
+async function askForNotices() {
+  return "Notification" in window ? Notification.requestPermission() : "denied";
+}
+
+/** Tells somebody who looks elsewhere that the turn has come. */
+export function alertTurn(text) {
+  navigator.vibrate?.(200);
+  if (isOn("sound")) play();
+  if (isOn("notice") && document.hidden && "Notification" in window && Notification.permission === "granted") {
+    try {
+      new Notification(text);
+    } catch {
+      // A phone's browser has the type and lets no page use it.
+    }
+  }
+}
+
+/** Two short tones, without a file. */
+function play() {
+  sounds ??= new AudioContext();
+  sounds.resume();
+  [660, 880].forEach((pitch, place) => {
+    const tone = new OscillatorNode(sounds, { frequency: pitch });
+    const start = sounds.currentTime + place * 0.18;
+    const volume = new GainNode(sounds, { gain: 0.15 });
+    tone.connect(volume).connect(sounds.destination);
+    tone.start(start);
+    tone.stop(start + 0.15);
+  });
+}

@@ -1,0 +1,255 @@
+//! One connection: a request, and what follows it.
+
+use crate::gateway::Gateway;
+use crate::head::{HeadEnd, read_head};
+use crate::pair::{Pair, WRITE_SECONDS, linger};
+use floor_web::{
+    Asked, End, Kind, Participant, Reading, Refusal, read_request, refuse, serve, welcome,
+};
+use std::alloc::{AllocError, AllocFailed, Global};
+use std::io::{Read, Write};
+use std::net::{Ipv4Addr, Net, Shutdown, SocketAddr, TcpListener, TcpStream};
+use std::sync::{Arc, Wait};
+use std::thread;
+use std::thread::Threads;
+use std::time::{Clock, Duration};
+
+/// How long the server may take to take a connection, in seconds.
+const CONNECT_SECONDS: u64 = 5;
+
+/// Why a connection isn't answered.
+#[derive(Clone, Copy, Debug, PartialEq, Eq)]
+pub enum Unserved {
+    /// No thread can be made for it.
+    NoThread,
+    /// Memory was refused.
+    Memory,
+}
+
+impl Unserved {
+    /// Its name.
+    pub fn name(self) -> &'static str {
+        match self {
+            Unserved::NoThread => "NoThread",
+            Unserved::Memory => "Memory",
+        }
+    }
+}
+
+impl From<AllocError> for Unserved {
+    fn from(_e: AllocError) -> Unserved {
+        Unserved::Memory
+    }
+}
+
+impl<T: Drop> From<AllocFailed<T>> for Unserved {
+    fn from(_e: AllocFailed<T>) -> Unserved {
+        Unserved::Memory
+    }
+}
+
+/// Starts the thread of a connection. Where it can't be served its socket is closed.
+pub fn start<R>(rt: R, alloc: Global, gateway: &Arc<Gateway, Global>, stream: TcpStream)
+where
+    R: Net<Listener = TcpListener, Stream = TcpStream>
+        + Clock
+        + Eprint
+        + Threads
+        + Wait
+        + Copy
+        + Drop
+        + Send
+        + 'static,
+{
+    let Ok(theirs) = Arc::try_clone(gateway) else {
+        gateway.log.unserved(&rt, Unserved::Memory);
+        return;
+    };
+    if !gateway.enter() {
+        gateway.log.refused(&rt, Refusal::Unavailable);
+        turn_away(alloc, &stream);
+        return;
+    }
+    let started = thread::spawn(&rt, move || {
+        if let Err(unserved) = run(rt, alloc, &theirs, stream) {
+            theirs.log.unserved(&rt, unserved);
+        }
+        theirs.leave();
+    });
+    if started.is_err() {
+        gateway.log.unserved(&rt, Unserved::NoThread);
+        gateway.leave();
+    }
+}
+
+/// Answers that there are too many connections, and waits for nothing.
+fn turn_away(alloc: Global, mut stream: &TcpStream) {
+    // What came of the request is read, or else the answer may be taken back with it.
+    let mut piece = [0u8; 4_096];
+    let _outcome = stream.set_nonblocking(true);
+    let _outcome = stream.read(&mut piece);
+    if let Ok(answer) = refuse(alloc, Refusal::Unavailable, false) {
+        let _outcome = stream.write_all(answer.as_slice());
+    }
+    let _outcome = stream.shutdown(Shutdown::Write);
+}
+
+/// Reads the request, and serves it.
+fn run<R>(rt: R, alloc: Global, gateway: &Gateway, stream: TcpStream) -> Result<(), Unserved>
+where
+    R: Net<Listener = TcpListener, Stream = TcpStream>
+        + Clock
+        + Eprint
+        + Threads
+        + Wait
+        + Copy
+        + Drop
+        + Send
+        + 'static,
+{
+    prepare(&stream);
+    let mut bytes = Vec::new(alloc);
+    let is_whole = match read_head(&rt, &gateway.origins, &stream, &mut bytes)? {
+        HeadEnd::Whole => true,
+        HeadEnd::Refused(refusal) => {
+            let is_head = bytes.as_slice().starts_with(b"HEAD ");
+            return answer_refusal(&rt, alloc, gateway, &stream, refusal, is_head);
+        }
+        HeadEnd::Gone => false,
+    };
+    match read_request(&gateway.origins, bytes.as_slice()) {
+        Reading::Whole { asked, len } if is_whole && len <= bytes.len() => {
+            let behind = &bytes[len..];
+            answer(rt, alloc, gateway, stream, asked, behind)
+        }
+        _ => Ok(()),
+    }
+}
+
+/// Has a socket send without delay, and wait for its peer no longer than it may.
+fn prepare(stream: &TcpStream) {
+    let _outcome = stream.set_nodelay(true);
+    let _outcome = stream.set_write_timeout(Some(Duration::from_secs(WRITE_SECONDS)));
+}
+
+/// Answers what is asked for. `behind` came behind the head.
+fn answer<R>(
+    rt: R,
+    alloc: Global,
+    gateway: &Gateway,
+    stream: TcpStream,
+    asked: Asked<'_>,
+    behind: &[u8],
+) -> Result<(), Unserved>
+where
+    R: Net<Listener = TcpListener, Stream = TcpStream>
+        + Clock
+        + Eprint
+        + Threads
+        + Wait
+        + Copy
+        + Drop
+        + Send
+        + 'static,
+{
+    match asked {
+        Asked::Page { name, is_head } => match gateway.pages.find(name) {
+            Some(file) => {
+                let answer = serve(alloc, file.kind, file.bytes.as_slice(), is_head)?;
+                send_last(&rt, &stream, answer.as_slice());
+                Ok(())
+            }
+            None => answer_refusal(&rt, alloc, gateway, &stream, Refusal::NotFound, is_head),
+        },
+        Asked::Meeting { token, is_head } => match gateway.participants.find(token) {
+            Some(participant) => {
+                let answer = serve(alloc, Kind::Json, participant.meeting.as_bytes(), is_head)?;
+                send_last(&rt, &stream, answer.as_slice());
+                Ok(())
+            }
+            None => answer_refusal(&rt, alloc, gateway, &stream, Refusal::NotFound, is_head),
+        },
+        Asked::Bfcp { token, accept } => match gateway.participants.find(token) {
+            Some(participant) => {
+                connect(rt, alloc, gateway, participant, stream, &accept, behind)
+            }
+            None => answer_refusal(&rt, alloc, gateway, &stream, Refusal::NotFound, false),
+        },
+    }
+}
+
+fn answer_refusal<R: Clock + Eprint>(
+    rt: &R,
+    alloc: Global,
+    gateway: &Gateway,
+    stream: &TcpStream,
+    refusal: Refusal,
+    is_head: bool,
+) -> Result<(), Unserved> {
+    gateway.log.refused(rt, refusal);
+    let answer = refuse(alloc, refusal, is_head)?;
+    send_last(rt, stream, answer.as_slice());
+    Ok(())
+}
+
+/// Sends the last that a connection has.
+fn send_last<R: Clock>(rt: &R, mut stream: &TcpStream, bytes: &[u8]) {
+    if stream.write_all(bytes).is_ok() {
+        linger(rt, stream);
+    }
+}
+
+/// Connects to the participant's port, and then makes the connection a WebSocket.
+fn connect<R>(
+    rt: R,
+    alloc: Global,
+    gateway: &Gateway,
+    participant: &Participant,
+    stream: TcpStream,
+    accept: &[u8; 28],
+    behind: &[u8],
+) -> Result<(), Unserved>
+where
+    R: Net<Listener = TcpListener, Stream = TcpStream>
+        + Clock
+        + Eprint
+        + Threads
+        + Wait
+        + Copy
+        + Drop
+        + Send
+        + 'static,
+{
+    let address = SocketAddr::from((Ipv4Addr::LOCALHOST, participant.port));
+    let wait = Duration::from_secs(CONNECT_SECONDS);
+    let Ok(server) = TcpStream::connect_timeout(&rt, &address, wait) else {
+        return answer_refusal(&rt, alloc, gateway, &stream, Refusal::BadGateway, false);
+    };
+    prepare(&server);
+    // All memory is had before the browser is told that it has a WebSocket.
+    let welcome = welcome(alloc, accept)?;
+    let pair = Arc::new(alloc, Pair::new(alloc, stream, server))?;
+    let theirs = Arc::try_clone(&pair)?;
+    let key = gateway.add(&rt, &pair)?;
+    if gateway.is_ending() {
+        // It may have hung up for all others before.
+        pair.hang_up();
+    }
+    if !pair.open(welcome.as_slice()) {
+        gateway.remove(&rt, key);
+        return Ok(());
+    }
+    let started = thread::spawn(&rt, move || theirs.carry_down(&rt));
+    let Ok(other) = started else {
+        gateway.remove(&rt, key);
+        return Err(Unserved::NoThread);
+    };
+    gateway.log.joined(&rt, participant);
+    pair.carry_up(&rt, behind);
+    pair.hang_up();
+    other.join(&rt);
+    gateway.remove(&rt, key);
+    let end = pair.part(&rt);
+    gateway.log.left(&rt, participant, end.unwrap_or(End::Gone));
+    Ok(())
+}

@@ -1,0 +1,45 @@
+//! A gateway for browsers: it serves a page, and carries BFCP between a WebSocket of the page and a
+//! user's port of a floor control server (RFC 8857).
+//!
+//! It runs until its standard input ends: status 0. Status 1 for a fault, which standard error names;
+//! 2 for words that are refused.
+#![tactic(auto)]
+
+mod connection;
+mod deadline;
+mod fault;
+mod gateway;
+mod head;
+mod log;
+mod pair;
+mod run;
+mod words;
+
+use crate::fault::GatewayFault;
+use std::io::ErrorKind;
+use std::process::ExitCode;
+
+fn main(rt: HostRuntime) -> ExitCode {
+    let alloc = rt.alloc();
+    let words: Vec<String> = match std::env::args(&rt) {
+        Ok(arguments) => match arguments.collect(alloc) {
+            Ok(words) => words,
+            Err(_) => return ExitCode::from(run::tell(&mut rt.stderr(), GatewayFault::Memory)),
+        },
+        Err(error) if error.kind() == ErrorKind::OutOfMemory => {
+            return ExitCode::from(run::tell(&mut rt.stderr(), GatewayFault::Memory));
+        }
+        Err(_) => {
+            let _outcome = rt.eprintln("error: a word is not UTF-8");
+            return ExitCode::from(2);
+        }
+    };
+    ExitCode::from(run::run(
+        rt,
+        alloc,
+        words.as_slice(),
+        &mut rt.stdin(),
+        &mut rt.stdout(),
+        &mut rt.stderr(),
+    ))
+}

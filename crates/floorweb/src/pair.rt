@@ -1,0 +1,188 @@
+//! A browser's socket and the server's, and the relay between them.
+//!
+//! Two threads share it: one reads the browser, the other the server. Whatever goes to the browser is
+//! made and written under the relay's lock, so that it leaves in the order in which the relay made
+//! it, and whole. What goes to the server only the first thread writes.
+
+use crate::deadline::Deadline;
+use floor_web::{End, Relay, Side};
+use std::alloc::Global;
+use std::io::{ErrorKind, Read, Write};
+use std::net::{Shutdown, TcpStream};
+use std::sync::{Mutex, Wait};
+use std::time::{Clock, Duration};
+
+/// How long a browser may be silent until it is sent a ping, and then until it is given up, in
+/// seconds. Proxies cut what is silent for a minute.
+const QUIET_SECONDS: u64 = 25;
+
+/// How long a write waits for a peer that takes nothing, in seconds.
+pub const WRITE_SECONDS: u64 = 30;
+
+/// How long a browser is waited for to close its side, once it was sent the last, in seconds.
+const LINGER_SECONDS: u64 = 2;
+
+/// How many reads of what a browser still sends are thrown away at most.
+const LINGER_READS: u32 = 256;
+
+/// A browser's socket and the server's, and the relay between them.
+#[derive(Drop)]
+pub struct Pair {
+    alloc: Global,
+    browser: TcpStream,
+    server: TcpStream,
+    relay: Mutex<Relay>,
+}
+
+impl Pair {
+    /// The pair of a browser, whose handshake is read, and of the server's port.
+    pub fn new(alloc: Global, browser: TcpStream, server: TcpStream) -> Pair {
+        let _outcome = browser.set_read_timeout(Some(Duration::from_secs(QUIET_SECONDS)));
+        Pair {
+            alloc,
+            browser,
+            server,
+            relay: Mutex::new(Relay::new(alloc)),
+        }
+    }
+
+    /// Sends the browser the answer of its handshake. Tells whether it left whole.
+    pub fn open(&self, welcome: &[u8]) -> bool {
+        let mut browser = &self.browser;
+        browser.write_all(welcome).is_ok()
+    }
+
+    /// Carries what the browser sends, from the bytes that came behind the head of its request on,
+    /// until the relay has ended.
+    pub fn carry_up<R: Wait>(&self, rt: &R, behind: &[u8]) {
+        let mut up = Vec::new(self.alloc);
+        if !self.hear(rt, behind, &mut up) {
+            return;
+        }
+        let mut browser = &self.browser;
+        let mut piece = [0u8; 4_096];
+        let mut is_asked = false;
+        for _ in rt.forever() {
+            let goes_on = match browser.read(&mut piece) {
+                Ok(0) => self.close(rt, Side::Browser),
+                Ok(count) => {
+                    is_asked = false;
+                    self.hear(rt, &piece[..count], &mut up)
+                }
+                Err(error) => match error.kind() {
+                    ErrorKind::Interrupted => true,
+                    ErrorKind::WouldBlock | ErrorKind::TimedOut if !is_asked => {
+                        is_asked = true;
+                        self.ping(rt)
+                    }
+                    _ => self.close(rt, Side::Browser),
+                },
+            };
+            if !goes_on {
+                return;
+            }
+        }
+    }
+
+    /// Carries what the server sends until the relay has ended, or the server's stream has.
+    pub fn carry_down<R: Wait>(&self, rt: &R) {
+        let mut server = &self.server;
+        let mut piece = [0u8; 4_096];
+        for _ in rt.forever() {
+            let goes_on = match server.read(&mut piece) {
+                Ok(0) => self.close(rt, Side::Server),
+                Ok(count) => self.tell(rt, &piece[..count]),
+                Err(error) if error.kind() == ErrorKind::Interrupted => true,
+                Err(_) => self.close(rt, Side::Server),
+            };
+            if !goes_on {
+                break;
+            }
+        }
+        // The browser closes its side by it, and so ends the other thread's read.
+        let _outcome = self.browser.shutdown(Shutdown::Write);
+    }
+
+    /// Ends the reading of the server, which ends the relay.
+    pub fn hang_up(&self) {
+        // It may be shut down already.
+        let _outcome = self.server.shutdown(Shutdown::Both);
+    }
+
+    /// Waits a while for the browser to close its side, and tells how the relay ended.
+    pub fn part<R: Clock + Wait>(&self, rt: &R) -> Option<End> {
+        linger(rt, &self.browser);
+        self.relay.lock(rt).end()
+    }
+
+    /// Takes a piece of the browser's stream. Tells whether the relay goes on.
+    fn hear<R: Wait>(&self, rt: &R, piece: &[u8], up: &mut Vec<u8>) -> bool {
+        up.clear();
+        let mut down = Vec::new(self.alloc);
+        let goes_on = {
+            let mut relay = self.relay.lock(rt);
+            relay.browser(piece, up, &mut down);
+            self.send(&mut relay, down.as_slice())
+        };
+        let mut server = &self.server;
+        if !up.is_empty() && server.write_all(up.as_slice()).is_err() {
+            return self.close(rt, Side::Server);
+        }
+        goes_on
+    }
+
+    /// Takes a piece of the server's stream. Tells whether the relay goes on.
+    fn tell<R: Wait>(&self, rt: &R, piece: &[u8]) -> bool {
+        let mut down = Vec::new(self.alloc);
+        let mut relay = self.relay.lock(rt);
+        relay.server(piece, &mut down);
+        self.send(&mut relay, down.as_slice())
+    }
+
+    /// Says that a side's stream ended. Tells whether the relay goes on.
+    fn close<R: Wait>(&self, rt: &R, side: Side) -> bool {
+        let mut down = Vec::new(self.alloc);
+        let mut relay = self.relay.lock(rt);
+        relay.close(side, &mut down);
+        self.send(&mut relay, down.as_slice())
+    }
+
+    /// Asks the browser for a sign of life. Tells whether the relay goes on.
+    fn ping<R: Wait>(&self, rt: &R) -> bool {
+        let mut down = Vec::new(self.alloc);
+        let mut relay = self.relay.lock(rt);
+        relay.ping(&mut down);
+        self.send(&mut relay, down.as_slice())
+    }
+
+    /// Sends the browser what the relay made, whose lock is held. Where that fails the browser is
+    /// gone: a part of a frame may have left, so nothing may follow. Tells whether the relay goes on.
+    fn send(&self, relay: &mut Relay, down: &[u8]) -> bool {
+        let mut browser = &self.browser;
+        if !down.is_empty() && browser.write_all(down).is_err() {
+            let mut nothing = Vec::new(self.alloc);
+            relay.close(Side::Browser, &mut nothing);
+            let _outcome = self.browser.shutdown(Shutdown::Both);
+        }
+        relay.end().is_none()
+    }
+}
+
+/// Ends the sending side, and throws away what still comes until the peer ends its own, for a while:
+/// a socket that is closed with bytes unread takes back what the peer hasn't read yet.
+pub fn linger<R: Clock>(rt: &R, mut stream: &TcpStream) {
+    let _outcome = stream.shutdown(Shutdown::Write);
+    let Some(deadline) = Deadline::after(rt, LINGER_SECONDS) else {
+        return;
+    };
+    let mut piece = [0u8; 4_096];
+    for _ in 0..LINGER_READS {
+        if !deadline.set(rt, stream) {
+            return;
+        }
+        match stream.read(&mut piece) {
+            Ok(0) | Err(_) => return,
+            Ok(_) => {}
+        }
+    }
+}

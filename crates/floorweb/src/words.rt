@@ -1,0 +1,102 @@
+//! The words that the program is called with.
+
+use clap::error::ErrorKind;
+use clap::{Arg, ArgAction, ArgMatches, Command, Error};
+use std::alloc::Global;
+
+/// What the words say.
+#[derive(Debug, Drop)]
+pub struct Words {
+    /// Where to listen.
+    pub address: String,
+    /// The server's configuration.
+    pub config: String,
+    /// The page's folder.
+    pub folder: String,
+    /// The origins that are allowed by name.
+    pub origins: Vec<String>,
+    /// Whether each connection that joins, is refused or leaves is told.
+    pub is_logging: bool,
+}
+
+/// Why the words say nothing.
+#[derive(Debug, Drop)]
+pub enum WordsFault {
+    /// The text that help has.
+    Help(String),
+    /// The text that says what is wrong.
+    Refused(String),
+    /// Memory was refused.
+    Memory,
+}
+
+/// What the words say; the first of them is the program's own name.
+pub fn parse_words(alloc: Global, words: &[String]) -> Result<Words, WordsFault> {
+    match parsed(alloc, words) {
+        Ok(words) => Ok(words),
+        Err(error) => Err(fault_of(alloc, error)),
+    }
+}
+
+fn parsed(alloc: Global, words: &[String]) -> Result<Words, Error> {
+    let matches = command(alloc)?.try_get_matches_from(words)?;
+    let mut origins = Vec::new(alloc);
+    if let Some(listed) = matches.get_strs("origin") {
+        for origin in listed {
+            origins.push(String::from_str(alloc, *origin)?)?;
+        }
+    }
+    Ok(Words {
+        address: text(alloc, &matches, "address")?,
+        config: text(alloc, &matches, "config")?,
+        folder: text(alloc, &matches, "folder")?,
+        origins,
+        is_logging: matches.get_flag("log"),
+    })
+}
+
+fn command<'a>(alloc: Global) -> Result<Command<'a>, Error> {
+    let command = Command::new(alloc, "floorweb")
+        .about("Lets browsers take part in the conferences of a floor control server (RFC 8857).")
+        .arg(required(alloc, "address", "Where to listen, as 127.0.0.1:7080."))?
+        .arg(required(
+            alloc,
+            "config",
+            "The server's configuration (TOML); a user's token stands beside the port.",
+        ))?
+        .arg(required(alloc, "folder", "The folder of the page."))?
+        .arg(
+            Arg::new(alloc, "origin")
+                .long("origin")
+                .action(ArgAction::Append)
+                .help("An origin whose pages may connect, as https://meet.example.com."),
+        )?
+        .arg(
+            Arg::new(alloc, "log")
+                .long("log")
+                .action(ArgAction::SetTrue)
+                .help("Tells on standard error who joins, is refused and leaves."),
+        )?;
+    Ok(command)
+}
+
+/// A word that has to be there.
+fn required<'a>(alloc: Global, id: &'a str, help: &'a str) -> Arg<'a> {
+    Arg::new(alloc, id).required(true).help(help)
+}
+
+fn text(alloc: Global, matches: &ArgMatches<'_>, id: &str) -> Result<String, Error> {
+    Ok(String::from_str(alloc, matches.get_str(id).unwrap_or(""))?)
+}
+
+fn fault_of(alloc: Global, error: Error) -> WordsFault {
+    let kind = error.kind();
+    let Ok(text) = error.to_string(alloc) else {
+        return WordsFault::Memory;
+    };
+    match kind {
+        ErrorKind::DisplayHelp => WordsFault::Help(text),
+        ErrorKind::OutOfMemory => WordsFault::Memory,
+        _ => WordsFault::Refused(text),
+    }
+}
