@@ -146,10 +146,7 @@ impl Conferences {
 
     fn leave(&mut self, connection: u64) -> Result<(), HubRefusal> {
         self.hub.leave(connection)?;
-        match self.attached.conference_of(connection) {
-            Some(conference) => self.attached.remove(conference, connection),
-            None => {}
-        }
+        self.attached.forget(connection);
         Ok(())
     }
 

@@ -1,12 +1,15 @@
 //! A text as a configuration and the lines of a script.
 
+ghost use Rattle.std.specs.Prelude.{◌≡◌, ◌+◌, ◌^◌, ◌<◌, [], ◌∷◌, length, IfSome, IsNone, MatchOption};
+ghost use Rattle.std.specs.Str.Lines.{lines};
+ghost use Rattle.std.specs.Option.{option_map};
+ghost use Rattle.floor_words.specs.Lines.{behind, first_line};
+ghost use Rattle.floor_script.specs.Script.{configuration_of, lines_passed, script_of, is_divider};
+
 use floor_words::cut_line;
 
 /// How often a loop over the input turns at most.
 pub const MAX_TURNS: u32 = 100_000_000;
-
-/// The line that divides a configuration from a script.
-const DIVIDER: &str = "---";
 
 /// A line, with its number in the whole text, counted from 1.
 #[derive(Clone, Copy, Debug)]
@@ -22,10 +25,14 @@ pub struct Lines<'a> {
     read: u64,
     /// What follows them.
     rest: &'a str,
+    ghost counted: { read + length rest.now < 2 ^ 64 },
 }
 
 impl<'a> Lines<'a> {
-    fn of_text(text: &'a str) -> Lines<'a> {
+    fn of_text(text: &'a str) -> Lines<'a>
+        ensures read { result.read ≡ 0 }
+        ensures rest { result.rest.now ≡ text.now }
+    {
         Lines {
             read: 0,
             rest: text,
@@ -33,9 +40,20 @@ impl<'a> Lines<'a> {
     }
 
     /// The next line. A carriage return before its line feed is dropped.
-    pub fn cut(&mut self) -> Option<Line<'a>> {
+    pub fn cut(&mut self) -> Option<Line<'a>>
+        ensures line { MatchOption result (self.old.rest.now ≡ [])
+            (λ line. (line.number ≡ self.old.read + 1)
+            × (line.text.now ≡ first_line self.old.rest.now)) }
+        ensures next { IfSome result (λ _. (self.new.read ≡ self.old.read + 1)
+            × (self.new.rest.now ≡ behind self.old.rest.now)) }
+        ensures lines { IfSome result (λ line. lines self.old.rest.now
+            ≡ line.text.now ∷ lines self.new.rest.now) }
+        ensures shorter { IfSome result
+            (λ _. length self.new.rest.now < length self.old.rest.now) }
+        ensures none { IsNone result → self.new ≡ self.old }
+    {
         let cut = cut_line(self.rest)?;
-        self.read = self.read.saturating_add(1);
+        self.read += 1;
         self.rest = cut.rest;
         Some(Line {
             number: self.read,
@@ -53,33 +71,38 @@ pub struct Script<'a> {
 
 impl<'a> Script<'a> {
     /// The script of a text. The first line that is the divider ends the configuration.
-    pub fn of_text(text: &'a str) -> Script<'a> {
+    pub fn of_text(text: &'a str) -> Script<'a>
+        ensures configuration { option_map (λ c. c.now) result.configuration
+            ≡ configuration_of text.now }
+        ensures lines { result.lines.rest.now ≡ script_of text.now }
+        ensures numbers { result.lines.read ≡ lines_passed text.now }
+    {
         let mut lines = Lines::of_text(text);
-        for _ in 0..MAX_TURNS {
-            let left = lines.rest.len();
+        loop {
+            let left = lines.rest;
             match lines.cut() {
-                None => break,
-                Some(line) if line.text == DIVIDER => {
+                None => {
                     return Script {
-                        configuration: Some(without_end(text, left)),
-                        lines,
+                        configuration: None,
+                        lines: Lines::of_text(text),
                     };
                 }
-                Some(_) => {}
+                Some(line) => {
+                    if is_divider(line.text) {
+                        return Script {
+                            configuration: text.strip_suffix(left),
+                            lines,
+                        };
+                    }
+                }
             }
-        }
-        Script {
-            configuration: None,
-            lines: Lines::of_text(text),
         }
     }
 }
 
-/// A text without so many bytes at its end, which are whole lines.
-fn without_end(text: &str, count: usize) -> &str {
-    let bytes = text.as_bytes();
-    match bytes.get(..bytes.len().saturating_sub(count)) {
-        None => text,
-        Some(front) => std::str::from_utf8(front).unwrap_or(text),
-    }
+/// Whether a line divides a configuration from a script.
+fn is_divider(line: &str) -> bool
+    ensures { result ≡ is_divider line.now }
+{
+    line == "---"
 }
