@@ -3,41 +3,15 @@
    for, the most that one asked for, and the most bytes that were held at one time (as the C library
    rounds them). Allocations of the C library for its own use, as those of a thread's start, are counted
    alike. */
-#define _GNU_SOURCE
-#include <errno.h>
-#include <fcntl.h>
-#include <malloc.h>
-#include <stdatomic.h>
-#include <stdio.h>
-#include <stdlib.h>
-#include <string.h>
-#include <sys/syscall.h>
-#include <unistd.h>
-
-extern void *__libc_malloc(size_t);
-extern void *__libc_calloc(size_t, size_t);
-extern void *__libc_realloc(void *, size_t);
-extern void *__libc_memalign(size_t, size_t);
-extern void __libc_free(void *);
+#include "allocations.h"
 
 static atomic_long made, asked, largest, held, most;
 
-__attribute__((destructor)) static void tell(void) {
-    const char *path = getenv("COUNTED");
-    if (!path)
-        return;
-    char text[128];
-    int count = snprintf(text, sizeof text, "%ld %ld %ld %ld\n", atomic_load(&made), atomic_load(&asked),
-                         atomic_load(&largest), atomic_load(&most));
-    int file = open(path, O_WRONLY | O_CREAT | O_TRUNC, 0600);
-    if (file >= 0 && write(file, text, count) == count)
-        close(file);
-}
-
-void _exit(int status) {
-    tell();
-    for (;;)
-        syscall(SYS_exit_group, status);
+static void tell(void) {
+    char line[128];
+    snprintf(line, sizeof line, "%ld %ld %ld %ld\n", atomic_load(&made), atomic_load(&asked),
+             atomic_load(&largest), atomic_load(&most));
+    tell_line("COUNTED", line);
 }
 
 static void raise_to(atomic_long *place, long value) {
@@ -75,18 +49,6 @@ void *realloc(void *old, size_t size) {
 
 void *memalign(size_t alignment, size_t size) {
     return counted(__libc_memalign(alignment, size), size);
-}
-
-void *aligned_alloc(size_t alignment, size_t size) {
-    return memalign(alignment, size);
-}
-
-int posix_memalign(void **place, size_t alignment, size_t size) {
-    void *block = memalign(alignment, size);
-    if (!block)
-        return ENOMEM;
-    *place = block;
-    return 0;
 }
 
 void free(void *block) {

@@ -24,6 +24,7 @@ import tempfile
 import threading
 import time
 
+import server
 from server import FIRST_PORT, Server, hello
 
 PORT = FIRST_PORT + 180
@@ -128,12 +129,7 @@ class Gateway:
 
 def connect(narrow=False):
     """A connection; of what a narrow one doesn't read the sockets hold some 100 kB."""
-    stream = socket.socket()
-    if narrow:
-        stream.setsockopt(socket.SOL_SOCKET, socket.SO_RCVBUF, 4_096)
-        stream.setsockopt(socket.IPPROTO_TCP, socket.TCP_MAXSEG, 536)
-    stream.connect(('127.0.0.1', PORT))
-    stream.setsockopt(socket.IPPROTO_TCP, socket.TCP_NODELAY, 1)
+    stream = server.connect(PORT, narrow)
     stream.settimeout(90)
     return stream
 
@@ -682,48 +678,62 @@ def through_tls(name, place):
 
 # Allocations
 
+# By each library: what it refuses, in which forms, and by which faults a run may end early by it.
+REFUSING = (
+    ('refused', 'allocation', ('%d', '%d-'), ('Memory', 'CannotListen', 'CannotRead')),
+    ('refused_calls', 'read, write or accept', ('%d',), ('CannotRead', 'CannotWrite', 'NoPage')),
+)
+
+
 def refused(program, folder):
     """One allocation is refused, and all from one on: the first, the second, up to as many as a run makes.
+    So is one read, write or accept.
 
-    A run ends by itself. What it answers is whole, or the connection ends; where one allocation alone is
+    A run ends by itself. What it answers is whole, or the connection ends; where one call alone is
     refused, whoever comes again is answered. Where it ends early it names the fault."""
     here = os.path.dirname(os.path.abspath(__file__))
-    with tempfile.TemporaryDirectory() as place:
-        subprocess.run(['cc', '-O2', '-shared', '-fPIC', '-o', place + '/refused.so', here + '/refused.c'], check=True)
-
-        def run(which):
+    for library, what, forms, faults in REFUSING:
+        with tempfile.TemporaryDirectory() as place:
+            path = '%s/%s.so' % (place, library)
+            subprocess.run(['cc', '-O2', '-shared', '-fPIC', '-o', path, '%s/%s.c' % (here, library)], check=True)
             count = place + '/count'
-            gateway = Gateway(program, folder, configuration(), '--log', address='127.0.0.1:%d' % (PORT + 3),
-                              variables={'LD_PRELOAD': place + '/refused.so', 'REFUSE': which, 'REFUSE_COUNT': count})
-            heard = []
-            if gateway.process.stdout.readline() == b'ready\n':
-                heard = [page_and_hello(), page_and_hello()]
-            status, _, errors = gateway.end()
-            rows = errors.splitlines()
-            if status == 0 and heard:
-                return 'well' if heard == [('page', 'hello')] * 2 else 'served in part', heard
-            if status == 1 and rows[-1:] and rows[-1] in ('floorweb: Memory', 'floorweb: CannotListen', 'floorweb: CannotRead'):
-                return rows[-1].split()[1], heard
-            return 'WRONG: %d, %r' % (status, errors), heard
 
-        end, _ = run('0')
-        check('allocations: none is refused', end, 'well')
-        with open(place + '/count') as file:
-            made = int(file.read())
-        for form in ('%d', '%d-'):
-            ends = collections.Counter()
-            for number in range(1, made + 10):
-                end, heard = run(form % number)
-                ends[end] += 1
-                names = [name for pair in heard for name in pair]
-                check('allocation %s refused: its end' % (form % number), end.startswith('WRONG'), False)
-                check('allocation %s refused: its answers' % (form % number), [n for n in names if n.startswith('WRONG')], [])
-                if form == '%d' and heard:
-                    check('allocation %d refused: who comes again' % number,
-                          ('page' in names, 'hello' in names), (True, True))
-            print('%d allocations, %s: %s' % (
-                made, 'one is refused' if form == '%d' else 'all from one on are refused',
-                ', '.join('%d %s' % (count, end) for end, count in ends.most_common())))
+            def run(which):
+                return refused_run(program, folder, faults, {'LD_PRELOAD': path, 'REFUSE': which, 'REFUSE_COUNT': count})
+
+            end, _ = run('0')
+            check('%s: none is refused' % what, end, 'well')
+            with open(count) as file:
+                made = int(file.read())
+            for form in forms:
+                ends = collections.Counter()
+                for number in range(1, made + 10):
+                    end, heard = run(form % number)
+                    ends[end] += 1
+                    names = [name for pair in heard for name in pair]
+                    case = '%s %s refused: ' % (what, form % number)
+                    check(case + 'its end', end.startswith('WRONG'), False)
+                    check(case + 'its answers', [n for n in names if n.startswith('WRONG')], [])
+                    if form == '%d' and heard:
+                        check(case + 'who comes again', ('page' in names, 'hello' in names), (True, True))
+                print('%s, %d, %s: %s' % (
+                    what, made, 'one is refused' if form == '%d' else 'all from one on are refused',
+                    ', '.join('%d %s' % (count, end) for end, count in ends.most_common())))
+
+
+def refused_run(program, folder, faults, variables):
+    """How a run ends of which something is refused, and what became of whoever came to it twice."""
+    gateway = Gateway(program, folder, configuration(), '--log', address='127.0.0.1:%d' % (PORT + 3), variables=variables)
+    heard = []
+    if gateway.process.stdout.readline() == b'ready\n':
+        heard = [page_and_hello(), page_and_hello()]
+    status, _, errors = gateway.end()
+    rows = errors.splitlines()
+    if status == 0 and heard:
+        return 'well' if heard == [('page', 'hello')] * 2 else 'served in part', heard
+    if status == 1 and rows[-1:] and rows[-1].removeprefix('floorweb: ') in faults:
+        return rows[-1].split()[1], heard
+    return 'WRONG: %d, %r' % (status, errors), heard
 
 
 def page_and_hello():
