@@ -24,8 +24,8 @@ pub enum Step {
     Open,
     /// A user joins.
     Join(u16),
-    /// The member with this number sends a message.
-    Send(u32, [u8; 16]),
+    /// The member with this number sends a message, so many times.
+    Send(u32, [u8; 16], u32),
     /// So many parcels to a member were brought to their end.
     Took(u32, u32),
     Revoke(u16),
@@ -33,21 +33,31 @@ pub enum Step {
     Close,
 }
 
-/// Users 10 and 11 ask for floor 1, and user 12 how request 1 stands. Then the request is revoked, which
-/// tells two of them.
+/// Users 10 and 11 ask for floor 1, and user 12 how request 1 stands, so often that its outbox needs a second
+/// block of 31 parcels. Then the request is revoked, which tells two of them.
 pub const STEPS: [Step; 11] = [
     Step::Open,
     Step::Join(10),
     Step::Join(11),
     Step::Join(12),
-    Step::Send(1, [0x20, 1, 0, 1, 0, 0, 0, 0, 0, 1, 0, 10, 4, 4, 0, 1]),
-    Step::Send(2, [0x20, 1, 0, 1, 0, 0, 0, 0, 0, 1, 0, 11, 4, 4, 0, 1]),
-    Step::Send(3, [0x20, 3, 0, 1, 0, 0, 0, 0, 0, 1, 0, 12, 6, 4, 0, 1]),
+    Step::Send(1, [0x20, 1, 0, 1, 0, 0, 0, 0, 0, 1, 0, 10, 4, 4, 0, 1], 1),
+    Step::Send(2, [0x20, 1, 0, 1, 0, 0, 0, 0, 0, 1, 0, 11, 4, 4, 0, 1], 1),
+    Step::Send(3, [0x20, 3, 0, 1, 0, 0, 0, 0, 0, 1, 0, 12, 6, 4, 0, 1], 32),
     Step::Took(3, 1),
     Step::Revoke(1),
     Step::Leave(2),
     Step::Close,
 ];
+
+impl Step {
+    /// How often it is done.
+    pub fn times(&self) -> u32 {
+        match self {
+            Step::Send(_, _, times) => *times,
+            _ => 1,
+        }
+    }
+}
 
 /// A message with the number of a conference put in.
 pub fn message_in(conference: u32, message: [u8; 16]) -> [u8; 16] {

@@ -15,7 +15,7 @@ use std::sync::Wait;
 /// How many members join, and how many parcels wait for one of them, at most.
 const MAX_MEMBERS: usize = 6;
 
-const MAX_PARCELS: u32 = 16;
+const MAX_PARCELS: u32 = 64;
 
 /// Two conferences, and the seats of all that joined, with what takes the parcels of each at the same
 /// place.
@@ -72,7 +72,9 @@ impl Server {
         errors: &mut E,
     ) -> Result<(), Ended> {
         for conference in CONFERENCES {
-            self.play_twice(rt, conference, step, errors)?;
+            for _ in 0..step.times() {
+                self.play_twice(rt, conference, step, errors)?;
+            }
             self.print(rt, conference, output)?;
         }
         Ok(())
@@ -102,7 +104,7 @@ impl Server {
         match step {
             Step::Open => self.open(rt, conference),
             Step::Join(user) => self.join(rt, conference, user),
-            Step::Send(n, message) => match seat_of(&mut self.seats, conference, n) {
+            Step::Send(n, message, _) => match seat_of(&mut self.seats, conference, n) {
                 Some(seat) => send(rt, &self.registry, seat, &message_in(conference, message)),
                 None => Ok(()),
             },
