@@ -13,6 +13,8 @@ mod head;
 mod log;
 mod pair;
 mod run;
+#[cfg(test)]
+mod tests;
 mod words;
 
 use crate::fault::GatewayFault;
