@@ -1,6 +1,7 @@
 //! Where each fault of a configuration stands.
 
 use crate::diagnosis::diagnose;
+use crate::unknown::unknown_keys;
 use std::alloc::{AllocError, Global};
 use std::fmt::Write;
 
@@ -279,5 +280,98 @@ id = 2
 fn of_a_configuration_nothing_is_told(rt: HostRuntime) -> Result<(), AllocError> {
     let none = diagnose(rt.alloc(), RIGHT)?.is_none();
     assert!(rt; none);
+    Ok(())
+}
+
+/// Texts, and the keys that say nothing, each with its line.
+const UNKNOWN: &str = r#"== none
+[[conference]]
+id = 1
+=>
+== one at the head and one in each table
+name = "Friday"
+[[conference]]
+id = 1
+# A comment.
+
+limits = 4
+[[conference.user]]
+id = 10
+[[conference.user]]
+id = 11
+nmae = """
+Ann
+Bob"""
+[[conference.floor]]
+room = 1
+id = 1
+chiar = 10
+[[conference]]
+title = "Saturday"
+id = 2
+=> 1 name/6 conference 1: limits/11 conference 1, user 2: nmae/17 conference 1, floor 1: chiar/19 conference 2: title
+== tables within
+[server]
+port = 1
+[[conference]]
+id = 1
+[[conference.user]]
+id = 10
+[conference.user.home]
+phone = 1
+=> 1 server/7 conference 1, user 1: home
+== inline, over several lines
+conference = [
+  {id = 1, user = [{id = 10, uid = 1}]},
+  {id = 2, room = 1},
+]
+topic = 1
+=> 1 conference 1, user 1: uid/1 conference 2: room/5 topic
+== no TOML
+[[conference
+=>
+== of another kind
+conference = {ids = 1}
+=>
+== a key that has to be quoted
+"a b" = 1
+conference = []
+=> 1 a b"#;
+
+/// What is told of the keys of a text, in the order of their lines.
+fn keys_of(alloc: Global, text: &str) -> Result<String, AllocError> {
+    let mut told = String::new(alloc);
+    let mut keys = unknown_keys(alloc, text)?;
+    keys.sort_by_key(|key| key.line)?;
+    for key in keys {
+        let between = if told.is_empty() { " " } else { "/" };
+        let line = key.line.unwrap_or(0);
+        write!(told, "{between}{line} {}", key.place.as_str())?;
+    }
+    Ok(told)
+}
+
+/// The cases of which other keys are told than stand there, with what is told, and how many cases there
+/// are.
+fn other_keys(alloc: Global) -> Result<String, AllocError> {
+    let mut lines = String::new(alloc);
+    let mut count = 0u32;
+    for case in UNKNOWN.split("\n== ") {
+        let (about, wanted) = case.split_once("\n=>").unwrap_or((case, ""));
+        let (_name, text) = about.split_once('\n').unwrap_or((about, ""));
+        let told = keys_of(alloc, text)?;
+        if told.as_str() != wanted {
+            write!(lines, "{case}, and not{}\n", told.as_str())?;
+        }
+        count = count.saturating_add(1);
+    }
+    write!(lines, "{count} cases")?;
+    Ok(lines)
+}
+
+#[test]
+fn keys_that_say_nothing_are_told_with_their_lines(rt: HostRuntime) -> Result<(), AllocError> {
+    let told = other_keys(rt.alloc())?;
+    assert_eq!(rt; told.as_str(), "7 cases");
     Ok(())
 }

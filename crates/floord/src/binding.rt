@@ -3,13 +3,16 @@
 ghost use Rattle.std.specs.Prelude.{◌≡◌, is_some};
 
 use crate::connections::Connections;
+use crate::entry::{Entry, UserPort};
+use crate::log::Log;
 use crate::socket::Socket;
 use floor_listen::{Begun, Gone, Unserved};
-use floor_serve::{Desk, Gate, Registry, Seat};
+use floor_serve::{Desk, DeskRefusal, Gate, Registry, Seat};
 use std::alloc::Global;
 use std::sync::atomic::{AtomicBool, Ordering};
 use std::sync::{Arc, Wait};
 use std::thread::Parker;
+use std::time::Clock;
 
 /// What all ports of a server share.
 #[derive(Drop)]
@@ -17,15 +20,26 @@ pub struct Shared<G> {
     pub registry: Registry,
     pub connections: Connections,
     pub gate: G,
+    /// The log, where one is asked for.
+    pub log: Option<Arc<Log, Global>>,
 }
 
 impl<G> Shared<G> {
     /// What the ports of a server share that opened nothing yet.
-    pub fn new(alloc: Global, gate: G) -> Shared<G> {
+    pub fn new(alloc: Global, gate: G, log: Option<Arc<Log, Global>>) -> Shared<G> {
         Shared {
             registry: Registry::new(alloc),
             connections: Connections::new(alloc),
             gate,
+            log,
+        }
+    }
+
+    /// Tells the log, where there is one.
+    pub fn tell<R: Wait + Clock>(&self, rt: &R, entry: &Entry) {
+        match &self.log {
+            Some(log) => log.tell(rt, entry),
+            None => {}
         }
     }
 }
@@ -71,8 +85,30 @@ impl<G> Binding<G> {
     }
 
     /// The desk of the conference, where it is open and memory can be had.
-    pub fn desk<R: Wait>(&self, rt: &R) -> Option<Desk> {
-        self.shared.registry.desk(rt, self.conference).ok()
+    pub fn desk<R: Wait>(&self, rt: &R) -> Result<Desk, DeskRefusal> {
+        self.shared.registry.desk(rt, self.conference)
+    }
+
+    /// The port, and whom it leads to.
+    pub fn place(&self) -> UserPort {
+        UserPort {
+            conference: self.conference,
+            user: self.user,
+            port: self.port,
+        }
+    }
+
+    /// The log, where one is asked for.
+    pub fn log(&self) -> Option<&Log> {
+        match &self.shared.log {
+            Some(log) => Some(&**log),
+            None => None,
+        }
+    }
+
+    /// Tells the log, where there is one.
+    pub fn tell<R: Wait + Clock>(&self, rt: &R, entry: &Entry) {
+        self.shared.tell(rt, entry);
     }
 
     /// Lets no further connection begin.

@@ -12,13 +12,15 @@ use std::sync::Wait;
 use std::thread::Threads;
 use std::time::Clock;
 
-/// Answers each line until the server has stopped.
-pub fn answer_lines<G, R, I: Read, O: Write>(
+/// Answers each line until the server has stopped. Of what is refused `errors` is told why, where there is
+/// more to say than the answer does.
+pub fn answer_lines<G, R, I: Read, O: Write, E: Write>(
     rt: R,
     alloc: Global,
     server: &mut Server<G, R>,
     input: &mut I,
     output: &mut O,
+    errors: &mut E,
 ) -> Result<(), ServerFault>
 where
     G: Gate + Send + Sync + Drop + 'static,
@@ -45,6 +47,7 @@ where
         };
         let command = parse_line(alloc, line);
         server.prepare(&command);
+        tell(errors, server.take_told());
         let text = run_command(alloc, server, command)?;
         print(output, text.as_str())?;
         if server.outcome().is_some() {
@@ -52,6 +55,16 @@ where
         }
     }
     Ok(())
+}
+
+/// Prints a line for a person, where there is one. Where it can't be printed it is lost.
+pub fn tell<E: Write>(errors: &mut E, line: Option<String>) {
+    match line {
+        None => {}
+        Some(line) => {
+            let _written = writeln!(errors, "{}", line.as_str());
+        }
+    }
 }
 
 /// Prints a text at once.

@@ -6,11 +6,16 @@
 #![tactic(auto)]
 
 mod binding;
+mod check;
 mod connection;
 mod connections;
+mod departure;
+mod entry;
 mod fault;
 mod lines;
+mod log;
 mod port;
+mod reason;
 mod run;
 mod server;
 mod socket;
@@ -44,6 +49,7 @@ fn main(rt: HostRuntime) -> ExitCode {
         &mut rt.stdin(),
         &mut rt.stdout(),
         &mut rt.stderr(),
+        rt.stderr(),
     ))
 }
 

@@ -4,11 +4,11 @@ ghost use Rattle.std.specs.Iterator.{IsFinite};
 
 use crate::binding::Binding;
 use crate::connection;
-use floor_console::BoardRefusal;
+use crate::entry::Entry;
+use crate::reason::PortFault;
 use floor_listen::{Accepting, after_accept, listening_address};
 use floor_serve::Gate;
 use std::alloc::Global;
-use std::io::ErrorKind;
 use std::net::{Net, Shutdown, TcpListener, TcpStream};
 use std::os::fd::OwnedFd;
 use std::sync::{Arc, Wait};
@@ -26,13 +26,13 @@ pub struct Port<G> {
 }
 
 impl<G> Port<G> {
-    /// Listens on the binding's port of 127.0.0.1. Refused by `CannotListen` or `Memory`.
+    /// Listens on the binding's port of 127.0.0.1.
     pub fn open<R>(
         rt: R,
         alloc: Global,
         binding: Binding<G>,
         number: u16,
-    ) -> Result<Port<G>, BoardRefusal>
+    ) -> Result<Port<G>, PortFault>
     where
         G: Gate + Send + Sync + Drop + 'static,
         R: Net<Listener = TcpListener, Stream = TcpStream>
@@ -45,7 +45,7 @@ impl<G> Port<G> {
             + 'static,
     {
         let Ok(binding) = Arc::new(alloc, binding) else {
-            return Err(BoardRefusal::Memory);
+            return Err(PortFault::Memory);
         };
         let theirs = Arc::try_clone(&binding)?;
         let (listener, second) = listen(rt, number)?;
@@ -53,12 +53,15 @@ impl<G> Port<G> {
             &rt,
             move || accept_all(rt, alloc, &theirs, listener.incoming()),
         ) {
-            Ok(acceptor) => Ok(Port {
-                binding,
-                listener: second,
-                acceptor,
-            }),
-            Err(_) => Err(BoardRefusal::CannotListen),
+            Ok(acceptor) => {
+                binding.tell(&rt, &Entry::Listens(binding.place()));
+                Ok(Port {
+                    binding,
+                    listener: second,
+                    acceptor,
+                })
+            }
+            Err(_) => Err(PortFault::NoThread),
         }
     }
 
@@ -72,7 +75,7 @@ impl<G> Port<G> {
 
     /// Closes it: it isn't listened on any more, so that it can be used again, and none of its
     /// connections runs.
-    pub fn close<R: Threads + Wait>(self, rt: &R)
+    pub fn close<R: Clock + Threads + Wait>(self, rt: &R)
     where
         G: Drop,
     {
@@ -86,29 +89,22 @@ impl<G> Port<G> {
         // Also what the acceptor still began.
         binding.shut_down(rt);
         binding.wait(rt);
+        binding.tell(rt, &Entry::Ended(binding.place()));
     }
 }
 
 /// Listens on the port, and gives the listener with a second handle of it.
-fn listen<R>(rt: R, number: u16) -> Result<(TcpListener, TcpStream), BoardRefusal>
+fn listen<R>(rt: R, number: u16) -> Result<(TcpListener, TcpStream), PortFault>
 where
     R: Net<Listener = TcpListener, Stream = TcpStream> + Drop,
 {
     let listener = match TcpListener::bind(&rt, listening_address(number)) {
         Ok(listener) => listener,
-        Err(error) => return Err(refusal_of(&error)),
+        Err(error) => return Err(PortFault::System(error)),
     };
     match listener.try_clone() {
         Ok(second) => Ok((listener, TcpStream::from(OwnedFd::from(second)))),
-        Err(error) => Err(refusal_of(&error)),
-    }
-}
-
-/// Why a port can't be had.
-fn refusal_of(error: &io::Error) -> BoardRefusal {
-    match error.kind() {
-        ErrorKind::OutOfMemory => BoardRefusal::Memory,
-        _ => BoardRefusal::CannotListen,
+        Err(error) => Err(PortFault::System(error)),
     }
 }
 
@@ -122,16 +118,30 @@ where
     requires can { I.can_next incoming }
     requires ends { IsFinite (I.remaining incoming) }
 {
+    let mut is_failing = false;
     for accepted in incoming {
         match after_accept(binding.is_ending(), accepted) {
             Accepting::End => return,
             Accepting::Start(stream) => {
+                tell_change(&rt, binding, is_failing, false);
+                is_failing = false;
                 // Where it can't be served its socket is closed.
                 let _outcome = connection::start(rt, alloc, binding, stream);
             }
             Accepting::Again(milliseconds) => {
+                tell_change(&rt, binding, is_failing, true);
+                is_failing = true;
                 thread::sleep(&rt, Duration::from_millis(milliseconds));
             }
         }
+    }
+}
+
+/// Tells the log where a port can't accept any more, and where it can again.
+fn tell_change<G, R: Clock + Wait>(rt: &R, binding: &Binding<G>, was_failing: bool, fails: bool) {
+    match (was_failing, fails) {
+        (false, true) => binding.tell(rt, &Entry::CannotAccept(binding.place())),
+        (true, false) => binding.tell(rt, &Entry::Accepts(binding.place())),
+        (true, true) | (false, false) => {}
     }
 }

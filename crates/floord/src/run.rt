@@ -4,10 +4,13 @@ ghost use Rattle.std.specs.Prelude.{◌≡◌};
 ghost use Rattle.floor_listen.specs.Ending.{status_of};
 
 use crate::binding::Shared;
+use crate::check::check;
 use crate::fault::{fault_of_opening, fault_of_stop};
+use crate::lines;
 use crate::lines::{answer_lines, print};
+use crate::log::Log;
 use crate::server::Server;
-use crate::words::{WordsFault, configuration_path};
+use crate::words::{Task, Words, WordsFault, read_words};
 use floor_console::Board;
 use floor_listen::{Ending, ServerFault, after_help, ended};
 use floor_serve::{FreePass, Gate};
@@ -19,8 +22,9 @@ use std::sync::{Arc, Wait};
 use std::thread::Threads;
 use std::time::Clock;
 
-/// Serves the configuration that the words name until `input` says `stop` or ends, prints the name
-/// of a fault to `errors`, and gives the exit status.
+/// Does what the words ask for: serves a configuration until `input` says `stop` or ends, or checks one.
+/// A log that the words ask for goes to the sink. Prints to `errors` the name of a fault, and above it what
+/// a person is told of it, and gives the exit status.
 pub fn run<
     R: Net<Listener = TcpListener, Stream = TcpStream>
         + Files
@@ -35,8 +39,17 @@ pub fn run<
     I: Read,
     O: Write,
     E: Write,
->(rt: R, alloc: Global, words: &[String], input: &mut I, output: &mut O, errors: &mut E) -> u8 {
-    run_with(rt, alloc, words, input, output, errors, FreePass)
+    L: Write + Send + Drop + 'static,
+>(
+    rt: R,
+    alloc: Global,
+    words: &[String],
+    input: &mut I,
+    output: &mut O,
+    errors: &mut E,
+    sink: L,
+) -> u8 {
+    run_with(rt, alloc, words, input, output, errors, sink, FreePass)
 }
 
 /// The same with a gate, which each connection's thread passes while it holds its conference.
@@ -55,6 +68,7 @@ pub fn run_with<
     I: Read,
     O: Write,
     E: Write,
+    L: Write + Send + Drop + 'static,
 >(
     rt: R,
     alloc: Global,
@@ -62,16 +76,26 @@ pub fn run_with<
     input: &mut I,
     output: &mut O,
     errors: &mut E,
+    sink: L,
     gate: G,
 ) -> u8
 where
     G: Gate + Send + Sync + Drop + 'static,
 {
-    let ending = match configuration_path(alloc, words) {
-        Ok(path) => {
-            let shared = Shared::new(alloc, gate);
-            serve(rt, alloc, path.as_str(), input, output, shared)
-        }
+    let ending = match read_words(alloc, words) {
+        Ok(
+            Words {
+                task,
+                path,
+                has_log,
+            },
+        ) => match task {
+            Task::Serve => {
+                let shared = Shared::new(alloc, gate, log_of(rt, alloc, has_log, sink));
+                serve(rt, alloc, path.as_str(), input, output, errors, shared)
+            }
+            Task::Check => check(&rt, alloc, path.as_str(), output),
+        },
         Err(WordsFault::Help(text)) => after_help(print(output, text.as_str())),
         Err(WordsFault::Refused(text)) => {
             let _outcome = print(errors, text.as_str());
@@ -80,6 +104,19 @@ where
         Err(WordsFault::Memory) => Ending::Fault(ServerFault::Memory),
     };
     tell(errors, ending)
+}
+
+/// The log, where one is asked for and there are memory and a thread for it.
+fn log_of<R, L>(rt: R, alloc: Global, has_log: bool, sink: L) -> Option<Arc<Log, Global>>
+where
+    R: Threads + Wait + Copy + Drop + Send + 'static,
+    L: Write + Send + Drop + 'static,
+{
+    if has_log {
+        Log::start(rt, alloc, sink)
+    } else {
+        None
+    }
 }
 
 /// Serves the configuration of a file until `input` says `stop` or ends, by ports that share this.
@@ -97,7 +134,16 @@ pub fn serve<
         + 'static,
     I: Read,
     O: Write,
->(rt: R, alloc: Global, path: &str, input: &mut I, output: &mut O, shared: Shared<G>) -> Ending
+    E: Write,
+>(
+    rt: R,
+    alloc: Global,
+    path: &str,
+    input: &mut I,
+    output: &mut O,
+    errors: &mut E,
+    shared: Shared<G>,
+) -> Ending
 where
     G: Gate + Send + Sync + Drop + 'static,
 {
@@ -105,12 +151,13 @@ where
         return Ending::Fault(ServerFault::Memory);
     };
     let mut server = Server::new(rt, alloc, shared);
-    let served = converse(rt, alloc, &mut server, path, input, output);
+    let served = converse(rt, alloc, &mut server, path, input, output, errors);
     // Whatever went wrong, no thread is left behind.
     let outcome = match server.outcome() {
         Some(outcome) => outcome,
         None => server.stop(),
     };
+    server.end_log();
     let stopped = match outcome {
         Ok(_) => Ok(()),
         Err(refusal) => Err(fault_of_stop(refusal)),
@@ -132,6 +179,7 @@ fn converse<
         + 'static,
     I: Read,
     O: Write,
+    E: Write,
 >(
     rt: R,
     alloc: Global,
@@ -139,16 +187,19 @@ fn converse<
     path: &str,
     input: &mut I,
     output: &mut O,
+    errors: &mut E,
 ) -> Result<(), ServerFault>
 where
     G: Gate + Send + Sync + Drop + 'static,
 {
-    match server.open_file(path) {
+    let opened = server.open_file(path);
+    lines::tell(errors, server.take_told());
+    match opened {
         Ok(_) => {}
         Err(refusal) => return Err(fault_of_opening(refusal)),
     }
     print(output, "ready\n")?;
-    answer_lines(rt, alloc, server, input, output)
+    answer_lines(rt, alloc, server, input, output, errors)
 }
 
 /// Prints the name of a fault, where one ends the program, and gives the exit status. Takes no

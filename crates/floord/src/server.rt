@@ -1,18 +1,20 @@
 //! The server: its conferences, its ports, and what its administrator's lines do.
 
+ghost use Rattle.std.specs.Prelude.{◌≡◌};
+
 use crate::binding::{Binding, Shared};
+use crate::entry::Entry;
 use crate::fault::stopped;
 use crate::port::Port;
-use floor_config::{Config, ConfigFault, read_configs};
+use crate::reason::{Reason, configurations, read_text};
+use floor_config::Config;
 use floor_console::{
     Board, BoardRefusal, Command, ConsoleFault, Floor, StopRefusal, Stopped, Text, User,
 };
 use floor_listen::{Chosen, Ports};
-use floor_room::Status;
+use floor_room::{Phase, Status};
 use floor_serve::{Act, Desk, DeskRefusal, Gate, OpenRefusal};
 use std::alloc::Global;
-use std::fs;
-use std::io::ErrorKind;
 use std::net::{Net, TcpListener, TcpStream};
 use std::rt::Files;
 use std::sync::{Arc, Wait};
@@ -29,6 +31,8 @@ pub struct Server<G, R> {
     /// What was done for a line that the board has yet to answer.
     prepared: Prepared,
     outcome: Option<Result<Stopped, StopRefusal>>,
+    /// What a person has yet to be told of the last refusal.
+    told: Option<String>,
 }
 
 /// What was done for a line ahead of the board's answer, since it needs threads, which the methods of a
@@ -75,6 +79,7 @@ where
             ports: Ports::new(alloc),
             prepared: Prepared::Nothing,
             outcome: None,
+            told: None,
         }
     }
 
@@ -105,7 +110,10 @@ where
 
     /// Opens the conferences of a file, and tells how many.
     pub fn open_file(&mut self, path: &str) -> Result<usize, BoardRefusal> {
-        let configs = self.read(path)?;
+        let configs = match self.read(path) {
+            Ok(configs) => configs,
+            Err(reason) => return Err(self.refuse(reason)),
+        };
         let mut count = 0usize;
         for config in configs {
             self.open_one(config)?;
@@ -115,19 +123,9 @@ where
     }
 
     /// Reads and checks a file whole.
-    fn read(&self, path: &str) -> Result<Vec<Config>, BoardRefusal> {
-        let text = match fs::read_to_string(&self.rt, path) {
-            Ok(text) => text,
-            Err(error) if error.kind() == ErrorKind::OutOfMemory => {
-                return Err(BoardRefusal::Memory);
-            }
-            Err(_) => return Err(BoardRefusal::CannotRead),
-        };
-        match read_configs(self.alloc, text.as_str()) {
-            Ok(configs) => Ok(configs),
-            Err(ConfigFault::Memory) => Err(BoardRefusal::Memory),
-            Err(fault) => Err(BoardRefusal::ByConfiguration(fault)),
-        }
+    fn read(&self, path: &str) -> Result<Vec<Config>, Reason> {
+        let text = read_text(&self.rt, self.alloc, path)?;
+        configurations(self.alloc, path, text.as_str())
     }
 
     /// Opens one conference: its number, then its ports, then itself.
@@ -151,14 +149,18 @@ where
     /// Listens on the ports of a configuration's users, and then opens its conference. Whoever
     /// connects before that is shut down.
     fn listen_and_open(&mut self, config: Config) -> Result<(), BoardRefusal> {
+        let conference = config.conference();
         for user in config.users() {
             match user.port {
-                Some(port) => self.listen(config.conference(), user.id, port)?,
+                Some(port) => self.listen(conference, user.id, port)?,
                 None => {}
             }
         }
         match self.shared.registry.open(&self.rt, config) {
-            Ok(()) => Ok(()),
+            Ok(()) => {
+                self.shared.tell(&self.rt, &Entry::Opened { conference });
+                Ok(())
+            }
             Err(OpenRefusal::Used) => Err(BoardRefusal::Used),
             Err(OpenRefusal::Memory) => Err(BoardRefusal::Memory),
         }
@@ -170,16 +172,37 @@ where
         let binding = Binding::new(shared, conference, user, port);
         // Room first, so that a port that listens is kept.
         self.ports.reserve()?;
-        let opened = Port::open(self.rt, self.alloc, binding, port)?;
-        self.ports.add(conference, opened);
-        Ok(())
+        match Port::open(self.rt, self.alloc, binding, port) {
+            Ok(opened) => {
+                self.ports.add(conference, opened);
+                Ok(())
+            }
+            Err(fault) => {
+                let reason = fault.reason(self.alloc, conference, user, port);
+                Err(self.refuse(reason))
+            }
+        }
     }
 }
 
-impl<G: Drop, R: Threads + Wait + Drop> Server<G, R> {
+impl<G: Drop, R: Clock + Threads + Wait + Drop> Server<G, R> {
     /// What the stop found, once it was asked for.
     pub fn outcome(&self) -> Option<Result<Stopped, StopRefusal>> {
         self.outcome
+    }
+
+    /// What a person is to be told of the last refusal, a line, once.
+    pub fn take_told(&mut self) -> Option<String> {
+        self.told.take()
+    }
+
+    /// Keeps what a person is to be told, and gives the refusal.
+    fn refuse(&mut self, reason: Reason) -> BoardRefusal
+        ensures value { result ≡ reason.refusal }
+    {
+        let Reason { refusal, line } = reason;
+        self.told = line;
+        refusal
     }
 
     /// Closes the chosen ports.
@@ -206,14 +229,34 @@ impl<G: Drop, R: Threads + Wait + Drop> Server<G, R> {
     }
 
     fn act(&mut self, conference: u32, act: Act) -> Result<(), BoardRefusal> {
-        match self.desk(conference)?.admin(&self.rt, act) {
+        let desk = self.desk(conference)?;
+        match desk.admin(&self.rt, act) {
             Ok(()) => Ok(()),
-            Err(refusal) => Err(BoardRefusal::ByRoom(refusal)),
+            Err(refusal) => {
+                self.tell_if_broken(&desk);
+                Err(BoardRefusal::ByRoom(refusal))
+            }
+        }
+    }
+
+    /// Tells the log of a conference that is broken off.
+    fn tell_if_broken(&self, desk: &Desk) {
+        match (&self.shared.log, desk.status(&self.rt).phase) {
+            (Some(log), Phase::Broken) => log.tell_broken(&self.rt, desk.conference()),
+            _ => {}
+        }
+    }
+
+    /// Ends the log, where there is one, once its last lines are written.
+    pub fn end_log(&self) {
+        match &self.shared.log {
+            Some(log) => log.end(&self.rt),
+            None => {}
         }
     }
 }
 
-impl<G: Drop, R: Threads + Wait + Drop> Board for Server<G, R> {
+impl<G: Drop, R: Clock + Threads + Wait + Drop> Board for Server<G, R> {
     ghost opens = { λ _ _ _ _. Unit {0} };
 
     ghost closes = { λ _ _ _ _. Unit {0} };
@@ -242,6 +285,7 @@ impl<G: Drop, R: Threads + Wait + Drop> Board for Server<G, R> {
 
     fn close(&mut self, conference: u32) -> Result<(), BoardRefusal> {
         self.act(conference, Act::Close)?;
+        self.shared.tell(&self.rt, &Entry::Closed { conference });
         self.close_ports(Chosen::Of(conference));
         Ok(())
     }
@@ -296,6 +340,7 @@ impl<G: Drop, R: Threads + Wait + Drop> Board for Server<G, R> {
             registry,
             connections,
             gate: _,
+            log: _,
         } = &*self.shared;
         let outcome = stopped(connections.finish(&self.rt, registry));
         self.outcome = Some(outcome);

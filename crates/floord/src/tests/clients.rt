@@ -5,7 +5,7 @@ use floor_serve::Gate;
 use floor_words::read_u32;
 use std::alloc::Global;
 use std::fs;
-use std::io::{Read, Write};
+use std::io::{Read, Write, sink};
 use std::net::{Net, TcpListener, TcpStream};
 use std::rt::Files;
 use std::sync::Wait;
@@ -91,6 +91,14 @@ where
     ))
 }
 
+impl Start {
+    /// Asks for a log.
+    pub fn ask_for_log(&mut self, alloc: Global) -> Result<(), Fail> {
+        self.words.push(String::from_str(alloc, "--log")?)?;
+        Ok(())
+    }
+}
+
 /// Runs a server to its end, and gives the exit status.
 pub fn run_to_end<R, G>(rt: R, alloc: Global, start: Start, gate: G) -> u8
 where
@@ -106,6 +114,25 @@ where
         + 'static,
     G: Gate + Send + Sync + Drop + 'static,
 {
+    run_logged(rt, alloc, start, sink(), gate)
+}
+
+/// The same with something that takes the log.
+pub fn run_logged<R, L, G>(rt: R, alloc: Global, start: Start, log: L, gate: G) -> u8
+where
+    R: Net<Listener = TcpListener, Stream = TcpStream>
+        + Files
+        + AllocGlobal
+        + Clock
+        + Threads
+        + Wait
+        + Copy
+        + Drop
+        + Send
+        + 'static,
+    L: Write + Send + Drop + 'static,
+    G: Gate + Send + Sync + Drop + 'static,
+{
     let Start {
         words,
         mut input,
@@ -119,8 +146,52 @@ where
         &mut input,
         &mut output,
         &mut errors,
+        log,
         gate,
     )
+}
+
+/// Two ends of a stream: what one is written, the other reads.
+pub fn two_ends<R: Net<Listener = TcpListener, Stream = TcpStream>>(
+    rt: &R,
+) -> Result<(TcpStream, TcpStream), Fail> {
+    let listener = TcpListener::bind(rt, "127.0.0.1:0")?;
+    let first = TcpStream::connect(rt, listener.local_addr()?)?;
+    let (second, _) = listener.accept()?;
+    Ok((first, second))
+}
+
+/// The lines of a log that has ended, in the order of the alphabet, each without its time and without
+/// the peer's port.
+pub fn log_lines(alloc: Global, log: &mut TcpStream) -> Result<String, Fail> {
+    let mut bytes = Vec::new(alloc);
+    log.read_to_end(&mut bytes)?;
+    let text = String::from_utf8(bytes)?;
+    let mut lines = Vec::new(alloc);
+    for line in text.as_str().lines() {
+        let (time, rest) = line.split_once(' ').ok_or("a line has a time")?;
+        let is_time = time.len() == 24 && time.ends_with('Z') && time.contains('T');
+        let rest = if is_time { rest } else { line };
+        lines.push(without_peer(alloc, rest)?)?;
+    }
+    lines.sort()?;
+    let mut sorted = String::new(alloc);
+    for line in lines {
+        sorted.push_str(line.as_str())?;
+        sorted.push('\n')?;
+    }
+    Ok(sorted)
+}
+
+/// A line of a log without the peer's port, where it has one.
+fn without_peer(alloc: Global, line: &str) -> Result<String, Fail> {
+    match line.split_once(" peer ") {
+        None => Ok(String::from_str(alloc, line)?),
+        Some((before, behind)) => {
+            let (_peer, told) = behind.split_once(' ').ok_or("a peer was told of")?;
+            Ok(format!(in alloc; "{before} {told}")?)
+        }
+    }
 }
 
 /// Hands the server a line, and gives the line that answers it.

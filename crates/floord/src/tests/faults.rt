@@ -38,7 +38,7 @@ fn with_a_stray_seat<R: Wait>(
     let Ok(_) = desk.submit(rt, &mut seat, hello, &FreePass) else {
         return Err(Fail::from("the Hello is refused"));
     };
-    let shared = Shared::new(alloc, FreePass);
+    let shared = Shared::new(alloc, FreePass, None);
     let Ok(begun) = shared.connections.begin(rt, 1, 1, socket) else {
         return Err(Fail::from("no connection begins"));
     };
@@ -57,12 +57,20 @@ fn a_stop_that_finds_a_mismatch_says_so_and_ends_by_a_fault(rt: HostRuntime) -> 
     let shared = with_a_stray_seat(&rt, alloc, text.as_str(), socket)?;
     let mut input: &[u8] = b"stop\n";
     let mut output = Vec::new(alloc);
-    let ending = serve(rt, alloc, "faults.toml", &mut input, &mut output, shared);
+    let mut errors = Vec::new(alloc);
+    let ending = serve(
+        rt,
+        alloc,
+        "faults.toml",
+        &mut input,
+        &mut output,
+        &mut errors,
+        shared,
+    );
     assert_eq!(rt;
         output.as_slice(),
         b"ready\nerror Mismatch 1 1\n".as_slice()
     );
-    let mut errors = Vec::new(alloc);
     assert_eq!(rt; tell(&mut errors, ending), 1);
     assert_eq!(rt; errors.as_slice(), b"floord: Mismatch\n".as_slice());
     fs::remove_file(&rt, "faults.toml")?;

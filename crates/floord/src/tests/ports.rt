@@ -72,7 +72,7 @@ const CONFIGURATION: &str = "[[conference]]\nid = 1\n[[conference.user]]\nid = 1
 fn a_port_serves_on_after_an_accept_that_failed(rt: HostRuntime) -> Result<(), Fail> {
     let alloc = rt.alloc();
     let mut configs = read_configs(alloc, CONFIGURATION).map_err(|_| "no configuration")?;
-    let shared = Shared::new(alloc, FreePass);
+    let shared = Shared::new(alloc, FreePass, None);
     let Ok(()) = shared
         .registry
         .open(&rt, configs.pop().ok_or("no conference")?)

@@ -1,7 +1,8 @@
 //! Peers that read late, or never.
 
 use super::clients::{
-    Server, Start, ask, connect, free_port, hear_message, joined, line, prepare, run_to_end, send,
+    Server, Start, ask, connect, free_port, hear_message, joined, line, log_lines, prepare,
+    run_logged, run_to_end, send, two_ends,
 };
 use floor_serve::FreePass;
 use std::alloc::Global;
@@ -134,8 +135,10 @@ fn a_client_that_never_reads_is_cut_and_its_user_connects_again(
 ) -> Result<(), Fail> {
     let alloc = rt.alloc();
     let ports = [free_port(&rt)?, free_port(&rt)?];
-    let (console, start) = prepare_users(&rt, "slow_unread.toml", ports)?;
-    let serving = thread::spawn(&rt, move || run_to_end(rt, alloc, start, FreePass))?;
+    let (console, mut start) = prepare_users(&rt, "slow_unread.toml", ports)?;
+    start.ask_for_log(alloc)?;
+    let (mut log, sink) = two_ends(&rt)?;
+    let serving = thread::spawn(&rt, move || run_logged(rt, alloc, start, sink, FreePass))?;
     let server = Server {
         console,
         thread: serving,
@@ -169,6 +172,11 @@ fn a_client_that_never_reads_is_cut_and_its_user_connects_again(
         "{stopped}"
     );
     assert_eq!(rt; server.end(&rt), 0);
+    assert!(rt;
+        log_lines(alloc, &mut log)?
+            .as_str()
+            .contains(" n 1 left Slow\n")
+    );
     fs::remove_file(&rt, "slow_unread.toml")?;
     Ok(())
 }

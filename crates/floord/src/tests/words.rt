@@ -1,6 +1,7 @@
 //! The words of the program.
 
 use crate::run::run;
+use std::io::sink;
 use std::test::Fail;
 
 #[test]
@@ -10,7 +11,15 @@ fn no_words_are_refused(rt: HostRuntime) -> Result<(), Fail> {
     let mut output = Vec::new(alloc);
     let mut errors = Vec::new(alloc);
     let mut input: &[u8] = b"";
-    let status = run(rt, alloc, &words, &mut input, &mut output, &mut errors);
+    let status = run(
+        rt,
+        alloc,
+        &words,
+        &mut input,
+        &mut output,
+        &mut errors,
+        sink(),
+    );
     assert_eq!(rt; status, 2);
     assert_eq!(rt; output.len(), 0);
     assert!(rt; !errors.is_empty());
@@ -27,8 +36,18 @@ fn a_file_that_is_absent_cannot_be_read(rt: HostRuntime) -> Result<(), Fail> {
     let mut output = Vec::new(alloc);
     let mut errors = Vec::new(alloc);
     let mut input: &[u8] = b"";
-    let status = run(rt, alloc, &words, &mut input, &mut output, &mut errors);
+    let status = run(
+        rt,
+        alloc,
+        &words,
+        &mut input,
+        &mut output,
+        &mut errors,
+        sink(),
+    );
     assert_eq!(rt; status, 1);
-    assert_eq!(rt; errors.as_slice(), b"floord: CannotRead\n".as_slice());
+    let wanted: &[u8] =
+        b"/nowhere/conferences.toml: No such file or directory (os error 2)\nfloord: CannotRead\n";
+    assert_eq!(rt; errors.as_slice(), wanted);
     Ok(())
 }

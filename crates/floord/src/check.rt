@@ -1,0 +1,116 @@
+//! A configuration that is checked and not served.
+
+use crate::fault::fault_of_opening;
+use crate::lines::print;
+use crate::reason::{PortFault, Reason, configurations, read_text};
+use floor_config::{Config, User};
+use floor_diagnosis::unknown_keys;
+use floor_listen::{Ending, ServerFault, listening_address};
+use std::alloc::Global;
+use std::io::Write;
+use std::net::{Net, TcpListener, TcpStream};
+use std::rt::Files;
+
+/// Reads and checks a file as a start does, tries each port, and prints each fault with its name, and as
+/// a warning each key that says nothing. It ends by the first fault, if there is one.
+pub fn check<R: Net<Listener = TcpListener, Stream = TcpStream> + Files + AllocGlobal, O: Write>(
+    rt: &R,
+    alloc: Global,
+    path: &str,
+    output: &mut O,
+) -> Ending {
+    match check_file(rt, alloc, path, output) {
+        Ok(None) => Ending::InOrder,
+        Ok(Some(fault)) | Err(fault) => Ending::Fault(fault),
+    }
+}
+
+/// The first fault of a file, all of which are printed; an `Err` where they can't be.
+fn check_file<R: Net<Listener = TcpListener, Stream = TcpStream> + Files + AllocGlobal, O: Write>(
+    rt: &R,
+    alloc: Global,
+    path: &str,
+    output: &mut O,
+) -> Result<Option<ServerFault>, ServerFault> {
+    let text = match read_text(rt, alloc, path) {
+        Ok(text) => text,
+        Err(reason) => return tell(alloc, output, &reason),
+    };
+    warn(alloc, path, text.as_str(), output)?;
+    match configurations(alloc, path, text.as_str()) {
+        Ok(configs) => check_ports(rt, alloc, &configs, output),
+        Err(reason) => tell(alloc, output, &reason),
+    }
+}
+
+/// Prints the keys that say nothing.
+fn warn<O: Write>(
+    alloc: Global,
+    path: &str,
+    text: &str,
+    output: &mut O,
+) -> Result<(), ServerFault> {
+    for key in unknown_keys(alloc, text)? {
+        let place = key.place.as_str();
+        let line = match key.line {
+            Some(line) => format!(in alloc; "warning: {path}: line {line}: {place} is ignored\n")?,
+            None => format!(in alloc; "warning: {path}: {place} is ignored\n")?,
+        };
+        print(output, line.as_str())?;
+    }
+    Ok(())
+}
+
+/// Tries the port of each user. The first fault is given, each is printed.
+fn check_ports<R: Net<Listener = TcpListener, Stream = TcpStream>, O: Write>(
+    rt: &R,
+    alloc: Global,
+    configs: &[Config],
+    output: &mut O,
+) -> Result<Option<ServerFault>, ServerFault> {
+    let mut first = None;
+    for config in configs {
+        for user in config.users() {
+            let found = check_port(rt, alloc, config.conference(), user, output)?;
+            first = first.or(found);
+        }
+    }
+    Ok(first)
+}
+
+/// Tries the port of a user, where there is one, and gives it back.
+fn check_port<R: Net<Listener = TcpListener, Stream = TcpStream>, O: Write>(
+    rt: &R,
+    alloc: Global,
+    conference: u32,
+    user: &User,
+    output: &mut O,
+) -> Result<Option<ServerFault>, ServerFault> {
+    let Some(port) = user.port else {
+        return Ok(None);
+    };
+    match TcpListener::bind(rt, listening_address(port)) {
+        Ok(_listener) => Ok(None),
+        Err(error) => {
+            let fault = PortFault::System(error);
+            tell(
+                alloc,
+                output,
+                &fault.reason(alloc, conference, user.id, port),
+            )
+        }
+    }
+}
+
+/// Prints a fault with its name, and gives it.
+fn tell<O: Write>(
+    alloc: Global,
+    output: &mut O,
+    reason: &Reason,
+) -> Result<Option<ServerFault>, ServerFault> {
+    let fault = fault_of_opening(reason.refusal);
+    let line = reason.line.as_ref().map_or("", |line| line.as_str());
+    let told = format!(in alloc; "{}: {line}\n", fault.name())?;
+    print(output, told.as_str())?;
+    Ok(Some(fault))
+}
