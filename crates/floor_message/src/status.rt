@@ -1,16 +1,17 @@
 //! The statuses of a floor request (RFC 8855, section 5.2.5).
 //!
 //! ```text
-//! Pending ---- each chair ----> Accepted ---- its floors ----> Granted
-//!   |          accepted it         |          are free            |
-//!   |                              |                              |
-//!   +-- given back --> Cancelled <-+         given back --> Released
-//!   |                              |                              |
-//!   +-- said no -----> Denied <----+         taken away --> Revoked
+//! Pending ---- each chair ----> Accepted -- each floor has room -> Granted
+//!   |          accepted it,        |        after those ahead         |
+//!   |          or was taken away   |                                  |
+//!   +-- given back --> Cancelled <-+         Released <- given back --+
+//!   |                              |                                  |
+//!   +-- said no -----> Denied <----+          Revoked <- taken away --+
 //! ```
 //!
 //! A floor request begins Accepted where none of its floors has a chair. Cancelled, Denied, Released and
-//! Revoked end it. A beneficiary that leaves gives its floor requests back.
+//! Revoked end it. Those of a beneficiary whose last connection leaves are given back. A conference that is
+//! closed ends all of them, and tells nobody.
 
 ghost use Rattle.std.specs.Prelude.{◌≡◌};
 ghost use Rattle.floor_message.specs.Status.{status_number};
