@@ -314,8 +314,8 @@ async function meet(floord, gateway) {
 
 /** A user and a floor more, another chair, and none for a while: of these the pages' file knows nothing. */
 async function change(floord, [ann, ben, cid, dee]) {
-  await order(floord, "user 1 14 port 7114 name Eve", "ok user 1 14");
-  const eve = await Client.open(7114, 14);
+  await order(floord, "user 1 14 port 7214 name Eve", "ok user 1 14");
+  const eve = await Client.open(7214, 14);
   eve.ask(eve.bfcp.floorRequest({ floors: [1], info: "By phone" }));
   await dee.shows("Eve raises a hand");
   await dee.shows("By phone");

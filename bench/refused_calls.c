@@ -1,5 +1,5 @@
 /* Refuses reads, writes and accepts of the program that it is loaded into, as refusing.h says: of files and
-   sockets alike, one after another as they are made. */
+   sockets alike, one after another as they are made, but for reads of standard input, by which it would end. */
 #include "refusing.h"
 #include <dlfcn.h>
 #include <sys/socket.h>
@@ -8,7 +8,7 @@
 #define NEXT(name) ((__typeof__(&name))dlsym(RTLD_NEXT, #name))
 
 ssize_t read(int file, void *bytes, size_t count) {
-    return is_refused(EIO) ? -1 : NEXT(read)(file, bytes, count);
+    return file != STDIN_FILENO && is_refused(EIO) ? -1 : NEXT(read)(file, bytes, count);
 }
 
 ssize_t recv(int socket, void *bytes, size_t count, int flags) {
