@@ -234,8 +234,9 @@ fn a_browser_is_served_until_the_input_ends(rt: HostRuntime) -> Result<(), Fail>
             .ends_with(b"s3pPLMBiTxaQ9kYGzzhZRbK+xOo=\r\n\r\n")
     );
     let told = hear(alloc, &mut browser, 14)?;
-    assert_eq!(rt; &told.as_slice()[..2], b"\x82\x0c".as_slice());
-    assert_eq!(rt; &told.as_slice()[2..], &HELLO[6..]);
+    assert_eq!(rt; told.len(), 14);
+    assert!(rt; told.as_slice().starts_with(b"\x82\x0c"));
+    assert!(rt; told.as_slice().ends_with(&HELLO[6..]));
 
     drop(console);
     let last = hear(alloc, &mut browser, 5)?;
