@@ -1,3 +1,11 @@
 mod Words
 mod Hexadecimal
 mod Dividing
+mod Most
+mod Holding
+mod Taking
+mod Emptying
+mod Places
+mod Standing
+mod Growing
+mod Printing

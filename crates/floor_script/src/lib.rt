@@ -14,6 +14,8 @@ mod fault;
 mod line;
 mod running;
 mod script;
+mod waiting;
+mod writing;
 
 pub use fault::RunFault;
 pub use line::{Command, LineFault, parse_line};

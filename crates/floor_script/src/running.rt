@@ -1,25 +1,36 @@
 //! A run of a script over a reader and a writer.
 
+ghost use Rattle.std.specs.Prelude.{◌≡◌, false, Err, IfOk, MatchResult, string_bytes};
+ghost use Rattle.std.specs.Io.KnownBytes.{Appends};
+ghost use Rattle.floor_script.specs.Line.{Reads, command_of};
+ghost use Rattle.floor_script.specs.Run.{error_line, is_silent};
+ghost use Rattle.floor_script.specs.Written.{Began};
+ghost use Rattle.floor_script.specs.declared.conferences.Conferences.{Conferences as Given};
+ghost use Rattle.floor_script.specs.steps.Running.{LeavesLine, LeavesText, Runs};
+
 use crate::conferences::Conferences;
 use crate::fault::RunFault;
 use crate::line::{LineFault, parse_line};
 use crate::script::{Line, MAX_TURNS, Script};
+use crate::writing::write_whole;
 use floor_config::{Config, ConfigFault, read_configs};
-use std::alloc::Global;
-use std::io::{BufWriter, Read, Write};
+use std::alloc::{AllocError, Global};
+use std::io::{Read, Write};
 
-/// Runs the script of `input`, prints its answers to `output`, and gives the exit status: 0; 1 for
-/// a read or write fault or where memory ran out; 2 for a refused configuration or a bad line.
-pub fn run<R: Read, W: Write + Drop>(alloc: Global, input: &mut R, output: &mut W) -> u8 {
+/// Runs the script of `input`, prints what its lines print to `output`, and gives the exit status: 0;
+/// 1 for a read or write fault or where memory ran out, after which a beginning of it is printed; 2
+/// for a refused configuration or a bad line, whose fault is printed.
+pub fn run<R: Read, W: Write>(alloc: Global, input: &mut R, output: &mut W) -> u8 {
     match run_script(alloc, input, output) {
         Ok(()) => 0,
         Err(fault) => fault.status(),
     }
 }
 
-/// Runs the script of `input`, and prints its answers to `output`, each line's as soon as it is
-/// whole.
-pub fn run_script<R: Read, W: Write + Drop>(
+/// Runs the script of `input`, and prints what its lines print to `output`, that of each line at
+/// once. Where the configuration or a line is refused, its fault is printed, and the answer is
+/// `Refused`; after each other fault a beginning of what the text prints is printed.
+pub fn run_script<R: Read, W: Write>(
     alloc: Global,
     input: &mut R,
     output: &mut W,
@@ -28,12 +39,7 @@ pub fn run_script<R: Read, W: Write + Drop>(
     let Ok(text) = std::str::from_utf8(bytes.as_slice()) else {
         return Err(RunFault::CannotRead);
     };
-    let Ok(mut writer) = BufWriter::new(alloc, output) else {
-        return Err(RunFault::Memory);
-    };
-    let outcome = run_text(alloc, text, &mut writer);
-    writer.flush()?;
-    outcome
+    run_text(alloc, text, output)
 }
 
 /// All bytes of the input. An interrupted read is a fault.
@@ -52,16 +58,14 @@ fn read_all<R: Read>(alloc: Global, input: &mut R) -> Result<Vec<u8>, RunFault> 
     Err(RunFault::CannotRead)
 }
 
+/// Runs a text to its end, or to the first line that asks for nothing, and prints what that prints.
+/// After a write fault or want of memory a beginning of it is printed.
 fn run_text<W: Write>(alloc: Global, text: &str, output: &mut W) -> Result<(), RunFault> {
     let script = Script::of_text(text);
     let mut conferences = Conferences::new(alloc);
     match open_all(alloc, script.configuration, &mut conferences) {
         Ok(()) => {}
-        Err(ConfigFault::Memory) => return Err(RunFault::Memory),
-        Err(fault) => {
-            writeln!(output, "error 0 {fault}")?;
-            return Err(RunFault::Refused);
-        }
+        Err(fault) => return refuse_configuration(alloc, fault, output),
     }
     let mut lines = script.lines;
     for _ in 0..MAX_TURNS {
@@ -73,6 +77,19 @@ fn run_text<W: Write>(alloc: Global, text: &str, output: &mut W) -> Result<(), R
     Err(RunFault::CannotRead)
 }
 
+/// Prints the fault of a configuration. Want of memory isn't printed.
+fn refuse_configuration<W: Write>(
+    alloc: Global,
+    fault: ConfigFault,
+    output: &mut W,
+) -> Result<(), RunFault> {
+    let name = fault.name();
+    match fault {
+        ConfigFault::Memory => Err(RunFault::Memory),
+        _ => refuse(alloc, 0, name, output),
+    }
+}
+
 /// Opens the conferences of a configuration in its order, or the demonstration's where there is no
 /// configuration.
 fn open_all(
@@ -81,12 +98,23 @@ fn open_all(
     conferences: &mut Conferences,
 ) -> Result<(), ConfigFault> {
     match configuration {
-        None => conferences.open(Config::demonstration(alloc)?)?,
-        Some(text) => {
-            for config in read_configs(alloc, text)? {
-                conferences.open(config)?;
-            }
+        None => {
+            let config = Config::demonstration(alloc)?;
+            conferences.open(config)?;
+            Ok(())
         }
+        Some(text) => {
+            let configs = read_configs(alloc, text)?;
+            open_each(configs, conferences)?;
+            Ok(())
+        }
+    }
+}
+
+/// Opens conferences, one after another.
+fn open_each(configs: Vec<Config>, conferences: &mut Conferences) -> Result<(), AllocError> {
+    for config in configs {
+        conferences.open(config)?;
     }
     Ok(())
 }
@@ -97,20 +125,93 @@ fn run_line<W: Write>(
     line: Line,
     conferences: &mut Conferences,
     output: &mut W,
-) -> Result<(), RunFault> {
-    if line.text.is_empty() || line.text.starts_with('#') {
+) -> Result<(), RunFault>
+    ensures { MatchResult result
+        (λ _. Runs line.entry.number line.entry.text.now conferences.old conferences.new
+        (W.contents output.old) (W.contents output.new))
+        (λ fault. LeavesLine fault line.entry.number line.entry.text.now conferences.old
+        (W.contents output.old) (W.contents output.new)) }
+{
+    if is_silent(line.text) {
         return Ok(());
     }
     match parse_line(alloc, line.text) {
-        Ok(command) => {
-            conferences.answer(command, output)?;
-            output.flush()?;
-            Ok(())
-        }
-        Err(LineFault::Memory) => Err(RunFault::Memory),
-        Err(fault) => {
-            writeln!(output, "error {} {}", line.number, fault.name())?;
-            Err(RunFault::Refused)
-        }
+        Ok(command) => match conferences.answer(command) {
+            Ok(text) => print(text.as_str(), output),
+            Err(_) => Err(RunFault::Memory),
+        },
+        Err(fault) => refuse_line(alloc, line, fault, output),
+    }
+}
+
+/// Prints the fault of a line. Want of memory isn't printed.
+fn refuse_line<W: Write>(
+    alloc: Global,
+    line: Line,
+    fault: LineFault,
+    output: &mut W,
+) -> Result<(), RunFault>
+    ensures { MatchResult result (λ _. ⊥) (λ left. (c : Given)
+        → is_silent line.entry.text.now ≡ false
+        → Reads (command_of line.entry.text.now) (Err fault)
+        → LeavesLine left line.entry.number line.entry.text.now c
+        (W.contents output.old) (W.contents output.new)) }
+{
+    let name = fault.name();
+    match fault {
+        LineFault::Memory => Err(RunFault::Memory),
+        _ => refuse(alloc, line.number, name, output),
+    }
+}
+
+/// Whether a line says nothing: it is empty, or begins with `#`.
+fn is_silent(text: &str) -> bool
+    ensures { result ≡ is_silent text.now }
+{
+    match text.as_bytes() {
+        [] => true,
+        [first, ..] => *first == b'#',
+    }
+}
+
+/// Prints the fault of a line with this number, or of the configuration, whose number is 0.
+fn refuse<W: Write>(alloc: Global, number: u64, name: &str, output: &mut W) -> Result<(), RunFault>
+    ensures { MatchResult result (λ _. ⊥) (λ fault. LeavesText fault (error_line number name.now)
+        (W.contents output.old) (W.contents output.new)) }
+{
+    let Ok(text) = error_line(alloc, number, name) else {
+        return Err(RunFault::Memory);
+    };
+    print_refusal(text.as_str(), output)
+}
+
+/// The line of a fault.
+fn error_line(alloc: Global, number: u64, name: &str) -> Result<String, AllocError>
+    ensures { IfOk result (λ text. string_bytes text ≡ error_line number name.now) }
+{
+    format!(in alloc; "error {number} {name}\n")
+}
+
+/// Prints the line of a fault, which ends the run.
+fn print_refusal<W: Write>(text: &str, output: &mut W) -> Result<(), RunFault>
+    ensures { MatchResult result (λ _. ⊥) (λ fault. LeavesText fault text.now
+        (W.contents output.old) (W.contents output.new)) }
+{
+    match print(text, output) {
+        Ok(()) => Err(RunFault::Refused),
+        Err(fault) => Err(fault),
+    }
+}
+
+/// Prints a text.
+fn print<W: Write>(text: &str, output: &mut W) -> Result<(), RunFault>
+    ensures { MatchResult result
+        (λ _. Appends (W.contents output.old) (W.contents output.new) text.now)
+        (λ fault. (fault ≡ RunFault.CannotWrite)
+        × Began (W.contents output.old) (W.contents output.new) text.now) }
+{
+    match write_whole(output, text.as_bytes()) {
+        Ok(()) => Ok(()),
+        Err(_) => Err(RunFault::CannotWrite),
     }
 }

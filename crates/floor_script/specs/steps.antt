@@ -1,0 +1,5 @@
+-- The steps of the proofs. Nobody has to believe them: no public clause rests on them.
+pub mod Holding
+pub mod Taking
+pub mod Standing
+pub mod Running

@@ -1,0 +1,39 @@
+-- What conferences stand for, as lines are run over them.
+use Rattle.std.specs.Prelude.{◌≡◌, ℕ, true, false, List, Option}
+use Rattle.std.specs.Io.KnownBytes.{Appends}
+use Rattle.floor_script.specs.Run.{said}
+use Rattle.floor_script.specs.State.{State}
+use Rattle.floor_script.specs.Written.{Began}
+use Rattle.floor_script.specs.declared.conferences.Conferences.{Conferences}
+use Rattle.floor_script.specs.declared.fault.RunFault.{RunFault}
+use Rattle.floor_script.specs.declared.fault.RunFault.TheVariants as run
+use Rattle.floor_script.specs.steps.Standing.{Stands}
+
+-- A line was run, and what it says was printed.
+pub record Runs (number : ℕ) (line : List ℕ) (old new : Conferences) (was is : Option (List ℕ)) : Type 0 where
+  pub goes_on : (s : State) → Stands old s → (said s number line).is_refused ≡ false
+  pub leads : (s : State) → Stands old s → Stands new (said s number line).state
+  pub printed : (s : State) → Stands old s → Appends was is (said s number line).text
+
+-- A line was refused, and its fault was printed.
+pub record Refuses (number : ℕ) (line : List ℕ) (old : Conferences) (was is : Option (List ℕ)) : Type 0 where
+  pub refused : (s : State) → Stands old s → (said s number line).is_refused ≡ true
+  pub printed : (s : State) → Stands old s → Appends was is (said s number line).text
+
+-- A beginning was printed of what a line says.
+pub record Stopped (number : ℕ) (line : List ℕ) (old : Conferences) (was is : Option (List ℕ)) : Type 0 where
+  pub printed : (s : State) → Stands old s → Began was is (said s number line).text
+
+-- what a line leaves that ended the run by this fault
+abbrev pub LeavesLine : RunFault → ℕ → List ℕ → Conferences → Option (List ℕ) → Option (List ℕ) → Type 0
+LeavesLine run.Refused number line old was is = Refuses number line old was is
+LeavesLine run.CannotRead number line old was is = Stopped number line old was is
+LeavesLine run.CannotWrite number line old was is = Stopped number line old was is
+LeavesLine run.Memory number line old was is = Stopped number line old was is
+
+-- what the line of a fault leaves: it was printed, or a beginning
+abbrev pub LeavesText : RunFault → List ℕ → Option (List ℕ) → Option (List ℕ) → Type 0
+LeavesText run.Refused text was is = Appends was is text
+LeavesText run.CannotRead text was is = Began was is text
+LeavesText run.CannotWrite text was is = Began was is text
+LeavesText run.Memory text was is = Began was is text
