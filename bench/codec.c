@@ -1,7 +1,7 @@
 /* The BFCP codec of the C library re (Debian's libre-dev 1.1.0), timed: ./codec COUNT
 
    Reads and writes each of four messages COUNT times (the longest a hundredth as often), and prints for each
-   its name, what was done, and the nanoseconds of one. codec.rt does the same with floor_message. */
+   its name, what was done, and the nanoseconds of one. codec.rattle does the same with floor_message. */
 #include <re.h>
 #include <stdio.h>
 #include <stdlib.h>

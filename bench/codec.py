@@ -1,7 +1,7 @@
 #!/usr/bin/env python3
 """The codec beside the C library re, message by message: ./codec.py [ROUNDS]
 
-Builds codec.c, which wants Debian's libre-dev, and codec.rt, a program over floor_message, which is proved as
+Builds codec.c, which wants Debian's libre-dev, and codec.rattle, a program over floor_message, which is proved as
 all programs are: that takes some minutes the first time. Runs them in turn, ROUNDS times (9 by default), and
 prints for each message its bytes, and for reading and writing the nanoseconds of both, the least of all rounds,
 with their ratio. Both have to write as many bytes; status 1 where they don't.
@@ -35,7 +35,7 @@ def build(folder):
         shutil.copytree(ROOT / 'crates' / crate, folder / 'crates' / crate, ignore=shutil.ignore_patterns('out'))
     ours = folder / 'crates/codec'
     (ours / 'src').mkdir(parents=True)
-    shutil.copy(ROOT / 'bench/codec.rt', ours / 'src/main.rt')
+    shutil.copy(ROOT / 'bench/codec.rattle', ours / 'src/main.rt')
     subprocess.run(['rt', 'run'], cwd=ours, check=True, stdout=subprocess.DEVNULL, stderr=subprocess.DEVNULL)
     return {'ours': [ours / 'out/codec'], 'theirs': [theirs, '100000']}
 
