@@ -1,3 +1,4 @@
+pub mod Built
 pub mod Either
 pub mod Elements
 pub mod Exact

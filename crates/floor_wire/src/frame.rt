@@ -1,17 +1,11 @@
 //! One message as it stands on the wire (RFC 8855, section 5.1).
 
-ghost use Rattle.std.specs.Prelude.{◌≡◌, ◌≤◌, ◌*◌, ◌/◌, ◌++◌, length, IfOk, List, ℕ, SomeIff};
+ghost use Rattle.std.specs.Prelude.{◌≡◌, ◌≤◌, length, IfOk, List, ℕ, SomeIff};
 ghost use Rattle.floor_wire.specs.Message.{IsMessage, message_len};
 ghost use Rattle.floor_wire.specs.Bytes.{IsBytes};
-ghost use Rattle.floor_wire.specs.Header.{header_bytes};
-ghost use Rattle.floor_wire.specs.Spelling.{canon, IsWritable};
-ghost use Rattle.floor_wire.specs.View.{attributes_of};
 
-use crate::attribute::Attr;
-use crate::fits::payload_len;
 use crate::header::{HEADER_LEN, Header};
 use crate::laws::a_slice_is_of_bytes;
-use crate::write;
 use bytes::Bytes;
 use std::alloc::{AllocError, Global};
 use std::marker::Model;
@@ -45,28 +39,6 @@ impl Frame {
         }
         let bytes = Bytes::copy_from_slice(alloc, bytes)?;
         Ok(Some(Frame { bytes }))
-    }
-
-    /// The message with this header and these attributes, in their one canonical spelling: version
-    /// 1, the R, F and reserved bits clear, zeros for padding, and M clear at the types 1 to 18.
-    pub fn of_attributes(
-        alloc: Global,
-        primitive: u8,
-        conference: u32,
-        transaction: u16,
-        user: u16,
-        attrs: &[Attr],
-    ) -> Result<Frame, AllocError>
-        requires writable { IsWritable (attributes_of attrs.now) }
-        requires fits { length (canon (attributes_of attrs.now)) ≤ 4 * 65535 }
-        ensures value { let payload = canon (attributes_of attrs.now) in
-            IfOk result (λ frame. frame
-            ≡ header_bytes primitive (length payload / 4) conference transaction user ++ payload) }
-    {
-        let room = HEADER_LEN + payload_len(attrs);
-        let bytes = write::message(alloc, room, primitive, conference, transaction, user, attrs)?;
-        let bytes = Bytes::from_vec(bytes)?;
-        Ok(Frame { bytes })
     }
 
     /// An equal message in a buffer of its own, of exactly its length: the buffer that this one was

@@ -1,8 +1,9 @@
 //! Laws of the definitions of framing and of attributes. Each is the contract of a function that
 //! does nothing.
 
-ghost use Rattle.std.specs.Prelude.{◌≡◌, ◌⊎◌, [], ◌++◌, All, length, List, ℕ, Some};
+ghost use Rattle.std.specs.Prelude.{◌≡◌, ◌⊎◌, ◌≤◌, ◌*◌, ◌/◌, [], ◌++◌, All, length, List, ℕ, Some};
 ghost use Rattle.std.specs.List.{concat};
+ghost use Rattle.floor_wire.specs.Header.{header_bytes};
 ghost use Rattle.floor_wire.specs.Message.{Divides, IsMessage, messages, rest};
 ghost use Rattle.floor_wire.specs.Attributes.{Attributes};
 ghost use Rattle.floor_wire.specs.Spelling.{Spells, IsWritable, canon, cleared};
@@ -99,4 +100,13 @@ pub fn what_is_spelled_is_writable()
 pub fn what_is_computed_is_spelled()
     ensures found { (a : Attributes) (s : List ℕ) → Spells a s → spelled s ≡ Some a }
     ensures spelled { (a : Attributes) (s : List ℕ) → IsBytes s → spelled s ≡ Some a → Spells a s }
+{}
+
+/// What is written behind a header that announces it makes a message with it, as far as a Payload
+/// Length goes.
+pub fn what_is_written_is_a_message()
+    ensures { (primitive conference transaction user : ℕ) (a : Attributes)
+        → length (canon a) ≤ 4 * 65535
+        → IsMessage
+        (header_bytes primitive (length (canon a) / 4) conference transaction user ++ canon a) }
 {}

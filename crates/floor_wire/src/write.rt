@@ -1,20 +1,14 @@
-//! Writing attributes and messages in their one canonical spelling (RFC 8855, sections 5.1 and
-//! 5.2).
+//! Writing attributes in their one canonical spelling (RFC 8855, section 5.2).
 
 ghost use Rattle.std.specs.Prelude.{◌≡◌, ◌<◌, ◌≤◌, ◌+◌, ◌*◌, ◌/◌, ◌^◌, ◌++◌, length, vec_len, slice_set, IfOk, OnOk, if◌then◌else◌, false};
 ghost use Rattle.floor_wire.specs.Bytes.{IsBytes};
 ghost use Rattle.floor_wire.specs.Spelling.{canon, content_canon, first_byte, is_known, zeros_after, IsWritable, IsWritableContent};
 ghost use Rattle.floor_wire.specs.View.{attributes_of, content_of};
 ghost use Rattle.floor_wire.specs.steps.Writable.{IsWritableAttribute, attribute_bytes};
-ghost use Rattle.floor_wire.specs.Header.{header_bytes};
 
 use crate::attribute::{Attr, Body};
-use crate::header::HEADER_LEN;
 use crate::laws::a_slice_is_of_bytes;
 use std::alloc::{AllocError, Global};
-
-/// Ver 1, with the R, F and reserved bits clear.
-const FIRST_HEADER_BYTE: u8 = 0x20;
 
 /// The attributes in their one canonical spelling, in one buffer: zeros for padding, and M clear at
 /// the types 1 to 18.
@@ -29,54 +23,9 @@ pub fn write_attrs(alloc: Global, attrs: &[Attr]) -> Result<Vec<u8>, AllocError>
     Ok(out)
 }
 
-/// A message with this header and these attributes, in a buffer that has room for so many bytes at
-/// first.
-pub(crate) fn message(
-    alloc: Global,
-    room: usize,
-    primitive: u8,
-    conference: u32,
-    transaction: u16,
-    user: u16,
-    attrs: &[Attr],
-) -> Result<Vec<u8>, AllocError>
-    requires writable { IsWritable (attributes_of attrs.now) }
-    requires fits { length (canon (attributes_of attrs.now)) ≤ 4 * 65535 }
-    ensures value { let payload = canon (attributes_of attrs.now) in
-        IfOk result (λ v. v.items
-        ≡ header_bytes primitive (length payload / 4) conference transaction user ++ payload) }
-{
-    let mut out = Vec::with_capacity(alloc, room)?;
-    put_header(&mut out, primitive, conference, transaction, user)?;
-    put_list(&mut out, attrs)?;
-    // The Payload Length is known once the payload is written.
-    let [high, low] = (((out.len() - HEADER_LEN) / 4) as u16).to_be_bytes();
-    out[2] = high;
-    out[3] = low;
-    Ok(out)
-}
-
-/// Adds a header whose Payload Length is 0 at the end.
-fn put_header(
-    out: &mut Vec<u8>,
-    primitive: u8,
-    conference: u32,
-    transaction: u16,
-    user: u16,
-) -> Result<(), AllocError>
-    ensures { OnOk result (out.new.items
-        ≡ out.old.items ++ header_bytes primitive 0 conference transaction user) }
-{
-    out.extend_from_slice(&[FIRST_HEADER_BYTE, primitive, 0, 0])?;
-    out.extend_from_slice(&conference.to_be_bytes())?;
-    out.extend_from_slice(&transaction.to_be_bytes())?;
-    out.extend_from_slice(&user.to_be_bytes())?;
-    Ok(())
-}
-
 /// Adds the attributes at the end.
 #[cycle(write)]
-fn put_list(out: &mut Vec<u8>, attrs: &[Attr]) -> Result<(), AllocError>
+pub(crate) fn put_list(out: &mut Vec<u8>, attrs: &[Attr]) -> Result<(), AllocError>
     requires { IsWritable (attributes_of attrs.now) }
     ensures { OnOk result (out.new.items ≡ out.old.items ++ canon (attributes_of attrs.now)) }
 {
