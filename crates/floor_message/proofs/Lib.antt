@@ -12,6 +12,7 @@ pub mod Once
 pub mod Picking
 pub mod Reasons
 pub mod Plain
+pub mod Puts
 pub mod Rooms
 pub mod RoundTrip
 pub mod Short

@@ -108,7 +108,7 @@ group_too_long kind n inside room i = λ p. i (record {
   bytes = omega (arith, p.writable.2, canon_aligned (attributes_of inside), length-append (to_be_bytes w16 n) (canon (attributes_of inside)));
 })
 
-map_take_more : {A : Type 0} (f : A → Attr) (xs : List A) (i : ℕ) (x d : A) → i < length xs → x ≡ get_or xs i d → map f (take (i + 1) xs) ≡ map f (take i xs) ++ f x ∷ []
+pub map_take_more : {A : Type 0} (f : A → Attr) (xs : List A) (i : ℕ) (x d : A) → i < length xs → x ≡ get_or xs i d → map f (take (i + 1) xs) ≡ map f (take i xs) ++ f x ∷ []
 map_take_more f xs i x d h e =
     ap (λ l. map f l) (take_more xs i d h) ∙ map-append f (take i xs) (get_or xs i d ∷ []) ∙ ap (λ y. map f (take i xs) ++ f y ∷ []) (sym e)
 

@@ -1,24 +1,27 @@
 //! Which messages can be written, so that they are read back as they were (RFC 8855, sections 5.1 to
 //! 5.3).
 
-ghost use Rattle.std.specs.Prelude.{◌↔◌, ◌<◌, ◌^◌, All, IfSome, IsTrue};
+ghost use Rattle.std.specs.Prelude.{◌≡◌, ◌↔◌, ◌<◌, ◌≤◌, ◌^◌, ℕ, All, IfSome, IsTrue, length};
 ghost use Rattle.floor_message.specs.Fits.{AskFits, AskNumbersFit, AskPartsFit, FloorRequestFits, NumbersFit, TellFits};
 ghost use Rattle.floor_message.specs.Written.{ask_attrs, tell_attrs};
 ghost use Rattle.floor_message.specs.steps.Leaves.{Leaves};
 ghost use Rattle.floor_wire.specs.Bytes.{IsBytes, IsOfBytes};
+ghost use Rattle.floor_wire.specs.Spelling.{canon};
 ghost use Rattle.floor_wire.specs.View.{attributes_of};
 
 use crate::ask::Ask;
 use crate::format::attribute_types::types_fit;
+use crate::format::attributes::SHORT_ATTRIBUTE;
 use crate::format::error_code::after_error;
 use crate::format::floor_request_information::{
     after_info, after_infos, priorities_fit, priority_fits,
 };
-use crate::format::floors::{after_floor, floors_fit};
+use crate::format::floors::{after_floor, floors_fit, floors_len};
+use crate::format::number::number_len;
 use crate::format::supported::after_supported;
-use crate::format::text::{LONGEST_INFO, optional_text_fits};
+use crate::format::text::{LONGEST_INFO, optional_text_fits, text_len};
 use crate::format::user_information::after_who;
-use crate::format::verdicts::chair_action_fits;
+use crate::format::verdicts::{chair_action_fits, chair_action_len};
 use crate::tell::Tell;
 use crate::verdicts::Verdict;
 use floor_wire::Octets;
@@ -128,6 +131,39 @@ pub fn tell_fits(tell: &Tell) -> bool
     numbers_fit(tell) && after_tell(LONGEST_PAYLOAD, tell).is_some()
 }
 
+/// How long the payload of the message is.
+pub(crate) fn ask_len(ask: &Ask) -> usize
+    requires { AskFits ask.now }
+    ensures { result ≡ length (canon (attributes_of (ask_attrs ask.now))) }
+{
+    match ask {
+        Ask::FloorRequest {
+            beneficiary,
+            floors,
+            info,
+            ..
+        } => floor_request_len(*beneficiary, floors.as_slice(), info),
+        Ask::FloorRelease { .. } | Ask::FloorRequestQuery { .. } => SHORT_ATTRIBUTE,
+        Ask::UserQuery { beneficiary } => number_len(*beneficiary),
+        Ask::FloorQuery { floors } => floors_len(floors.as_slice()),
+        Ask::ChairAction {
+            verdicts,
+            reason,
+            ..
+        } => chair_action_len(verdicts.as_slice(), reason),
+        Ask::Hello => 0,
+    }
+}
+
+fn floor_request_len(beneficiary: Option<u16>, floors: &[u16], info: &Option<Octets>) -> usize
+    requires few { length floors.now ≤ 60000 }
+    requires text { IfSome info.now (λ text. length text ≤ 253) }
+    ensures { (priority : ℕ) → result ≡ length (canon (attributes_of
+        (ask_attrs (Ask.FloorRequest beneficiary floors.now priority info.now)))) }
+{
+    floors_len(floors) + number_len(beneficiary) + text_len(info) + SHORT_ATTRIBUTE
+}
+
 fn numbers_fit(tell: &Tell) -> bool
     ensures { IsTrue result ↔ NumbersFit tell.now }
 {
@@ -139,6 +175,17 @@ fn numbers_fit(tell: &Tell) -> bool
         Tell::HelloAck { attributes, .. } => types_fit(attributes.as_slice()),
         Tell::Error { .. } => true,
     }
+}
+
+/// How long the payload of the message is.
+pub(crate) fn tell_len(tell: &Tell) -> usize
+    requires { TellFits tell.now }
+    ensures { result ≡ length (canon (attributes_of (tell_attrs tell.now))) }
+{
+    let Some(left) = after_tell(LONGEST_PAYLOAD, tell) else {
+        unreachable!()
+    };
+    LONGEST_PAYLOAD - left
 }
 
 /// What is left of the room behind the attributes of the message, where they can be written in it.

@@ -1,11 +1,15 @@
 //! Messages from the server as bytes (RFC 8855, sections 5.3.4 to 5.3.13).
 
-ghost use Rattle.std.specs.Prelude.{◌≡◌, IfOk};
-ghost use Rattle.floor_message.specs.Fits.{NumbersFit, TellFits};
+ghost use Rattle.std.specs.Prelude.{◌≡◌, IfOk, OnOk, length};
+ghost use Rattle.floor_message.specs.Fits.{TellFits};
 ghost use Rattle.floor_message.specs.Written as spec;
+ghost use Rattle.floor_message.specs.steps.Writing.{with_attrs};
+ghost use Rattle.floor_wire.specs.Spelling.{canon};
+ghost use Rattle.floor_wire.specs.View.{attributes_of};
 
-use crate::format::error_code::error_attr;
-use crate::format::floor_request_information::{info_attr, put_infos};
+use crate::fits::tell_len;
+use crate::format::error_code::put_error;
+use crate::format::floor_request_information::{put_info, put_infos};
 use crate::format::number::put_number;
 use crate::format::supported::put_supported;
 use crate::format::user_information::put_who;
@@ -13,7 +17,7 @@ use crate::head::Head;
 use crate::kind::{BENEFICIARY_INFORMATION, FLOOR_ID};
 use crate::primitive::Primitive;
 use crate::tell::Tell;
-use floor_wire::{Attr, Frame};
+use floor_wire::{Frame, FrameBuilder, what_is_written_is_a_message};
 use std::alloc::{AllocError, Global};
 
 /// The message from the server, under this head.
@@ -21,16 +25,18 @@ pub fn write_tell(alloc: Global, head: &Head, tell: &Tell) -> Result<Frame, Allo
     requires { TellFits tell.now }
     ensures { IfOk result (λ frame. frame ≡ spec.tell_bytes head.now tell.now) }
 {
-    let attrs = tell_attrs(alloc, tell)?;
-    let primitive = tell_primitive(tell).number();
-    Frame::of_attributes(
+    what_is_written_is_a_message();
+    let len = tell_len(tell);
+    let mut out = FrameBuilder::new(
         alloc,
-        primitive,
+        tell_primitive(tell).number(),
         head.conference,
         head.transaction,
         head.user,
-        &attrs,
-    )
+        len,
+    )?;
+    put_tell(&mut out, tell)?;
+    out.finish()
 }
 
 fn tell_primitive(tell: &Tell) -> Primitive
@@ -46,34 +52,26 @@ fn tell_primitive(tell: &Tell) -> Primitive
     }
 }
 
-fn tell_attrs(alloc: Global, tell: &Tell) -> Result<Vec<Attr>, AllocError>
-    requires { NumbersFit tell.now }
-    ensures { IfOk result (λ attrs. attrs.items ≡ spec.tell_attrs tell.now) }
+/// Adds the attributes of the message.
+fn put_tell(out: &mut FrameBuilder, tell: &Tell) -> Result<(), AllocError>
+    requires { TellFits tell.now }
+    ensures { OnOk result (out.new ≡ with_attrs out.old (spec.tell_attrs tell.now)) }
 {
-    let mut out = Vec::new(alloc);
     match tell {
-        Tell::FloorRequestStatus { info } => out.push(info_attr(alloc, info)?)?,
+        Tell::FloorRequestStatus { info } => put_info(out, info),
         Tell::UserStatus { who, infos } => {
-            put_who(alloc, &mut out, BENEFICIARY_INFORMATION, who)?;
-            put_infos(alloc, &mut out, infos.as_slice())?;
+            put_who(out, BENEFICIARY_INFORMATION, who)?;
+            put_infos(out, infos.as_slice())
         }
         Tell::FloorStatus { floor, infos } => {
-            put_number(&mut out, FLOOR_ID, *floor)?;
-            put_infos(alloc, &mut out, infos.as_slice())?;
+            put_number(out, FLOOR_ID, *floor)?;
+            put_infos(out, infos.as_slice())
         }
-        Tell::ChairActionAck => {}
+        Tell::ChairActionAck => Ok(()),
         Tell::HelloAck {
             primitives,
             attributes,
-        } => put_supported(
-            alloc,
-            &mut out,
-            primitives.as_slice(),
-            attributes.as_slice(),
-        )?,
-        Tell::Error { code, details } => {
-            out.push(error_attr(alloc, *code, details.as_slice())?)?;
-        }
+        } => put_supported(out, primitives.as_slice(), attributes.as_slice()),
+        Tell::Error { code, details } => put_error(out, *code, details.as_slice()),
     }
-    Ok(out)
 }

@@ -1,12 +1,10 @@
-//! Attributes of whatever type: those that a payload spells, and one as messages are written with it
-//! (RFC 8855, section 5.2).
+//! Attributes of whatever type: those that a payload spells (RFC 8855, section 5.2).
 
 ghost use Rattle.std.specs.Prelude.{◌≡◌, IfOk, ◌<◌, All, MatchOption};
 ghost use Rattle.floor_message.specs.Picked.{distinct, mandatory};
-ghost use Rattle.floor_message.specs.Written as spec;
 ghost use Rattle.floor_wire.specs.Spelled.{spelled};
 
-use floor_wire::{Attr, Attrs, Body, WireFault, read_attrs};
+use floor_wire::{Attrs, WireFault, read_attrs};
 use std::alloc::{AllocError, Global};
 
 /// The bytes of an attribute whose contents are 2 bytes.
@@ -22,16 +20,5 @@ pub(crate) fn payload_attrs(alloc: Global, payload: &[u8]) -> Result<Option<Attr
         Ok(attrs) => Ok(Some(attrs)),
         Err(WireFault::Memory) => Err(AllocError),
         Err(WireFault::BadLength(_) | WireFault::Overrun(_)) => Ok(None),
-    }
-}
-
-/// An attribute with M clear.
-pub(crate) fn plain(kind: u8, body: Body) -> Attr
-    ensures { result ≡ spec.plain kind body }
-{
-    Attr {
-        kind,
-        must: false,
-        body,
     }
 }

@@ -1,16 +1,18 @@
 //! ERROR-CODE: an error code with its details (RFC 8855, section 5.2.6).
 
-ghost use Rattle.std.specs.Prelude.{◌≡◌, ◌∷◌, [], IfOk};
+ghost use Rattle.std.specs.Prelude.{◌≡◌, ◌∷◌, [], IfOk, OnOk};
 ghost use Rattle.floor_message.specs.Tell.{tell_of};
 ghost use Rattle.floor_message.specs.Written as spec;
 ghost use Rattle.floor_message.specs.declared.primitive.Primitive.TheVariants as primitive;
 ghost use Rattle.floor_message.specs.steps.Leaves.{Leaves};
+ghost use Rattle.floor_message.specs.steps.Writing.{with_attrs};
+ghost use Rattle.floor_wire.specs.Spelling.{IsWritable};
+ghost use Rattle.floor_wire.specs.View.{attributes_of};
 
-use crate::format::attributes::plain;
 use crate::format::octets::{MOST_OCTETS, after_octets, first_octets};
 use crate::kind::ERROR_CODE;
 use crate::tell::Tell;
-use floor_wire::{Attr, Body, Octets, a_slice_is_of_bytes};
+use floor_wire::{Attr, FrameBuilder, Octets, a_slice_is_of_bytes};
 use std::alloc::{AllocError, Global};
 
 /// What an Error tells, where its ERROR-CODE is there and has a code.
@@ -27,14 +29,13 @@ pub(crate) fn error(alloc: Global, attrs: &[Attr]) -> Result<Option<Tell>, Alloc
     }
 }
 
-/// ERROR-CODE.
-pub(crate) fn error_attr(alloc: Global, code: u8, details: &[u8]) -> Result<Attr, AllocError>
-    ensures { IfOk result (λ attr. attr ≡ spec.octets ERROR_CODE (code ∷ details.now)) }
+/// Adds ERROR-CODE.
+pub(crate) fn put_error(out: &mut FrameBuilder, code: u8, details: &[u8]) -> Result<(), AllocError>
+    requires { IsWritable (attributes_of (spec.octets ERROR_CODE (code ∷ details.now) ∷ [])) }
+    ensures { OnOk result (out.new
+        ≡ with_attrs out.old (spec.octets ERROR_CODE (code ∷ details.now) ∷ [])) }
 {
-    let mut bytes = Vec::with_capacity(alloc, 1 + details.len())?;
-    bytes.push(code)?;
-    bytes.extend_from_slice(details)?;
-    Ok(plain(ERROR_CODE, Body::Octets(Octets::from_vec(bytes))))
+    out.put_two(ERROR_CODE, &[code], details)
 }
 
 /// What is left of the room behind an ERROR-CODE.

@@ -1,15 +1,18 @@
 //! FLOOR-REQUEST-INFORMATION: a floor request as it is shown (RFC 8855, section 5.2.15).
 
-ghost use Rattle.std.specs.Prelude.{◌≡◌, IfOk, OnOk, All, [], map, ◌↔◌, IsTrue, ◌++◌, ◌∷◌};
+ghost use Rattle.std.specs.Prelude.{◌≡◌, IfOk, OnOk, All, [], map, ◌↔◌, IsTrue, ◌∷◌};
 ghost use Rattle.floor_message.specs.Fits.{PriorityFits};
 ghost use Rattle.floor_message.specs.Tell.{infos_of, info_of};
 ghost use Rattle.floor_message.specs.Written as spec;
 ghost use Rattle.floor_message.specs.steps.Leaves.{Leaves};
+ghost use Rattle.floor_message.specs.steps.Writing.{with_attrs};
+ghost use Rattle.floor_wire.specs.Spelling.{IsWritable};
+ghost use Rattle.floor_wire.specs.View.{attributes_of};
 
 use crate::format::floor_request_status::{
     after_floor_statuses, floor_statuses_of, put_floor_statuses,
 };
-use crate::format::group::{GROUP_HEAD, LONGEST_GROUP, group, group_of};
+use crate::format::group::{GROUP_HEAD, LONGEST_GROUP, group_of};
 use crate::format::octets::{after_optional_octets, copied, first_copied, put_octets};
 use crate::format::overall_request_status::{
     after_overall, overall_of, overall_reason, put_overall,
@@ -22,7 +25,7 @@ use crate::kind::{
     BENEFICIARY_INFORMATION, FLOOR_REQUEST_INFORMATION, PARTICIPANT_PROVIDED_INFO,
     REQUESTED_BY_INFORMATION,
 };
-use floor_wire::Attr;
+use floor_wire::{Attr, FrameBuilder};
 use std::alloc::{AllocError, Global};
 
 /// The floor requests that the attributes show, in order.
@@ -55,43 +58,41 @@ pub(crate) fn info_of(alloc: Global, request: u16, inside: &[Attr]) -> Result<In
 }
 
 /// Adds a FLOOR-REQUEST-INFORMATION for each floor request.
-pub(crate) fn put_infos(
-    alloc: Global,
-    out: &mut Vec<Attr>,
-    infos: &[Info],
-) -> Result<(), AllocError>
-    requires { All PriorityFits infos.now }
-    ensures { OnOk result (out.new.items ≡ out.old.items ++ map spec.info_attr infos.now) }
+pub(crate) fn put_infos(out: &mut FrameBuilder, infos: &[Info]) -> Result<(), AllocError>
+    requires priorities { All PriorityFits infos.now }
+    requires writable { IsWritable (attributes_of (map spec.info_attr infos.now)) }
+    ensures { OnOk result (out.new ≡ with_attrs out.old (map spec.info_attr infos.now)) }
 {
     for info in infos {
-        out.push(info_attr(alloc, info)?)?;
+        put_info(out, info)?;
     }
     Ok(())
 }
 
-/// FLOOR-REQUEST-INFORMATION.
-pub(crate) fn info_attr(alloc: Global, info: &Info) -> Result<Attr, AllocError>
-    requires { PriorityFits info.now }
-    ensures { IfOk result (λ attr. attr ≡ spec.info_attr info.now) }
+/// Adds FLOOR-REQUEST-INFORMATION.
+pub(crate) fn put_info(out: &mut FrameBuilder, info: &Info) -> Result<(), AllocError>
+    requires priority { PriorityFits info.now }
+    requires writable { IsWritable (attributes_of (spec.info_attr info.now ∷ [])) }
+    ensures { OnOk result (out.new ≡ with_attrs out.old (spec.info_attr info.now ∷ [])) }
 {
-    let mut inside = Vec::new(alloc);
-    put_overall(alloc, &mut inside, info.request, info.overall, &info.reason)?;
-    put_floor_statuses(alloc, &mut inside, &info.floors)?;
-    put_who(
-        alloc,
-        &mut inside,
-        BENEFICIARY_INFORMATION,
-        &info.beneficiary,
-    )?;
-    put_who(
-        alloc,
-        &mut inside,
-        REQUESTED_BY_INFORMATION,
-        &info.requester,
-    )?;
-    put_priority(&mut inside, info.priority)?;
-    put_octets(alloc, &mut inside, PARTICIPANT_PROVIDED_INFO, &info.info)?;
-    Ok(group(FLOOR_REQUEST_INFORMATION, info.request, inside))
+    let start = out.begin_group(FLOOR_REQUEST_INFORMATION, info.request)?;
+    put_info_parts(out, info)?;
+    out.end_group(start);
+    Ok(())
+}
+
+/// Adds what FLOOR-REQUEST-INFORMATION holds.
+fn put_info_parts(out: &mut FrameBuilder, info: &Info) -> Result<(), AllocError>
+    requires priority { PriorityFits info.now }
+    requires writable { IsWritable (attributes_of (spec.info_attrs info.now)) }
+    ensures { OnOk result (out.new ≡ with_attrs out.old (spec.info_attrs info.now)) }
+{
+    put_overall(out, info.request, info.overall, &info.reason)?;
+    put_floor_statuses(out, info.floors.as_slice())?;
+    put_who(out, BENEFICIARY_INFORMATION, &info.beneficiary)?;
+    put_who(out, REQUESTED_BY_INFORMATION, &info.requester)?;
+    put_priority(out, info.priority)?;
+    put_octets(out, PARTICIPANT_PROVIDED_INFO, &info.info)
 }
 
 /// Whether each priority is at most 4.

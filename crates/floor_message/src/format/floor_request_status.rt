@@ -1,19 +1,22 @@
 //! FLOOR-REQUEST-STATUS as it is shown: a floor of a floor request, with its status where it has one
 //! (RFC 8855, section 5.2.17).
 
-ghost use Rattle.std.specs.Prelude.{◌≡◌, IfOk, OnOk, [], map, ◌++◌, ◌∷◌};
+ghost use Rattle.std.specs.Prelude.{◌≡◌, IfOk, OnOk, [], map, ◌∷◌};
 ghost use Rattle.floor_message.specs.Picked.{groups};
 ghost use Rattle.floor_message.specs.Tell.{floor_of};
 ghost use Rattle.floor_message.specs.Written as spec;
 ghost use Rattle.floor_message.specs.steps.Leaves.{Leaves};
+ghost use Rattle.floor_message.specs.steps.Writing.{with_attrs};
+ghost use Rattle.floor_wire.specs.Spelling.{IsWritable};
+ghost use Rattle.floor_wire.specs.View.{attributes_of};
 
 use crate::floor_statuses::FloorStatuses;
 use crate::format::attributes::SHORT_ATTRIBUTE;
-use crate::format::group::{GROUP_HEAD, group, group_of};
+use crate::format::group::{GROUP_HEAD, group_of};
 use crate::format::pair::first_pair;
-use crate::format::request_status::status_attr;
+use crate::format::request_status::put_status;
 use crate::kind::{FLOOR_REQUEST_STATUS, REQUEST_STATUS};
-use floor_wire::Attr;
+use floor_wire::{Attr, FrameBuilder};
 use std::alloc::{AllocError, Global};
 
 /// The floors of a floor request, in order, with their statuses.
@@ -32,19 +35,29 @@ pub(crate) fn floor_statuses_of(alloc: Global, inside: &[Attr]) -> Result<FloorS
 
 /// Adds a FLOOR-REQUEST-STATUS for each floor.
 pub(crate) fn put_floor_statuses(
-    alloc: Global,
-    out: &mut Vec<Attr>,
-    floors: &FloorStatuses,
+    out: &mut FrameBuilder,
+    floors: &[(u16, Option<(u8, u8)>)],
 ) -> Result<(), AllocError>
-    ensures { OnOk result (out.new.items ≡ out.old.items ++ map spec.floor_attr floors.now) }
+    requires { IsWritable (attributes_of (map spec.floor_attr floors.now)) }
+    ensures { OnOk result (out.new ≡ with_attrs out.old (map spec.floor_attr floors.now)) }
 {
-    for (floor, shown) in floors.as_slice() {
-        let mut inside = Vec::new(alloc);
-        if let Some((status, position)) = shown {
-            inside.push(status_attr(*status, *position))?;
-        }
-        out.push(group(FLOOR_REQUEST_STATUS, *floor, inside))?;
+    for (floor, shown) in floors {
+        put_floor_status(out, *floor, *shown)?;
     }
+    Ok(())
+}
+
+/// Adds the FLOOR-REQUEST-STATUS of a floor.
+pub(crate) fn put_floor_status(
+    out: &mut FrameBuilder,
+    floor: u16,
+    shown: Option<(u8, u8)>,
+) -> Result<(), AllocError>
+    ensures { OnOk result (out.new ≡ with_attrs out.old (spec.floor_attr (floor, shown) ∷ [])) }
+{
+    let start = out.begin_group(FLOOR_REQUEST_STATUS, floor)?;
+    put_status(out, shown)?;
+    out.end_group(start);
     Ok(())
 }
 

@@ -1,15 +1,18 @@
 //! The floors that a message names: FLOOR-IDs (RFC 8855, section 5.2.2).
 
-ghost use Rattle.std.specs.Prelude.{◌≡◌, IfOk, OnOk, ◌<◌, All, map, ◌↔◌, IsTrue, ◌^◌, ◌++◌};
+ghost use Rattle.std.specs.Prelude.{◌≡◌, ◌≤◌, IfOk, OnOk, map, length, ◌↔◌, IsTrue};
 ghost use Rattle.floor_message.specs.Fits.{FloorsFit};
 ghost use Rattle.floor_message.specs.Picked.{distinct, numbers, IsOnceBy};
 ghost use Rattle.floor_message.specs.Written as spec;
 ghost use Rattle.floor_message.specs.steps.Leaves.{Leaves};
+ghost use Rattle.floor_message.specs.steps.Writing.{with_attrs};
+ghost use Rattle.floor_wire.specs.Spelling.{canon};
+ghost use Rattle.floor_wire.specs.View.{attributes_of};
 
-use crate::format::attributes::{SHORT_ATTRIBUTE, plain};
+use crate::format::attributes::SHORT_ATTRIBUTE;
 use crate::format::number::number_of;
 use crate::kind::FLOOR_ID;
-use floor_wire::{Attr, Body};
+use floor_wire::{Attr, FrameBuilder};
 use indexmap::IndexSet;
 use std::alloc::{AllocError, Global};
 
@@ -30,15 +33,24 @@ pub(crate) fn floors_in(alloc: Global, attrs: &[Attr]) -> Result<Vec<u16>, Alloc
 }
 
 /// Adds a FLOOR-ID for each floor.
-pub(crate) fn put_floors(out: &mut Vec<Attr>, floors: &[u16]) -> Result<(), AllocError>
-    ensures out { OnOk result (out.new.items
-        ≡ out.old.items ++ map (spec.number FLOOR_ID) floors.now) }
-    ensures range { All (λ floor. floor < 2 ^ 16) floors.now }
+pub(crate) fn put_floors(out: &mut FrameBuilder, floors: &[u16]) -> Result<(), AllocError>
+    ensures { OnOk result (out.new
+        ≡ with_attrs out.old (map (spec.number FLOOR_ID) floors.now)) }
 {
     for floor in floors {
-        out.push(plain(FLOOR_ID, Body::Num(*floor)))?;
+        out.put_number(FLOOR_ID, *floor)?;
     }
     Ok(())
+}
+
+/// How many bytes the FLOOR-IDs take.
+pub(crate) fn floors_len(floors: &[u16]) -> usize
+    requires { length floors.now ≤ 60000 }
+    ensures value { result
+        ≡ length (canon (attributes_of (map (spec.number FLOOR_ID) floors.now))) }
+    ensures fits { result ≤ 240000 }
+{
+    SHORT_ATTRIBUTE * floors.len()
 }
 
 /// Whether the floors are named once each, and are at most 60,000.

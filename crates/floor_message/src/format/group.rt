@@ -3,10 +3,8 @@
 
 ghost use Rattle.std.specs.Prelude.{◌≡◌, option_map};
 ghost use Rattle.floor_message.specs.Picked.{first, if_kind, group_in, groups};
-ghost use Rattle.floor_message.specs.Written as spec;
 
-use crate::format::attributes::plain;
-use floor_wire::{Attr, Attrs, Body};
+use floor_wire::{Attr, Body};
 
 /// The most bytes of a group: its Length is a multiple of 4 below 256.
 pub(crate) const LONGEST_GROUP: usize = 252;
@@ -34,11 +32,4 @@ pub(crate) fn first_group(attrs: &[Attr], kind: u8) -> Option<(u16, &[Attr])>
         }
     }
     None
-}
-
-/// A group with these attributes inside it.
-pub(crate) fn group(kind: u8, number: u16, inside: Vec<Attr>) -> Attr
-    ensures { result ≡ spec.group kind number inside.items }
-{
-    plain(kind, Body::Group(number, Attrs::from_vec(inside)))
 }

@@ -1,12 +1,15 @@
 //! Attributes that are a number, Unsigned16 (RFC 8855, section 5.2). Of one that is wanted once the
 //! first counts.
 
-ghost use Rattle.std.specs.Prelude.{◌≡◌, OnOk, ◌<◌, IfSome, ◌^◌, ◌++◌};
+ghost use Rattle.std.specs.Prelude.{◌≡◌, ◌≤◌, ℕ, length, OnOk};
 ghost use Rattle.floor_message.specs.Picked.{first, if_kind, number_in, numbers};
 ghost use Rattle.floor_message.specs.Written as spec;
+ghost use Rattle.floor_message.specs.steps.Writing.{with_attrs};
+ghost use Rattle.floor_wire.specs.Spelling.{IsWritable, canon};
+ghost use Rattle.floor_wire.specs.View.{attributes_of};
 
-use crate::format::attributes::plain;
-use floor_wire::{Attr, Body};
+use crate::format::attributes::SHORT_ATTRIBUTE;
+use floor_wire::{Attr, Body, FrameBuilder};
 use std::alloc::AllocError;
 
 /// The number in an attribute of the type.
@@ -33,16 +36,28 @@ pub(crate) fn first_number(attrs: &[Attr], kind: u8) -> Option<u16>
 
 /// Adds the number, where there is one.
 pub(crate) fn put_number(
-    out: &mut Vec<Attr>,
+    out: &mut FrameBuilder,
     kind: u8,
     number: Option<u16>,
 ) -> Result<(), AllocError>
-    ensures out { OnOk result (out.new.items
-        ≡ out.old.items ++ spec.optional (spec.number kind) number) }
-    ensures range { IfSome number (λ n. n < 2 ^ 16) }
+    requires { IsWritable (attributes_of (spec.optional (spec.number kind) number)) }
+    ensures { OnOk result (out.new
+        ≡ with_attrs out.old (spec.optional (spec.number kind) number)) }
 {
     if let Some(number) = number {
-        out.push(plain(kind, Body::Num(number)))?;
+        out.put_number(kind, number)?;
     }
     Ok(())
+}
+
+/// How many bytes the number takes, where there is one.
+pub(crate) fn number_len(number: Option<u16>) -> usize
+    ensures value { (kind : ℕ)
+        → result ≡ length (canon (attributes_of (spec.optional (spec.number kind) number))) }
+    ensures fits { result ≤ 4 }
+{
+    match number {
+        Some(_) => SHORT_ATTRIBUTE,
+        None => 0,
+    }
 }

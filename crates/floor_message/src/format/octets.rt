@@ -1,16 +1,17 @@
 //! Attributes that are octets, OctetString (RFC 8855, section 5.2). Of one that is wanted once the
 //! first counts.
 
-ghost use Rattle.std.specs.Prelude.{◌≡◌, IfOk, OnOk, ◌<◌, [], ◌++◌, option_copied, ◌∷◌, ℕ, List, length};
+ghost use Rattle.std.specs.Prelude.{◌≡◌, IfOk, OnOk, ◌<◌, [], option_copied, ◌∷◌, ℕ, List, length};
 ghost use Rattle.floor_message.specs.Picked.{first, if_kind, octets_in, octet_strings};
 ghost use Rattle.floor_message.specs.Written as spec;
 ghost use Rattle.floor_message.specs.steps.Leaves.{Leaves};
+ghost use Rattle.floor_message.specs.steps.Writing.{with_attrs};
 ghost use Rattle.floor_wire.specs.Bytes.{IsBytes};
-ghost use Rattle.floor_wire.specs.Spelling.{format_of};
+ghost use Rattle.floor_wire.specs.Spelling.{format_of, IsWritable};
+ghost use Rattle.floor_wire.specs.View.{attributes_of};
 ghost use Rattle.floor_wire.specs.declared.format.Format.TheVariants.{OctetString};
 
-use crate::format::attributes::plain;
-use floor_wire::{Attr, Body, Octets, a_slice_is_of_bytes};
+use floor_wire::{Attr, Body, FrameBuilder, Octets, a_slice_is_of_bytes};
 use std::alloc::{AllocError, Global};
 
 /// The most octets of an octet string: its Length is below 256 and counts the head of 2 bytes.
@@ -58,26 +59,18 @@ pub(crate) fn copied(alloc: Global, octets: Option<&[u8]>) -> Result<Option<Octe
     }
 }
 
-/// An octet string.
-pub(crate) fn octets(alloc: Global, kind: u8, bytes: &[u8]) -> Result<Attr, AllocError>
-    ensures { IfOk result (λ attr. attr ≡ spec.octets kind bytes.now) }
-{
-    let bytes = Vec::from_slice(alloc, bytes)?;
-    Ok(plain(kind, Body::Octets(Octets::from_vec(bytes))))
-}
-
 /// Adds the octet string, where there is one.
 pub(crate) fn put_octets(
-    alloc: Global,
-    out: &mut Vec<Attr>,
+    out: &mut FrameBuilder,
     kind: u8,
     bytes: &Option<Octets>,
 ) -> Result<(), AllocError>
-    ensures { OnOk result (out.new.items
-        ≡ out.old.items ++ spec.optional (spec.octets kind) bytes.now) }
+    requires { IsWritable (attributes_of (spec.optional (spec.octets kind) bytes.now)) }
+    ensures { OnOk result (out.new
+        ≡ with_attrs out.old (spec.optional (spec.octets kind) bytes.now)) }
 {
     if let Some(bytes) = bytes {
-        out.push(octets(alloc, kind, bytes.as_slice())?)?;
+        out.put_octets(kind, bytes.as_slice())?;
     }
     Ok(())
 }

@@ -1,19 +1,23 @@
 //! OVERALL-REQUEST-STATUS: the status of a whole floor request, and the reason for it (RFC 8855,
 //! section 5.2.18).
 
-ghost use Rattle.std.specs.Prelude.{◌≡◌, IfOk, OnOk, [], ◌∷◌, ◌++◌, option_copied};
+ghost use Rattle.std.specs.Prelude.{◌≡◌, ◌≤◌, ℕ, length, OnOk, None, IfSome, [], ◌∷◌, option_copied};
 ghost use Rattle.floor_message.specs.Fields.{overall_reason, overall_status};
 ghost use Rattle.floor_message.specs.Tell.{overall_of};
 ghost use Rattle.floor_message.specs.Written as spec;
 ghost use Rattle.floor_message.specs.steps.Leaves.{Leaves};
+ghost use Rattle.floor_message.specs.steps.Writing.{with_attrs};
+ghost use Rattle.floor_wire.specs.Spelling.{IsWritable, canon};
+ghost use Rattle.floor_wire.specs.View.{attributes_of};
 
-use crate::format::group::{GROUP_HEAD, LONGEST_GROUP, first_group, group};
+use crate::format::group::{GROUP_HEAD, LONGEST_GROUP, first_group};
 use crate::format::octets::{after_optional_octets, first_octets, put_octets};
 use crate::format::pair::first_pair;
 use crate::format::request_status::{after_status, put_status, status_in};
+use crate::format::text::text_len;
 use crate::kind::{OVERALL_REQUEST_STATUS, REQUEST_STATUS, STATUS_INFO};
-use floor_wire::{Attr, Octets};
-use std::alloc::{AllocError, Global};
+use floor_wire::{Attr, FrameBuilder, Octets};
+use std::alloc::AllocError;
 
 /// The status in the first OVERALL-REQUEST-STATUS.
 pub(crate) fn overall_status(inside: &[Attr]) -> Option<u8>
@@ -41,35 +45,50 @@ pub(crate) fn overall_reason(inside: &[Attr]) -> Option<&[u8]>
 
 /// Adds OVERALL-REQUEST-STATUS, where there is a status or a reason.
 pub(crate) fn put_overall(
-    alloc: Global,
-    out: &mut Vec<Attr>,
+    out: &mut FrameBuilder,
     request: u16,
     status: Option<(u8, u8)>,
     reason: &Option<Octets>,
 ) -> Result<(), AllocError>
-    ensures { OnOk result (out.new.items
-        ≡ out.old.items ++ spec.overall_attrs request status reason.now) }
+    requires { IsWritable (attributes_of (spec.overall_attrs request status reason.now)) }
+    ensures { OnOk result (out.new
+        ≡ with_attrs out.old (spec.overall_attrs request status reason.now)) }
 {
     match (status, reason) {
-        (None, None) => {}
-        (None, Some(_)) | (Some(_), _) => out.push(overall_attr(alloc, request, status, reason)?)?,
+        (None, None) => Ok(()),
+        (None, Some(_)) | (Some(_), _) => put_overall_attr(out, request, status, reason),
     }
-    Ok(())
 }
 
-fn overall_attr(
-    alloc: Global,
+fn put_overall_attr(
+    out: &mut FrameBuilder,
     request: u16,
     status: Option<(u8, u8)>,
     reason: &Option<Octets>,
-) -> Result<Attr, AllocError>
-    ensures { IfOk result (λ attr. attr
-        ≡ spec.group OVERALL_REQUEST_STATUS request (spec.overall_inside status reason.now)) }
+) -> Result<(), AllocError>
+    requires { IsWritable (attributes_of
+        (spec.group OVERALL_REQUEST_STATUS request (spec.overall_inside status reason.now) ∷ [])) }
+    ensures { OnOk result (out.new ≡ with_attrs out.old
+        (spec.group OVERALL_REQUEST_STATUS request (spec.overall_inside status reason.now) ∷ [])) }
 {
-    let mut inside = Vec::new(alloc);
-    put_status(&mut inside, status)?;
-    put_octets(alloc, &mut inside, STATUS_INFO, reason)?;
-    Ok(group(OVERALL_REQUEST_STATUS, request, inside))
+    let start = out.begin_group(OVERALL_REQUEST_STATUS, request)?;
+    put_status(out, status)?;
+    put_octets(out, STATUS_INFO, reason)?;
+    out.end_group(start);
+    Ok(())
+}
+
+/// How many bytes OVERALL-REQUEST-STATUS takes with a reason alone, where there is one.
+pub(crate) fn overall_len(reason: &Option<Octets>) -> usize
+    requires { IfSome reason.now (λ text. length text ≤ 253) }
+    ensures value { (request : ℕ)
+        → result ≡ length (canon (attributes_of (spec.overall_attrs request None reason.now))) }
+    ensures fits { result ≤ 260 }
+{
+    match reason {
+        Some(_) => GROUP_HEAD + text_len(reason),
+        None => 0,
+    }
 }
 
 /// What is left of the room behind OVERALL-REQUEST-STATUS, where there is a status or a reason.

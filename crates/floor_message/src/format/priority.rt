@@ -1,15 +1,16 @@
 //! PRIORITY (RFC 8855, section 5.2.4).
 
-ghost use Rattle.std.specs.Prelude.{◌≡◌, option_map, OnOk, IfSome, ◌++◌, ◌≤◌};
+ghost use Rattle.std.specs.Prelude.{◌≡◌, option_map, OnOk, IfSome, ◌≤◌};
 ghost use Rattle.floor_message.specs.Fields.{priority_of, priority_asked};
 ghost use Rattle.floor_message.specs.Picked.{first, pairs};
 ghost use Rattle.floor_message.specs.Written as spec;
 ghost use Rattle.floor_message.specs.steps.Leaves.{Leaves};
+ghost use Rattle.floor_message.specs.steps.Writing.{with_attrs};
 
-use crate::format::attributes::{SHORT_ATTRIBUTE, plain};
+use crate::format::attributes::SHORT_ATTRIBUTE;
 use crate::format::pair::first_pair;
 use crate::kind::PRIORITY;
-use floor_wire::{Attr, Body};
+use floor_wire::{Attr, FrameBuilder};
 use std::alloc::AllocError;
 
 /// The priority in the upper 3 bits; 5 to 7 are read as Highest.
@@ -37,22 +38,14 @@ pub(crate) fn priority_in(inside: &[Attr]) -> Option<u8>
     Some(priority_of(pair))
 }
 
-/// PRIORITY, with the priority in its upper 3 bits.
-pub(crate) fn priority_attr(priority: u8) -> Attr
-    requires { priority ≤ 4 }
-    ensures { result ≡ spec.priority_attr priority }
-{
-    plain(PRIORITY, Body::Pair(32 * priority, 0))
-}
-
-/// Adds PRIORITY, where there is one.
-pub(crate) fn put_priority(out: &mut Vec<Attr>, priority: Option<u8>) -> Result<(), AllocError>
+/// Adds PRIORITY, with the priority in its upper 3 bits, where there is one.
+pub(crate) fn put_priority(out: &mut FrameBuilder, priority: Option<u8>) -> Result<(), AllocError>
     requires { IfSome priority (λ priority. priority ≤ 4) }
-    ensures { OnOk result (out.new.items
-        ≡ out.old.items ++ spec.optional spec.priority_attr priority) }
+    ensures { OnOk result (out.new
+        ≡ with_attrs out.old (spec.optional spec.priority_attr priority)) }
 {
     if let Some(priority) = priority {
-        out.push(priority_attr(priority))?;
+        out.put_pair(PRIORITY, 32 * priority, 0)?;
     }
     Ok(())
 }

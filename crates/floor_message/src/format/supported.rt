@@ -1,17 +1,19 @@
 //! SUPPORTED-PRIMITIVES and SUPPORTED-ATTRIBUTES (RFC 8855, sections 5.2.10 and 5.2.11).
 
-ghost use Rattle.std.specs.Prelude.{◌≡◌, ◌<◌, ◌*◌, ◌++◌, ◌∷◌, [], All, map, IfOk, OnOk};
+ghost use Rattle.std.specs.Prelude.{◌≡◌, ◌<◌, ◌*◌, ◌∷◌, [], All, map, IfOk, OnOk};
 ghost use Rattle.floor_message.specs.Tell.{tell_of};
 ghost use Rattle.floor_message.specs.Written as spec;
 ghost use Rattle.floor_message.specs.declared.primitive.Primitive.TheVariants as primitive;
 ghost use Rattle.floor_message.specs.steps.Leaves.{Leaves};
+ghost use Rattle.floor_message.specs.steps.Writing.{with_attrs};
+ghost use Rattle.floor_wire.specs.Spelling.{IsWritable};
+ghost use Rattle.floor_wire.specs.View.{attributes_of};
 
-use crate::format::attribute_types::{doubled, halved};
-use crate::format::attributes::plain;
-use crate::format::octets::{after_octets, first_octets, octets};
+use crate::format::attribute_types::halved;
+use crate::format::octets::{after_octets, first_octets};
 use crate::kind::{SUPPORTED_ATTRIBUTES, SUPPORTED_PRIMITIVES};
 use crate::tell::Tell;
-use floor_wire::{Attr, Body, Octets, a_slice_is_of_bytes};
+use floor_wire::{Attr, FrameBuilder, Octets, a_slice_is_of_bytes};
 use std::alloc::{AllocError, Global};
 
 /// What a HelloAck tells, where both lists are there.
@@ -32,20 +34,19 @@ pub(crate) fn hello_ack(alloc: Global, attrs: &[Attr]) -> Result<Option<Tell>, A
 
 /// Adds both lists.
 pub(crate) fn put_supported(
-    alloc: Global,
-    out: &mut Vec<Attr>,
+    out: &mut FrameBuilder,
     primitives: &[u8],
     types: &[u8],
 ) -> Result<(), AllocError>
-    requires { All (λ kind. kind < 128) types.now }
-    ensures { OnOk result (out.new.items
-        ≡ out.old.items ++ spec.octets SUPPORTED_PRIMITIVES primitives.now
-        ∷ spec.octets SUPPORTED_ATTRIBUTES (map (λ k. 2 * k) types.now) ∷ []) }
+    requires range { All (λ kind. kind < 128) types.now }
+    requires writable { IsWritable (attributes_of (spec.octets SUPPORTED_PRIMITIVES primitives.now
+        ∷ spec.octets SUPPORTED_ATTRIBUTES (map (λ k. 2 * k) types.now) ∷ [])) }
+    ensures { OnOk result (out.new
+        ≡ with_attrs out.old (spec.octets SUPPORTED_PRIMITIVES primitives.now
+        ∷ spec.octets SUPPORTED_ATTRIBUTES (map (λ k. 2 * k) types.now) ∷ [])) }
 {
-    out.push(octets(alloc, SUPPORTED_PRIMITIVES, primitives)?)?;
-    let types = doubled(alloc, types)?;
-    out.push(plain(SUPPORTED_ATTRIBUTES, Body::Octets(Octets::from_vec(types))))?;
-    Ok(())
+    out.put_octets(SUPPORTED_PRIMITIVES, primitives)?;
+    out.put_types(SUPPORTED_ATTRIBUTES, types)
 }
 
 /// What is left of the room behind both lists.

@@ -1,11 +1,14 @@
 //! A text, kept up to a greatest length in bytes: PARTICIPANT-PROVIDED-INFO and STATUS-INFO (RFC 8855,
 //! sections 5.2.8 and 5.2.9).
 
-ghost use Rattle.std.specs.Prelude.{◌≡◌, IfOk, MatchOption, ◌↔◌, IfSome, IsTrue, option_copied, false, true};
+ghost use Rattle.std.specs.Prelude.{◌≡◌, ◌≤◌, ℕ, length, IfOk, MatchOption, ◌↔◌, IfSome, IsTrue, option_copied, false, true};
 ghost use Rattle.std.specs.Str.{is_utf8};
 ghost use Rattle.floor_message.specs.Fits.{TextFits};
 ghost use Rattle.floor_message.specs.Text as spec;
+ghost use Rattle.floor_message.specs.Written.{optional, octets};
 ghost use Rattle.floor_wire.specs.Bytes.{IsBytes};
+ghost use Rattle.floor_wire.specs.Spelling.{canon};
+ghost use Rattle.floor_wire.specs.View.{attributes_of};
 
 use floor_wire::{Octets, a_slice_is_of_bytes};
 use std::alloc::{AllocError, Global};
@@ -66,6 +69,19 @@ pub(crate) fn optional_text_fits(text: &Option<Octets>, most: usize) -> bool
     match text {
         Some(text) => text_fits(text.as_slice(), most),
         None => true,
+    }
+}
+
+/// How many bytes the attribute of a text takes, where there is one.
+pub(crate) fn text_len(text: &Option<Octets>) -> usize
+    requires { IfSome text.now (λ bytes. length bytes ≤ 253) }
+    ensures value { (kind : ℕ)
+        → result ≡ length (canon (attributes_of (optional (octets kind) text.now))) }
+    ensures fits { result ≤ 256 }
+{
+    match text {
+        Some(text) => (2 + text.as_slice().len()).next_multiple_of(4),
+        None => 0,
     }
 }
 

@@ -1,18 +1,20 @@
 //! BENEFICIARY-INFORMATION and REQUESTED-BY-INFORMATION: a user (RFC 8855, sections 5.2.14 and 5.2.16).
 
-ghost use Rattle.std.specs.Prelude.{◌≡◌, option_map, IfOk, OnOk, ◌<◌, ◌++◌, ℕ};
+ghost use Rattle.std.specs.Prelude.{◌≡◌, ◌∷◌, [], option_map, IfOk, OnOk, ◌<◌, ℕ};
 ghost use Rattle.floor_message.specs.Picked.{first, groups};
 ghost use Rattle.floor_message.specs.Tell.{who_of};
 ghost use Rattle.floor_message.specs.Written as spec;
 ghost use Rattle.floor_message.specs.steps.Leaves.{Leaves};
-ghost use Rattle.floor_wire.specs.Spelling.{format_of};
+ghost use Rattle.floor_message.specs.steps.Writing.{with_attrs};
+ghost use Rattle.floor_wire.specs.Spelling.{format_of, IsWritable};
+ghost use Rattle.floor_wire.specs.View.{attributes_of};
 ghost use Rattle.floor_wire.specs.declared.format.Format.TheVariants.{Grouped};
 
-use crate::format::group::{GROUP_HEAD, LONGEST_GROUP, first_group, group};
+use crate::format::group::{GROUP_HEAD, LONGEST_GROUP, first_group};
 use crate::format::octets::{after_optional_octets, first_copied, put_octets};
 use crate::information::Who;
 use crate::kind::{USER_DISPLAY_NAME, USER_URI};
-use floor_wire::Attr;
+use floor_wire::{Attr, FrameBuilder};
 use std::alloc::{AllocError, Global};
 
 /// The user in the first group of the type.
@@ -30,28 +32,27 @@ pub(crate) fn first_who(alloc: Global, attrs: &[Attr], kind: u8) -> Result<Optio
 }
 
 /// Adds the group of a user, where there is one.
-pub(crate) fn put_who(
-    alloc: Global,
-    out: &mut Vec<Attr>,
-    kind: u8,
-    who: &Option<Who>,
-) -> Result<(), AllocError>
-    ensures { OnOk result (out.new.items
-        ≡ out.old.items ++ spec.optional (spec.who_attr kind) who.now) }
+pub(crate) fn put_who(out: &mut FrameBuilder, kind: u8, who: &Option<Who>) -> Result<(), AllocError>
+    requires { IsWritable (attributes_of (spec.optional (spec.who_attr kind) who.now)) }
+    ensures { OnOk result (out.new
+        ≡ with_attrs out.old (spec.optional (spec.who_attr kind) who.now)) }
 {
     if let Some(who) = who {
-        out.push(who_attr(alloc, kind, who)?)?;
+        put_user(out, kind, who)?;
     }
     Ok(())
 }
 
-fn who_attr(alloc: Global, kind: u8, who: &Who) -> Result<Attr, AllocError>
-    ensures { IfOk result (λ attr. attr ≡ spec.who_attr kind who.now) }
+/// Adds the group of a user.
+fn put_user(out: &mut FrameBuilder, kind: u8, who: &Who) -> Result<(), AllocError>
+    requires { IsWritable (attributes_of (spec.who_attr kind who.now ∷ [])) }
+    ensures { OnOk result (out.new ≡ with_attrs out.old (spec.who_attr kind who.now ∷ [])) }
 {
-    let mut inside = Vec::new(alloc);
-    put_octets(alloc, &mut inside, USER_DISPLAY_NAME, &who.name)?;
-    put_octets(alloc, &mut inside, USER_URI, &who.uri)?;
-    Ok(group(kind, who.user, inside))
+    let start = out.begin_group(kind, who.user)?;
+    put_octets(out, USER_DISPLAY_NAME, &who.name)?;
+    put_octets(out, USER_URI, &who.uri)?;
+    out.end_group(start);
+    Ok(())
 }
 
 /// What is left of the room behind the group of a user, where there is one.

@@ -1,26 +1,30 @@
 //! The verdicts of a ChairAction: a FLOOR-REQUEST-INFORMATION with a FLOOR-REQUEST-STATUS for each
 //! floor, behind the reason for them (RFC 8855, sections 5.2.15, 5.2.17 and 5.3.9).
 
-ghost use Rattle.std.specs.Prelude.{◌≡◌, ◌<◌, ◌*◌, ◌^◌, ◌==◌, ◌↔◌, option_and_then, option_map, map, IfOk, IfSome, IsTrue, OnOk};
+ghost use Rattle.std.specs.Prelude.{◌≡◌, ◌==◌, ◌≤◌, ◌↔◌, ℕ, length, option_and_then, option_map, map, IfOk, IfSome, IsTrue, OnOk};
 ghost use Rattle.std.specs.List.{list_any};
 ghost use Rattle.floor_message.specs.Fields.{fields, floors_judged, given, status_for, verdict_of};
 ghost use Rattle.floor_message.specs.Fits.{ChairActionFits, VerdictsFit, most_verdicts};
 ghost use Rattle.floor_message.specs.Picked.{IsOnceBy};
-ghost use Rattle.floor_message.specs.Room.{FitsRoom};
 ghost use Rattle.floor_message.specs.Written as spec;
 ghost use Rattle.floor_message.specs.declared.primitive.Primitive.TheVariants as primitive;
 ghost use Rattle.floor_message.specs.steps.Adding.{add_new};
+ghost use Rattle.floor_message.specs.steps.Writing.{with_attrs};
 ghost use Rattle.floor_wire.specs.Bytes.{IsBytes};
+ghost use Rattle.floor_wire.specs.Spelling.{IsWritable, canon};
+ghost use Rattle.floor_wire.specs.View.{attributes_of};
 
 use crate::ask::Ask;
-use crate::format::group::{first_group, group, group_of};
-use crate::format::overall_request_status::{overall_status, put_overall};
-use crate::format::request_status::{status_attr, status_in};
+use crate::format::attributes::SHORT_ATTRIBUTE;
+use crate::format::floor_request_status::put_floor_status;
+use crate::format::group::{GROUP_HEAD, first_group, group_of};
+use crate::format::overall_request_status::{overall_len, overall_status, put_overall};
+use crate::format::request_status::status_in;
 use crate::format::status_info::reason_kept;
 use crate::format::text::{LONGEST_REASON, optional_text_fits};
 use crate::kind::{FLOOR_REQUEST_INFORMATION, FLOOR_REQUEST_STATUS};
 use crate::verdicts::{Verdict, Verdicts};
-use floor_wire::{Attr, Octets};
+use floor_wire::{Attr, FrameBuilder, Octets};
 use std::alloc::{AllocError, Global};
 
 /// The most verdicts of a ChairAction without a reason: with them its group fits its Length.
@@ -126,36 +130,33 @@ fn given(
     Ok(Some(verdicts))
 }
 
-/// The attributes of a ChairAction.
-pub(crate) fn chair_action_attrs(
-    alloc: Global,
+/// Adds FLOOR-REQUEST-INFORMATION as a ChairAction holds it.
+pub(crate) fn put_chair_action(
+    out: &mut FrameBuilder,
     request: u16,
     verdicts: &[(u16, Verdict)],
     reason: &Option<Octets>,
-) -> Result<Vec<Attr>, AllocError>
-    requires { ChairActionFits verdicts.now reason.now }
-    ensures value { IfOk result (λ attrs. attrs.items
-        ≡ spec.ask_attrs (Ask.ChairAction request verdicts.now reason.now)) }
-    ensures fits { IfOk result (λ _. FitsRoom
-        (spec.ask_attrs (Ask.ChairAction request verdicts.now reason.now)) (4 * 65535)) }
+) -> Result<(), AllocError>
+    requires { IsWritable (attributes_of
+        (spec.ask_attrs (Ask.ChairAction request verdicts.now reason.now))) }
+    ensures { OnOk result (out.new ≡ with_attrs out.old
+        (spec.ask_attrs (Ask.ChairAction request verdicts.now reason.now))) }
 {
-    let mut inside = Vec::new(alloc);
-    put_overall(alloc, &mut inside, request, None, reason)?;
-    for (floor, verdict) in verdicts {
-        inside.push(verdict_attr(alloc, *floor, *verdict)?)?;
-    }
-    let mut out = Vec::new(alloc);
-    out.push(group(FLOOR_REQUEST_INFORMATION, request, inside))?;
-    Ok(out)
+    let start = out.begin_group(FLOOR_REQUEST_INFORMATION, request)?;
+    put_overall(out, request, None, reason)?;
+    put_verdicts(out, verdicts)?;
+    out.end_group(start);
+    Ok(())
 }
 
-fn verdict_attr(alloc: Global, floor: u16, verdict: Verdict) -> Result<Attr, AllocError>
-    ensures value { IfOk result (λ attr. attr ≡ spec.verdict_attr (floor, verdict)) }
-    ensures range { floor < 2 ^ 16 }
+/// Adds a FLOOR-REQUEST-STATUS for each verdict.
+fn put_verdicts(out: &mut FrameBuilder, verdicts: &[(u16, Verdict)]) -> Result<(), AllocError>
+    ensures { OnOk result (out.new ≡ with_attrs out.old (map spec.verdict_attr verdicts.now)) }
 {
-    let mut inside = Vec::new(alloc);
-    inside.push(status_attr(status_of(verdict), 0))?;
-    Ok(group(FLOOR_REQUEST_STATUS, floor, inside))
+    for (floor, verdict) in verdicts {
+        put_floor_status(out, *floor, Some((status_of(*verdict), 0)))?;
+    }
+    Ok(())
 }
 
 fn status_of(verdict: Verdict) -> u8
@@ -167,6 +168,16 @@ fn status_of(verdict: Verdict) -> u8
         Verdict::Denied => 4,
         Verdict::Revoked => 7,
     }
+}
+
+/// How many bytes a ChairAction takes behind its header.
+pub(crate) fn chair_action_len(verdicts: &[(u16, Verdict)], reason: &Option<Octets>) -> usize
+    requires few { length verdicts.now ≤ 31 }
+    requires text { IfSome reason.now (λ text. length text ≤ 253) }
+    ensures { (request : ℕ) → result ≡ length (canon (attributes_of
+        (spec.ask_attrs (Ask.ChairAction request verdicts.now reason.now)))) }
+{
+    GROUP_HEAD + overall_len(reason) + (GROUP_HEAD + SHORT_ATTRIBUTE) * verdicts.len()
 }
 
 /// Whether the verdicts and the reason can be written: 1 to 31 verdicts, or to 26 beside a reason,
