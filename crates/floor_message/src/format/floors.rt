@@ -4,6 +4,7 @@ ghost use Rattle.std.specs.Prelude.{◌≡◌, ◌≤◌, IfOk, OnOk, map, lengt
 ghost use Rattle.floor_message.specs.Fits.{FloorsFit};
 ghost use Rattle.floor_message.specs.Picked.{distinct, numbers, IsOnceBy};
 ghost use Rattle.floor_message.specs.Written as spec;
+ghost use Rattle.floor_message.specs.steps.Adding.{add_new};
 ghost use Rattle.floor_message.specs.steps.Leaves.{Leaves};
 ghost use Rattle.floor_message.specs.steps.Writing.{with_attrs};
 ghost use Rattle.floor_wire.specs.Spelling.{canon};
@@ -19,8 +20,44 @@ use std::alloc::{AllocError, Global};
 /// The most floors of a message: with them it fits its Payload Length.
 const MOST_FLOORS: usize = 60_000;
 
+/// How many floors are looked through to find one that is named again; more are kept in a set.
+const FEW_FLOORS: usize = 16;
+
 /// The floors that the attributes name, each once, in order of first appearance.
 pub(crate) fn floors_in(alloc: Global, attrs: &[Attr]) -> Result<Vec<u16>, AllocError>
+    ensures { IfOk result (λ floors. floors.items ≡ distinct (numbers FLOOR_ID attrs.now)) }
+{
+    let mut found = Vec::new(alloc);
+    for attr in attrs {
+        if let Some(floor) = number_of(attr, FLOOR_ID) {
+            let is_found = add_floor(&mut found, floor)?;
+            if !is_found {
+                return many_floors_in(alloc, attrs);
+            }
+        }
+    }
+    Ok(found)
+}
+
+/// Adds the floor, unless it is there. False where it isn't and there are 16 already.
+fn add_floor(found: &mut Vec<u16>, floor: u16) -> Result<bool, AllocError>
+    ensures { IfOk result (λ is_found. IsTrue is_found
+        → found.new.items ≡ add_new (λ n. n) found.old.items floor) }
+{
+    for known in found.as_slice() {
+        if floor == *known {
+            return Ok(true);
+        }
+    }
+    if found.len() >= FEW_FLOORS {
+        return Ok(false);
+    }
+    found.push(floor)?;
+    Ok(true)
+}
+
+/// The same of however many floors, by a set of those that were found.
+fn many_floors_in(alloc: Global, attrs: &[Attr]) -> Result<Vec<u16>, AllocError>
     ensures { IfOk result (λ floors. floors.items ≡ distinct (numbers FLOOR_ID attrs.now)) }
 {
     let mut found = IndexSet::new(alloc);

@@ -1,0 +1,7 @@
+use Rattle.std.proofs.Common.{◌≡◌, drop, []}
+use Rattle.floor_message.specs.steps.Adding.{add_all}
+use Rattle.floor_message.specs.Picked.{numbers}
+use Rattle.floor_message.proofs.format.floors.many_floors_in.Given as goal
+
+abbrev pub invariant-loop-attr : goal.invariant-loop-attr
+invariant-loop-attr l = add_all (λ n. n) l.found.keys (numbers 2 (drop l.attr-index l.attrs)) ≡ add_all (λ n. n) [] (numbers 2 l.attrs)
