@@ -11,6 +11,7 @@ pub mod FirstFault
 pub mod MessageExamples
 pub mod AttributeExamples
 -- what the values of the types stand for
+pub mod Held
 pub mod View
 pub mod AttributesCode
 pub mod AttrsFalls

@@ -8,7 +8,14 @@ use std::marker::Model;
 /// Octets in order.
 #[derive(Debug, Drop)]
 pub struct Octets {
-    items: Vec<u8>,
+    held: Held,
+}
+
+/// Where octets lie: in a vector of their own, or in the program.
+#[derive(Debug, Drop)]
+enum Held {
+    Own(Vec<u8>),
+    Fixed(&'static [u8]),
 }
 
 impl Model for Octets {
@@ -16,7 +23,9 @@ impl Model for Octets {
 
     ghost Value = { List ℕ };
 
-    ghost view = { λ o. o.items.items };
+    ghost use Rattle.floor_wire.specs.Held.{octets_held};
+
+    ghost view = { λ o. octets_held o.held };
 }
 
 impl Octets {
@@ -24,21 +33,35 @@ impl Octets {
     pub fn from_vec(items: Vec<u8>) -> Octets
         ensures { result ≡ items.items }
     {
-        Octets { items }
+        Octets {
+            held: Held::Own(items),
+        }
+    }
+
+    /// Octets that stand in the program, and are made of no memory.
+    pub fn from_static(items: &'static [u8]) -> Octets
+        ensures { result ≡ items.now }
+    {
+        Octets {
+            held: Held::Fixed(items),
+        }
     }
 
     /// The octets, in order.
     pub fn as_slice(&self) -> &[u8]
         ensures { result.now ≡ self.now }
     {
-        self.items.as_slice()
+        match &self.held {
+            Held::Own(items) => items.as_slice(),
+            Held::Fixed(items) => items,
+        }
     }
 
     /// Equal octets.
     pub fn copy(&self, alloc: Global) -> Result<Octets, AllocError>
         ensures { IfOk result (λ copy. copy ≡ self.now) }
     {
-        let items = Vec::from_slice(alloc, &self.items)?;
+        let items = Vec::from_slice(alloc, self.as_slice())?;
         Ok(Octets::from_vec(items))
     }
 }
