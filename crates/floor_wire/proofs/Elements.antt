@@ -1,12 +1,10 @@
 -- One attribute of a list, and the list up to it.
-use Rattle.std.proofs.Common.{◌≡◌, ℕ, zero, suc, ◌+◌, ◌<◌, ◌≤◌, List, [], ◌∷◌, ◌++◌, length, take, get_or, refl, sym, ◌∙◌, ap, arith, append_assoc, subst, length-append}
+use Rattle.std.proofs.Common.{◌≡◌, ℕ, zero, suc, ◌+◌, ◌<◌, ◌≤◌, List, [], ◌∷◌, ◌++◌, length, take, get_or, sym, ◌∙◌, ap, arith, append_assoc, subst, length-append}
 use Rattle.std.proofs.lemmas.List.{take_more, append-nil}
-use Rattle.floor_wire.specs.declared.attribute.Body.{Body}
-use Rattle.floor_wire.specs.declared.attribute.Body.TheVariants.{Num, Pair, Group, Octets}
 use Rattle.floor_wire.specs.declared.attribute.Attr.{Attr}
 use Rattle.floor_wire.specs.Bytes.{IsContentOfBytes, IsOfBytes}
 use Rattle.floor_wire.specs.Attributes.{content_size, attributes_size}
-use Rattle.floor_wire.specs.View.{content_of, attributes_of, items, body_of}
+use Rattle.floor_wire.specs.View.{content_of, attributes_of}
 use Rattle.floor_wire.specs.steps.Writable.{IsWritableAttribute, attribute_bytes, IsShort}
 use Rattle.floor_wire.specs.Spelling.{canon, IsWritable}
 
@@ -39,18 +37,6 @@ pub canon-attributes_of-take : (xs : List Attr) (i : ℕ) (a : Attr) → i < len
     → canon (attributes_of (take (i + 1) xs)) ≡ canon (attributes_of (take i xs)) ++ attribute_bytes a
 canon-attributes_of-take xs i a h e =
     ap (λ l. canon (attributes_of l)) (take_more xs i a h ∙ ap (λ x. take i xs ++ x ∷ []) (sym e)) ∙ canon-attributes_of-append (take i xs) a
-
-body_of-content_of : (b : Body) → body_of (content_of b) ≡ b
-body_of-content_of (Num n) = refl
-body_of-content_of (Pair a b) = refl
-body_of-content_of (Group n inside) = refl
-body_of-content_of (Octets os) = refl
-
--- the list of a view is the list
-pub items-attributes_of : (xs : List Attr) → items (attributes_of xs) ≡ xs
-items-attributes_of [] = refl
-items-attributes_of (x ∷ xs) =
-    ap (λ b. record x { body = b } ∷ items (attributes_of xs)) (body_of-content_of x.body) ∙ ap (λ l. x ∷ l) (items-attributes_of xs)
 
 writable_append : (xs : List Attr) (a : Attr) → IsWritable (attributes_of xs) → IsWritableAttribute a → IsWritable (attributes_of (xs ++ a ∷ []))
 writable_append [] a w h = (h.kind, h.format, h.len, h.content, tt)

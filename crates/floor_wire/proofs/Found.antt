@@ -56,7 +56,7 @@ content_found OctetString contents others c fits inside e =
     let P : Content → Type 0 = λ x. (OctetString ≡ format_of_content x) × SpellsContent x contents in
     let is : octets contents ≡ c = cc in subst P is (refl, refl)
 
-content_of-body_of : (c : Content) → content_of (body_of c) ≡ c
+pub content_of-body_of : (c : Content) → content_of (body_of c) ≡ c
 content_of-body_of (num n) = refl
 content_of-body_of (pair a b) = refl
 content_of-body_of (group n i) = refl

@@ -12,3 +12,4 @@ pub mod Writing
 pub mod Typed
 pub mod Rewritten
 pub mod Found
+pub mod Viewed

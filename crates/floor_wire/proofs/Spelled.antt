@@ -21,30 +21,43 @@ drop_front : (xs ys : List ℕ) → drop (length xs) (xs ++ ys) ≡ ys
 drop_front [] ys = refl
 drop_front (x ∷ xs) ys = drop_front xs ys
 
+-- the parts of the attribute at the front of a spelled text
+pub record FrontParts (k : ℕ) (m : Bool) (c t s : List ℕ) : Type 0 where
+  pub sound : front_fault s ≡ None
+  pub kind : front_kind s ≡ k
+  pub must : (get_or s 0 0 % 2 == 1) ≡ m
+  pub contents : slice_range s 2 (front_len s) ≡ c
+  pub after : drop (padded (front_len s)) s ≡ t
+
+pub front_parts : (k : ℕ) (m : Bool) (c : Content) (rest : Attributes) (s : List ℕ) → (p : Spells (attribute k m c rest) s) → FrontParts k m p.1.contents p.1.after s
+front_parts k m c rest s p =
+    let f = p.1 in
+    let len : front_len s ≡ 2 + length f.contents = ap (λ x. get_or x 1 0) f.whole in
+    let end : padded (front_len s) ≡ 2 + length (f.contents ++ f.padding)
+    = ap padded len ∙ padded_is (length f.contents) (length f.padding) f.short f.aligned ∙ omega (arith, length-append f.contents f.padding) in
+    record {
+      sound = ap front_fault (sym (append-nil s)) ∙ starts_sound k m c (s ++ []) (starts k m c rest s [] p);
+      kind = ap (λ x. get_or x 0 0 / 2) f.whole ∙ kind_of_first k m;
+      must = ap (λ x. get_or x 0 0 % 2 == 1) f.whole ∙ must_of_first k m;
+      contents = ap (λ n. slice_range s 2 n) len ∙ ap (λ x. slice_range x 2 (2 + length f.contents)) f.whole
+          ∙ ap (λ n. take n (f.contents ++ f.padding ++ f.after)) (let e : 2 + length f.contents - 2 ≡ length f.contents = omega arith in e)
+          ∙ ap (λ x. take (length f.contents) x) (append_assoc f.contents f.padding f.after) ∙ take_front f.contents (f.padding ++ f.after);
+      after = ap (λ n. drop n s) end ∙ ap (λ x. drop (2 + length (f.contents ++ f.padding)) x) f.whole
+          ∙ ap (λ n. drop n (first_byte k m ∷ (2 + length f.contents) ∷ (f.contents ++ f.padding ++ f.after))) (let e : 2 + length (f.contents ++ f.padding) ≡ suc (suc (length (f.contents ++ f.padding))) = omega arith in e)
+          ∙ drop_front (f.contents ++ f.padding) f.after;
+    }
+
 -- what is read at the front of a spelled text
 front_read : (k : ℕ) (m : Bool) (c : Content) (rest : Attributes) (s : List ℕ) (others : List ℕ → Option Attributes) → (p : Spells (attribute k m c rest) s)
     → content_in (format_of k) p.1.contents others ≡ Some c → others p.1.after ≡ Some rest → front_first (front_fault s) s others ≡ Some (attribute k m c rest)
 front_read k m c rest s others p inner later =
     let f = p.1 in
-    let sound : front_fault s ≡ None = ap front_fault (sym (append-nil s)) ∙ starts_sound k m c (s ++ []) (starts k m c rest s [] p) in
-    let kind : front_kind s ≡ k = ap (λ x. get_or x 0 0 / 2) f.whole ∙ kind_of_first k m in
-    let must : (get_or s 0 0 % 2 == 1) ≡ m = ap (λ x. get_or x 0 0 % 2 == 1) f.whole ∙ must_of_first k m in
-    let len : front_len s ≡ 2 + length f.contents = ap (λ x. get_or x 1 0) f.whole in
-    let body : slice_range s 2 (front_len s) ≡ f.contents
-    = ap (λ n. slice_range s 2 n) len ∙ ap (λ x. slice_range x 2 (2 + length f.contents)) f.whole
-    ∙ ap (λ n. take n (f.contents ++ f.padding ++ f.after)) (let e : 2 + length f.contents - 2 ≡ length f.contents = omega arith in e)
-    ∙ ap (λ x. take (length f.contents) x) (append_assoc f.contents f.padding f.after) ∙ take_front f.contents (f.padding ++ f.after) in
-    let end : padded (front_len s) ≡ 2 + length (f.contents ++ f.padding)
-    = ap padded len ∙ padded_is (length f.contents) (length f.padding) f.short f.aligned ∙ omega (arith, length-append f.contents f.padding) in
-    let tail : drop (padded (front_len s)) s ≡ f.after
-    = ap (λ n. drop n s) end ∙ ap (λ x. drop (2 + length (f.contents ++ f.padding)) x) f.whole
-    ∙ ap (λ n. drop n (first_byte k m ∷ (2 + length f.contents) ∷ (f.contents ++ f.padding ++ f.after))) (let e : 2 + length (f.contents ++ f.padding) ≡ suc (suc (length (f.contents ++ f.padding))) = omega arith in e)
-    ∙ drop_front (f.contents ++ f.padding) f.after in
-    ap (λ o. front_first o s others) sound
-    ∙ ap (λ x. in_front x (get_or s 0 0 % 2 == 1) (content_in (format_of x) (slice_range s 2 (front_len s)) others) (others (drop (padded (front_len s)) s))) kind
-    ∙ ap (λ x. in_front k x (content_in (format_of k) (slice_range s 2 (front_len s)) others) (others (drop (padded (front_len s)) s))) must
-    ∙ ap (λ x. in_front k m (content_in (format_of k) x others) (others (drop (padded (front_len s)) s))) body
-    ∙ ap (λ x. in_front k m (content_in (format_of k) f.contents others) (others x)) tail
+    let parts = front_parts k m c rest s p in
+    ap (λ o. front_first o s others) parts.sound
+    ∙ ap (λ x. in_front x (get_or s 0 0 % 2 == 1) (content_in (format_of x) (slice_range s 2 (front_len s)) others) (others (drop (padded (front_len s)) s))) parts.kind
+    ∙ ap (λ x. in_front k x (content_in (format_of k) (slice_range s 2 (front_len s)) others) (others (drop (padded (front_len s)) s))) parts.must
+    ∙ ap (λ x. in_front k m (content_in (format_of k) x others) (others (drop (padded (front_len s)) s))) parts.contents
+    ∙ ap (λ x. in_front k m (content_in (format_of k) f.contents others) (others x)) parts.after
     ∙ ap (λ x. in_front k m x (others f.after)) inner
     ∙ ap (λ x. in_front k m (Some c) x) later
 

@@ -13,7 +13,10 @@ pub mod AttributeExamples
 -- what the values of the types stand for
 pub mod Held
 pub mod View
+pub mod Views
+pub mod Seen
 pub mod AttributesCode
+pub mod AttrsCode
 pub mod AttrsFalls
 -- the steps of the proofs
 pub mod steps

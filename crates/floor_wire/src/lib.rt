@@ -16,6 +16,7 @@ mod numbers;
 mod octets;
 mod read;
 mod shared;
+mod view;
 mod write;
 
 pub use attribute::{Attr, Attrs, Body};
@@ -38,4 +39,5 @@ pub use numbers::Numbers;
 pub use octets::Octets;
 pub use read::read_attrs;
 pub use shared::SharedFrame;
+pub use view::{AttrView, AttrsView, BodyView};
 pub use write::write_attrs;

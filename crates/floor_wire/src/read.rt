@@ -16,11 +16,11 @@ use std::alloc::Global;
 
 /// An attribute's type, M bit and Length, and where it ends with its padding.
 #[derive(Clone, Copy)]
-struct Head {
-    kind: u8,
-    must: bool,
-    len: usize,
-    end: usize,
+pub(crate) struct Head {
+    pub(crate) kind: u8,
+    pub(crate) must: bool,
+    pub(crate) len: usize,
+    pub(crate) end: usize,
 }
 
 /// The attributes that the bytes spell, or the first fault in the order of offsets, where what is
@@ -112,7 +112,7 @@ fn body_of(alloc: Global, format: Format, contents: &[u8], base: usize) -> Resul
 }
 
 /// The head at the front, where the attribute has no fault itself.
-fn head_of(bytes: &[u8]) -> Result<Head, Cause>
+pub(crate) fn head_of(bytes: &[u8]) -> Result<Head, Cause>
     ensures found { IfOk result (λ head. (front_fault bytes.now ≡ None) × IsHead bytes.now head) }
     ensures fault { IfErr result (λ cause. front_fault bytes.now ≡ Some cause) }
 {
