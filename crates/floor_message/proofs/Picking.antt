@@ -1,33 +1,35 @@
--- What is picked from a list of attributes, one more of which is looked at.
-use Rattle.std.proofs.Common.{◌≡◌, ℕ, zero, suc, ◌+◌, ◌<◌, ◌≤◌, Bool, true, false, not, cond, ◌&&◌, List, [], ◌∷◌, ◌++◌, length, drop, get_or, map, filter, refl, sym, ◌∙◌, ap, subst, arith}
-use Rattle.std.specs.Prelude.{All, ◌==◌}
-use Rattle.std.proofs.lemmas.List.{at_drop_more, at_drop_all}
-use Rattle.floor_wire.specs.Attributes.{content_size, attributes_size, Content, num, pair, group, octets, Attributes, no_attributes, attribute}
+-- What is picked from attributes that are looked at one after another.
+use Rattle.std.proofs.Common.{◌≡◌, ℕ, zero, suc, ◌<◌, Bool, true, false, not, cond, ◌&&◌, List, [], ◌∷◌, ◌++◌, length, get_or, map, filter, Option, Some, None, refl, sym, ◌∙◌, ap, arith, eq-eqb}
+use Rattle.std.specs.Prelude.{All, IfSome, MatchOption, option_map, ◌==◌}
+use Rattle.floor_wire.specs.Attributes.{Content, num, pair, group, octets, Attributes, no_attributes, attribute}
 use Rattle.floor_wire.specs.Spelling.{IsWritable, IsWritableContent, is_known}
-use Rattle.floor_wire.specs.View.{attributes_of, content_of}
+use Rattle.floor_wire.specs.View.{attributes_of, content_of, items}
 use Rattle.floor_wire.specs.declared.attribute.Attr.{Attr}
-use Rattle.floor_message.specs.Picked.{numbers, groups, once_by, distinct, mandatory, mandatory_inside, own_mandatory}
+use Rattle.floor_wire.specs.declared.attribute.Body.{Body}
+use Rattle.floor_message.specs.Picked.{if_kind, numbers, groups, once_by, distinct, mandatory, mandatory_inside, own_mandatory}
 use Rattle.floor_message.specs.steps.Adding.{add_all}
 use Rattle.floor_message.specs.Fields.{judged, floors_judged, overall_status}
+use Rattle.floor_message.proofs.Items.{items-attributes_of}
 use Rattle.floor_message.proofs.Once.{once_by_added, add_all_append}
 
-pub numbers_done : (kind : ℕ) (attrs : List Attr) (i : ℕ) (found : List ℕ) → length attrs ≤ i
-    → add_all (λ n. n) found (numbers kind (drop i attrs)) ≡ add_all (λ n. n) [] (numbers kind attrs) → found ≡ distinct (numbers kind attrs)
-numbers_done kind attrs i found h e =
-    sym (at_drop_all (λ xs. add_all (λ n. n) found (numbers kind xs)) attrs i h) ∙ e ∙ once_by_added (λ n. n) (numbers kind attrs)
+-- what is found once all attributes were looked at
+pub numbers_done : (kind : ℕ) (attrs rest : List Attr) (found : List ℕ) → rest ≡ []
+    → add_all (λ n. n) found (numbers kind rest) ≡ add_all (λ n. n) [] (numbers kind attrs) → found ≡ distinct (numbers kind attrs)
+numbers_done kind attrs rest found h e =
+    sym (ap (λ xs. add_all (λ n. n) found (numbers kind xs)) h) ∙ e ∙ once_by_added (λ n. n) (numbers kind attrs)
 
-pub mandatory_step : (xs : List Attr) (i : ℕ) (a : Attr) (found found2 : List ℕ) → i < length xs → a ≡ get_or xs i a
+-- the attribute at the front is looked at, and those inside it
+pub mandatory_step : (xs rest : List Attr) (a : Attr) (found found2 : List ℕ) → xs ≡ a ∷ rest
     → found2 ≡ add_all (λ n. n) (add_all (λ n. n) found (own_mandatory a.kind a.must)) (mandatory_inside (content_of a.body))
-    → add_all (λ n. n) found2 (mandatory (attributes_of (drop (i + 1) xs))) ≡ add_all (λ n. n) found (mandatory (attributes_of (drop i xs)))
-mandatory_step xs i a found found2 h e f =
-    let rest = mandatory (attributes_of (drop (i + 1) xs)) in
+    → add_all (λ n. n) found2 (mandatory (attributes_of rest)) ≡ add_all (λ n. n) found (mandatory (attributes_of xs))
+mandatory_step xs rest a found found2 e f =
+    let others = mandatory (attributes_of rest) in
     let own = own_mandatory a.kind a.must in
     let inside = mandatory_inside (content_of a.body) in
-    ap (λ l. add_all (λ n. n) l rest) f
-    ∙ ap (λ l. add_all (λ n. n) l rest) (sym (add_all_append (λ n. n) found own inside))
-    ∙ sym (add_all_append (λ n. n) found (own ++ inside) rest)
-    ∙ ap (λ y. add_all (λ n. n) found (mandatory (attributes_of (y ∷ drop (i + 1) xs)))) e
-    ∙ sym (at_drop_more (λ ys. add_all (λ n. n) found (mandatory (attributes_of ys))) xs i a h)
+    ap (λ l. add_all (λ n. n) l others) f
+    ∙ ap (λ l. add_all (λ n. n) l others) (sym (add_all_append (λ n. n) found own inside))
+    ∙ sym (add_all_append (λ n. n) found (own ++ inside) others)
+    ∙ sym (ap (λ ys. add_all (λ n. n) found (mandatory (attributes_of ys))) e)
 
 -- P of each number, by cases
 abbrev Each : (ℕ → Type 0) → List ℕ → Type 0
@@ -102,16 +104,25 @@ pub types_unknown : (a : Attributes) → All (λ t. is_known t ≡ false) (disti
 types_unknown a =
     All_of (λ t. is_known t ≡ false) (distinct (mandatory a)) (Each_distinct (λ t. is_known t ≡ false) (mandatory a) (mandatory_unknown a))
 
-pub judged_done : (attrs : List Attr) (i : ℕ) (overall : _) (found : _) → length attrs ≤ i → overall ≡ overall_status attrs
-    → add_all (λ v. v.0) found (map (judged overall) (groups 17 (drop i attrs))) ≡ add_all (λ v. v.0) [] (map (judged overall) (groups 17 attrs))
+pub judged_done : (attrs rest : List Attr) (overall : _) (found : _) → rest ≡ [] → overall ≡ overall_status attrs
+    → add_all (λ v. v.0) found (map (judged overall) (groups 17 rest)) ≡ add_all (λ v. v.0) [] (map (judged overall) (groups 17 attrs))
     → found ≡ floors_judged attrs
-judged_done attrs i overall found h o e =
-    sym (at_drop_all (λ xs. add_all (λ v. v.0) found (map (judged overall) (groups 17 xs))) attrs i h) ∙ e
+judged_done attrs rest overall found h o e =
+    sym (ap (λ xs. add_all (λ v. v.0) found (map (judged overall) (groups 17 xs))) h) ∙ e
     ∙ once_by_added (λ v. v.0) (map (judged overall) (groups 17 attrs))
     ∙ ap (λ v. once_by (λ w. w.0) (map (judged v) (groups 17 attrs))) o
 
--- the body of an attribute is smaller than the list that holds it
-pub smaller_at : (xs : List Attr) (i : ℕ) (a : Attr) → i < length xs → a ≡ get_or xs i a → content_size (content_of a.body) < attributes_size (attributes_of xs)
-smaller_at [] i a h e = absurd (omega arith)
-smaller_at (x ∷ xs) zero a h e = let P : Attr → Type 0 = λ y. content_size (content_of y.body) < attributes_size (attributes_of (x ∷ xs)) in subst P (sym e) (omega arith)
-smaller_at (x ∷ xs) (suc i) a h e = omega (arith, smaller_at xs i a (omega arith) e)
+-- what is picked from an attribute of the type
+pub kind_holds : {A : Type 0} (pick : Body → Option A) (kind : ℕ) (a : Attr) → a.kind ≡ kind → if_kind pick kind a ≡ pick a.body
+kind_holds pick kind a e = let same : (a.kind == kind) ≡ true = eq-eqb a.kind kind e in rw same refl
+
+-- the attributes that are found, as a list
+pub found_of : (o : Option (List Attr)) (s : Option Attributes) → option_map attributes_of o ≡ s
+    → MatchOption o (s ≡ None) (λ attrs. (s ≡ Some (attributes_of attrs)) × (items (attributes_of attrs) ≡ attrs))
+found_of None s e = sym e
+found_of (Some attrs) s e = (sym e, items-attributes_of attrs)
+
+pub kinds_of : (o : Option (List Attr)) → IfSome o (λ attrs. IsWritable (attributes_of attrs))
+    → IfSome o (λ attrs. All (λ t. t < 128) (distinct (mandatory (attributes_of attrs))))
+kinds_of None w = tt
+kinds_of (Some attrs) w = types_fit (attributes_of attrs) w

@@ -1,5 +1,5 @@
 -- The reason of a floor is found by going through the groups once.
-use Rattle.std.proofs.Common.{◌≡◌, ℕ, ◌+◌, ◌<◌, Bool, true, false, not, cond, ◌&&◌, List, [], ◌∷◌, ◌++◌, length, map, take, drop, get_or, filter, Option, Some, None, refl, sym, ◌∙◌, ap}
+use Rattle.std.proofs.Common.{◌≡◌, ℕ, zero, suc, ◌+◌, ◌-◌, ◌<◌, Bool, true, false, not, cond, ◌&&◌, ◌||◌, List, [], ◌∷◌, ◌++◌, length, map, take, drop, get_or, filter, Option, Some, None, refl, sym, ◌∙◌, ap, arith, length-drop}
 use Rattle.std.specs.Prelude.{filter_map, ◌==◌}
 use Rattle.std.specs.List.{list_any, cons_option}
 use Rattle.std.proofs.lemmas.List.{append-nil, drop_more, map-append, take_more}
@@ -81,3 +81,33 @@ past_at inside place d within past =
     ap (λ xs. reason_behind (floors_named xs) (groups 17 (drop (place + 1) inside))) (take_more inside place d within)
     ∙ past
     ∙ ap (λ xs. reason_behind (floors_named (take place inside)) (groups 17 xs)) (sym (drop_more inside place d within))
+
+-- what stands at a place, and behind it
+pub record StandsAt (inside : List Attr) (place : ℕ) (a : Attr) (rest : List Attr) : Type 0 where
+  pub within : place < length inside
+  pub here : get_or inside place a ≡ a
+  pub behind : drop (place + 1) inside ≡ rest
+
+pub stands_at : (inside : List Attr) (place : ℕ) (a : Attr) (rest : List Attr) → drop place inside ≡ a ∷ rest → StandsAt inside place a rest
+stands_at inside place a rest e =
+    let within : place < length inside = omega (arith, length-drop place inside, ap length e) in
+    let both : get_or inside place a ∷ drop (place + 1) inside ≡ a ∷ rest = sym (drop_more inside place a within) ∙ e in
+    record { within = within; here = cc; behind = cc }
+
+-- a group of another floor, or an attribute that is no such group, names the floor no more than those behind it
+pub named_by_others : (floor left : ℕ) (xs rest : List Attr) (a : Attr) → 0 < left → xs ≡ a ∷ rest → if_kind group_in 17 a ≡ None
+    → list_any (λ n. floor == n) (floors_named (take (left - 1) rest)) ≡ list_any (λ n. floor == n) (floors_named (take left xs))
+named_by_others floor zero xs rest a some e is = absurd (omega arith)
+named_by_others floor (suc left) xs rest a some e is =
+    ap (λ k. list_any (λ n. floor == n) (floors_named (take k rest))) (let one : suc left - 1 ≡ left = omega arith in one)
+    ∙ sym (ap (λ l. list_any (λ n. floor == n) (floors_named (take (suc left) l))) e
+    ∙ ap (λ o. list_any (λ n. floor == n) (map (λ g. g.0) (cons_option o (groups 17 (take left rest))))) is)
+
+pub named_by_other_floors : (floor left : ℕ) (xs rest : List Attr) (a : Attr) (g : ℕ × List Attr) → 0 < left → xs ≡ a ∷ rest → if_kind group_in 17 a ≡ Some g → (floor == g.0) ≡ false
+    → list_any (λ n. floor == n) (floors_named (take (left - 1) rest)) ≡ list_any (λ n. floor == n) (floors_named (take left xs))
+named_by_other_floors floor zero xs rest a g some e is other = absurd (omega arith)
+named_by_other_floors floor (suc left) xs rest a g some e is other =
+    ap (λ k. list_any (λ n. floor == n) (floors_named (take k rest))) (let one : suc left - 1 ≡ left = omega arith in one)
+    ∙ sym (ap (λ l. list_any (λ n. floor == n) (floors_named (take (suc left) l))) e
+    ∙ ap (λ o. list_any (λ n. floor == n) (map (λ g. g.0) (cons_option o (groups 17 (take left rest))))) is
+    ∙ ap (λ b. b || list_any (λ n. floor == n) (floors_named (take left rest))) other)

@@ -23,7 +23,7 @@ use crate::format::text::{LONGEST_INFO, text_kept};
 use crate::format::verdicts::chair_action;
 use crate::kind::{BENEFICIARY_ID, FLOOR_REQUEST_ID, PARTICIPANT_PROVIDED_INFO, PRIORITY};
 use crate::primitive::Primitive;
-use floor_wire::{Attr, Frame, Header, Numbers, Octets};
+use floor_wire::{AttrsView, Frame, Header, Numbers, Octets};
 use std::alloc::{AllocError, Global};
 
 /// What the message asks of the server; None for an Error, which is left unanswered.
@@ -89,18 +89,17 @@ fn by_attributes(
     ensures value { IsAnswer (spec.by_attributes primitive (spelled payload.now)) result }
     ensures details { IfErr result HasShortDetails }
 {
-    let Some(attrs) = payload_attrs(alloc, payload)? else {
+    let Some(attrs) = payload_attrs(payload) else {
         return Err(error(alloc, ErrorCode::UnableToParseMessage));
     };
-    let list = attrs.as_slice();
-    let types = mandatory_types(alloc, list)?;
+    let types = mandatory_types(alloc, &attrs)?;
     if !types.is_empty() {
         return Err(AskFault::Error {
             code: ErrorCode::UnknownMandatoryAttribute,
             details: Octets::from_vec(doubled(alloc, &types)?),
         });
     }
-    match fields(alloc, primitive, list)? {
+    match fields(alloc, primitive, &attrs)? {
         Some(ask) => Ok(Some(ask)),
         None => Err(error(alloc, ErrorCode::UnableToParseMessage)),
     }
@@ -141,7 +140,7 @@ pub(crate) fn is_ask(primitive: Primitive) -> bool
 pub(crate) fn fields(
     alloc: Global,
     primitive: Primitive,
-    attrs: &[Attr],
+    attrs: &AttrsView,
 ) -> Result<Option<Ask>, AllocError>
     ensures { IfOk result (λ ask. ask ≡ fields primitive attrs.now) }
 {
@@ -162,7 +161,7 @@ pub(crate) fn fields(
     }
 }
 
-fn floor_request(alloc: Global, attrs: &[Attr]) -> Result<Option<Ask>, AllocError>
+fn floor_request(alloc: Global, attrs: &AttrsView) -> Result<Option<Ask>, AllocError>
     ensures { IfOk result (λ ask. ask ≡ fields primitive.FloorRequest attrs.now) }
 {
     let floors = floors_in(alloc, attrs)?;
@@ -181,21 +180,21 @@ fn floor_request(alloc: Global, attrs: &[Attr]) -> Result<Option<Ask>, AllocErro
     }))
 }
 
-fn floor_release(attrs: &[Attr]) -> Option<Ask>
+fn floor_release(attrs: &AttrsView) -> Option<Ask>
     ensures { result ≡ fields primitive.FloorRelease attrs.now }
 {
     let request = first_number(attrs, FLOOR_REQUEST_ID)?;
     Some(Ask::FloorRelease { request })
 }
 
-fn floor_request_query(attrs: &[Attr]) -> Option<Ask>
+fn floor_request_query(attrs: &AttrsView) -> Option<Ask>
     ensures { result ≡ fields primitive.FloorRequestQuery attrs.now }
 {
     let request = first_number(attrs, FLOOR_REQUEST_ID)?;
     Some(Ask::FloorRequestQuery { request })
 }
 
-fn user_query(attrs: &[Attr]) -> Ask
+fn user_query(attrs: &AttrsView) -> Ask
     ensures { fields primitive.UserQuery attrs.now ≡ Some result }
 {
     Ask::UserQuery {
@@ -203,7 +202,7 @@ fn user_query(attrs: &[Attr]) -> Ask
     }
 }
 
-fn floor_query(alloc: Global, attrs: &[Attr]) -> Result<Ask, AllocError>
+fn floor_query(alloc: Global, attrs: &AttrsView) -> Result<Ask, AllocError>
     ensures { IfOk result (λ ask. fields primitive.FloorQuery attrs.now ≡ Some ask) }
 {
     Ok(Ask::FloorQuery {

@@ -17,7 +17,7 @@ use crate::head::Head;
 use crate::kind::{BENEFICIARY_INFORMATION, FLOOR_ID, FLOOR_REQUEST_INFORMATION};
 use crate::primitive::Primitive;
 use crate::tell::{Tell, TellFault};
-use floor_wire::{Attr, Frame, Header};
+use floor_wire::{AttrsView, Frame, Header};
 use std::alloc::{AllocError, Global};
 
 /// What the message tells, and under which head.
@@ -56,18 +56,21 @@ fn by_payload(
 ) -> Result<Option<Tell>, AllocError>
     ensures { IfOk result (λ told. told ≡ spec.by_payload primitive (spelled payload.now)) }
 {
-    let Some(attrs) = payload_attrs(alloc, payload)? else {
+    let Some(attrs) = payload_attrs(payload) else {
         return Ok(None);
     };
-    let list = attrs.as_slice();
-    let types = mandatory_types(alloc, list)?;
+    let types = mandatory_types(alloc, &attrs)?;
     if !types.is_empty() {
         return Ok(None);
     }
-    tell_of(alloc, primitive, list)
+    tell_of(alloc, primitive, &attrs)
 }
 
-fn tell_of(alloc: Global, primitive: Primitive, attrs: &[Attr]) -> Result<Option<Tell>, AllocError>
+fn tell_of(
+    alloc: Global,
+    primitive: Primitive,
+    attrs: &AttrsView,
+) -> Result<Option<Tell>, AllocError>
     ensures { IfOk result (λ told. told ≡ spec.tell_of primitive attrs.now) }
 {
     match primitive {
@@ -93,13 +96,13 @@ fn tell_of(alloc: Global, primitive: Primitive, attrs: &[Attr]) -> Result<Option
     }
 }
 
-fn floor_request_status(alloc: Global, attrs: &[Attr]) -> Result<Option<Tell>, AllocError>
+fn floor_request_status(alloc: Global, attrs: &AttrsView) -> Result<Option<Tell>, AllocError>
     ensures { IfOk result (λ told. told ≡ spec.tell_of primitive.FloorRequestStatus attrs.now) }
 {
     let Some((request, inside)) = first_group(attrs, FLOOR_REQUEST_INFORMATION) else {
         return Ok(None);
     };
     Ok(Some(Tell::FloorRequestStatus {
-        info: info_of(alloc, request, inside)?,
+        info: info_of(alloc, request, &inside)?,
     }))
 }

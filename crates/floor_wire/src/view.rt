@@ -84,6 +84,13 @@ impl<'a> AttrsView<'a> {
         AttrsView { bytes: self.bytes }
     }
 
+    /// How many attributes there are, without those inside groups.
+    pub fn len(&self) -> usize
+        ensures { result ≡ length self.now }
+    {
+        count(self.bytes)
+    }
+
     /// Takes off the first attribute, where there is one.
     pub fn next(&mut self) -> Option<AttrView<'a>>
         ensures { MatchOption result ((self.old ≡ []) × (self.new ≡ []))
@@ -99,12 +106,28 @@ impl<'a> AttrsView<'a> {
     }
 }
 
+/// How many attributes the bytes spell.
+fn count(bytes: &[u8]) -> usize
+    requires { IsSpelled bytes.now }
+    ensures { result ≡ length (attrs_in bytes.now) }
+{
+    let mut count = 0;
+    let mut rest = bytes;
+    while !rest.is_empty() {
+        let (_, others) = front_of(rest);
+        rest = others;
+        count += 1;
+    }
+    count
+}
+
 /// The attribute at the front, and the bytes of those behind it.
 fn front_of<'a>(bytes: &'a [u8]) -> (AttrView<'a>, &'a [u8])
     requires some { 0 < length bytes.now }
     requires spelled { IsSpelled bytes.now }
     ensures value { attrs_in bytes.now ≡ attr_seen result.0 ∷ attrs_in result.1.now }
     ensures others { IsSpelled result.1.now }
+    ensures shorter { length result.1.now < length bytes.now }
 {
     its_front_is_whole(bytes);
     let kind = bytes[0] / 2;

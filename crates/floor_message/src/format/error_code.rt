@@ -12,11 +12,11 @@ ghost use Rattle.floor_wire.specs.View.{attributes_of};
 use crate::format::octets::{MOST_OCTETS, after_octets, first_octets};
 use crate::kind::ERROR_CODE;
 use crate::tell::Tell;
-use floor_wire::{Attr, FrameBuilder, Octets, a_slice_is_of_bytes};
+use floor_wire::{AttrsView, FrameBuilder, Octets, a_slice_is_of_bytes};
 use std::alloc::{AllocError, Global};
 
 /// What an Error tells, where its ERROR-CODE is there and has a code.
-pub(crate) fn error(alloc: Global, attrs: &[Attr]) -> Result<Option<Tell>, AllocError>
+pub(crate) fn error(alloc: Global, attrs: &AttrsView) -> Result<Option<Tell>, AllocError>
     ensures { IfOk result (λ told. told ≡ tell_of primitive.Error attrs.now) }
 {
     match first_octets(attrs, ERROR_CODE) {

@@ -25,24 +25,25 @@ use crate::kind::{
     BENEFICIARY_INFORMATION, FLOOR_REQUEST_INFORMATION, PARTICIPANT_PROVIDED_INFO,
     REQUESTED_BY_INFORMATION,
 };
-use floor_wire::{Attr, FrameBuilder};
+use floor_wire::{AttrsView, FrameBuilder};
 use std::alloc::{AllocError, Global};
 
 /// The floor requests that the attributes show, in order.
-pub(crate) fn infos_of(alloc: Global, attrs: &[Attr]) -> Result<Infos, AllocError>
+pub(crate) fn infos_of(alloc: Global, attrs: &AttrsView) -> Result<Infos, AllocError>
     ensures { IfOk result (λ infos. infos ≡ infos_of attrs.now) }
 {
     let mut infos = Vec::new(alloc);
-    for attr in attrs {
-        if let Some((request, inside)) = group_of(attr, FLOOR_REQUEST_INFORMATION) {
-            infos.push(info_of(alloc, request, inside)?)?;
+    let mut rest = attrs.copy();
+    while let Some(attr) = rest.next() {
+        if let Some((request, inside)) = group_of(&attr, FLOOR_REQUEST_INFORMATION) {
+            infos.push(info_of(alloc, request, &inside)?)?;
         }
     }
     Ok(Infos::from_vec(infos))
 }
 
 /// The floor request that a FLOOR-REQUEST-INFORMATION shows.
-pub(crate) fn info_of(alloc: Global, request: u16, inside: &[Attr]) -> Result<Info, AllocError>
+pub(crate) fn info_of(alloc: Global, request: u16, inside: &AttrsView) -> Result<Info, AllocError>
     ensures { IfOk result (λ info. info ≡ info_of (request, inside.now)) }
 {
     Ok(Info {

@@ -16,18 +16,22 @@ use crate::format::group::{GROUP_HEAD, group_of};
 use crate::format::pair::first_pair;
 use crate::format::request_status::put_status;
 use crate::kind::{FLOOR_REQUEST_STATUS, REQUEST_STATUS};
-use floor_wire::{Attr, FrameBuilder};
+use floor_wire::{AttrsView, FrameBuilder};
 use std::alloc::{AllocError, Global};
 
 /// The floors of a floor request, in order, with their statuses.
-pub(crate) fn floor_statuses_of(alloc: Global, inside: &[Attr]) -> Result<FloorStatuses, AllocError>
+pub(crate) fn floor_statuses_of(
+    alloc: Global,
+    inside: &AttrsView,
+) -> Result<FloorStatuses, AllocError>
     ensures { IfOk result (λ floors. floors
         ≡ map floor_of (groups FLOOR_REQUEST_STATUS inside.now)) }
 {
     let mut floors = Vec::new(alloc);
-    for attr in inside {
-        if let Some((floor, within)) = group_of(attr, FLOOR_REQUEST_STATUS) {
-            floors.push((floor, first_pair(within, REQUEST_STATUS)))?;
+    let mut rest = inside.copy();
+    while let Some(attr) = rest.next() {
+        if let Some((floor, within)) = group_of(&attr, FLOOR_REQUEST_STATUS) {
+            floors.push((floor, first_pair(&within, REQUEST_STATUS)))?;
         }
     }
     Ok(FloorStatuses::from_vec(floors))

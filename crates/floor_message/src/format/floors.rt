@@ -13,7 +13,7 @@ ghost use Rattle.floor_wire.specs.View.{attributes_of};
 use crate::format::attributes::SHORT_ATTRIBUTE;
 use crate::format::number::number_of;
 use crate::kind::FLOOR_ID;
-use floor_wire::{Attr, FrameBuilder};
+use floor_wire::{AttrsView, FrameBuilder};
 use indexmap::IndexSet;
 use std::alloc::{AllocError, Global};
 
@@ -24,12 +24,13 @@ const MOST_FLOORS: usize = 60_000;
 const FEW_FLOORS: usize = 16;
 
 /// The floors that the attributes name, each once, in order of first appearance.
-pub(crate) fn floors_in(alloc: Global, attrs: &[Attr]) -> Result<Vec<u16>, AllocError>
+pub(crate) fn floors_in(alloc: Global, attrs: &AttrsView) -> Result<Vec<u16>, AllocError>
     ensures { IfOk result (λ floors. floors.items ≡ distinct (numbers FLOOR_ID attrs.now)) }
 {
     let mut found = Vec::new(alloc);
-    for attr in attrs {
-        if let Some(floor) = number_of(attr, FLOOR_ID) {
+    let mut rest = attrs.copy();
+    while let Some(attr) = rest.next() {
+        if let Some(floor) = number_of(&attr, FLOOR_ID) {
             let is_found = add_floor(&mut found, floor)?;
             if !is_found {
                 return many_floors_in(alloc, attrs);
@@ -57,12 +58,13 @@ fn add_floor(found: &mut Vec<u16>, floor: u16) -> Result<bool, AllocError>
 }
 
 /// The same of however many floors, by a set of those that were found.
-fn many_floors_in(alloc: Global, attrs: &[Attr]) -> Result<Vec<u16>, AllocError>
+fn many_floors_in(alloc: Global, attrs: &AttrsView) -> Result<Vec<u16>, AllocError>
     ensures { IfOk result (λ floors. floors.items ≡ distinct (numbers FLOOR_ID attrs.now)) }
 {
     let mut found = IndexSet::new(alloc);
-    for attr in attrs {
-        if let Some(floor) = number_of(attr, FLOOR_ID) {
+    let mut rest = attrs.copy();
+    while let Some(attr) = rest.next() {
+        if let Some(floor) = number_of(&attr, FLOOR_ID) {
             found.insert(floor)?;
         }
     }

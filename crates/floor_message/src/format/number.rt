@@ -5,29 +5,31 @@ ghost use Rattle.std.specs.Prelude.{◌≡◌, ◌≤◌, ℕ, length, OnOk};
 ghost use Rattle.floor_message.specs.Picked.{first, if_kind, number_in, numbers};
 ghost use Rattle.floor_message.specs.Written as spec;
 ghost use Rattle.floor_message.specs.steps.Writing.{with_attrs};
+ghost use Rattle.floor_wire.specs.Seen.{attr_seen};
 ghost use Rattle.floor_wire.specs.Spelling.{IsWritable, canon};
 ghost use Rattle.floor_wire.specs.View.{attributes_of};
 
 use crate::format::attributes::SHORT_ATTRIBUTE;
-use floor_wire::{Attr, Body, FrameBuilder};
+use floor_wire::{AttrView, AttrsView, BodyView, FrameBuilder};
 use std::alloc::AllocError;
 
 /// The number in an attribute of the type.
-pub(crate) fn number_of(attr: &Attr, kind: u8) -> Option<u16>
-    ensures { result ≡ if_kind number_in kind attr.now }
+pub(crate) fn number_of(attr: &AttrView, kind: u8) -> Option<u16>
+    ensures { result ≡ if_kind number_in kind (attr_seen attr.now) }
 {
     match &attr.body {
-        Body::Num(n) if attr.kind == kind => Some(*n),
+        BodyView::Num(n) if attr.kind == kind => Some(*n),
         _ => None,
     }
 }
 
 /// The number in the first attribute of the type.
-pub(crate) fn first_number(attrs: &[Attr], kind: u8) -> Option<u16>
+pub(crate) fn first_number(attrs: &AttrsView, kind: u8) -> Option<u16>
     ensures { result ≡ first (numbers kind attrs.now) }
 {
-    for attr in attrs {
-        if let Some(number) = number_of(attr, kind) {
+    let mut rest = attrs.copy();
+    while let Some(attr) = rest.next() {
+        if let Some(number) = number_of(&attr, kind) {
             return Some(number);
         }
     }

@@ -7,31 +7,33 @@ ghost use Rattle.floor_message.specs.Written as spec;
 ghost use Rattle.floor_message.specs.steps.Leaves.{Leaves};
 ghost use Rattle.floor_message.specs.steps.Writing.{with_attrs};
 ghost use Rattle.floor_wire.specs.Bytes.{IsBytes};
+ghost use Rattle.floor_wire.specs.Seen.{attr_seen};
 ghost use Rattle.floor_wire.specs.Spelling.{format_of, IsWritable};
 ghost use Rattle.floor_wire.specs.View.{attributes_of};
 ghost use Rattle.floor_wire.specs.declared.format.Format.TheVariants.{OctetString};
 
-use floor_wire::{Attr, Body, FrameBuilder, Octets, a_slice_is_of_bytes};
+use floor_wire::{AttrView, AttrsView, BodyView, FrameBuilder, Octets, a_slice_is_of_bytes};
 use std::alloc::{AllocError, Global};
 
 /// The most octets of an octet string: its Length is below 256 and counts the head of 2 bytes.
 pub(crate) const MOST_OCTETS: usize = 253;
 
-fn octets_of(attr: &Attr, kind: u8) -> Option<&[u8]>
-    ensures { option_copied result ≡ if_kind octets_in kind attr.now }
+fn octets_of<'a>(attr: &AttrView<'a>, kind: u8) -> Option<&'a [u8]>
+    ensures { option_copied result ≡ if_kind octets_in kind (attr_seen attr.now) }
 {
     match &attr.body {
-        Body::Octets(octets) if attr.kind == kind => Some(octets.as_slice()),
+        BodyView::Octets(octets) if attr.kind == kind => Some(*octets),
         _ => None,
     }
 }
 
 /// The octets in the first attribute of the type.
-pub(crate) fn first_octets(attrs: &[Attr], kind: u8) -> Option<&[u8]>
+pub(crate) fn first_octets<'a>(attrs: &AttrsView<'a>, kind: u8) -> Option<&'a [u8]>
     ensures { option_copied result ≡ first (octet_strings kind attrs.now) }
 {
-    for attr in attrs {
-        if let Some(octets) = octets_of(attr, kind) {
+    let mut rest = attrs.copy();
+    while let Some(attr) = rest.next() {
+        if let Some(octets) = octets_of(&attr, kind) {
             return Some(octets);
         }
     }
@@ -41,7 +43,7 @@ pub(crate) fn first_octets(attrs: &[Attr], kind: u8) -> Option<&[u8]>
 /// The octets in the first attribute of the type, copied.
 pub(crate) fn first_copied(
     alloc: Global,
-    attrs: &[Attr],
+    attrs: &AttrsView,
     kind: u8,
 ) -> Result<Option<Octets>, AllocError>
     ensures { IfOk result (λ octets. octets ≡ first (octet_strings kind attrs.now)) }

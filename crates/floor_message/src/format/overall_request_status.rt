@@ -16,31 +16,31 @@ use crate::format::pair::first_pair;
 use crate::format::request_status::{after_status, put_status, status_in};
 use crate::format::text::text_len;
 use crate::kind::{OVERALL_REQUEST_STATUS, REQUEST_STATUS, STATUS_INFO};
-use floor_wire::{Attr, FrameBuilder, Octets};
+use floor_wire::{AttrsView, FrameBuilder, Octets};
 use std::alloc::AllocError;
 
 /// The status in the first OVERALL-REQUEST-STATUS.
-pub(crate) fn overall_status(inside: &[Attr]) -> Option<u8>
+pub(crate) fn overall_status(inside: &AttrsView) -> Option<u8>
     ensures { result ≡ overall_status inside.now }
 {
     let (_, overall) = first_group(inside, OVERALL_REQUEST_STATUS)?;
-    status_in(overall)
+    status_in(&overall)
 }
 
 /// The status and the queue position in the first OVERALL-REQUEST-STATUS.
-pub(crate) fn overall_of(inside: &[Attr]) -> Option<(u8, u8)>
+pub(crate) fn overall_of(inside: &AttrsView) -> Option<(u8, u8)>
     ensures { result ≡ overall_of inside.now }
 {
     let (_, within) = first_group(inside, OVERALL_REQUEST_STATUS)?;
-    first_pair(within, REQUEST_STATUS)
+    first_pair(&within, REQUEST_STATUS)
 }
 
 /// The text of the reason in the first OVERALL-REQUEST-STATUS.
-pub(crate) fn overall_reason(inside: &[Attr]) -> Option<&[u8]>
+pub(crate) fn overall_reason<'a>(inside: &AttrsView<'a>) -> Option<&'a [u8]>
     ensures { option_copied result ≡ overall_reason inside.now }
 {
     let (_, within) = first_group(inside, OVERALL_REQUEST_STATUS)?;
-    first_octets(within, STATUS_INFO)
+    first_octets(&within, STATUS_INFO)
 }
 
 /// Adds OVERALL-REQUEST-STATUS, where there is a status or a reason.

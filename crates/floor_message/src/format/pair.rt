@@ -3,24 +3,26 @@
 
 ghost use Rattle.std.specs.Prelude.{◌≡◌};
 ghost use Rattle.floor_message.specs.Picked.{first, if_kind, pair_in, pairs};
+ghost use Rattle.floor_wire.specs.Seen.{attr_seen};
 
-use floor_wire::{Attr, Body};
+use floor_wire::{AttrView, AttrsView, BodyView};
 
-fn pair_of(attr: &Attr, kind: u8) -> Option<(u8, u8)>
-    ensures { result ≡ if_kind pair_in kind attr.now }
+fn pair_of(attr: &AttrView, kind: u8) -> Option<(u8, u8)>
+    ensures { result ≡ if_kind pair_in kind (attr_seen attr.now) }
 {
     match &attr.body {
-        Body::Pair(a, b) if attr.kind == kind => Some((*a, *b)),
+        BodyView::Pair(a, b) if attr.kind == kind => Some((*a, *b)),
         _ => None,
     }
 }
 
 /// The two bytes in the first attribute of the type.
-pub(crate) fn first_pair(attrs: &[Attr], kind: u8) -> Option<(u8, u8)>
+pub(crate) fn first_pair(attrs: &AttrsView, kind: u8) -> Option<(u8, u8)>
     ensures { result ≡ first (pairs kind attrs.now) }
 {
-    for attr in attrs {
-        if let Some(pair) = pair_of(attr, kind) {
+    let mut rest = attrs.copy();
+    while let Some(attr) = rest.next() {
+        if let Some(pair) = pair_of(&attr, kind) {
             return Some(pair);
         }
     }

@@ -10,7 +10,7 @@ ghost use Rattle.floor_message.specs.steps.Writing.{with_attrs};
 use crate::format::attributes::SHORT_ATTRIBUTE;
 use crate::format::pair::first_pair;
 use crate::kind::PRIORITY;
-use floor_wire::{Attr, FrameBuilder};
+use floor_wire::{AttrsView, FrameBuilder};
 use std::alloc::AllocError;
 
 /// The priority in the upper 3 bits; 5 to 7 are read as Highest.
@@ -31,7 +31,7 @@ pub(crate) fn priority_asked(pair: Option<(u8, u8)>) -> u8
 }
 
 /// The priority in the first PRIORITY.
-pub(crate) fn priority_in(inside: &[Attr]) -> Option<u8>
+pub(crate) fn priority_in(inside: &AttrsView) -> Option<u8>
     ensures { result ≡ option_map priority_of (first (pairs PRIORITY inside.now)) }
 {
     let pair = first_pair(inside, PRIORITY)?;

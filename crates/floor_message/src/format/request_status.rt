@@ -9,11 +9,11 @@ ghost use Rattle.floor_message.specs.steps.Writing.{with_attrs};
 use crate::format::attributes::SHORT_ATTRIBUTE;
 use crate::format::pair::first_pair;
 use crate::kind::REQUEST_STATUS;
-use floor_wire::{Attr, FrameBuilder};
+use floor_wire::{AttrsView, FrameBuilder};
 use std::alloc::AllocError;
 
 /// The status in the first REQUEST-STATUS.
-pub(crate) fn status_in(inside: &[Attr]) -> Option<u8>
+pub(crate) fn status_in(inside: &AttrsView) -> Option<u8>
     ensures { result ≡ status_in inside.now }
 {
     let (status, _) = first_pair(inside, REQUEST_STATUS)?;

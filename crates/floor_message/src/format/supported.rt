@@ -13,11 +13,11 @@ use crate::format::attribute_types::halved;
 use crate::format::octets::{after_octets, first_octets};
 use crate::kind::{SUPPORTED_ATTRIBUTES, SUPPORTED_PRIMITIVES};
 use crate::tell::Tell;
-use floor_wire::{Attr, FrameBuilder, Octets, a_slice_is_of_bytes};
+use floor_wire::{AttrsView, FrameBuilder, Octets, a_slice_is_of_bytes};
 use std::alloc::{AllocError, Global};
 
 /// What a HelloAck tells, where both lists are there.
-pub(crate) fn hello_ack(alloc: Global, attrs: &[Attr]) -> Result<Option<Tell>, AllocError>
+pub(crate) fn hello_ack(alloc: Global, attrs: &AttrsView) -> Result<Option<Tell>, AllocError>
     ensures { IfOk result (λ told. told ≡ tell_of primitive.HelloAck attrs.now) }
 {
     let Some(primitives) = first_octets(attrs, SUPPORTED_PRIMITIVES) else {

@@ -14,11 +14,15 @@ use crate::format::group::{GROUP_HEAD, LONGEST_GROUP, first_group};
 use crate::format::octets::{after_optional_octets, first_copied, put_octets};
 use crate::information::Who;
 use crate::kind::{USER_DISPLAY_NAME, USER_URI};
-use floor_wire::{Attr, FrameBuilder};
+use floor_wire::{AttrsView, FrameBuilder};
 use std::alloc::{AllocError, Global};
 
 /// The user in the first group of the type.
-pub(crate) fn first_who(alloc: Global, attrs: &[Attr], kind: u8) -> Result<Option<Who>, AllocError>
+pub(crate) fn first_who(
+    alloc: Global,
+    attrs: &AttrsView,
+    kind: u8,
+) -> Result<Option<Who>, AllocError>
     ensures { IfOk result (λ who. who ≡ option_map who_of (first (groups kind attrs.now))) }
 {
     let Some((user, inside)) = first_group(attrs, kind) else {
@@ -26,8 +30,8 @@ pub(crate) fn first_who(alloc: Global, attrs: &[Attr], kind: u8) -> Result<Optio
     };
     Ok(Some(Who {
         user,
-        name: first_copied(alloc, inside, USER_DISPLAY_NAME)?,
-        uri: first_copied(alloc, inside, USER_URI)?,
+        name: first_copied(alloc, &inside, USER_DISPLAY_NAME)?,
+        uri: first_copied(alloc, &inside, USER_URI)?,
     }))
 }
 

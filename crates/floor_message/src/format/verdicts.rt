@@ -24,7 +24,7 @@ use crate::format::status_info::reason_kept;
 use crate::format::text::{LONGEST_REASON, optional_text_fits};
 use crate::kind::{FLOOR_REQUEST_INFORMATION, FLOOR_REQUEST_STATUS};
 use crate::verdicts::{Verdict, Verdicts};
-use floor_wire::{Attr, FrameBuilder, Octets};
+use floor_wire::{AttrsView, FrameBuilder, Octets};
 use std::alloc::{AllocError, Global};
 
 /// The most verdicts of a ChairAction without a reason: with them its group fits its Length.
@@ -35,20 +35,20 @@ const MOST_VERDICTS: usize = 31;
 const MOST_VERDICTS_BESIDE_A_REASON: usize = 26;
 
 /// What a ChairAction asks.
-pub(crate) fn chair_action(alloc: Global, attrs: &[Attr]) -> Result<Option<Ask>, AllocError>
+pub(crate) fn chair_action(alloc: Global, attrs: &AttrsView) -> Result<Option<Ask>, AllocError>
     ensures { IfOk result (λ ask. ask ≡ fields primitive.ChairAction attrs.now) }
 {
     let Some((request, inside)) = first_group(attrs, FLOOR_REQUEST_INFORMATION) else {
         return Ok(None);
     };
-    let judged = floors_judged(alloc, inside)?;
+    let judged = floors_judged(alloc, &inside)?;
     let Some(verdicts) = given(alloc, &judged)? else {
         return Ok(None);
     };
     if verdicts.is_empty() {
         return Ok(None);
     }
-    let Some(reason) = reason_kept(alloc, inside)? else {
+    let Some(reason) = reason_kept(alloc, &inside)? else {
         return Ok(None);
     };
     Ok(Some(Ask::ChairAction {
@@ -59,14 +59,18 @@ pub(crate) fn chair_action(alloc: Global, attrs: &[Attr]) -> Result<Option<Ask>,
 }
 
 /// The floors that a ChairAction names, each once, with the verdicts on them.
-fn floors_judged(alloc: Global, inside: &[Attr]) -> Result<Vec<(u16, Option<Verdict>)>, AllocError>
+fn floors_judged(
+    alloc: Global,
+    inside: &AttrsView,
+) -> Result<Vec<(u16, Option<Verdict>)>, AllocError>
     ensures { IfOk result (λ v. v.items ≡ floors_judged inside.now) }
 {
     let overall = overall_status(inside);
     let mut found = Vec::new(alloc);
-    for attr in inside {
-        if let Some((floor, within)) = group_of(attr, FLOOR_REQUEST_STATUS) {
-            add_floor(&mut found, floor, verdict_on(overall, status_in(within)))?;
+    let mut rest = inside.copy();
+    while let Some(attr) = rest.next() {
+        if let Some((floor, within)) = group_of(&attr, FLOOR_REQUEST_STATUS) {
+            add_floor(&mut found, floor, verdict_on(overall, status_in(&within)))?;
         }
     }
     Ok(found)
