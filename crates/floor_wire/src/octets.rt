@@ -3,16 +3,17 @@
 ghost use Rattle.std.specs.Prelude.{◌≡◌, IfOk};
 
 use std::alloc::{AllocError, Global};
+use std::fmt;
 use std::marker::Model;
 
 /// Octets in order.
-#[derive(Debug, Drop)]
+#[derive(Drop)]
 pub struct Octets {
     held: Held,
 }
 
 /// Where octets lie: in a vector of their own, or in the program.
-#[derive(Debug, Drop)]
+#[derive(Drop)]
 enum Held {
     Own(Vec<u8>),
     Fixed(&'static [u8]),
@@ -63,5 +64,12 @@ impl Octets {
     {
         let items = Vec::from_slice(alloc, self.as_slice())?;
         Ok(Octets::from_vec(items))
+    }
+}
+
+impl fmt::Debug for Octets {
+    fn fmt<W: fmt::Write>(&self, f: &mut fmt::Formatter<W>) -> fmt::Result {
+        let items = self.as_slice();
+        f.debug_struct("Octets").field("items", &items).finish()
     }
 }
