@@ -67,16 +67,21 @@ impl State {
             (conference_of self.new) course) }
         ensures before { IfOk result (λ course. course.before.items ≡ self.old.shown.items) }
     {
-        let mut course = begin(alloc, &self.requests, &mut self.shown)?;
-        give_reason(&mut self.requests, &mut course.marks, request, reason)?;
-        end_request(
-            &mut self.requests,
-            &mut course.ended,
-            &mut course.marks,
-            request,
-            by,
-        )?;
-        Ok(course)
+        let course = begin(alloc, &self.requests, &mut self.shown)?;
+        let Course {
+            before,
+            numbers,
+            mut ended,
+            mut marks,
+        } = course;
+        give_reason(&mut self.requests, &mut marks, request, reason)?;
+        end_request(&mut self.requests, &mut ended, &mut marks, request, by)?;
+        Ok(Course {
+            before,
+            numbers,
+            ended,
+            marks,
+        })
     }
 }
 

@@ -90,14 +90,20 @@ impl State {
             (change_adding (conference_of self.old) new) (conference_of self.new) course) }
         ensures before { IfOk result (λ course. course.before.items ≡ self.old.shown.items) }
     {
-        let mut course = begin(alloc, &self.requests, &mut self.shown)?;
-        add_request(
-            &mut self.requests,
-            &mut course.numbers,
-            &mut course.marks,
-            new,
-        )?;
-        Ok(course)
+        let course = begin(alloc, &self.requests, &mut self.shown)?;
+        let Course {
+            before,
+            mut numbers,
+            ended,
+            mut marks,
+        } = course;
+        add_request(&mut self.requests, &mut numbers, &mut marks, new)?;
+        Ok(Course {
+            before,
+            numbers,
+            ended,
+            marks,
+        })
     }
 }
 
