@@ -30,7 +30,7 @@ use Rattle.floor_message.specs.declared.ask.Ask.{Ask}
 use Rattle.floor_message.specs.declared.ask.Ask.TheVariants.{FloorRequest, FloorRelease, FloorRequestQuery, UserQuery, FloorQuery, ChairAction, Hello}
 use Rattle.floor_message.proofs.Cutting.{text_kept_same}
 use Rattle.floor_message.proofs.Heads.{headed, conference_back, user_back, primitive_back}
-use Rattle.floor_message.proofs.Items.{items-attributes_of}
+use Rattle.floor_wire.specs.AttrsCode.{items-attributes_of}
 use Rattle.floor_message.proofs.Once.{once_by_once}
 use Rattle.floor_message.proofs.Plain.{cleared_same, mandatory_none, plain_ask}
 use Rattle.floor_message.proofs.RoundTrip.{picked_append, none_picked, all_picked, one_none, one_some, first_of_option, overall_groups, overall_picked, overall_passed}

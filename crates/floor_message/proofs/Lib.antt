@@ -7,7 +7,6 @@ pub mod AskedNumbers
 pub mod Checked
 pub mod Cutting
 pub mod Heads
-pub mod Items
 pub mod Once
 pub mod Picking
 pub mod Reasons

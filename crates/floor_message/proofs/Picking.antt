@@ -9,7 +9,7 @@ use Rattle.floor_wire.specs.declared.attribute.Body.{Body}
 use Rattle.floor_message.specs.Picked.{if_kind, numbers, groups, once_by, distinct, mandatory, mandatory_inside, own_mandatory}
 use Rattle.floor_message.specs.steps.Adding.{add_all}
 use Rattle.floor_message.specs.Fields.{judged, floors_judged, overall_status}
-use Rattle.floor_message.proofs.Items.{items-attributes_of}
+use Rattle.floor_wire.specs.AttrsCode.{items-attributes_of}
 use Rattle.floor_message.proofs.Once.{once_by_added, add_all_append}
 
 -- what is found once all attributes were looked at

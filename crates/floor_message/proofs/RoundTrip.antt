@@ -5,7 +5,7 @@ use Rattle.std.specs.List.{cons_option}
 use Rattle.std.proofs.lemmas.List.{append-nil}
 use Rattle.floor_wire.specs.View.{attributes_of, items}
 use Rattle.floor_wire.specs.declared.attribute.Attr.{Attr}
-use Rattle.floor_message.proofs.Items.{items-attributes_of}
+use Rattle.floor_wire.specs.AttrsCode.{items-attributes_of}
 use Rattle.floor_message.specs.Picked.{first, pairs, octet_strings, groups, if_kind, number_in, pair_in, group_in, octets_in}
 use Rattle.floor_message.specs.Written.{optional, octets, number, group, status_attr, who_attr, floor_attr, overall_inside, overall_attrs, priority_attr, info_attrs, info_attr, tell_attrs, tell_primitive}
 use Rattle.floor_message.specs.Fields.{priority_of, overall_reason}

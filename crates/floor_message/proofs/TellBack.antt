@@ -15,7 +15,7 @@ use Rattle.floor_message.specs.declared.head.Head.{Head}
 use Rattle.floor_message.specs.declared.primitive.Primitive.{Primitive}
 use Rattle.floor_message.specs.declared.tell.Tell.{Tell}
 use Rattle.floor_message.proofs.Heads.{headed, head_back, primitive_back}
-use Rattle.floor_message.proofs.Items.{items-attributes_of}
+use Rattle.floor_wire.specs.AttrsCode.{items-attributes_of}
 use Rattle.floor_message.proofs.Plain.{cleared_same, mandatory_none, plain_tell}
 use Rattle.floor_message.proofs.RoundTrip.{tell_back}
 

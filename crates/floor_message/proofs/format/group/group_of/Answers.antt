@@ -4,7 +4,7 @@ use Rattle.floor_wire.specs.declared.attribute.Attr.{Attr}
 use Rattle.floor_wire.specs.declared.view.BodyView.{BodyView}
 use Rattle.floor_wire.specs.declared.view.BodyView.TheVariants as views
 use Rattle.floor_message.specs.Picked.{if_kind, group_in}
-use Rattle.floor_message.proofs.Items.{items-attributes_of}
+use Rattle.floor_wire.specs.AttrsCode.{items-attributes_of}
 use Rattle.floor_message.proofs.Picking.{kind_holds}
 use Rattle.floor_message.proofs.format.group.group_of.Goals as goal
 
