@@ -204,15 +204,13 @@ pub(crate) fn hello_tells(alloc: Global) -> Result<Vec<Tell>, AllocError>
         ≡ Tell.HelloAck reply.supported_primitives reply.supported_attributes ∷ []) }
     ensures shown { IfOk result (λ tells. All IsShown tells.items) }
 {
-    let primitives = vec![in alloc; 1, 2, 3, 4, 5, 6, 7, 8, 9, 10, 11, 12, 13]?;
-    let attributes = vec![in alloc;
-        1, 2, 3, 4, 5, 6, 7, 8, 9, 10, 11, 12, 13, 14, 15, 16, 17, 18,
-    ]?;
     one(
         alloc,
         Tell::HelloAck {
-            primitives: Octets::from_vec(primitives),
-            attributes: Octets::from_vec(attributes),
+            primitives: Octets::from_static(&[1, 2, 3, 4, 5, 6, 7, 8, 9, 10, 11, 12, 13]),
+            attributes: Octets::from_static(&[
+                1, 2, 3, 4, 5, 6, 7, 8, 9, 10, 11, 12, 13, 14, 15, 16, 17, 18,
+            ]),
         },
     )
 }
