@@ -211,7 +211,7 @@ abbrev pub due_to_all : (Member → List Parcel) → List Member → List Parcel
 due_to_all to ms = flat_map (due_to_live to) ms
 
 -- of all that is due, what is due to the member with this number
-sent-due : (to : Member → List Parcel) → AreOwn to → (n k : ℕ) (ms : List Member) → is_numbered_from k ms ≡ true → sent_to n (due_to_all to ms) ≡ due_at to n ms
+pub sent-due : (to : Member → List Parcel) → AreOwn to → (n k : ℕ) (ms : List Member) → is_numbered_from k ms ≡ true → sent_to n (due_to_all to ms) ≡ due_at to n ms
 sent-due to own n k [] h = refl
 sent-due to own n k (m ∷ ms) h =
     filter-append (λ p. p.n == n) (due_to_live to m) (due_to_all to ms)

@@ -27,6 +27,7 @@ pub mod Bounds
 pub mod Staying
 pub mod Live
 pub mod Counting
+pub mod Sender
 pub mod Counted
 pub mod Reachable
 pub mod Reasoned

@@ -42,6 +42,39 @@ impl Members {
             notices,
         )
     }
+
+    /// Tells the sender of a message what answers it, or cuts it. All others are told nothing, and
+    /// aren't looked at.
+    pub(crate) fn tell_sender(
+        &mut self,
+        alloc: Global,
+        out: &mut Vec<Parcel>,
+        conference: u32,
+        reply: &Option<Replied>,
+    ) -> Result<(), AllocError>
+        ensures told { OnOk result (out.new.items ≡ out.old.items ++ told_of_all
+            (noticed_to_all conference reply.now [] [] self.old) self.old) }
+        ensures counted { OnOk result (self.new ≡ map (counted_of
+            (noticed_to_all conference reply.now [] [] self.old)) self.old) }
+    {
+        match reply {
+            Some(sent) => {
+                let none = Updates::new(alloc);
+                let n = sent.n;
+                tell_one(
+                    alloc,
+                    out,
+                    conference,
+                    &mut self.joined,
+                    n,
+                    reply,
+                    &none,
+                    &[],
+                )
+            }
+            None => Ok(()),
+        }
+    }
 }
 
 /// Tells the live members with these numbers, one after another, what is due to each, or cuts it.

@@ -97,16 +97,8 @@ impl State {
     {
         let conference = self.config.conference();
         let mut parcels = Vec::new(alloc);
-        let none = Updates::new(alloc);
-        tell_all(
-            alloc,
-            &mut parcels,
-            conference,
-            &mut self.members,
-            reply,
-            &none,
-            &[],
-        )?;
+        self.members
+            .tell_sender(alloc, &mut parcels, conference, reply)?;
         put_behind(out, parcels)
     }
 }

@@ -1,0 +1,57 @@
+use Rattle.std.proofs.Common.{[], ◌++◌, List, Option, Some, None, map, refl, sym, ap, ◌∙◌, append-nil}
+use Rattle.floor_machine.specs.declared.member.Member.{Member}
+use Rattle.floor_machine.specs.declared.replied.Replied.{Replied}
+use Rattle.floor_machine.specs.declared.tell.changed.Update.{Update}
+use Rattle.floor_machine.specs.Parcel.{Parcel}
+use Rattle.floor_machine.specs.steps.Counting.{counted_of, members_at, told_at, told_of_all}
+use Rattle.floor_machine.specs.steps.Telling.{noticed_to, noticed_to_all}
+use Rattle.floor_machine.proofs.Asked.{on_ok}
+use Rattle.floor_machine.proofs.Noticed.{own-noticed}
+use Rattle.floor_machine.proofs.Sender.{members-alone, members-nobody, reply-alone, told-alone, told-nobody}
+use Rattle.floor_machine.proofs.members.Members.tell_sender.Goals as goal
+
+pub returns-in-Some-clause-told : goal.returns-in-Some-clause-told
+returns-in-Some-clause-told c =
+    let conference = c.args.conference in
+    let out = c.args.out.now.items in
+    let ms = c.self.inside.joined.members.items in
+    let sent : Replied = c.in-Some.sent in
+    on_ok c.tell_one.result (λ told. told
+    ∙ ap (λ (us : List Update). out ++ told_at (noticed_to conference c.args.reply.now us []) c.sent.inside.n ms) c.new-none.ensures
+    ∙ ap (λ (r : Replied). out ++ told_at (noticed_to conference c.args.reply.now [] []) r.n ms) c.sent.view_is
+    ∙ ap (λ (o : Option Replied). out ++ told_at (noticed_to conference o [] []) sent.n ms) c.in-Some.is
+    ∙ ap (λ (ps : List Parcel). out ++ ps)
+    (told-alone (noticed_to conference (Some sent) [] []) sent.n (reply-alone conference sent) (own-noticed conference (Some sent) [] []) ms c.self.inside.joined.numbered)
+    ∙ ap (λ (o : Option Replied). out ++ told_of_all (noticed_to_all conference o [] [] ms) ms) (sym c.in-Some.is)
+    ∙ ap (λ (xs : List Member). out ++ told_of_all (noticed_to_all conference c.args.reply.now [] [] xs) xs) c.self.view_is)
+    c.tell_one.ensures.told
+
+pub returns-in-Some-clause-counted : goal.returns-in-Some-clause-counted
+returns-in-Some-clause-counted c =
+    let conference = c.args.conference in
+    let ms = c.self.inside.joined.members.items in
+    let sent : Replied = c.in-Some.sent in
+    on_ok c.tell_one.result (λ counted. counted
+    ∙ ap (λ (us : List Update). members_at (noticed_to conference c.args.reply.now us []) c.sent.inside.n ms) c.new-none.ensures
+    ∙ ap (λ (r : Replied). members_at (noticed_to conference c.args.reply.now [] []) r.n ms) c.sent.view_is
+    ∙ ap (λ (o : Option Replied). members_at (noticed_to conference o [] []) sent.n ms) c.in-Some.is
+    ∙ members-alone (noticed_to conference (Some sent) [] []) sent.n (reply-alone conference sent) (own-noticed conference (Some sent) [] []) ms c.self.inside.joined.numbered
+    ∙ ap (λ (o : Option Replied). map (counted_of (noticed_to_all conference o [] [] ms)) ms) (sym c.in-Some.is)
+    ∙ ap (λ (xs : List Member). map (counted_of (noticed_to_all conference c.args.reply.now [] [] xs)) xs) c.self.view_is)
+    c.tell_one.ensures.counted
+
+pub returns-in-None-clause-told : goal.returns-in-None-clause-told
+returns-in-None-clause-told c =
+    let conference = c.args.conference in
+    let out = c.args.out.now.items in
+    let ms = c.args.self.now in
+    sym (ap (λ (o : Option Replied). out ++ told_of_all (noticed_to_all conference o [] [] ms) ms) c.in-None.is
+    ∙ ap (λ (ps : List Parcel). out ++ ps) (told-nobody (noticed_to conference None [] []) (λ m. refl) ms)
+    ∙ append-nil out)
+
+pub returns-in-None-clause-counted : goal.returns-in-None-clause-counted
+returns-in-None-clause-counted c =
+    let conference = c.args.conference in
+    let ms = c.args.self.now in
+    sym (ap (λ (o : Option Replied). map (counted_of (noticed_to_all conference o [] [] ms)) ms) c.in-None.is
+    ∙ members-nobody (noticed_to conference None [] []) (λ m. refl) ms)
