@@ -35,7 +35,7 @@ where
         + Send
         + 'static,
 {
-    let mut reader = BufReader::new(alloc, input).map_err(|_| ServerFault::Memory)?;
+    let mut reader = BufReader::new(alloc, &mut *input).map_err(|_| ServerFault::Memory)?;
     let mut piece = String::new(alloc);
     for _ in rt.forever() {
         piece.clear();

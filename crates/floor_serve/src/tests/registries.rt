@@ -58,15 +58,25 @@ fn run_with<R: Threads + Wait + Sync>(
 #[test]
 fn two_registries(rt: HostRuntime) -> Result<(), Fail> {
     let alloc = rt.alloc();
-    let a = run_with(&rt, alloc, &HELLO, &OTHER_REQUEST)?;
-    let b = run_with(&rt, alloc, &REQUEST, &OTHER_HELLO)?;
-    assert_eq!(rt; a.places, [Some(2), Some(2)]);
-    assert_eq!(rt; b.places, [Some(2), Some(2)]);
+    let Run {
+        registry,
+        seats,
+        places,
+        journals,
+    } = run_with(&rt, alloc, &HELLO, &OTHER_REQUEST)?;
+    let Run {
+        registry: other,
+        seats: _,
+        places: other_places,
+        journals: other_journals,
+    } = run_with(&rt, alloc, &REQUEST, &OTHER_HELLO)?;
+    assert_eq!(rt; places, [Some(2), Some(2)]);
+    assert_eq!(rt; other_places, [Some(2), Some(2)]);
     let cases = [
-        (&a.journals[0], "200b0000000000010001000a"),
-        (&a.journals[1], "20010001000000020001000a04040001"),
-        (&b.journals[0], "20010001000000010001000a04040001"),
-        (&b.journals[1], "200b0000000000020001000a"),
+        (&journals[0], "200b0000000000010001000a"),
+        (&journals[1], "20010001000000020001000a04040001"),
+        (&other_journals[0], "20010001000000010001000a04040001"),
+        (&other_journals[1], "200b0000000000020001000a"),
     ];
     for (journal, message) in cases {
         let wanted = format!(in alloc; "1 join 10\n2 message 1 {message}\nend 2\n")?;
@@ -76,17 +86,17 @@ fn two_registries(rt: HostRuntime) -> Result<(), Fail> {
         seats: 2,
         events: 4,
     };
-    assert_eq!(rt; finish(&rt, &a.registry, &a.seats), Ok(report));
+    assert_eq!(rt; finish(&rt, &registry, &seats), Ok(report));
     let mismatch = FinishFault::Mismatch {
         conference: 1,
         n: 1,
     };
-    assert_eq!(rt; finish(&rt, &b.registry, &a.seats), Err(mismatch));
+    assert_eq!(rt; finish(&rt, &other, &seats), Err(mismatch));
     let alone = Report {
         seats: 1,
         events: 4,
     };
-    assert_eq!(rt; finish(&rt, &a.registry, &a.seats[..1]), Ok(alone));
+    assert_eq!(rt; finish(&rt, &registry, &seats[..1]), Ok(alone));
     Ok(())
 }
 
