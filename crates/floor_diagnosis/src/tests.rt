@@ -336,7 +336,35 @@ conference = {ids = 1}
 == a key that has to be quoted
 "a b" = 1
 conference = []
-=> 1 a b"#;
+=> 1 a b
+== each key that says something
+[[conference]]
+id = 1
+limit = 4
+[[conference.user]]
+id = 10
+name = "Ann"
+uri = "sip:ann@example.org"
+proxy = true
+port = 7010
+[[conference.floor]]
+id = 1
+room = 1
+chair = 10
+=>
+== keys of another table
+[[conference]]
+id = 1
+room = 1
+[[conference.user]]
+id = 10
+limit = 4
+chair = 10
+[[conference.floor]]
+id = 1
+name = "Stage"
+port = 7010
+=> 3 conference 1: room/6 conference 1, user 1: limit/7 conference 1, user 1: chair/10 conference 1, floor 1: name/11 conference 1, floor 1: port"#;
 
 /// What is told of the keys of a text, in the order of their lines.
 fn keys_of(alloc: Global, text: &str) -> Result<String, AllocError> {
@@ -372,6 +400,6 @@ fn other_keys(alloc: Global) -> Result<String, AllocError> {
 #[test]
 fn keys_that_say_nothing_are_told_with_their_lines(rt: HostRuntime) -> Result<(), AllocError> {
     let told = other_keys(rt.alloc())?;
-    assert_eq!(rt; told.as_str(), "7 cases");
+    assert_eq!(rt; told.as_str(), "9 cases");
     Ok(())
 }
