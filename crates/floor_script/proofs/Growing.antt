@@ -1,6 +1,6 @@
 -- Bytes that are written one part behind another.
 use Rattle.std.proofs.Common.{◌≡◌, ℕ, ◌+◌, ◌-◌, ◌≤◌, List, length, take, drop, Option, sym, ap, subst, ◌∙◌, arith, length-drop}
-use Rattle.std.proofs.KnownBytes.{Appends-nil, Appends-trans}
+use Rattle.std.proofs.KnownBytes.{Appends-trans}
 use Rattle.std.proofs.Math.Seq.{take-add, take-length}
 use Rattle.std.specs.Io.KnownBytes.{Appends}
 use Rattle.floor_script.specs.Written.{Began}
@@ -13,7 +13,3 @@ part_written xs at k a b c within few first more =
     let Then : List ℕ → Type 0 = λ l. Appends b c (take k l) in
     let Both : List ℕ → Type 0 = λ l. Appends a c l in
     (omega (arith, ap length rest, length-drop at xs), subst Both (sym (take-add at k xs)) (Appends-trans a b c _ _ first (subst Then rest more)))
-
--- nothing was written
-pub began_none : (a : Option (List ℕ)) (whole : List ℕ) → Began a a whole
-began_none a whole = record { count = 0; within = omega arith; grew = Appends-nil a }

@@ -17,7 +17,6 @@ use Rattle.floor_script.specs.declared.line.LineFault.{LineFault}
 use Rattle.floor_script.specs.declared.line.LineFault.TheVariants.{Memory}
 use Rattle.floor_script.specs.steps.Running.{LeavesLine, LeavesText, Refuses, Runs, Stopped}
 use Rattle.floor_script.specs.steps.Standing.{Does, Stands}
-use Rattle.floor_script.proofs.Growing.{began_none}
 
 -- a line that says nothing
 pub runs_silent : (number : ℕ) (line : List ℕ) (c : Conferences) (is : Option (List ℕ)) → is_silent line ≡ true → Runs number line c c is is
@@ -64,10 +63,6 @@ stopped_command number line command a b text is then_is loud read does began =
       printed = λ s h. subst (λ (r : Said). Began is then_is r.text) (sym (says s number line (Ok command) loud e)) (subst (λ (l : List ℕ). Began is then_is l) (does.text_is s h) began);
     }
 
--- of which nothing was printed
-pub stopped_before : (number : ℕ) (line : List ℕ) (a : Conferences) (is : Option (List ℕ)) → Stopped number line a is is
-stopped_before number line a is = record { printed = λ s h. began_none is (said s number line).text }
-
 -- a line that asks for nothing
 pub refuses_line : (number : ℕ) (line : List ℕ) (fault : LineFault) (a : Conferences) (is then_is : Option (List ℕ)) → is_silent line ≡ false → fault ≢ Memory → Reads (command_of line) (Err fault) →
     Appends is then_is (error_line number (name_of_line_fault fault)) → Refuses number line a is then_is
@@ -101,9 +96,9 @@ pub leaves_line : (result : Result (Unit {0}) RunFault) (number : ℕ) (line : L
     MatchResult result (λ _. ⊥) (λ left. (c : Conferences) → is_silent line ≡ false → Reads (command_of line) (Err fault) → LeavesLine left number line c was is)
 leaves_line (Ok v) number line fault name was is ne e h = h
 leaves_line (Err fault_of.Refused) number line fault name was is ne e h = λ c loud read. refuses_line number line fault c was is loud ne read (subst (λ (n : List ℕ). Appends was is (error_line number n)) e h)
-leaves_line (Err fault_of.CannotRead) number line fault name was is ne e h = λ c loud read. stopped_line number line fault c was is loud ne read (subst (λ (n : List ℕ). Began was is (error_line number n)) e h)
+leaves_line (Err fault_of.CannotRead) number line fault name was is ne e h = absurd h
 leaves_line (Err fault_of.CannotWrite) number line fault name was is ne e h = λ c loud read. stopped_line number line fault c was is loud ne read (subst (λ (n : List ℕ). Began was is (error_line number n)) e h)
-leaves_line (Err fault_of.Memory) number line fault name was is ne e h = λ c loud read. stopped_line number line fault c was is loud ne read (subst (λ (n : List ℕ). Began was is (error_line number n)) e h)
+leaves_line (Err fault_of.Memory) number line fault name was is ne e h = λ c loud read. h
 
 -- an answer that is no success
 pub never_ok : (result : Result (Unit {0}) RunFault) (P : Type 0) (Q R : RunFault → Type 0) → MatchResult result (λ _. ⊥) Q → ((fault : RunFault) → Q fault → R fault) → MatchResult result (λ _. P) R

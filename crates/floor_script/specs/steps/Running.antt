@@ -1,5 +1,5 @@
 -- What conferences stand for, as lines are run over them.
-use Rattle.std.specs.Prelude.{◌≡◌, ℕ, true, false, List, Option}
+use Rattle.std.specs.Prelude.{◌≡◌, ℕ, true, false, List, [], Option}
 use Rattle.std.specs.Io.KnownBytes.{Appends}
 use Rattle.floor_script.specs.Run.{said}
 use Rattle.floor_script.specs.State.{State}
@@ -24,16 +24,16 @@ pub record Refuses (number : ℕ) (line : List ℕ) (old : Conferences) (was is 
 pub record Stopped (number : ℕ) (line : List ℕ) (old : Conferences) (was is : Option (List ℕ)) : Type 0 where
   pub printed : (s : State) → Stands old s → Began was is (said s number line).text
 
--- what a line leaves that ended the run by this fault
+-- what a line leaves that ended the run by this fault: after want of memory nothing, and none ends by a read fault
 abbrev pub LeavesLine : RunFault → ℕ → List ℕ → Conferences → Option (List ℕ) → Option (List ℕ) → Type 0
 LeavesLine run.Refused number line old was is = Refuses number line old was is
-LeavesLine run.CannotRead number line old was is = Stopped number line old was is
+LeavesLine run.CannotRead number line old was is = ⊥
 LeavesLine run.CannotWrite number line old was is = Stopped number line old was is
-LeavesLine run.Memory number line old was is = Stopped number line old was is
+LeavesLine run.Memory number line old was is = Appends was is []
 
--- what the line of a fault leaves: it was printed, or a beginning
+-- what the line of a fault leaves: it was printed, or a beginning, or nothing
 abbrev pub LeavesText : RunFault → List ℕ → Option (List ℕ) → Option (List ℕ) → Type 0
 LeavesText run.Refused text was is = Appends was is text
-LeavesText run.CannotRead text was is = Began was is text
+LeavesText run.CannotRead text was is = ⊥
 LeavesText run.CannotWrite text was is = Began was is text
-LeavesText run.Memory text was is = Began was is text
+LeavesText run.Memory text was is = Appends was is []
