@@ -9,3 +9,4 @@ mod Places
 mod Standing
 mod Growing
 mod Printing
+mod Outcomes

@@ -1,11 +1,10 @@
 -- What a line prints, and what it leaves.
-use Rattle.std.proofs.Common.{◌≡◌, ◌≢◌, ℕ, ◌+◌, Bool, true, false, List, [], ◌∷◌, ◌++◌, map, refl, sym, ◌∙◌, ap, subst, append_assoc, append-nil, inl, inr}
+use Rattle.std.proofs.Common.{◌≡◌, ◌≢◌, ℕ, Bool, true, false, List, sym, ◌∙◌, ap, subst, inl, inr}
 use Rattle.std.specs.Prelude.{Option, Result, Ok, Err, MatchResult}
 use Rattle.std.specs.Io.KnownBytes.{Appends}
-use Rattle.std.proofs.KnownBytes.{Appends-nil, Appends-trans}
+use Rattle.std.proofs.KnownBytes.{Appends-nil}
 use Rattle.floor_script.specs.Line.{Reads, command_of}
 use Rattle.floor_script.specs.Names.{name_of_line_fault}
-use Rattle.floor_script.specs.Answered.{text_of}
 use Rattle.floor_script.specs.Run.{Said, error_line, is_silent, said, said_aloud, said_by}
 use Rattle.floor_script.specs.State.{State}
 use Rattle.floor_script.specs.Written.{Began}

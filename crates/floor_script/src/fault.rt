@@ -6,7 +6,7 @@ use std::io;
 /// Why a run ends early.
 #[derive(Clone, Copy, Debug, PartialEq, Eq)]
 pub enum RunFault {
-    /// A read failed, or the input isn't UTF-8 or has too many lines.
+    /// A read failed, or the input isn't UTF-8 or takes too many reads.
     CannotRead,
     /// A write failed.
     CannotWrite,

@@ -1,12 +1,16 @@
 //! A run of a script over a reader and a writer.
 
-ghost use Rattle.std.specs.Prelude.{◌≡◌, false, Err, IfOk, MatchResult, string_bytes};
+ghost use Rattle.std.specs.Prelude.{◌≡◌, ℕ, List, false, Err, IfErr, IfOk, MatchResult, OnOk, string_bytes};
 ghost use Rattle.std.specs.Io.KnownBytes.{Appends};
+ghost use Rattle.std.specs.Option.{option_map};
+ghost use Rattle.floor_config.specs.Outcome.{Fails};
 ghost use Rattle.floor_script.specs.Line.{Reads, command_of};
-ghost use Rattle.floor_script.specs.Run.{error_line, is_silent};
+ghost use Rattle.floor_script.specs.Run.{Leaves, Ran, configurations, error_line, is_silent};
+ghost use Rattle.floor_script.specs.Script.{configuration_of};
 ghost use Rattle.floor_script.specs.Written.{Began};
 ghost use Rattle.floor_script.specs.declared.conferences.Conferences.{Conferences as Given};
-ghost use Rattle.floor_script.specs.steps.Running.{LeavesLine, LeavesText, Runs};
+ghost use Rattle.floor_script.specs.steps.Running.{AreOpened, LeavesLine, LeavesText, Runs, opened_all};
+ghost use Rattle.floor_script.specs.steps.Standing.{Leads};
 
 use crate::conferences::Conferences;
 use crate::fault::RunFault;
@@ -60,7 +64,11 @@ fn read_all<R: Read>(alloc: Global, input: &mut R) -> Result<Vec<u8>, RunFault> 
 
 /// Runs a text to its end, or to the first line that asks for nothing, and prints what that prints.
 /// After a write fault or want of memory a beginning of it is printed.
-fn run_text<W: Write>(alloc: Global, text: &str, output: &mut W) -> Result<(), RunFault> {
+fn run_text<W: Write>(alloc: Global, text: &str, output: &mut W) -> Result<(), RunFault>
+    ensures { MatchResult result
+        (λ _. Ran text.now false (W.contents output.old) (W.contents output.new))
+        (λ fault. Leaves fault text.now (W.contents output.old) (W.contents output.new)) }
+{
     let script = Script::of_text(text);
     let mut conferences = Conferences::new(alloc);
     match open_all(alloc, script.configuration, &mut conferences) {
@@ -68,13 +76,15 @@ fn run_text<W: Write>(alloc: Global, text: &str, output: &mut W) -> Result<(), R
         Err(fault) => return refuse_configuration(alloc, fault, output),
     }
     let mut lines = script.lines;
-    for _ in 0..MAX_TURNS {
-        let Some(line) = lines.cut() else {
-            return Ok(());
-        };
-        run_line(alloc, line, &mut conferences, output)?;
+    loop {
+        match lines.cut() {
+            None => return Ok(()),
+            Some(line) => match run_line(alloc, line, &mut conferences, output) {
+                Ok(()) => {}
+                Err(fault) => return Err(fault),
+            },
+        }
     }
-    Err(RunFault::CannotRead)
 }
 
 /// Prints the fault of a configuration. Want of memory isn't printed.
@@ -82,7 +92,11 @@ fn refuse_configuration<W: Write>(
     alloc: Global,
     fault: ConfigFault,
     output: &mut W,
-) -> Result<(), RunFault> {
+) -> Result<(), RunFault>
+    ensures { MatchResult result (λ _. ⊥) (λ left. (text : List ℕ)
+        → Fails fault (configurations (configuration_of text))
+        → Leaves left text (W.contents output.old) (W.contents output.new)) }
+{
     let name = fault.name();
     match fault {
         ConfigFault::Memory => Err(RunFault::Memory),
@@ -96,7 +110,13 @@ fn open_all(
     alloc: Global,
     configuration: Option<&str>,
     conferences: &mut Conferences,
-) -> Result<(), ConfigFault> {
+) -> Result<(), ConfigFault>
+    ensures took { OnOk result
+        (AreOpened (configurations (option_map (λ c. c.now) configuration.entry))
+        conferences.old conferences.new) }
+    ensures refused { IfErr result (λ fault. Fails fault
+        (configurations (option_map (λ c. c.now) configuration.entry))) }
+{
     match configuration {
         None => {
             let config = Config::demonstration(alloc)?;
@@ -112,7 +132,9 @@ fn open_all(
 }
 
 /// Opens conferences, one after another.
-fn open_each(configs: Vec<Config>, conferences: &mut Conferences) -> Result<(), AllocError> {
+fn open_each(configs: Vec<Config>, conferences: &mut Conferences) -> Result<(), AllocError>
+    ensures took { OnOk result (Leads (opened_all configs.items) conferences.old conferences.new) }
+{
     for config in configs {
         conferences.open(config)?;
     }

@@ -1,13 +1,25 @@
 -- What conferences stand for, as lines are run over them.
-use Rattle.std.specs.Prelude.{◌≡◌, ℕ, true, false, List, [], Option}
+use Rattle.std.specs.Prelude.{◌≡◌, ℕ, true, false, List, [], ◌∷◌, Option, Result, Ok, Err}
 use Rattle.std.specs.Io.KnownBytes.{Appends}
+use Rattle.floor_config.specs.Configuration.{Configuration}
+use Rattle.floor_config.specs.declared.fault.ConfigFault.{ConfigFault}
 use Rattle.floor_script.specs.Run.{said}
 use Rattle.floor_script.specs.State.{State}
 use Rattle.floor_script.specs.Written.{Began}
 use Rattle.floor_script.specs.declared.conferences.Conferences.{Conferences}
 use Rattle.floor_script.specs.declared.fault.RunFault.{RunFault}
 use Rattle.floor_script.specs.declared.fault.RunFault.TheVariants as run
-use Rattle.floor_script.specs.steps.Standing.{Stands}
+use Rattle.floor_script.specs.steps.Standing.{Leads, Stands, opened}
+
+-- the state in which the hub was asked to open conferences, one after another
+abbrev pub opened_all : List Configuration → State → State
+opened_all [] s = s
+opened_all (config ∷ more) s = opened_all more (opened config s)
+
+-- the conferences that a reading gives were opened
+abbrev pub AreOpened : Result (List Configuration) ConfigFault → Conferences → Conferences → Type 0
+AreOpened (Ok configs) old new = Leads (opened_all configs) old new
+AreOpened (Err fault) old new = ⊥
 
 -- A line was run, and what it says was printed.
 pub record Runs (number : ℕ) (line : List ℕ) (old new : Conferences) (was is : Option (List ℕ)) : Type 0 where
