@@ -10,3 +10,4 @@ mod Standing
 mod Growing
 mod Printing
 mod Outcomes
+mod Reading

@@ -8,5 +8,6 @@ pub mod Printed
 pub mod Answered
 pub mod Written
 pub mod Run
+pub mod Input
 -- the steps of the proofs
 pub mod steps

@@ -4,12 +4,13 @@ ghost use Rattle.std.specs.Prelude.{◌≡◌, ℕ, List, false, Err, IfErr, IfO
 ghost use Rattle.std.specs.Io.KnownBytes.{Appends};
 ghost use Rattle.std.specs.Option.{option_map};
 ghost use Rattle.floor_config.specs.Outcome.{Fails};
+ghost use Rattle.floor_script.specs.Input.{Exits, IsInput, LeavesInput, RanInput};
 ghost use Rattle.floor_script.specs.Line.{Reads, command_of};
 ghost use Rattle.floor_script.specs.Run.{Leaves, Ran, configurations, error_line, is_silent};
 ghost use Rattle.floor_script.specs.Script.{configuration_of};
 ghost use Rattle.floor_script.specs.Written.{Began};
 ghost use Rattle.floor_script.specs.declared.conferences.Conferences.{Conferences as Given};
-ghost use Rattle.floor_script.specs.steps.Running.{AreOpened, LeavesLine, LeavesText, Runs, opened_all};
+ghost use Rattle.floor_script.specs.steps.Running.{AreOpened, EndsRead, LeavesBytes, LeavesLine, LeavesText, Runs, opened_all};
 ghost use Rattle.floor_script.specs.steps.Standing.{Leads};
 
 use crate::conferences::Conferences;
@@ -24,7 +25,10 @@ use std::io::{Read, Write};
 /// Runs the script of `input`, prints what its lines print to `output`, and gives the exit status: 0;
 /// 1 for a read or write fault or where memory ran out, after which a beginning of it is printed; 2
 /// for a refused configuration or a bad line, whose fault is printed.
-pub fn run<R: Read, W: Write>(alloc: Global, input: &mut R, output: &mut W) -> u8 {
+pub fn run<R: Read, W: Write>(alloc: Global, input: &mut R, output: &mut W) -> u8
+    ensures { Exits result (R.remaining input.old) (R.remaining input.new)
+        (W.contents output.old) (W.contents output.new) }
+{
     match run_script(alloc, input, output) {
         Ok(()) => 0,
         Err(fault) => fault.status(),
@@ -33,21 +37,31 @@ pub fn run<R: Read, W: Write>(alloc: Global, input: &mut R, output: &mut W) -> u
 
 /// Runs the script of `input`, and prints what its lines print to `output`, that of each line at
 /// once. Where the configuration or a line is refused, its fault is printed, and the answer is
-/// `Refused`; after each other fault a beginning of what the text prints is printed.
+/// `Refused`; after a write fault or want of memory a beginning of what the text prints is printed,
+/// and nothing after a read fault.
 pub fn run_script<R: Read, W: Write>(
     alloc: Global,
     input: &mut R,
     output: &mut W,
-) -> Result<(), RunFault> {
-    let bytes = read_all(alloc, input)?;
-    let Ok(text) = std::str::from_utf8(bytes.as_slice()) else {
-        return Err(RunFault::CannotRead);
-    };
-    run_text(alloc, text, output)
+) -> Result<(), RunFault>
+    ensures { MatchResult result
+        (λ _. RanInput false (R.remaining input.old) (R.remaining input.new)
+        (W.contents output.old) (W.contents output.new))
+        (λ fault. LeavesInput fault (R.remaining input.old) (R.remaining input.new)
+        (W.contents output.old) (W.contents output.new)) }
+{
+    match read_all(alloc, input) {
+        Ok(bytes) => run_bytes(alloc, bytes.as_slice(), output),
+        Err(fault) => Err(fault),
+    }
 }
 
 /// All bytes of the input. An interrupted read is a fault.
-fn read_all<R: Read>(alloc: Global, input: &mut R) -> Result<Vec<u8>, RunFault> {
+fn read_all<R: Read>(alloc: Global, input: &mut R) -> Result<Vec<u8>, RunFault>
+    ensures { MatchResult result
+        (λ bytes. IsInput (R.remaining input.old) (R.remaining input.new) bytes.items)
+        EndsRead }
+{
     let mut bytes = Vec::new(alloc);
     let mut chunk = [0u8; 4096];
     for _ in 0..MAX_TURNS {
@@ -60,6 +74,18 @@ fn read_all<R: Read>(alloc: Global, input: &mut R) -> Result<Vec<u8>, RunFault> 
         bytes.extend_from_slice(&chunk[..count])?;
     }
     Err(RunFault::CannotRead)
+}
+
+/// Runs bytes as a text. Where they aren't UTF-8 nothing is printed.
+fn run_bytes<W: Write>(alloc: Global, bytes: &[u8], output: &mut W) -> Result<(), RunFault>
+    ensures { MatchResult result
+        (λ _. Ran bytes.now false (W.contents output.old) (W.contents output.new))
+        (λ fault. LeavesBytes fault bytes.now (W.contents output.old) (W.contents output.new)) }
+{
+    match std::str::from_utf8(bytes) {
+        Ok(text) => run_text(alloc, text, output),
+        Err(_) => Err(RunFault::CannotRead),
+    }
 }
 
 /// Runs a text to its end, or to the first line that asks for nothing, and prints what that prints.

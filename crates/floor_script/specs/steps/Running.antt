@@ -3,7 +3,7 @@ use Rattle.std.specs.Prelude.{◌≡◌, ℕ, true, false, List, [], ◌∷◌, 
 use Rattle.std.specs.Io.KnownBytes.{Appends}
 use Rattle.floor_config.specs.Configuration.{Configuration}
 use Rattle.floor_config.specs.declared.fault.ConfigFault.{ConfigFault}
-use Rattle.floor_script.specs.Run.{said}
+use Rattle.floor_script.specs.Run.{Leaves, said}
 use Rattle.floor_script.specs.State.{State}
 use Rattle.floor_script.specs.Written.{Began}
 use Rattle.floor_script.specs.declared.conferences.Conferences.{Conferences}
@@ -49,3 +49,17 @@ LeavesText run.Refused text was is = Appends was is text
 LeavesText run.CannotRead text was is = ⊥
 LeavesText run.CannotWrite text was is = Began was is text
 LeavesText run.Memory text was is = Appends was is []
+
+-- what bytes leave that ended a run by this fault: of such as are no text nothing was printed
+abbrev pub LeavesBytes : RunFault → List ℕ → Option (List ℕ) → Option (List ℕ) → Type 0
+LeavesBytes run.Refused bytes was is = Leaves run.Refused bytes was is
+LeavesBytes run.CannotRead bytes was is = Appends was is []
+LeavesBytes run.CannotWrite bytes was is = Leaves run.CannotWrite bytes was is
+LeavesBytes run.Memory bytes was is = Leaves run.Memory bytes was is
+
+-- by this fault a read ends
+abbrev pub EndsRead : RunFault → Type 0
+EndsRead run.Refused = ⊥
+EndsRead run.CannotRead = Unit {0}
+EndsRead run.CannotWrite = ⊥
+EndsRead run.Memory = Unit {0}
