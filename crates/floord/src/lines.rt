@@ -1,7 +1,7 @@
 //! The administrator's lines, one after another.
 
 use crate::server::Server;
-use floor_console::{parse_line, run_command};
+use floor_console::{Command, parse_line, run_command};
 use floor_listen::{Next, ServerFault, after_read};
 use floor_serve::Gate;
 use std::alloc::Global;
@@ -40,12 +40,11 @@ where
     for _ in rt.forever() {
         piece.clear();
         let read = reader.read_line(&mut piece);
-        let line = match after_read(read, piece.as_str()) {
-            Next::Line(line) => line,
-            Next::Stop => "stop",
+        let command = match after_read(read, piece.as_str()) {
+            Next::Line(line) => parse_line(alloc, line),
+            Next::Stop => Ok(Command::Stop),
             Next::Memory => return Err(ServerFault::Memory),
         };
-        let command = parse_line(alloc, line);
         server.prepare(&command);
         tell(errors, server.take_told());
         let text = run_command(alloc, server, command)?;
