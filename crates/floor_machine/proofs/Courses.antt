@@ -1,7 +1,7 @@
 -- What the course of an event knows, before the requests are settled and after.
 use Rattle.std.proofs.Common.{◌≡◌, ℕ, Bool, true, false, cond, List, [], ◌∷◌, ◌++◌, map, Option, Some, None, refl, sym, ap, subst, ◌∙◌, arith}
-use Rattle.std.specs.Prelude.{◌==◌, ◌||◌, find, is_none, option_map}
-use Rattle.std.specs.List.{flat_map}
+use Rattle.std.specs.Prelude.{◌==◌, ◌&&◌, ◌||◌, find, is_none, is_some, nat_lt, option_map}
+use Rattle.std.specs.List.{flat_map, list_all}
 use Rattle.std.proofs.lemmas.Bool.Decides.{nat_tests}
 use Rattle.std.proofs.lemmas.List.Elements.{All-nil}
 use Rattle.std.specs.Option.{option_map_or}
@@ -24,7 +24,8 @@ use Rattle.floor_machine.specs.steps.Marks.{AreNoted, concerns, is_marked, mark_
 use Rattle.floor_machine.specs.steps.Renewing.{IsCourse, info_with, left_at}
 use Rattle.floor_machine.specs.steps.Serving.{IsChanged, IsMade, ended_of, is_rising, numbers_in}
 use Rattle.floor_machine.specs.steps.Telling.{entry_at, entry_of_ended, infos_of, listed}
-use Rattle.floor_machine.proofs.Entries.{by_number}
+use Rattle.floor_machine.proofs.Entries.{by_number, entry_with, entry_with-other, entry_with-own}
+use Rattle.floor_machine.proofs.Found.{and_left, and_right}
 use Rattle.floor_machine.proofs.Moved.{any-append}
 use Rattle.floor_machine.proofs.Noting.{at-settled, found-unmarked, info-unmarked, noted-none, noted-settled, settle_one}
 use Rattle.floor_machine.proofs.Telling.{finds}
@@ -63,6 +64,44 @@ left-numbers ended es ongoing ns left gone numbered rising =
     ∙ left-entries es
     ∙ sym left
 
+and_both : (a b : Bool) → a ≡ true → b ≡ true → (a && b) ≡ true
+and_both true b e f = f
+and_both false b e f = e
+
+all-weaker : (p q : ℕ → Bool) → ((n : ℕ) → p n ≡ true → q n ≡ true) → (ns : List ℕ) → list_all p ns ≡ true → list_all q ns ≡ true
+all-weaker p q h [] all = refl
+all-weaker p q h (n ∷ ns) all = and_both (q n) (list_all q ns) (h n (and_left (p n) (list_all p ns) all)) (all-weaker p q h ns (and_right (p n) (list_all p ns) all))
+
+-- an entry is found also behind another
+more-found : (e : Entry) (es : List Entry) → list_all (nat_lt e.request.number) (numbers_in es) ≡ true → (n : ℕ) → is_some (entry_with es n) ≡ true → is_some (entry_with (e ∷ es) n) ≡ true
+more-found e es above n h = by (e.request.number == n) refl
+  where
+    equal : (a b : ℕ) → (a == b) ≡ true → b ≡ a
+    equal a b e = grind (arith, nat_tests)
+
+    by : (b : Bool) → (e.request.number == n) ≡ b → is_some (entry_with (e ∷ es) n) ≡ true
+    by true same = ap (λ (m : ℕ). is_some (entry_with (e ∷ es) m)) (equal e.request.number n same) ∙ ap (λ (o : Option Entry). is_some o) (entry_with-own e es above)
+    by false other = ap (λ (o : Option Entry). is_some o) (entry_with-other e es n other) ∙ h
+
+-- each entry is found by its number
+entries-found : (es : List Entry) → is_rising (numbers_in es) ≡ true → list_all (λ n. is_some (entry_with es n)) (numbers_in es) ≡ true
+entries-found [] rising = refl
+entries-found (e ∷ es) rising =
+    let above : list_all (nat_lt e.request.number) (numbers_in es) ≡ true = and_left (list_all (nat_lt e.request.number) (numbers_in es)) (is_rising (numbers_in es)) rising in
+    and_both (is_some (entry_with (e ∷ es) e.request.number)) (list_all (λ n. is_some (entry_with (e ∷ es) n)) (numbers_in es))
+    (ap (λ (o : Option Entry). is_some o) (entry_with-own e es above))
+    (all-weaker (λ n. is_some (entry_with es n)) (λ n. is_some (entry_with (e ∷ es) n)) (more-found e es above) (numbers_in es)
+    (entries-found es (and_right (list_all (nat_lt e.request.number) (numbers_in es)) (is_rising (numbers_in es)) rising)))
+
+-- the numbers of an event are of requests that ended or are ongoing
+numbers-whole : (ended : List Ended) (es : List Entry) (ongoing : List Request) (ns : List ℕ) → ongoing ≡ ongoing_of es → map entry_of_ended ended ≡ ended_of es → ns ≡ numbers_in es →
+    is_rising ns ≡ true → list_all (λ n. is_some (entry_at ended ongoing n)) ns ≡ true
+numbers-whole ended es ongoing ns left gone numbered rising =
+    ap (λ (rs : List Request). list_all (λ n. is_some (entry_at ended rs n)) ns) left
+    ∙ ap (list_all (λ n. is_some (entry_at ended (ongoing_of es) n))) numbered
+    ∙ (λ i. list_all (λ n. is_some (finds es ended gone n i)) (numbers_in es))
+    ∙ entries-found es (ap is_rising (sym numbered) ∙ rising)
+
 -- whatever the marks have not noted is shown as it was
 unmarked-noted : (config : Configuration) (requests ongoing : List Request) (before : List Info) (marks : List Mark) → before ≡ infos_of config requests → AreNoted config.floors requests ongoing marks →
     (n : ℕ) (r : Request) → request_at ongoing n ≡ Some r → is_marked marks r ≡ false → info_with before n ≡ Some (info config ongoing r)
@@ -87,6 +126,7 @@ course-changed s t c course changed before addable =
       rising = made.rising;
       old = made.old;
       left = left-numbers course.ended.items c.entries t.ongoing course.numbers.items made.ongoing made.ended made.numbers made.rising;
+      whole = numbers-whole course.ended.items c.entries t.ongoing course.numbers.items made.ongoing made.ended made.numbers made.rising;
       addable = subst A changed.config addable;
     }
 
@@ -130,6 +170,7 @@ course-marked s t c course made before none marks numbers =
       rising = made.rising;
       old = made.old;
       left = left-numbers course.ended.items c.entries t.ongoing course.numbers.items made.ongoing made.ended made.numbers made.rising;
+      whole = numbers-whole course.ended.items c.entries t.ongoing course.numbers.items made.ongoing made.ended made.numbers made.rising;
       addable = subst A (sym none) (All-nil (λ d. IsFit t.config.floors d.request));
     }
 
@@ -138,6 +179,18 @@ left-settled floors ended ongoing n = by (find (λ d. d.request.number == n) end
   where
     by : (d : Option Ended) → option_map_or (λ x. None) d (request_at (settle floors ongoing) n) ≡ option_map (settle_one floors ongoing) (option_map_or (λ x. None) d (request_at ongoing n))
     by None = at-settled floors ongoing ongoing n
+    by (Some d) = refl
+
+entry-settled : (floors : List Floor) (ended : List Ended) (ongoing : List Request) (n : ℕ) → is_some (entry_at ended (settle floors ongoing) n) ≡ is_some (entry_at ended ongoing n)
+entry-settled floors ended ongoing n = by (find (λ d. d.request.number == n) ended)
+  where
+    kept : (o : Option Request) → is_some (option_map entry_of (option_map (settle_one floors ongoing) o)) ≡ is_some (option_map entry_of o)
+    kept None = refl
+    kept (Some r) = refl
+
+    by : (d : Option Ended) → is_some (option_map_or (λ x. Some (entry_of_ended x)) d (option_map entry_of (request_at (settle floors ongoing) n)))
+        ≡ is_some (option_map_or (λ x. Some (entry_of_ended x)) d (option_map entry_of (request_at ongoing n)))
+    by None = ap (λ (o : Option Request). is_some (option_map entry_of o)) (at-settled floors ongoing ongoing n) ∙ kept (request_at ongoing n)
     by (Some d) = refl
 
 -- and once the requests are settled, and those marked that were granted
@@ -174,6 +227,11 @@ course-settled config floors ongoing shown course course' same ascending known n
           (λ n. ap (λ (o : Option Request). listed o) (left-settled floors course.ended.items ongoing n)) ns
           ∙ listed-map (settle_one floors ongoing) (left_at course.ended.items ongoing) ns
           ∙ ap (map (settle_one floors ongoing)) known.left;
+      whole =
+          ap (list_all (λ n. is_some (entry_at course'.ended.items (settle floors ongoing) n))) numbered
+          ∙ ap (λ (ds : List Ended). list_all (λ n. is_some (entry_at ds (settle floors ongoing) n)) ns) gone
+          ∙ (λ i. list_all (λ n. entry-settled floors course.ended.items ongoing n i) ns)
+          ∙ known.whole;
       addable = subst A (sym gone) known.addable;
     }
   where

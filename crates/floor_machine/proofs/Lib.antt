@@ -40,6 +40,8 @@ pub mod Noting
 pub mod Renewed
 pub mod Moved
 pub mod Walk
+pub mod Skipped
+pub mod Marked
 pub mod Courses
 pub mod Users
 pub mod Acts

@@ -103,7 +103,7 @@ left-found ended ongoing n r h = by (find (λ d. d.request.number == n) ended) h
     by None h = h
     by (Some d) h = cc
 
-left-keyed : (ended : List Ended) (ongoing : List Request) → IsKeyed (λ (r : Request). r.number) (left_at ended ongoing)
+pub left-keyed : (ended : List Ended) (ongoing : List Request) → IsKeyed (λ (r : Request). r.number) (left_at ended ongoing)
 left-keyed ended ongoing = λ n r h. eqb-true r.number n (found-passes (λ r. r.number == n) ongoing r (left-found ended ongoing n r h))
 
 info-keyed : (before : List Info) → IsKeyed (λ (i : Info). i.request) (info_with before)

@@ -3,6 +3,7 @@
 #![tactic(auto)]
 
 mod act;
+mod affected;
 mod applying;
 mod change;
 mod conference;

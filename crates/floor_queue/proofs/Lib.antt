@@ -14,6 +14,7 @@ pub mod Searching
 pub mod Holding
 pub mod Marking
 pub mod Numbering
+pub mod OnFloors
 pub mod Parting
 pub mod Reasons
 pub mod Added

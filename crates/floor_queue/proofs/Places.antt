@@ -208,7 +208,7 @@ among_found (x ∷ xs) k r e p h = by (x.number == k) (λ rest. among_found xs k
     by true rest e = let same : x ≡ r = cc in subst (λ (q : Request). p q ≡ true) same (and_left _ _ h)
     by false rest e = rest e
 
-none_any : {X : Type 0} (p : X → Bool) (xs : List X) → not (list_any p xs) ≡ list_all (λ x. not (p x)) xs
+pub none_any : {X : Type 0} (p : X → Bool) (xs : List X) → not (list_any p xs) ≡ list_all (λ x. not (p x)) xs
 none_any p [] = refl
 none_any p (x ∷ xs) = by (p x) (none_any p xs)
   where

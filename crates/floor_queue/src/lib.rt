@@ -10,6 +10,7 @@ mod addable;
 mod due;
 mod index;
 mod laws;
+mod naming;
 mod ongoing;
 mod order;
 mod request;

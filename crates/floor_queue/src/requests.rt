@@ -1,12 +1,12 @@
 //! The ongoing floor requests of one conference (RFC 8855, sections 10, 11 and 13).
 
-ghost use Rattle.std.specs.Prelude.{◌≡◌, ◌<◌, ◌≤◌, ◌+◌, ◌↔◌, ◌==◌, ℕ, IfOk, OnOk, OnErr, Some, None, IsSome, IsTrue, false, if◌then◌else◌, length, map, filter};
+ghost use Rattle.std.specs.Prelude.{◌≡◌, ◌<◌, ◌≤◌, ◌+◌, ◌↔◌, ◌==◌, ◌&&◌, ◌||◌, ℕ, IfOk, OnOk, OnErr, Some, None, IsSome, IsTrue, false, if◌then◌else◌, count_by, length, map, filter};
 ghost use Rattle.std.specs.List.{list_any};
 ghost use Rattle.std.specs.Option.{option_copied};
 ghost use Rattle.floor_config.specs.Changed.{chaired};
 ghost use Rattle.floor_config.specs.Lookup.{is_floor};
 ghost use Rattle.floor_queue.specs.Order.{settle, due_numbers, holders, names, granted_if};
-ghost use Rattle.floor_queue.specs.Queue.{HasFloor, IsAddable, IsQueue, IsReason, IsSettled, MaySetFloor, after_add, after_add_floor, after_clear, after_end, after_set_chair, after_set_floor, after_set_reason, after_settle, empty_queue, first_floor, involves, loses_chair, numbers_of, position_of, request_at};
+ghost use Rattle.floor_queue.specs.Queue.{HasFloor, IsAddable, IsQueue, IsReason, IsSettled, MaySetFloor, after_add, after_add_floor, after_clear, after_end, after_set_chair, after_set_floor, after_set_reason, after_settle, are_ascending, empty_queue, first_floor, involves, is_one_of, loses_chair, numbers_of, position_of, request_at};
 ghost use Rattle.floor_queue.specs.steps.Lines.{AreLines};
 ghost use Rattle.floor_queue.specs.steps.Parties.{numbers_with};
 
@@ -16,7 +16,7 @@ use crate::index::rank::rank_of;
 use crate::ongoing::Ongoing;
 use crate::request::{New, Request};
 use crate::requested_floor::{FloorStatus, RequestedFloor, RequestedFloors, Word};
-use crate::{addable, due, order};
+use crate::{addable, due, naming, order};
 use floor_config::{Config, Floor};
 use floor_wire::{Numbers, Octets};
 use std::alloc::{AllocError, AllocFailed, Global};
@@ -201,6 +201,29 @@ impl Requests {
     {
         let alloc = self.ongoing.allocator();
         let numbers = numbers_of_user(alloc, &self.parties, user)?;
+        Ok(Numbers::from_vec(numbers))
+    }
+
+    /// How many requests name the floor. Takes no memory.
+    pub fn count_on(&self, floor: u16) -> usize
+        ensures { result ≡ count_by (λ r. names r floor) self.now.ongoing }
+    {
+        match self.lines.of(floor) {
+            Some(line) => line.ranks().len(),
+            None => 0,
+        }
+    }
+
+    /// These numbers and those of the requests that name one of the floors, ascending, each once.
+    /// Looks at the requests of these floors alone.
+    pub fn numbers_on(&self, floors: &[u16], others: &[u16]) -> Result<Numbers, AllocError>
+        ensures value { IfOk result (λ numbers. (number : ℕ) → is_one_of number numbers
+            ≡ (is_one_of number others.now || list_any (λ r. r.number == number
+            && list_any (names r) floors.now) self.now.ongoing)) }
+        ensures ascending { IfOk result (λ numbers. IsTrue (are_ascending numbers)) }
+    {
+        let alloc = self.ongoing.allocator();
+        let numbers = naming::numbers_with(alloc, &self.lines, floors, others)?;
         Ok(Numbers::from_vec(numbers))
     }
 

@@ -1,10 +1,10 @@
 -- What is shown after an event, number by number: of some requests it is made anew, and of all others it stays.
-use Rattle.std.specs.Prelude.{◌≡◌, ℕ, ◌+◌, ◌==◌, not, if◌then◌else◌, Bool, true, false, List, [], ◌∷◌, ◌++◌, drop, find, length, map, take, Option, Some, None, option_and_then, option_map}
-use Rattle.std.specs.List.{flat_map, slice_get}
+use Rattle.std.specs.Prelude.{◌≡◌, ℕ, ◌+◌, ◌==◌, ◌||◌, is_some, not, if◌then◌else◌, Bool, true, false, List, [], ◌∷◌, ◌++◌, drop, find, length, map, take, Option, Some, None, option_and_then, option_map}
+use Rattle.std.specs.List.{flat_map, list_all, slice_get}
 use Rattle.std.specs.Option.{option_map_or}
 use Rattle.floor_config.specs.Configuration.{Configuration}
 use Rattle.floor_queue.specs.declared.request.Request.{Request}
-use Rattle.floor_queue.specs.Queue.{request_at}
+use Rattle.floor_queue.specs.Queue.{is_one_of, request_at}
 use Rattle.floor_message.specs.declared.information.Info.{Info}
 use Rattle.floor_machine.specs.declared.course.Course.{Course}
 use Rattle.floor_machine.specs.declared.course.Ended.{Ended}
@@ -16,7 +16,7 @@ use Rattle.floor_machine.specs.Same.{same_info}
 use Rattle.floor_machine.specs.steps.Fitting.{AreFit}
 use Rattle.floor_machine.specs.steps.Marks.{is_marked}
 use Rattle.floor_machine.specs.steps.Serving.{is_rising}
-use Rattle.floor_machine.specs.steps.Telling.{infos_of, listed, update_of}
+use Rattle.floor_machine.specs.steps.Telling.{entry_at, infos_of, listed, update_of}
 
 -- the item at this place, if it passes
 abbrev pub here : {A : Type 0} → (A → Bool) → List A → ℕ → Option A
@@ -69,8 +69,21 @@ pub record IsRenewed (place : ℕ) (old now : Option Info) (shown : Option Shown
   pub updates : changes'.updates ≡ changes.updates ++ update_from old shown
   pub floors : changes'.floors.items ≡ changes.floors.items ++ floors_moved old now
 
+-- the ongoing request with this number stays as it is shown: no mark concerns it
+abbrev pub is_still : List Request → Course → ℕ → Bool
+is_still ongoing course number = option_map_or (λ r. not (is_marked course.marks.items r)) (left_at course.ended.items ongoing number) false
+
+-- of the requests that ended or are ongoing, these numbers are of each that doesn't stay so
+abbrev pub AreMoved : List Request → Course → List ℕ → Type 0
+AreMoved ongoing course some =
+    (number : ℕ) → is_some (entry_at course.ended.items ongoing number) ≡ true → (is_still ongoing course number || is_one_of number some) ≡ true
+
+-- of the event's numbers, each is one of these, or of a request that stays so
+abbrev pub AreSome : List Request → Course → List ℕ → Type 0
+AreSome ongoing course some = list_all (λ n. is_still ongoing course n || is_one_of n some) course.numbers.items ≡ true
+
 -- What the course of an event knows: there were some requests, which were shown by the configuration of then; of what became of them,
--- whatever no mark concerns is shown as it was; its numbers rise, and are those of the requests before and after; and each that ended
+-- whatever no mark concerns is shown as it was; its numbers rise, are those of the requests before and after, and each is of one that ended or is ongoing; and each that ended
 -- could be added once.
 pub record IsCourse (config : Configuration) (ongoing : List Request) (shown : List Info) (course : Course) : Type 0 where
   pub was : Configuration
@@ -80,6 +93,7 @@ pub record IsCourse (config : Configuration) (ongoing : List Request) (shown : L
   pub rising : is_rising course.numbers.items ≡ true
   pub old : flat_map (λ n. listed (request_at requests n)) course.numbers.items ≡ requests
   pub left : flat_map (λ n. listed (left_at course.ended.items ongoing n)) course.numbers.items ≡ ongoing
+  pub whole : list_all (λ n. is_some (entry_at course.ended.items ongoing n)) course.numbers.items ≡ true
   pub addable : AreFit config.floors course.ended.items
 
 -- the floors that the requests with these numbers named or name, of each that is shown otherwise than before, or no more

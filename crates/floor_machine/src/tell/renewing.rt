@@ -1,18 +1,20 @@
 //! What is shown after an event: of the requests that it ended, changed or may have moved it is made
 //! anew, and of all others it stays (RFC 8855, sections 10.1.2 and 12.1).
 
-ghost use Rattle.std.specs.Prelude.{◌≡◌, ◌==◌, ◌+◌, ◌++◌, ◌∷◌, ◌≤◌, [], false, All, drop, find, length, take, IfOk, OnOk, Some, None};
+ghost use Rattle.std.specs.Prelude.{◌≡◌, ◌==◌, ◌+◌, ◌++◌, ◌∷◌, ◌≤◌, ◌<◌, ℕ, [], true, false, All, drop, find, get_or, length, nat_lt, take, IfOk, IsTrue, OnOk, Some, None};
 ghost use Rattle.std.specs.Option.{option_copied};
-ghost use Rattle.floor_queue.specs.Queue.{request_at};
+ghost use Rattle.floor_queue.specs.Queue.{are_ascending, request_at};
 ghost use Rattle.floor_message.specs.Shown.{IsShownInfo};
 ghost use Rattle.floor_machine.specs.Same.{same_info};
 ghost use Rattle.floor_machine.specs.Shown.{entry_of, info};
 ghost use Rattle.floor_machine.specs.steps.Fitting.{AreFit, AreUpdatesShown, IsFit};
 ghost use Rattle.floor_machine.specs.steps.Marks.{is_marked};
 ghost use Rattle.floor_machine.specs.steps.Renewing as spec;
-ghost use Rattle.floor_machine.specs.steps.Renewing.{IsCourse, IsRenewed, info_here, left_at, now_at, request_here};
+ghost use Rattle.floor_machine.specs.steps.Renewing.{AreSome, IsCourse, IsRenewed, info_here, left_at, now_at, request_here};
+ghost use Rattle.floor_machine.specs.steps.Serving.{is_rising};
 ghost use Rattle.floor_machine.specs.steps.Telling.{AreChanged, entry_of_ended, infos_of, listed, shown_at, shown_of, updates};
 
+use crate::affected::few_affected;
 use crate::course::{Course, Ended, find_ended};
 use crate::information::settled::{OngoingRequest, Settled};
 use crate::information::shown::shown_ended;
@@ -273,8 +275,73 @@ fn renew_at(
     }
 }
 
+/// Where the walk over the numbers of an event goes on: at the first from there on that isn't below
+/// this number.
+fn first_from(numbers: &[u16], from: usize, number: u16) -> usize
+    requires rising { is_rising numbers.now ≡ true }
+    requires within { from ≤ length numbers.now }
+    ensures from { from ≤ result }
+    ensures within { result ≤ length numbers.now }
+    ensures below { (i : ℕ) → from ≤ i → i < result
+        → nat_lt (get_or numbers.now i 0) number ≡ true }
+    ensures behind { (i : ℕ) → result ≤ i → i < length numbers.now
+        → nat_lt (get_or numbers.now i 0) number ≡ false }
+{
+    // Where all numbers are looked at, each is the next.
+    if from < numbers.len() && number <= numbers[from] {
+        return from;
+    }
+    numbers.partition_point(|n| *n < number).max(from)
+}
+
+/// Shows all ongoing requests as they are after the event, and gives what changed, where only those
+/// with some of the numbers may be shown otherwise.
+fn renew_some(
+    alloc: Global,
+    settled: &Settled<'_>,
+    course: &Course,
+    some: &[u16],
+    infos: &mut Vec<Info>,
+) -> Result<Changes, AllocError>
+    requires course { IsCourse settled.now.config.now settled.now.requests.now.ongoing
+        infos.old.items course.now }
+    requires fit { All IsShownInfo infos.old.items }
+    requires ascending { IsTrue (are_ascending some.now) }
+    requires moved { AreSome settled.now.requests.now.ongoing course.now some.now }
+    ensures infos { OnOk result (infos.new.items
+        ≡ infos_of settled.now.config.now settled.now.requests.now.ongoing) }
+    ensures updates { IfOk result (λ changes. changes.updates
+        ≡ updates settled.now.config.now settled.now.requests.now.ongoing
+        course.now.ended.items infos.old.items course.now.numbers.items) }
+    ensures floors { IfOk result (λ changes. AreChanged infos.old.items
+        (infos_of settled.now.config.now settled.now.requests.now.ongoing)
+        changes.floors.items) }
+    ensures fit { OnOk result (All IsShownInfo infos.new.items) }
+    ensures kept { IfOk result (λ changes. AreUpdatesShown changes.updates) }
+{
+    let mut changes = Changes {
+        updates: Updates::new(alloc),
+        floors: Vec::new(alloc),
+    };
+    let mut at = 0;
+    let mut place = 0;
+    for number in some {
+        let next = first_from(&course.numbers, at, *number);
+        place += next - at;
+        at = next;
+        if at < course.numbers.len() {
+            let n = course.numbers[at];
+            place = renew_at(alloc, settled, course, n, place, infos, &mut changes)?;
+            at += 1;
+        }
+    }
+    // The type hands out that each status shows no more than a conference has.
+    let _updates = changes.updates.as_slice();
+    Ok(changes)
+}
+
 /// Shows all ongoing requests as they are after the event, and gives what changed. Only those that
-/// some mark concerns are shown anew.
+/// some mark concerns are shown anew, and only those are looked at that may be, where they are few.
 pub(crate) fn renew(
     alloc: Global,
     settled: &Settled<'_>,
@@ -295,15 +362,8 @@ pub(crate) fn renew(
     ensures fit { OnOk result (All IsShownInfo infos.new.items) }
     ensures kept { IfOk result (λ changes. AreUpdatesShown changes.updates) }
 {
-    let mut changes = Changes {
-        updates: Updates::new(alloc),
-        floors: Vec::new(alloc),
-    };
-    let mut place = 0;
-    for number in &course.numbers {
-        place = renew_at(alloc, settled, course, *number, place, infos, &mut changes)?;
+    match few_affected(alloc, settled.requests, course)? {
+        Some(few) => renew_some(alloc, settled, course, few.as_slice(), infos),
+        None => renew_some(alloc, settled, course, &course.numbers, infos),
     }
-    // The type hands out that each status shows no more than a conference has.
-    let _updates = changes.updates.as_slice();
-    Ok(changes)
 }

@@ -155,3 +155,7 @@ pub record IsLined (floors : List Floor) (rs : List Request) (lines : List Floor
   pub ascending : is_ascending rs ≡ true
   pub lined : AreLines floors rs lines
   pub marks : AreMarked floors rs lines
+
+-- the request with this number stands in the line of the floor
+abbrev pub is_lined : List FloorLine → ℕ → ℕ → Bool
+is_lined lines number floor = option_map_or (λ l. list_any (λ k. k.number == number) l.ranks) (find (λ l. l.floor == floor) lines) false

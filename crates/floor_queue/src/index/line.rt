@@ -61,6 +61,13 @@ impl Line {
         self.ranks.first(count)
     }
 
+    /// The ranks, in their order.
+    pub(crate) fn ranks(&self) -> &[Rank]
+        ensures { result.now ≡ self.now.ranks }
+    {
+        self.ranks.as_slice()
+    }
+
     /// How many of the first ranks are before this one.
     pub(crate) fn place(&self, rank: Rank) -> usize
         ensures { result ≡ place_in rank self.now.ranks }

@@ -47,6 +47,13 @@ impl Ranks {
         }
     }
 
+    /// The ranks, in their order.
+    pub(crate) fn as_slice(&self) -> &[Rank]
+        ensures { result.now ≡ self.now }
+    {
+        self.ranks.as_slice()
+    }
+
     /// How many of the first ranks are before this one.
     pub(crate) fn place(&self, rank: Rank) -> usize
         ensures { result ≡ place_in rank self.now }
