@@ -1,4 +1,5 @@
 pub mod Built
+pub mod Counted
 pub mod Either
 pub mod Elements
 pub mod Exact

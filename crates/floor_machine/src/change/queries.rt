@@ -207,10 +207,8 @@ pub(crate) fn hello_tells(alloc: Global) -> Result<Vec<Tell>, AllocError>
     one(
         alloc,
         Tell::HelloAck {
-            primitives: Octets::from_static(&[1, 2, 3, 4, 5, 6, 7, 8, 9, 10, 11, 12, 13]),
-            attributes: Octets::from_static(&[
-                1, 2, 3, 4, 5, 6, 7, 8, 9, 10, 11, 12, 13, 14, 15, 16, 17, 18,
-            ]),
+            primitives: Octets::up_to(13),
+            attributes: Octets::up_to(18),
         },
     )
 }
