@@ -23,7 +23,7 @@ impl Model for Waker {
 
 impl Waker {
     /// Wakes the taker, or lets its next sleep end at once. Takes no memory.
-    pub fn wake(self) {
+    pub fn wake(&self) {
         self.line.parker.unpark();
     }
 }

@@ -96,7 +96,7 @@ impl Desk {
         }
         let wakers = booth.wakers();
         drop(booth);
-        wakers.wake();
+        wakers.wake_first(seat.n());
         let sent = kept?;
         let place = sent.place;
         seat.sent.push_reserved(sent);

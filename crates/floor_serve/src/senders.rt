@@ -23,7 +23,7 @@ fn put_by<R: Wait>(
     match place {
         Some(sender) => {
             // The waker first: its memory may be refused, and then nothing is put.
-            wakers.add(sender)?;
+            wakers.add(parcel.n(), sender)?;
             match sender.put_asleep(rt, parcel) {
                 Ok(()) => Ok(()),
                 Err(_) => Err(AllocError),

@@ -14,9 +14,24 @@ use std::mem;
 #[derive(Drop)]
 pub struct Wakers {
     /// The first that was added. Most events tell one member alone: to wake it takes no memory.
-    first: Option<Waker>,
+    first: Option<Told>,
     /// The others.
-    more: Vec<Waker>,
+    more: Vec<Told>,
+}
+
+/// A member that was told something, and what wakes its taker.
+#[derive(Drop)]
+struct Told {
+    n: u32,
+    waker: Waker,
+}
+
+impl Model for Told {
+    ghost use Rattle.floor_outbox.specs.Ends.{PairId};
+
+    ghost Value = { PairId };
+
+    ghost view = { λ t. t.waker };
 }
 
 impl Model for Wakers {
@@ -42,17 +57,18 @@ impl Wakers {
         }
     }
 
-    /// Adds the taker of this sender.
-    pub(crate) fn add(&mut self, sender: &Sender) -> Result<(), AllocError>
+    /// Adds the taker of this sender, which is that of the member n.
+    pub(crate) fn add(&mut self, n: u32, sender: &Sender) -> Result<(), AllocError>
         ensures next { OnOk result (self.new ≡ self.old ++ sender.now.pair ∷ []) }
         ensures left { OnErr result (self.new ≡ self.old) }
     {
         let waker = sender.waker()?;
+        let told = Told { n, waker };
         if self.first.is_none() {
-            self.first = Some(waker);
+            self.first = Some(told);
             return Ok(());
         }
-        self.more.push(waker)?;
+        self.more.push(told)?;
         Ok(())
     }
 
@@ -67,13 +83,39 @@ impl Wakers {
 
     /// Wakes each of them. Takes no memory.
     pub fn wake(self) {
-        let Wakers { first, more } = self;
-        match first {
-            Some(waker) => waker.wake(),
+        match &self.first {
+            Some(told) => told.waker.wake(),
             None => {}
         }
-        for waker in more {
-            waker.wake();
+        for told in &self.more {
+            told.waker.wake();
+        }
+    }
+
+    /// Wakes each of them, the member n before the others. Takes no memory.
+    pub fn wake_first(self, n: u32) {
+        // To wake many takes a while, and n alone waits for an answer.
+        self.wake_those(n, true);
+        self.wake_those(n, false);
+    }
+
+    /// Wakes the member n, or each of the others.
+    fn wake_those(&self, n: u32, itself: bool) {
+        match &self.first {
+            Some(told) => told.wake_where(n, itself),
+            None => {}
+        }
+        for told in &self.more {
+            told.wake_where(n, itself);
+        }
+    }
+}
+
+impl Told {
+    /// Wakes it, where it is the member n, or where it is another.
+    fn wake_where(&self, n: u32, itself: bool) {
+        if (self.n == n) == itself {
+            self.waker.wake();
         }
     }
 }
