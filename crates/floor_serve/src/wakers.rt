@@ -83,13 +83,8 @@ impl Wakers {
 
     /// Wakes each of them. Takes no memory.
     pub fn wake(self) {
-        match &self.first {
-            Some(told) => told.waker.wake(),
-            None => {}
-        }
-        for told in &self.more {
-            told.waker.wake();
-        }
+        // No member has the number 0.
+        self.wake_those(0, false);
     }
 
     /// Wakes each of them, the member n before the others. Takes no memory.
@@ -99,23 +94,14 @@ impl Wakers {
         self.wake_those(n, false);
     }
 
-    /// Wakes the member n, or each of the others.
+    /// Wakes the member n, or each of the others: once for parcels of one member that stand together.
     fn wake_those(&self, n: u32, itself: bool) {
-        match &self.first {
-            Some(told) => told.wake_where(n, itself),
-            None => {}
-        }
-        for told in &self.more {
-            told.wake_where(n, itself);
-        }
-    }
-}
-
-impl Told {
-    /// Wakes it, where it is the member n, or where it is another.
-    fn wake_where(&self, n: u32, itself: bool) {
-        if (self.n == n) == itself {
-            self.waker.wake();
+        let mut last = 0;
+        for told in self.first.iter().chain(&self.more) {
+            if told.n != last && (told.n == n) == itself {
+                told.waker.wake();
+            }
+            last = told.n;
         }
     }
 }
