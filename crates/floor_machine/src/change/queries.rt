@@ -199,6 +199,7 @@ fn floor_statuses(alloc: Global, now: &[Info], floors: &[u16]) -> Result<Vec<Tel
     Ok(tells)
 }
 
+#[tactic(auto, unfolding(floor_wire::specs::Held::counted))]
 pub(crate) fn hello_tells(alloc: Global) -> Result<Vec<Tell>, AllocError>
     ensures value { IfOk result (λ tells. tells.items
         ≡ Tell.HelloAck reply.supported_primitives reply.supported_attributes ∷ []) }
