@@ -18,3 +18,12 @@ digits_in_parts n bytes first others end f o =
     ap (λ (l : List ℕ). l ++ others) f ∙ ap (λ (l : List ℕ). encode_lower (take n bytes) ++ l) o
     ∙ sym (encode_with-append lower_digits (take n bytes) (drop n bytes)) ∙ ap encode_lower (take-append-drop n bytes)
     )
+
+-- what four texts that are pushed one after another leave
+pub pushed_in_parts : (t0 t1 t2 t3 t4 a' b' c' a b c d : List ℕ) → a' ≡ a → b' ≡ b → c' ≡ c → t1 ≡ t0 ++ a' → t2 ≡ t1 ++ b' → t3 ≡ t2 ++ c' → t4 ≡ t3 ++ d
+    → t4 ≡ t0 ++ (a ++ (b ++ (c ++ d)))
+pushed_in_parts t0 t1 t2 t3 t4 a' b' c' a b c d p q r e1 e2 e3 e4 =
+    e4
+    ∙ ap (λ (l : List ℕ). l ++ d) (e3 ∙ ap (λ (l : List ℕ). t2 ++ l) r) ∙ append_assoc t2 c d
+    ∙ ap (λ (l : List ℕ). l ++ (c ++ d)) (e2 ∙ ap (λ (l : List ℕ). t1 ++ l) q) ∙ append_assoc t1 b (c ++ d)
+    ∙ ap (λ (l : List ℕ). l ++ (b ++ (c ++ d))) (e1 ∙ ap (λ (l : List ℕ). t0 ++ l) p) ∙ append_assoc t0 a (b ++ (c ++ d))

@@ -120,8 +120,11 @@ fn add_parcel(
     ensures { OnOk result (string_bytes text.new
         ≡ string_bytes text.old ++ sent_line connection parcel.now.bytes) }
 {
+    let number = format!(in alloc; "{connection} ")?;
     let header = hex::encode(alloc, parcel.header())?;
     let payload = hex::encode(alloc, parcel.payload())?;
-    let line = format!(in alloc; "{connection} {header}{payload}\n")?;
-    text.push_str(line.as_str())
+    text.push_str(number.as_str())?;
+    text.push_str(header.as_str())?;
+    text.push_str(payload.as_str())?;
+    text.push_str("\n")
 }

@@ -3,7 +3,6 @@ use Rattle.std.specs.Prelude.{◌≡◌, ℕ, ◌+◌, ◌==◌, ◌&&◌, List,
 use Rattle.std.specs.Option.{option_map, option_map_or}
 use Rattle.floor_machine.specs.Parcel.{Parcel}
 use Rattle.floor_room.specs.Outbox.{Outbox}
-use Rattle.floor_room.specs.Room.{Room}
 use Rattle.floor_hub.specs.declared.connection.Connection.{Connection}
 use Rattle.floor_hub.specs.Connections.{SameConnections, connection_at}
 use Rattle.floor_hub.specs.Hub.{Hub, room_at}
