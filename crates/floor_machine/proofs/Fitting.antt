@@ -14,7 +14,6 @@ use Rattle.floor_queue.specs.declared.requested_floor.RequestedFloor.{RequestedF
 use Rattle.floor_queue.specs.Queue.{Queue, IsQueue, IsReason, request_at}
 use Rattle.floor_message.specs.Shown.{AreShown, IsDescribed, IsNamed, IsShown, IsShownInfo}
 use Rattle.floor_message.specs.declared.information.Info.{Info}
-use Rattle.floor_machine.specs.declared.tell.changed.FloorUpdate.{FloorUpdate}
 use Rattle.floor_machine.specs.Shown.{Entry, info, info_of, named, described, floor_shown}
 use Rattle.floor_machine.specs.Reply.{infos_on}
 use Rattle.floor_machine.specs.steps.Telling.{AreInfos, floor_update, floors_changed, is_one_of}
@@ -154,23 +153,11 @@ pub infos_on_fit : (floor : ℕ) (infos : List Info) → AreShown infos → AreS
 infos_on_fit floor infos h = some_fit (λ i. list_any (λ f. f.0 == floor) i.floors) infos h
 
 -- the statuses of floors of the conference
-floors_changed_fit : (now : List Info) (changed : List ℕ) (floors : List Floor) → All IsFloor floors → AreShown now → AreFloorsShown (floors_changed now changed floors)
+pub floors_changed_fit : (now : List Info) (changed : List ℕ) (floors : List Floor) → All IsFloor floors → AreShown now → AreFloorsShown (floors_changed now changed floors)
 floors_changed_fit now changed floors h shown =
     All-map (λ u. IsShown u.tell) (floor_update now) (filter (is_one_of changed) floors)
     (λ k d l. let own = All-filter (is_one_of changed) IsFloor floors h k d l in
     (omega (arith, own.id), infos_on_fit (get_or (filter (is_one_of changed) floors) k d).id now shown))
-
-take_all : {A : Type 0} (P : A → Type 0) (i : ℕ) (xs : List A) → All P xs → All P (take i xs)
-take_all P zero xs h = All-nil P
-take_all P (suc i) [] h = All-nil P
-take_all P (suc i) (x ∷ xs) h = All-cons P x (take i xs) (h 0 x (omega arith)) (take_all P i xs (λ k d l. h (suc k) d (omega arith)))
-
--- the statuses of the first of them
-pub floors_changed_made : (now : List Info) (changed : List ℕ) (floors xs : List Floor) (i : ℕ) (updates : List FloorUpdate) → updates ≡ floors_changed now changed (take i xs) → xs ≡ floors →
-    All IsFloor floors → AreShown now → AreFloorsShown updates
-floors_changed_made now changed floors xs i updates same all h shown =
-    let F : List Floor → Type 0 = λ fs. All IsFloor fs in
-    subst AreFloorsShown (sym same) (floors_changed_fit now changed (take i xs) (take_all IsFloor i xs (subst F (sym all) h)) shown)
 
 -- what holds of all and of one more holds of all and it
 pub all_more : {A : Type 0} (P : A → Type 0) (xs : List A) (x : A) → All P xs → P x → All P (xs ++ x ∷ [])

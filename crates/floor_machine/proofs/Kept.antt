@@ -14,7 +14,7 @@ use Rattle.floor_machine.specs.declared.decision.Change.{Change as Decided}
 use Rattle.floor_machine.specs.declared.decision.Change.TheVariants as to
 use Rattle.floor_machine.specs.declared.decision.Decision.{Decision}
 use Rattle.floor_machine.specs.declared.member.Member.{Member}
-use Rattle.floor_machine.specs.declared.tell.changed.FloorUpdate.{FloorUpdate}
+use Rattle.floor_machine.specs.steps.Outcomes.{FloorUpdate}
 use Rattle.floor_machine.specs.declared.replied.Replied.{Replied}
 use Rattle.floor_machine.specs.declared.tell.changed.Update.{Update}
 use Rattle.floor_machine.specs.Conference.{Conference, binding, user_of, is_numbered_from}

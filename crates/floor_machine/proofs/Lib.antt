@@ -2,6 +2,7 @@ pub mod Fitting
 pub mod Filtered
 pub mod Found
 pub mod Shows
+pub mod Concerned
 pub mod Configs
 pub mod Entries
 pub mod Telling
@@ -12,6 +13,7 @@ pub mod Settled
 pub mod Addable
 pub mod Allowed
 pub mod Asked
+pub mod InPlace
 pub mod Joining
 pub mod SameInfo
 pub mod Sent

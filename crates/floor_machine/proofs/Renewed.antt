@@ -14,10 +14,9 @@ use Rattle.floor_machine.specs.declared.information.shown.Shown.{Shown}
 use Rattle.floor_machine.specs.declared.tell.renewing.Changes.{Changes}
 use Rattle.floor_machine.specs.declared.tell.changed.Update.{Update}
 use Rattle.floor_machine.specs.Shown.{Entry, entry_of, info, info_of}
-use Rattle.floor_machine.specs.Same.{same_info}
 use Rattle.floor_machine.specs.steps.Renewing.{IsRenewed, differs, floors_before, floors_shown, info_here, now_at, update_from}
 use Rattle.floor_machine.specs.steps.Telling.{entry_of_ended, listed, shown_at, shown_of, update_of}
-use Rattle.floor_machine.proofs.SameInfo.{info_equal, info_own}
+use Rattle.floor_machine.proofs.SameInfo.{info_own}
 use Rattle.floor_machine.proofs.Places.{at-place}
 use Rattle.floor_machine.proofs.Shows.{shown_of-ended}
 
@@ -35,47 +34,39 @@ pub update-same : (old : Option Info) (s : Shown) (us : List Update) → differs
 update-same old s us h = sym (append-nil us) ∙ ap (λ (b : Bool). us ++ cond b (update_of s ∷ []) []) (sym h)
 
 -- a request that is shown otherwise is put in the stead of its old info
-pub renewed-differing : (config : Configuration) (ongoing : List Request) (r : Request) (i : Info) (place : ℕ) (before after : List Info) (changes changes' : Changes) →
-    i ≡ info config ongoing r → differs (info_here before place i.request) i ≡ true →
-    after ≡ take place before ++ i ∷ drop (place + length (listed (info_here before place i.request))) before →
+pub renewed-differing : (config : Configuration) (ongoing : List Request) (r : Request) (place : ℕ) (before after : List Info) (changes changes' : Changes) →
+    differs (info_here before place r.number) (info config ongoing r) ≡ true →
+    after ≡ take place before ++ info config ongoing r ∷ drop (place + length (listed (info_here before place r.number))) before →
     changes'.updates ≡ changes.updates ++ update_of (shown_of config ongoing (entry_of r)) ∷ [] →
-    changes'.floors.items ≡ (changes.floors.items ++ floors_before (info_here before place r.number)) ++ floors_shown i →
+    changes'.floors.items ≡ (changes.floors.items ++ floors_before (info_here before place r.number)) ++ floors_shown (info config ongoing r) →
     IsRenewed place (info_here before place r.number) (Some (info config ongoing r)) (Some (shown_of config ongoing (entry_of r))) before after changes changes'
-renewed-differing config ongoing r i place before after changes changes' same otherwise put updates floors =
+renewed-differing config ongoing r place before after changes changes' otherwise put updates floors =
     let now : Info = info config ongoing r in
-    let number : i.request ≡ r.number = ap (λ (x : Info). x.request) same ∙ request-info config ongoing (entry_of r) in
     let old : Option Info = info_here before place r.number in
-    let otherwise' : differs old now ≡ true =
-    ap (differs old) (sym same) ∙ ap (λ (n : ℕ). differs (info_here before place n) i) (sym number) ∙ otherwise in
     record {
-      infos =
-          put
-          ∙ ap (λ (n : ℕ). take place before ++ i ∷ drop (place + length (listed (info_here before place n))) before) number
-          ∙ ap (λ (x : Info). take place before ++ x ∷ drop (place + length (listed old)) before) same
-          ∙ sym (append_assoc (take place before) (now ∷ []) (drop (place + length (listed old)) before));
-      updates = update-differing old (shown_of config ongoing (entry_of r)) changes.updates changes'.updates otherwise' updates;
+      infos = put ∙ sym (append_assoc (take place before) (now ∷ []) (drop (place + length (listed old)) before));
+      updates = update-differing old (shown_of config ongoing (entry_of r)) changes.updates changes'.updates otherwise updates;
       floors =
           floors
-          ∙ ap (λ (x : Info). (changes.floors.items ++ floors_before old) ++ floors_shown x) same
           ∙ append_assoc changes.floors.items (floors_before old) (floors_shown now)
-          ∙ ap (λ (b : Bool). changes.floors.items ++ cond b (floors_before old ++ floors_shown now) []) (sym otherwise');
+          ∙ ap (λ (b : Bool). changes.floors.items ++ cond b (floors_before old ++ floors_shown now) []) (sym otherwise);
     }
 
--- where an info doesn't differ from the one that stands there, it is that one
-pub not-differing : (old : Option Info) (i : Info) → differs old i ≡ false → old ≡ Some i
-not-differing None i h = cc
-not-differing (Some x) i h = ap (λ (y : Info). Some y) (info_equal x i (by (same_info x i) h))
-  where
-    by : (b : Bool) → not b ≡ false → b ≡ true
-    by true h = refl
-    by false h = cc
-
--- so where a request is shown as before, its info stands there
-pub standing-same : (config : Configuration) (ongoing : List Request) (r : Request) (i : Info) (place : ℕ) (before : List Info) →
-    i ≡ info config ongoing r → differs (info_here before place i.request) i ≡ false → info_here before place r.number ≡ Some (info config ongoing r)
-standing-same config ongoing r i place before same h =
-    let number : i.request ≡ r.number = ap (λ (x : Info). x.request) same ∙ request-info config ongoing (entry_of r) in
-    ap (λ (n : ℕ). info_here before place n) (sym number) ∙ not-differing (info_here before place i.request) i h ∙ ap (λ (x : Info). Some x) same
+-- of one that is shown as before nothing is told
+pub renewed-same : (config : Configuration) (ongoing : List Request) (r : Request) (place : ℕ) (before after : List Info) (changes changes' : Changes) →
+    differs (info_here before place r.number) (info config ongoing r) ≡ false →
+    after ≡ take place before ++ info config ongoing r ∷ drop (place + length (listed (info_here before place r.number))) before →
+    changes'.updates ≡ changes.updates → changes'.floors.items ≡ changes.floors.items →
+    IsRenewed place (info_here before place r.number) (Some (info config ongoing r)) (Some (shown_of config ongoing (entry_of r))) before after changes changes'
+renewed-same config ongoing r place before after changes changes' same put updates floors =
+    let now : Info = info config ongoing r in
+    let old : Option Info = info_here before place r.number in
+    record {
+      infos = put ∙ sym (append_assoc (take place before) (now ∷ []) (drop (place + length (listed old)) before));
+      updates = updates ∙ update-same old (shown_of config ongoing (entry_of r)) changes.updates same;
+      floors =
+          floors ∙ sym (append-nil changes.floors.items) ∙ ap (λ (b : Bool). changes.floors.items ++ cond b (floors_before old ++ floors_shown now) []) (sym same);
+    }
 
 -- a request that is shown as before stays
 pub renewed-standing : (config : Configuration) (ongoing : List Request) (r : Request) (place : ℕ) (before : List Info) (changes : Changes) →
@@ -94,20 +85,20 @@ renewed-standing config ongoing r place before changes stands =
     }
 
 -- the test of a request as it ended
-pub differs-ended : (config : Configuration) (d : Ended) (s : Shown) (place : ℕ) (infos : List Info) → s ≡ shown_of config [] (entry_of_ended d) →
-    differs (info_here infos place d.request.number) (shown_of config [] (entry_of_ended d)).info ≡ differs (info_here infos place s.info.request) s.info
-differs-ended config d s place infos same =
+pub differs-ended : (config : Configuration) (d : Ended) (i : Info) (place : ℕ) (infos : List Info) → i ≡ info_of config [] (entry_of_ended d) →
+    differs (info_here infos place d.request.number) (info_of config [] (entry_of_ended d)) ≡ differs (info_here infos place i.request) i
+differs-ended config d i place infos same =
     ap (λ (n : ℕ). differs (info_here infos place n) (info_of config [] (entry_of_ended d))) (sym (request-info config [] (entry_of_ended d)))
-    ∙ ap (λ (x : Shown). differs (info_here infos place x.info.request) x.info) (sym same)
+    ∙ ap (λ (x : Info). differs (info_here infos place x.request) x) (sym same)
 
 -- the infos fit still where one that fits was put among them
-pub fit-put : (place : ℕ) (before after : List Info) (i j : Info) → j ≡ i → IsShownInfo i →
-    after ≡ take place before ++ j ∷ drop (place + length (listed (info_here before place j.request))) before → All IsShownInfo before → All IsShownInfo after
-fit-put place before after i j same fits put h =
-    All-same IsShownInfo after (take place before ++ j ∷ drop (place + length (listed (info_here before place j.request))) before) put
-    (All-append IsShownInfo (take place before) (j ∷ drop (place + length (listed (info_here before place j.request))) before) (All-take IsShownInfo place before h)
-    (All-cons IsShownInfo j (drop (place + length (listed (info_here before place j.request))) before) (subst IsShownInfo (sym same) fits)
-    (All-drop IsShownInfo (place + length (listed (info_here before place j.request))) before h)))
+pub fit-put : (place number : ℕ) (before after : List Info) (i : Info) → IsShownInfo i →
+    after ≡ take place before ++ i ∷ drop (place + length (listed (info_here before place number))) before → All IsShownInfo before → All IsShownInfo after
+fit-put place number before after i fits put h =
+    All-same IsShownInfo after (take place before ++ i ∷ drop (place + length (listed (info_here before place number))) before) put
+    (All-append IsShownInfo (take place before) (i ∷ drop (place + length (listed (info_here before place number))) before) (All-take IsShownInfo place before h)
+    (All-cons IsShownInfo i (drop (place + length (listed (info_here before place number))) before) fits
+    (All-drop IsShownInfo (place + length (listed (info_here before place number))) before h)))
 
 -- they fit still where one was taken out
 pub fit-taken : (place n : ℕ) (before after : List Info) → after ≡ take place before ++ drop n before → All IsShownInfo before → All IsShownInfo after

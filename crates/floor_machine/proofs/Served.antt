@@ -26,7 +26,7 @@ use Rattle.floor_machine.specs.declared.member.Member.{Member}
 use Rattle.floor_machine.specs.declared.replied.Replied.{Replied}
 use Rattle.floor_machine.specs.declared.conference.State.{State}
 use Rattle.floor_machine.specs.declared.tell.changed.Update.{Update}
-use Rattle.floor_machine.specs.declared.tell.changed.FloorUpdate.{FloorUpdate}
+use Rattle.floor_machine.specs.steps.Outcomes.{FloorUpdate}
 use Rattle.floor_machine.specs.Conference.{Conference, user_of, binding, is_numbered_from}
 use Rattle.floor_machine.specs.declared.event.Event.{Event}
 use Rattle.floor_machine.specs.declared.event.Event.TheVariants.{Message}

@@ -10,7 +10,7 @@ use Rattle.floor_message.specs.declared.information.Info.{Info}
 use Rattle.floor_machine.specs.declared.member.Member.{Member}
 use Rattle.floor_machine.specs.Conference.{member_with}
 use Rattle.floor_machine.specs.Parcel.{Parcel}
-use Rattle.floor_machine.specs.declared.tell.changed.FloorUpdate.{FloorUpdate}
+use Rattle.floor_machine.specs.steps.Outcomes.{FloorUpdate}
 use Rattle.floor_machine.specs.declared.replied.Replied.{Replied}
 use Rattle.floor_machine.specs.declared.tell.changed.Update.{Update}
 use Rattle.floor_machine.specs.Journal.{parcel}

@@ -5,7 +5,7 @@ ghost use Rattle.floor_config.specs.Configuration.{user_ids};
 
 use crate::members::Members;
 use floor_config::{Config, User};
-use floor_message::Info;
+use floor_message::SharedInfo;
 use floor_queue::Requests;
 use std::alloc::{AllocError, Global};
 
@@ -21,7 +21,7 @@ pub(crate) struct State {
     /// The members, in the order of joining.
     pub members: Members,
     /// What is shown of the ongoing floor requests, in their order.
-    pub shown: Vec<Info>,
+    pub shown: Vec<SharedInfo>,
     /// Whether it has not ended.
     pub is_open: bool,
     ghost same_users: { users.items ≡ user_ids config.users },

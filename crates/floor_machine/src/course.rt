@@ -7,7 +7,7 @@ ghost use Rattle.floor_queue.specs.Queue.{IsQueue, numbers_of};
 ghost use Rattle.floor_machine.specs.steps.Marks.{mark_of};
 
 use crate::marks::{Mark, mark_all};
-use floor_message::{Info, RequestStatus};
+use floor_message::{RequestStatus, SharedInfo};
 use floor_queue::{Request, Requests};
 use std::alloc::{AllocError, Global};
 use std::mem;
@@ -25,7 +25,7 @@ pub(crate) struct Ended {
 #[derive(Debug, Drop)]
 pub(crate) struct Course {
     /// What was shown of the ongoing requests before the event.
-    pub before: Vec<Info>,
+    pub before: Vec<SharedInfo>,
     /// The numbers of the requests that were ongoing before it, then of those that it added.
     pub numbers: Vec<u16>,
     /// The requests that it ended.
@@ -38,7 +38,7 @@ pub(crate) struct Course {
 pub(crate) fn begin(
     alloc: Global,
     requests: &Requests,
-    shown: &mut Vec<Info>,
+    shown: &mut Vec<SharedInfo>,
 ) -> Result<Course, AllocError>
     ensures before { IfOk result (λ course. course.before.items ≡ shown.old.items) }
     ensures numbers { IfOk result (λ course. course.numbers.items
@@ -60,7 +60,7 @@ pub(crate) fn begin(
 pub(crate) fn begin_with_all(
     alloc: Global,
     requests: &Requests,
-    shown: &mut Vec<Info>,
+    shown: &mut Vec<SharedInfo>,
 ) -> Result<Course, AllocError>
     ensures before { IfOk result (λ course. course.before.items ≡ shown.old.items) }
     ensures numbers { IfOk result (λ course. course.numbers.items

@@ -2,6 +2,7 @@
 //! kept beside the state, told to the members and copied into answers.
 
 pub(crate) mod copying;
+pub(crate) mod in_place;
 pub(crate) mod settled;
 pub(crate) mod showing;
 pub(crate) mod shown;

@@ -7,6 +7,7 @@ pub mod AskedNumbers
 pub mod Checked
 pub mod Cutting
 pub mod Heads
+pub mod Named
 pub mod Once
 pub mod Picking
 pub mod Reasons

@@ -1,8 +1,9 @@
 //! Which messages can be written, so that they are read back as they were (RFC 8855, sections 5.1 to
 //! 5.3).
 
-ghost use Rattle.std.specs.Prelude.{◌≡◌, ◌↔◌, ◌<◌, ◌≤◌, ◌^◌, ℕ, All, IfSome, IsTrue, length};
-ghost use Rattle.floor_message.specs.Fits.{AskFits, AskNumbersFit, AskPartsFit, FloorRequestFits, NumbersFit, TellFits};
+ghost use Rattle.std.specs.List.{list_any};
+ghost use Rattle.std.specs.Prelude.{◌≡◌, ◌==◌, ◌↔◌, ◌<◌, ◌≤◌, ◌^◌, ℕ, All, IfSome, IsTrue, Some, filter, length};
+ghost use Rattle.floor_message.specs.Fits.{AskFits, AskNumbersFit, AskPartsFit, FloorRequestFits, NumbersFit, PriorityFits, TellFits};
 ghost use Rattle.floor_message.specs.Written.{ask_attrs, tell_attrs};
 ghost use Rattle.floor_message.specs.steps.Leaves.{Leaves};
 ghost use Rattle.floor_wire.specs.Bytes.{IsBytes, IsOfBytes};
@@ -14,7 +15,7 @@ use crate::format::attribute_types::types_fit;
 use crate::format::attributes::SHORT_ATTRIBUTE;
 use crate::format::error_code::after_error;
 use crate::format::floor_request_information::{
-    after_info, after_infos, priorities_fit, priority_fits,
+    after_info, after_infos, after_infos_on, priorities_fit, priority_fits,
 };
 use crate::format::floors::{after_floor, floors_fit, floors_len};
 use crate::format::number::number_len;
@@ -22,6 +23,8 @@ use crate::format::supported::after_supported;
 use crate::format::text::{LONGEST_INFO, optional_text_fits, text_len};
 use crate::format::user_information::after_who;
 use crate::format::verdicts::{chair_action_fits, chair_action_len};
+use crate::information::Info;
+use crate::shared_info::SharedInfo;
 use crate::tell::Tell;
 use crate::verdicts::Verdict;
 use floor_wire::Octets;
@@ -186,6 +189,43 @@ pub(crate) fn tell_len(tell: &Tell) -> usize
         unreachable!()
     };
     LONGEST_PAYLOAD - left
+}
+
+/// How long the payload of a FloorRequestStatus is.
+pub(crate) fn request_status_len(info: &Info) -> usize
+    requires { TellFits (Tell.FloorRequestStatus info.now) }
+    ensures { result
+        ≡ length (canon (attributes_of (tell_attrs (Tell.FloorRequestStatus info.now)))) }
+{
+    let Some(left) = after_info(LONGEST_PAYLOAD, info) else {
+        unreachable!()
+    };
+    LONGEST_PAYLOAD - left
+}
+
+/// How long the payload of a FloorStatus is, with those of these floor requests that name the floor.
+pub(crate) fn floor_status_len(floor: u16, infos: &[SharedInfo]) -> usize
+    requires { TellFits (Tell.FloorStatus (Some floor)
+        (filter (λ i. list_any (λ f. f.0 == floor) i.floors) infos.now)) }
+    ensures { result
+        ≡ length (canon (attributes_of (tell_attrs (Tell.FloorStatus (Some floor)
+        (filter (λ i. list_any (λ f. f.0 == floor) i.floors) infos.now))))) }
+{
+    let Some(left) = after_floor_status(LONGEST_PAYLOAD, floor, infos) else {
+        unreachable!()
+    };
+    LONGEST_PAYLOAD - left
+}
+
+/// What is left of the room behind the attributes of a FloorStatus.
+fn after_floor_status(room: usize, floor: u16, infos: &[SharedInfo]) -> Option<usize>
+    requires { All PriorityFits
+        (filter (λ i. list_any (λ f. f.0 == floor) i.floors) infos.now) }
+    ensures { Leaves (tell_attrs (Tell.FloorStatus (Some floor)
+        (filter (λ i. list_any (λ f. f.0 == floor) i.floors) infos.now))) room result }
+{
+    let room = after_floor(room, Some(floor))?;
+    after_infos_on(room, floor, infos)
 }
 
 /// What is left of the room behind the attributes of the message, where they can be written in it.

@@ -1,7 +1,8 @@
 //! The floors of a floor request as they are shown (RFC 8855, section 5.2.17).
 
-ghost use Rattle.std.specs.Prelude.{◌≡◌};
+ghost use Rattle.std.specs.Prelude.{◌≡◌, OnOk};
 
+use std::alloc::AllocError;
 use std::marker::Model;
 
 /// Floors, each with its status and queue position where they are shown.
@@ -31,5 +32,14 @@ impl FloorStatuses {
         ensures { result.now ≡ self.now }
     {
         self.items.as_slice()
+    }
+
+    /// Puts these floors and statuses in the stead of those that are there. Takes no memory where
+    /// they are no more.
+    pub fn assign(&mut self, items: &[(u16, Option<(u8, u8)>)]) -> Result<(), AllocError>
+        ensures { OnOk result (self.new ≡ items.now) }
+    {
+        self.items.clear();
+        self.items.extend_from_slice(items)
     }
 }

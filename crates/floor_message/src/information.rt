@@ -1,7 +1,7 @@
 //! What is shown of users and of floor requests (RFC 8855, sections 5.2.14 to 5.2.16), copies of it,
 //! and whether it is the same.
 
-ghost use Rattle.std.specs.Prelude.{◌≡◌, ◌↔◌, IfOk, IsTrue};
+ghost use Rattle.std.specs.Prelude.{◌≡◌, ◌↔◌, IfOk, IsTrue, Some};
 
 use crate::floor_statuses::FloorStatuses;
 use floor_wire::Octets;
@@ -98,6 +98,15 @@ impl Info {
             && is_same_priority(self.priority, other.priority)
             && is_same_text(&self.info, &other.info)
     }
+
+    /// Whether it is shown with this status and queue position, and with these floors.
+    pub fn has_statuses(&self, overall: (u8, u8), floors: &[(u16, Option<(u8, u8)>)]) -> bool
+        ensures value { IsTrue result
+            ↔ ((self.now.overall ≡ Some overall) × (self.now.floors ≡ floors.now)) }
+    {
+        is_same_status(self.overall, Some(overall))
+            && is_same_floors(self.floors.as_slice(), floors)
+    }
 }
 
 fn copied_who(alloc: Global, who: &Option<Who>) -> Result<Option<Who>, AllocError>
@@ -129,8 +138,9 @@ fn is_same_who(a: &Option<Who>, b: &Option<Who>) -> bool
     }
 }
 
-fn is_same_text(a: &Option<Octets>, b: &Option<Octets>) -> bool
-    ensures { IsTrue result ↔ (a.now ≡ b.now) }
+/// Whether both are the same text, or there is neither.
+pub fn is_same_text(a: &Option<Octets>, b: &Option<Octets>) -> bool
+    ensures value { IsTrue result ↔ (a.now ≡ b.now) }
 {
     match (a, b) {
         (None, None) => true,

@@ -175,11 +175,23 @@ impl Requests {
         ensures { result ≡ position_of self.now request floor }
     {
         match self.get(request) {
-            Some(found) if found.waits() => match self.lines.of(floor) {
-                Some(line) => (line.place(rank_of(&self.floors, found)) - line.holders() + 1) as u8,
-                None => 0,
-            },
-            Some(_) => 0,
+            Some(found) => self.position_of(found, floor),
+            None => 0,
+        }
+    }
+
+    /// The same for an ongoing request that is at hand, which isn't looked for. Takes no memory.
+    pub fn position_of(&self, request: &Request, floor: u16) -> u8
+        requires ongoing { request_at self.now.ongoing request.now.number ≡ Some request.now }
+        requires named { IsTrue (names request.now floor) }
+        requires settled { IsSettled self.now }
+        ensures { result ≡ position_of self.now request.now.number floor }
+    {
+        if !request.waits() {
+            return 0;
+        }
+        match self.lines.of(floor) {
+            Some(line) => (line.place(rank_of(&self.floors, request)) - line.holders() + 1) as u8,
             None => 0,
         }
     }

@@ -14,6 +14,7 @@ use crate::fits::payload_len;
 use crate::frame::Frame;
 use crate::header::HEADER_LEN;
 use crate::laws::what_is_written_is_a_message;
+use crate::shared::SharedFrame;
 use crate::write::{padding, put_list};
 use bytes::Bytes;
 use std::alloc::{AllocError, Global};
@@ -27,7 +28,8 @@ const FIRST_HEADER_BYTE: u8 = 0x20;
 /// `new` takes the memory for all of it, and writes the header. `put_number`, `put_pair`,
 /// `put_octets`, `put_two` and `put_types` add an attribute at the end, with M clear and zeros for
 /// padding. `begin_group` adds a group with nothing inside; `end_group` makes it hold what was put
-/// since. `finish` gives the message. What is left after an `Err` is of no more use.
+/// since. `finish` gives the message, and `finish_alone` gives it for one user alone. What is left
+/// after an `Err` is of no more use.
 #[derive(Debug, Drop)]
 pub struct FrameBuilder {
     bytes: Vec<u8>,
@@ -191,6 +193,14 @@ impl FrameBuilder {
     {
         let bytes = Bytes::from_vec(self.bytes)?;
         Ok(Frame::new(bytes))
+    }
+
+    /// The message, which has to be whole, for one user alone. Takes no memory.
+    pub fn finish_alone(self) -> SharedFrame
+        requires { IsMessage self }
+        ensures { result ≡ self }
+    {
+        SharedFrame::alone(self.bytes)
     }
 }
 

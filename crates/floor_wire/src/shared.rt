@@ -1,6 +1,6 @@
-//! One message for several users: the payload is held once (RFC 8855, section 5.1).
+//! One message for one user, or for several that share its payload (RFC 8855, section 5.1).
 
-ghost use Rattle.std.specs.Prelude.{◌≡◌, length, take, drop, IfOk};
+ghost use Rattle.std.specs.Prelude.{◌≡◌, ◌≤◌, length, take, drop, IfOk};
 ghost use Rattle.floor_wire.specs.Bytes.{IsBytes};
 ghost use Rattle.floor_wire.specs.Header.{addressed};
 ghost use Rattle.floor_wire.specs.Message.{IsMessage};
@@ -15,25 +15,33 @@ use std::marker::Model;
 /// At which byte of a message its User ID stands.
 const USER_AT: usize = 10;
 
-/// One message that has its header to itself, and shares its payload with all that are made of it
-/// for other users.
+/// One message. It has its bytes to itself, or its header to itself and its payload with all that are
+/// made of it for other users.
 ///
-/// It is made of a `Frame`; `addressed` makes another; `header`, `payload` and `len` only look.
+/// It is made of a `Frame`, and shares; or by a `FrameBuilder`, for one user alone, and doesn't.
+/// `addressed` makes another; `header`, `payload` and `len` only look.
 #[derive(Debug, Drop)]
 pub struct SharedFrame {
-    header: [u8; HEADER_LEN],
-    payload: Bytes,
+    lies: Lies,
+}
+
+/// Where a message lies: in a vector of its own, or its header here and its payload with others.
+#[derive(Debug, Drop)]
+enum Lies {
+    Alone(Vec<u8>),
+    Shared([u8; HEADER_LEN], Bytes),
 }
 
 impl Model for SharedFrame {
-    ghost use Rattle.std.specs.Prelude.{◌≡◌, ℕ, List, ◌++◌, length};
-    ghost use Rattle.floor_wire.specs.Message.{IsMessage};
+    ghost use Rattle.std.specs.Prelude.{ℕ, List};
 
     ghost Value = { List ℕ };
 
-    ghost view = { λ f. f.header ++ f.payload };
+    ghost use Rattle.floor_wire.specs.Held.{LiesWhole, message_lying};
 
-    ghost invariant = { λ f. (length f.header ≡ 12) × IsMessage (f.header ++ f.payload) };
+    ghost view = { λ f. message_lying f.lies };
+
+    ghost invariant = { λ f. LiesWhole f.lies };
 }
 
 impl SharedFrame {
@@ -45,18 +53,40 @@ impl SharedFrame {
         let mut header = [0; HEADER_LEN];
         header.copy_from_slice(&payload.as_slice()[..HEADER_LEN]);
         payload.advance(HEADER_LEN);
-        SharedFrame { header, payload }
+        SharedFrame {
+            lies: Lies::Shared(header, payload),
+        }
+    }
+
+    /// The message of these bytes, for one user alone. Takes no memory.
+    pub(crate) fn alone(bytes: Vec<u8>) -> SharedFrame
+        requires { IsMessage bytes.items }
+        ensures { result ≡ bytes.items }
+    {
+        SharedFrame {
+            lies: Lies::Alone(bytes),
+        }
     }
 
     /// The same message with another User ID in its header. The payload is shared, and nothing of
-    /// it is copied.
+    /// it is copied, unless the message is one for one user alone: that one is copied.
     pub fn addressed(&self, user: u16) -> Result<SharedFrame, AllocError>
         ensures value { IfOk result (λ frame. frame ≡ addressed self.now user) }
     {
-        let mut header = self.header;
-        header[USER_AT..].copy_from_slice(&user.to_be_bytes());
-        let payload = self.payload.clone()?;
-        Ok(SharedFrame { header, payload })
+        let user = user.to_be_bytes();
+        let lies = match &self.lies {
+            Lies::Alone(bytes) => {
+                let mut bytes = Vec::from_slice(*bytes.allocator(), bytes.as_slice())?;
+                bytes[USER_AT..HEADER_LEN].copy_from_slice(&user);
+                Lies::Alone(bytes)
+            }
+            Lies::Shared(header, payload) => {
+                let mut header = *header;
+                header[USER_AT..].copy_from_slice(&user);
+                Lies::Shared(header, payload.clone()?)
+            }
+        };
+        Ok(SharedFrame { lies })
     }
 
     /// The 12 bytes of the header.
@@ -65,8 +95,12 @@ impl SharedFrame {
         ensures kept { IsMessage self.now }
         ensures bytes { IsBytes result.now }
     {
-        a_slice_is_of_bytes(&self.header);
-        &self.header
+        let header = match &self.lies {
+            Lies::Alone(bytes) => &bytes.as_slice()[..HEADER_LEN],
+            Lies::Shared(header, _payload) => &header[..],
+        };
+        a_slice_is_of_bytes(header);
+        header
     }
 
     /// The bytes behind the header.
@@ -74,7 +108,10 @@ impl SharedFrame {
         ensures value { result.now ≡ drop HEADER_LEN self.now }
         ensures bytes { IsBytes result.now }
     {
-        let payload = self.payload.as_slice();
+        let payload = match &self.lies {
+            Lies::Alone(bytes) => behind_header(bytes.as_slice()),
+            Lies::Shared(_header, payload) => payload.as_slice(),
+        };
         a_slice_is_of_bytes(payload);
         payload
     }
@@ -83,6 +120,16 @@ impl SharedFrame {
     pub fn len(&self) -> usize
         ensures value { result ≡ length self.now }
     {
-        HEADER_LEN + self.payload.len()
+        match &self.lies {
+            Lies::Alone(bytes) => bytes.len(),
+            Lies::Shared(_header, payload) => HEADER_LEN + payload.len(),
+        }
     }
+}
+
+fn behind_header(bytes: &[u8]) -> &[u8]
+    requires { 12 ≤ length bytes.now }
+    ensures { result.now ≡ drop HEADER_LEN bytes.now }
+{
+    &bytes[HEADER_LEN..]
 }

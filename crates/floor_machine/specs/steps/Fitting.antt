@@ -9,7 +9,7 @@ use Rattle.floor_machine.specs.declared.decision.Reply.{Reply as Replying}
 use Rattle.floor_machine.specs.declared.decision.Reply.TheVariants as say
 use Rattle.floor_machine.specs.declared.replied.Replied.{Replied}
 use Rattle.floor_machine.specs.declared.tell.changed.Update.{Update}
-use Rattle.floor_machine.specs.declared.tell.changed.FloorUpdate.{FloorUpdate}
+use Rattle.floor_machine.specs.steps.Outcomes.{FloorUpdate}
 use Rattle.floor_machine.specs.declared.event.Event.{Event}
 use Rattle.floor_machine.specs.Conference.{Conference}
 use Rattle.floor_machine.specs.Outgoing.{Outgoing}

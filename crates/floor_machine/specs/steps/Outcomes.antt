@@ -12,6 +12,11 @@ pub record Outcome : Type 0 where
   pub shown : List Info
   pub ended : List Ended
 
+-- a floor, with its status
+pub record FloorUpdate : Type 0 where
+  pub floor : ℕ
+  pub tell : Tell
+
 -- what the sender of a message is answered: its number, the head of the first message, and the messages
 pub record Replied : Type 0 where
   pub n : ℕ

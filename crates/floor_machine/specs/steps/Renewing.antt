@@ -46,6 +46,10 @@ now_at config ended ongoing number = option_map (info config ongoing) (left_at e
 abbrev pub differs : Option Info → Info → Bool
 differs old now = option_map_or (λ i. not (same_info i now)) old true
 
+-- what is shown of a request, if it is shown otherwise than before
+abbrev pub shown_if : Bool → Info → Option Info
+shown_if changed now = if changed then Some now else None
+
 -- the floors that a request names, as it is shown
 abbrev pub floors_shown : Info → List ℕ
 floors_shown i = map (λ f. f.0) i.floors

@@ -1,6 +1,6 @@
 -- What the steps of one event find, one after another, and the parcels that are made of it.
-use Rattle.std.specs.Prelude.{◌≡◌, All, ℕ, ◌==◌, ◌&&◌, ◌||◌, nat_lt, length, not, if◌then◌else◌, Bool, false, List, [], ◌∷◌, ◌++◌, map, filter, find, fold, max, Option, Some, None, option_map}
-use Rattle.std.specs.List.{list_any, flat_map}
+use Rattle.std.specs.Prelude.{◌≡◌, All, ℕ, ◌==◌, ◌&&◌, ◌||◌, nat_lt, length, not, if◌then◌else◌, Bool, true, false, List, [], ◌∷◌, ◌++◌, map, filter, find, fold, max, Option, Some, None, option_map}
+use Rattle.std.specs.List.{list_all, list_any, flat_map}
 use Rattle.std.specs.Option.{option_map_or}
 use Rattle.floor_config.specs.Configuration.{Configuration}
 use Rattle.floor_config.specs.declared.floors.Floor.{Floor}
@@ -22,7 +22,7 @@ use Rattle.floor_machine.specs.declared.information.shown.Shown.{Shown}
 use Rattle.floor_machine.specs.declared.replied.Replied.{Replied}
 use Rattle.floor_machine.specs.declared.tell.changed.Update.{Update}
 use Rattle.floor_machine.specs.declared.tell.parcels.FloorNotice.{FloorNotice}
-use Rattle.floor_machine.specs.declared.tell.changed.FloorUpdate.{FloorUpdate}
+use Rattle.floor_machine.specs.steps.Outcomes.{FloorUpdate}
 use Rattle.floor_machine.specs.Shown.{Entry, entry_of, info, info_of, named}
 use Rattle.floor_machine.specs.Same.{same_infos}
 use Rattle.floor_machine.specs.Outgoing.{Outgoing, notice}
@@ -107,6 +107,15 @@ update_of shown =
       beneficiary = shown.beneficiary;
       tell = FloorRequestStatus shown.info;
     }
+
+-- the request is one that the user made, or one for the user
+abbrev pub is_of : ℕ → Update → Bool
+is_of user update = update.requester == user || update.beneficiary == user
+
+-- the users of each of the updates are among these
+abbrev pub AreOf : List ℕ → List Update → Type 0
+AreOf users updates =
+    list_all (λ u. list_any (λ k. k == u.requester) users && list_any (λ k. k == u.beneficiary) users) updates ≡ true
 
 -- the status of a request, if it is shown otherwise than before
 abbrev pub update_if : List Info → Shown → List Update

@@ -21,7 +21,7 @@ use crate::information::copying::{floor_status, infos_with_user};
 use crate::information::showing::described;
 use crate::outcome::Outcome;
 use floor_config::Config;
-use floor_message::{ErrorCode, Info, Infos, Tell, Who};
+use floor_message::{ErrorCode, Infos, SharedInfo, Tell, Who};
 use floor_wire::{Numbers, Octets};
 use std::alloc::{AllocError, Global};
 
@@ -186,7 +186,11 @@ fn described_if(
 }
 
 /// The statuses of floors, in their order.
-fn floor_statuses(alloc: Global, now: &[Info], floors: &[u16]) -> Result<Vec<Tell>, AllocError>
+fn floor_statuses(
+    alloc: Global,
+    now: &[SharedInfo],
+    floors: &[u16],
+) -> Result<Vec<Tell>, AllocError>
     requires { AreShown now.now }
     ensures value { IfOk result (λ tells. tells.items
         ≡ map (λ floor. Tell.FloorStatus (Some floor) (reply.infos_on floor now.now)) floors.now) }

@@ -8,7 +8,7 @@ ghost use Rattle.floor_machine.specs.Reply as reply;
 ghost use Rattle.floor_machine.specs.Reply.{infos_on};
 ghost use Rattle.floor_machine.specs.steps.Telling.{infos_with_user, shows_user};
 
-use floor_message::{Info, Infos, Tell, Who};
+use floor_message::{Info, Infos, SharedInfo, Tell, Who};
 use std::alloc::{AllocError, Global};
 
 /// Whether the request that is shown names the floor.
@@ -19,11 +19,16 @@ fn shows_floor(info: &Info, floor: u16) -> bool
 }
 
 /// Copies of those that name the floor, in their order.
-pub(crate) fn infos_on(alloc: Global, floor: u16, infos: &[Info]) -> Result<Vec<Info>, AllocError>
+pub(crate) fn infos_on(
+    alloc: Global,
+    floor: u16,
+    infos: &[SharedInfo],
+) -> Result<Vec<Info>, AllocError>
     ensures { IfOk result (λ on. on.items ≡ infos_on floor infos.now) }
 {
     let mut on = Vec::new(alloc);
-    for info in infos {
+    for shared in infos {
+        let info = shared.as_info();
         if shows_floor(info, floor) {
             on.push(info.copy(alloc)?)?;
         }
@@ -52,12 +57,13 @@ fn shows_user(info: &Info, user: u16) -> bool
 pub(crate) fn infos_with_user(
     alloc: Global,
     user: u16,
-    infos: &[Info],
+    infos: &[SharedInfo],
 ) -> Result<Vec<Info>, AllocError>
     ensures { IfOk result (λ own. own.items ≡ infos_with_user user infos.now) }
 {
     let mut own = Vec::new(alloc);
-    for info in infos {
+    for shared in infos {
+        let info = shared.as_info();
         if shows_user(info, user) {
             own.push(info.copy(alloc)?)?;
         }
@@ -66,7 +72,11 @@ pub(crate) fn infos_with_user(
 }
 
 /// The status of a floor.
-pub(crate) fn floor_status(alloc: Global, floor: u16, now: &[Info]) -> Result<Tell, AllocError>
+pub(crate) fn floor_status(
+    alloc: Global,
+    floor: u16,
+    now: &[SharedInfo],
+) -> Result<Tell, AllocError>
     requires { AreShown now.now }
     ensures value { IfOk result (λ tell. tell
         ≡ Tell.FloorStatus (Some floor) (reply.infos_on floor now.now)) }

@@ -27,7 +27,8 @@ impl OngoingRequest<'_> {
     {
         // Each ongoing request is one that could be added, which bounds what is shown of it.
         let _ongoing = self.settled.requests.ongoing();
-        let floors = self.floors_shown(alloc)?;
+        let mut floors = Vec::new(alloc);
+        self.show_floors(&mut floors)?;
         info_with(
             alloc,
             self.settled.config,
@@ -37,18 +38,22 @@ impl OngoingRequest<'_> {
         )
     }
 
-    /// The floors of the request, each with its status and queue position.
-    fn floors_shown(&self, alloc: Global) -> Result<Vec<(u16, Option<(u8, u8)>)>, AllocError>
-        ensures { IfOk result (λ shown. shown.items
+    /// The floors of the request, each with its status and queue position, in place of those that
+    /// are there.
+    pub(crate) fn show_floors(
+        &self,
+        shown: &mut Vec<(u16, Option<(u8, u8)>)>,
+    ) -> Result<(), AllocError>
+        ensures { OnOk result (shown.new.items
             ≡ map (spec.floor_shown self.now.settled.requests.now.floors
             self.now.settled.requests.now.ongoing (entry_of self.now.request.now))
             self.now.request.now.floors) }
     {
-        let mut shown = Vec::new(alloc);
+        shown.clear();
         for requested in self.request.floors.as_slice() {
             shown.push(self.floor_shown(requested))?;
         }
-        Ok(shown)
+        Ok(())
     }
 
     /// A floor of the request, with its status and queue position.
@@ -62,7 +67,7 @@ impl OngoingRequest<'_> {
         let position = self
             .settled
             .requests
-            .position(self.request.number, requested.floor);
+            .position_of(self.request, requested.floor);
         (requested.floor, Some((status, position)))
     }
 }
@@ -154,7 +159,7 @@ fn requester_of(
 }
 
 /// The status of an ongoing request.
-fn ongoing_status(request: &Request) -> RequestStatus
+pub(crate) fn ongoing_status(request: &Request) -> RequestStatus
     ensures { result ≡ overall_status (entry_of request.now) }
 {
     if request.is_granted {
@@ -214,7 +219,7 @@ fn position_shown(shown: &(u16, Option<(u8, u8)>)) -> u8
 }
 
 /// The greatest of the queue positions.
-fn greatest_position(shown: &[(u16, Option<(u8, u8)>)]) -> u8
+pub(crate) fn greatest_position(shown: &[(u16, Option<(u8, u8)>)]) -> u8
     ensures { result ≡ fold max 0 (map position_shown shown.now) }
 {
     shown

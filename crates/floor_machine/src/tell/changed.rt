@@ -1,18 +1,52 @@
 //! What an event changed, with the statuses that tell of it (RFC 8855, sections 10.1.2 and 12.1).
 
-ghost use Rattle.std.specs.List.{list_any};
-ghost use Rattle.std.specs.Prelude.{◌≡◌, ◌==◌, ◌++◌, ◌∷◌, [], All, IfOk, OnOk};
-ghost use Rattle.floor_config.specs.Configuration.{IsFloor};
-ghost use Rattle.floor_message.specs.Shown.{AreShown, IsShownInfo};
-ghost use Rattle.floor_machine.specs.steps.Fitting.{AreFloorsShown, AreUpdatesShown};
+ghost use Rattle.std.specs.List.{list_all, list_any};
+ghost use Rattle.std.specs.Prelude.{◌≡◌, ◌==◌, ◌++◌, ◌∷◌, ℕ, [], false, true, IfOk, OnOk, not};
+ghost use Rattle.floor_message.specs.Shown.{IsShown, IsShownInfo};
+ghost use Rattle.floor_message.specs.Written.{tell_bytes};
+ghost use Rattle.floor_message.specs.declared.tell.Tell.TheVariants.{FloorRequestStatus};
+ghost use Rattle.floor_machine.specs.steps.Fitting.{AreUpdatesShown};
 ghost use Rattle.floor_machine.specs.steps.Telling as telling;
 
-use crate::information::copying::floor_status;
-use crate::information::shown::Shown;
-use floor_config::Floor;
-use floor_message::{Info, Tell};
+use floor_message::{Head, SharedInfo, what_is_shown_fits, write_request_status};
+use floor_queue::Request;
+use floor_wire::SharedFrame;
 use std::alloc::{AllocError, Global};
 use std::marker::Model;
+
+/// The status of a floor request as it is told, which shares what is shown of the request. Contracts
+/// see the message.
+#[derive(Debug, Drop)]
+pub(crate) struct SharedStatus {
+    info: SharedInfo,
+}
+
+impl Model for SharedStatus {
+    ghost use Rattle.floor_message.specs.declared.tell.Tell.{Tell};
+    ghost use Rattle.floor_message.specs.declared.tell.Tell.TheVariants.{FloorRequestStatus};
+
+    ghost Value = { Tell };
+
+    ghost view = { λ s. FloorRequestStatus s.info };
+}
+
+impl SharedStatus {
+    /// The status of a request that is shown so. Takes no memory.
+    pub(crate) fn of(info: SharedInfo) -> SharedStatus
+        ensures { result ≡ FloorRequestStatus info }
+    {
+        SharedStatus { info }
+    }
+
+    /// The message under this head, for its user alone.
+    pub(crate) fn write(&self, alloc: Global, head: &Head) -> Result<SharedFrame, AllocError>
+        requires { IsShown self.now }
+        ensures { IfOk result (λ message. message ≡ tell_bytes head.now self.now) }
+    {
+        what_is_shown_fits();
+        write_request_status(alloc, head, self.info.as_info())
+    }
+}
 
 /// A floor request that an event changed, with the status that tells of it.
 #[derive(Debug, Drop)]
@@ -24,26 +58,29 @@ pub(crate) struct Update {
     /// The user that is to get the floors.
     pub beneficiary: u16,
     /// Its status.
-    pub tell: Tell,
+    pub tell: SharedStatus,
 }
 
-/// The statuses of the floor requests that an event changed. Each shows no more than a conference
-/// has.
+/// The statuses of the floor requests that an event changed, with all users that they concern, so
+/// that whoever none concerns isn't compared with each. Each shows no more than a conference has.
+/// Contracts see the statuses.
 #[derive(Debug, Drop)]
 pub(crate) struct Updates {
     items: Vec<Update>,
+    users: Vec<u16>,
 }
 
 impl Model for Updates {
     ghost use Rattle.std.specs.Prelude.{List};
     ghost use Rattle.floor_machine.specs.declared.tell.changed.Update.{Update};
     ghost use Rattle.floor_machine.specs.steps.Fitting.{AreUpdatesShown};
+    ghost use Rattle.floor_machine.specs.steps.Telling.{AreOf};
 
     ghost Value = { List Update };
 
     ghost view = { λ u. u.items.items };
 
-    ghost invariant = { λ u. AreUpdatesShown u.items.items };
+    ghost invariant = { λ u. AreUpdatesShown u.items.items × AreOf u.users.items u.items.items };
 }
 
 impl Updates {
@@ -53,16 +90,37 @@ impl Updates {
     {
         Updates {
             items: Vec::new(alloc),
+            users: Vec::new(alloc),
         }
     }
 
     /// Adds the status that tells of a changed request.
-    pub(crate) fn push(&mut self, shown: Shown) -> Result<(), AllocError>
-        requires { IsShownInfo shown.info }
-        ensures { OnOk result (self.new ≡ self.old ++ telling.update_of shown ∷ []) }
+    pub(crate) fn push(&mut self, request: &Request, info: SharedInfo) -> Result<(), AllocError>
+        requires { IsShownInfo info }
+        ensures { OnOk result (self.new ≡ self.old ++ telling.update_of record {
+          number = request.now.number;
+          requester = request.now.requester;
+          beneficiary = request.now.beneficiary;
+          info = info;
+        } ∷ []) }
     {
-        self.items.push(update_of(shown))?;
+        note_user(&mut self.users, request.requester)?;
+        note_user(&mut self.users, request.beneficiary)?;
+        let update = Update {
+            number: request.number,
+            requester: request.requester,
+            beneficiary: request.beneficiary,
+            tell: SharedStatus::of(info),
+        };
+        self.items.push(update)?;
         Ok(())
+    }
+
+    /// Whether some status may concern the user: none does where the answer is no.
+    pub(crate) fn concern(&self, user: u16) -> bool
+        ensures { result ≡ false → list_all (λ u. not (telling.is_of user u)) self.now ≡ true }
+    {
+        has_user(&self.users, user)
     }
 
     /// The statuses, in their order.
@@ -74,55 +132,28 @@ impl Updates {
     }
 }
 
-/// A floor that an event changed, with the status that tells of it.
-#[derive(Debug, Drop)]
-pub(crate) struct FloorUpdate {
-    /// The Floor ID.
-    pub floor: u16,
-    /// Its status.
-    pub tell: Tell,
+fn has_user(users: &[u16], user: u16) -> bool
+    ensures { result ≡ list_any (λ u. u == user) users.now }
+{
+    users.iter().any(|u| *u == user)
 }
 
-/// The status that tells of a changed request.
-fn update_of(shown: Shown) -> Update
-    ensures { result ≡ telling.update_of shown }
+/// Notes the user, unless it is noted already.
+fn note_user(users: &mut Vec<u16>, user: u16) -> Result<(), AllocError>
+    ensures noted { OnOk result (list_any (λ u. u == user) users.new.items ≡ true) }
+    ensures kept { (k : ℕ) → list_any (λ u. u == k) users.old.items ≡ true
+        → list_any (λ u. u == k) users.new.items ≡ true }
 {
-    Update {
-        number: shown.number,
-        requester: shown.requester,
-        beneficiary: shown.beneficiary,
-        tell: Tell::FloorRequestStatus { info: shown.info },
+    let is_noted = has_user(users, user);
+    if !is_noted {
+        users.push(user)?;
     }
+    Ok(())
 }
 
 /// Whether one of the changed requests names the floor.
-fn is_changed(changed: &[u16], floor: u16) -> bool
+pub(crate) fn is_changed(changed: &[u16], floor: u16) -> bool
     ensures { result ≡ list_any (λ f. f == floor) changed.now }
 {
     changed.iter().any(|f| *f == floor)
-}
-
-/// The statuses of those of these floors that are among the changed ones.
-pub(crate) fn floor_updates(
-    alloc: Global,
-    floors: &[Floor],
-    changed: &[u16],
-    now: &[Info],
-) -> Result<Vec<FloorUpdate>, AllocError>
-    requires floors { All IsFloor floors.now }
-    requires shown { AreShown now.now }
-    ensures value { IfOk result (λ updates.
-        updates.items ≡ telling.floors_changed now.now changed.now floors.now) }
-    ensures shown { IfOk result (λ updates. AreFloorsShown updates.items) }
-{
-    let mut updates = Vec::new(alloc);
-    for floor in floors {
-        if is_changed(changed, floor.id) {
-            updates.push(FloorUpdate {
-                floor: floor.id,
-                tell: floor_status(alloc, floor.id, now)?,
-            })?;
-        }
-    }
-    Ok(updates)
 }

@@ -2,23 +2,26 @@
 
 ghost use Rattle.std.specs.List.{list_any};
 ghost use Rattle.std.specs.Prelude.{◌≡◌, ◌++◌, ◌∷◌, [], All, IfOk, OnErr, OnOk, filter, map};
-ghost use Rattle.floor_message.specs.Shown.{IsShown};
+ghost use Rattle.floor_config.specs.Configuration.{IsFloor};
+ghost use Rattle.floor_message.specs.Shown.{AreShown, IsShown};
 ghost use Rattle.floor_machine.specs.Journal.{parcel};
 ghost use Rattle.floor_machine.specs.Told.{is_status_of};
 ghost use Rattle.floor_machine.specs.steps.Fitting.{AreFloorsShown};
 ghost use Rattle.floor_machine.specs.steps.Counting.{counted_all, counted_of, told_of_all};
 ghost use Rattle.floor_machine.specs.steps.Serving.{IsAtRest, conference_of};
-ghost use Rattle.floor_machine.specs.steps.Telling.{answered, answered_to, floor_notice, floor_notice_to, floors_changed, is_answered, is_due_to, is_noticed, is_watched_by, noticed_to, parcels_to_all, update_to};
+ghost use Rattle.floor_machine.specs.steps.Telling.{answered, answered_to, floor_notice, floor_notice_to, floor_update, floors_changed, is_answered, is_due_to, is_noticed, is_watched_by, noticed_to, parcels_to_all, update_to};
 
 use crate::conference::State;
 use crate::member::Member;
-use crate::members::Members;
 use crate::parcel::Parcel;
 use crate::replied::Replied;
-use crate::tell::changed::{FloorUpdate, Update, Updates, floor_updates};
+use crate::tell::changed::{SharedStatus, Update, Updates, is_changed};
 use crate::tell::renewing::Changes;
-use crate::tell::watching::{is_watched, watched_floors, watches};
-use floor_message::{Head, Tell, what_is_shown_fits, write_tell};
+use crate::tell::watching::{watched_floors, watches};
+use floor_config::Floor;
+use floor_message::{
+    Head, SharedInfo, Tell, what_is_shown_fits, write_floor_status, write_tell_alone,
+};
 use floor_wire::SharedFrame;
 use std::alloc::{AllocError, Global};
 
@@ -63,16 +66,15 @@ impl State {
         let _ongoing = self.requests.ongoing();
         let conference = self.config.conference();
         let floors = watched_floors(alloc, &self.config, &self.members)?;
-        let floor_updates = floor_updates(alloc, &floors, &changes.floors, &self.shown)?;
+        let notices = floor_notices(alloc, conference, &floors, &changes.floors, &self.shown)?;
         let mut parcels = Vec::new(alloc);
-        tell_all(
+        self.members.tell(
             alloc,
             &mut parcels,
             conference,
-            &mut self.members,
             reply,
             &changes.updates,
-            &floor_updates,
+            &notices,
         )?;
         put_behind(out, parcels)
     }
@@ -101,29 +103,6 @@ impl State {
             .tell_sender(alloc, &mut parcels, conference, reply)?;
         put_behind(out, parcels)
     }
-}
-
-/// Tells the live members, by ascending number, what is due to each, or cuts it. The status of a
-/// changed floor is spelled once, however many watch the floor, and where nobody does not at all.
-fn tell_all(
-    alloc: Global,
-    out: &mut Vec<Parcel>,
-    conference: u32,
-    members: &mut Members,
-    reply: &Option<Replied>,
-    updates: &Updates,
-    floor_updates: &[FloorUpdate],
-) -> Result<(), AllocError>
-    requires floors { AreFloorsShown floor_updates.now }
-    ensures told { OnOk result (out.new.items ≡ out.old.items ++ told_of_all
-        (parcels_to_all conference reply.now updates.now floor_updates.now members.old)
-        members.old) }
-    ensures counted { OnOk result (members.new ≡ map (counted_of
-        (parcels_to_all conference reply.now updates.now floor_updates.now members.old))
-        members.old) }
-{
-    let notices = floor_notices(alloc, conference, members, floor_updates)?;
-    members.tell(alloc, out, conference, reply, updates, &notices)
 }
 
 /// Puts parcels behind those that are there, or in place of none. After an error `out` is as it was.
@@ -207,10 +186,13 @@ fn put_updates(
         ++ map (λ u. parcel member.now.n (update_to conference member.now u))
         (filter (is_due_to reply.now member.now) updates.now)) }
 {
+    if !updates.concern(member.user) {
+        return Ok(());
+    }
     for update in updates.as_slice() {
         if is_due_to(reply, member, update) {
             let head = Head::notice(conference, member.user);
-            put(alloc, out, member.n, &head, &update.tell)?;
+            put_status(alloc, out, member.n, &head, &update.tell)?;
         }
     }
     Ok(())
@@ -247,21 +229,26 @@ fn put_floor_notice(
     Ok(())
 }
 
-/// The statuses of the changed floors that a live member watches, as they are written.
+/// The statuses of those of these floors that are among the changed ones, as they are written. Each
+/// is spelled once, however many watch the floor.
 fn floor_notices(
     alloc: Global,
     conference: u32,
-    members: &Members,
-    updates: &[FloorUpdate],
+    floors: &[Floor],
+    changed: &[u16],
+    now: &[SharedInfo],
 ) -> Result<Vec<FloorNotice>, AllocError>
-    requires { AreFloorsShown updates.now }
-    ensures { IfOk result (λ notices. notices.items
-        ≡ map (floor_notice conference) (filter (is_watched_by members.now) updates.now)) }
+    requires floors { All IsFloor floors.now }
+    requires shown { AreShown now.now }
+    ensures value { IfOk result (λ notices. notices.items
+        ≡ map (floor_notice conference) (floors_changed now.now changed.now floors.now)) }
+    ensures shown { OnOk result
+        (AreFloorsShown (floors_changed now.now changed.now floors.now)) }
 {
     let mut notices = Vec::new(alloc);
-    for update in updates {
-        if is_watched(members, update.floor) {
-            write_floor_notice(alloc, &mut notices, conference, update)?;
+    for floor in floors {
+        if is_changed(changed, floor.id) {
+            write_floor_notice(alloc, &mut notices, conference, floor, now)?;
         }
     }
     Ok(notices)
@@ -272,17 +259,19 @@ fn write_floor_notice(
     alloc: Global,
     notices: &mut Vec<FloorNotice>,
     conference: u32,
-    update: &FloorUpdate,
+    floor: &Floor,
+    now: &[SharedInfo],
 ) -> Result<(), AllocError>
-    requires { IsShown update.now.tell }
-    ensures { OnOk result (notices.new.items
-        ≡ notices.old.items ++ floor_notice conference update.now ∷ []) }
+    requires floor { IsFloor floor.now }
+    requires shown { AreShown now.now }
+    ensures { OnOk result (notices.new.items ≡ notices.old.items
+        ++ floor_notice conference (floor_update now.now floor.now) ∷ []) }
 {
     what_is_shown_fits();
     let head = Head::notice(conference, 0);
-    let frame = write_tell(alloc, &head, &update.tell)?;
+    let frame = write_floor_status(alloc, &head, floor.id, now)?;
     notices.push(FloorNotice {
-        floor: update.floor,
+        floor: floor.id,
         message: SharedFrame::of(frame),
     })?;
     Ok(())
@@ -301,8 +290,25 @@ fn put(
         ≡ out.old.items ++ parcel n record { head = head.now; tell = tell.now } ∷ []) }
 {
     what_is_shown_fits();
-    let frame = write_tell(alloc, head, tell)?;
-    out.push(Parcel::new(n, frame))?;
+    let message = write_tell_alone(alloc, head, tell)?;
+    out.push(Parcel::of(n, message))?;
+    Ok(())
+}
+
+/// Puts the status of a changed request to the member with this number.
+fn put_status(
+    alloc: Global,
+    out: &mut Vec<Parcel>,
+    n: u32,
+    head: &Head,
+    tell: &SharedStatus,
+) -> Result<(), AllocError>
+    requires { IsShown tell.now }
+    ensures { OnOk result (out.new.items
+        ≡ out.old.items ++ parcel n record { head = head.now; tell = tell.now } ∷ []) }
+{
+    let message = tell.write(alloc, head)?;
+    out.push(Parcel::of(n, message))?;
     Ok(())
 }
 

@@ -1,7 +1,7 @@
 //! What is shown after an event: of the requests that it ended, changed or may have moved it is made
 //! anew, and of all others it stays (RFC 8855, sections 10.1.2 and 12.1).
 
-ghost use Rattle.std.specs.Prelude.{◌≡◌, ◌==◌, ◌+◌, ◌++◌, ◌∷◌, ◌≤◌, ◌<◌, ℕ, [], true, false, All, drop, find, get_or, length, nat_lt, take, IfOk, IsTrue, OnOk, Some, None};
+ghost use Rattle.std.specs.Prelude.{◌≡◌, ◌==◌, ◌+◌, ◌++◌, ◌∷◌, ◌≤◌, ◌<◌, ℕ, [], true, false, All, drop, find, get_or, length, nat_lt, take, IfOk, IsSomeAnd, IsTrue, OnOk, Some, None};
 ghost use Rattle.std.specs.Option.{option_copied};
 ghost use Rattle.floor_queue.specs.Queue.{are_ascending, request_at};
 ghost use Rattle.floor_message.specs.Shown.{IsShownInfo};
@@ -12,16 +12,17 @@ ghost use Rattle.floor_machine.specs.steps.Marks.{is_marked};
 ghost use Rattle.floor_machine.specs.steps.Renewing as spec;
 ghost use Rattle.floor_machine.specs.steps.Renewing.{AreSome, IsCourse, IsRenewed, info_here, left_at, now_at, request_here};
 ghost use Rattle.floor_machine.specs.steps.Serving.{is_rising};
-ghost use Rattle.floor_machine.specs.steps.Telling.{AreChanged, entry_of_ended, infos_of, listed, shown_at, shown_of, updates};
+ghost use Rattle.floor_machine.specs.steps.Telling.{AreChanged, entry_of_ended, info_with, infos_of, listed, shown_at, shown_of, updates};
 
 use crate::affected::few_affected;
 use crate::course::{Course, Ended, find_ended};
+use crate::information::in_place::is_described;
 use crate::information::settled::{OngoingRequest, Settled};
-use crate::information::shown::shown_ended;
+use crate::information::showing::ended_info;
 use crate::marks::{Mark, is_marked};
 use crate::tell::changed::Updates;
 use floor_config::Config;
-use floor_message::Info;
+use floor_message::{Info, SharedInfo};
 use floor_queue::Request;
 use std::alloc::{AllocError, Global};
 
@@ -32,14 +33,17 @@ pub(crate) struct Changes {
     pub updates: Updates,
     /// The floors that they named before it or name after it, as often as they name them.
     pub floors: Vec<u16>,
+    /// Where the statuses of one request are put together, so that memory is taken once for all.
+    pub statuses: Vec<(u16, Option<(u8, u8)>)>,
 }
 
 /// The info at the place, if it is that of the request with this number.
-fn info_at(infos: &[Info], place: usize, number: u16) -> Option<&Info>
+fn info_at(infos: &[SharedInfo], place: usize, number: u16) -> Option<&Info>
     ensures { option_copied result ≡ info_here infos.now place number }
 {
     match infos.get(place) {
-        Some(info) => {
+        Some(shared) => {
+            let info = shared.as_info();
             if info.request == number {
                 Some(info)
             } else {
@@ -74,7 +78,7 @@ fn is_shown_alike(before: &Info, now: &Info) -> bool
 }
 
 /// Whether the request is shown otherwise than at the place.
-fn differs(infos: &[Info], place: usize, now: &Info) -> bool
+fn differs(infos: &[SharedInfo], place: usize, now: &Info) -> bool
     ensures { result ≡ spec.differs (info_here infos.now place now.now.request) now.now }
 {
     match info_at(infos, place, now.request) {
@@ -96,7 +100,7 @@ fn note_floors(floors: &mut Vec<u16>, info: &Info) -> Result<(), AllocError>
 /// Notes the floors that the request with this number named, if it stands at the place.
 fn note_floors_at(
     floors: &mut Vec<u16>,
-    infos: &[Info],
+    infos: &[SharedInfo],
     place: usize,
     number: u16,
 ) -> Result<(), AllocError>
@@ -110,13 +114,13 @@ fn note_floors_at(
 }
 
 /// Puts the info at the place, in the stead of the one that shows the same request.
-fn put_info(infos: &mut Vec<Info>, place: usize, info: Info) -> Result<(), AllocError>
+fn put_info(infos: &mut Vec<SharedInfo>, place: usize, info: SharedInfo) -> Result<(), AllocError>
     requires { place ≤ length infos.old.items }
     ensures { OnOk result (infos.new.items ≡ take place infos.old.items ++ info
         ∷ drop (place + length (listed (info_here infos.old.items place info.request)))
         infos.old.items) }
 {
-    match info_at(infos, place, info.request) {
+    match info_at(infos, place, info.as_info().request) {
         Some(_shown) => infos[place] = info,
         None => infos.insert(place, info)?,
     }
@@ -124,7 +128,7 @@ fn put_info(infos: &mut Vec<Info>, place: usize, info: Info) -> Result<(), Alloc
 }
 
 /// Takes the info of the request with this number away, if it stands at the place.
-fn take_info(infos: &mut Vec<Info>, place: usize, number: u16)
+fn take_info(infos: &mut Vec<SharedInfo>, place: usize, number: u16)
     ensures { infos.new.items ≡ take place infos.old.items
         ++ drop (place + length (listed (info_here infos.old.items place number)))
         infos.old.items }
@@ -143,7 +147,7 @@ fn take_info(infos: &mut Vec<Info>, place: usize, number: u16)
 
 /// Shows the request with this number no more, and notes its floors.
 fn forget(
-    infos: &mut Vec<Info>,
+    infos: &mut Vec<SharedInfo>,
     place: usize,
     number: u16,
     floors: &mut Vec<u16>,
@@ -166,7 +170,7 @@ fn renew_ongoing(
     ongoing: &OngoingRequest<'_>,
     marks: &[Mark],
     place: usize,
-    infos: &mut Vec<Info>,
+    infos: &mut Vec<SharedInfo>,
     changes: &mut Changes,
 ) -> Result<(), AllocError>
     requires place { place ≤ length infos.old.items }
@@ -187,15 +191,75 @@ fn renew_ongoing(
     if !is_marked(marks, ongoing.request) {
         return Ok(());
     }
-    let shown = ongoing.shown(alloc)?;
-    if differs(infos, place, &shown.info) {
-        note_floors_at(&mut changes.floors, infos, place, ongoing.request.number)?;
-        note_floors(&mut changes.floors, &shown.info)?;
-        let info = shown.info.copy(alloc)?;
-        changes.updates.push(shown)?;
-        put_info(infos, place, info)?;
+    ongoing.fits();
+    let noted = changes.floors.len();
+    note_floors_at(&mut changes.floors, infos, place, ongoing.request.number)?;
+    match show_at(alloc, ongoing, &mut changes.statuses, place, infos)? {
+        Some(info) => {
+            note_floors(&mut changes.floors, info.as_info())?;
+            changes.updates.push(ongoing.request, info)
+        }
+        None => {
+            changes.floors.truncate(noted);
+            Ok(())
+        }
     }
-    Ok(())
+}
+
+/// Shows an ongoing request at the place as it is now, and gives what is shown of it where it was
+/// shown otherwise.
+fn show_at(
+    alloc: Global,
+    ongoing: &OngoingRequest<'_>,
+    statuses: &mut Vec<(u16, Option<(u8, u8)>)>,
+    place: usize,
+    infos: &mut Vec<SharedInfo>,
+) -> Result<Option<SharedInfo>, AllocError>
+    requires { place ≤ length infos.old.items }
+    ensures infos { OnOk result (infos.new.items ≡ take place infos.old.items
+        ++ info ongoing.now.settled.config.now ongoing.now.settled.requests.now.ongoing
+        ongoing.now.request.now
+        ∷ drop (place + length (listed
+        (info_here infos.old.items place ongoing.now.request.now.number))) infos.old.items) }
+    ensures changed { IfOk result (λ changed. changed ≡ spec.shown_if
+        (spec.differs (info_here infos.old.items place ongoing.now.request.now.number)
+        (info ongoing.now.settled.config.now ongoing.now.settled.requests.now.ongoing
+        ongoing.now.request.now))
+        (info ongoing.now.settled.config.now ongoing.now.settled.requests.now.ongoing
+        ongoing.now.request.now)) }
+{
+    if is_described_at(ongoing, infos, place) {
+        return ongoing.update(alloc, statuses, &mut infos[place]);
+    }
+    let info = ongoing.info(alloc)?;
+    let is_changed = differs(infos, place, &info);
+    let shared = SharedInfo::new(alloc, info)?;
+    let changed = share_if(is_changed, &shared)?;
+    put_info(infos, place, shared)?;
+    Ok(changed)
+}
+
+/// Whether the request stands at the place, and all but its statuses is shown as it is.
+fn is_described_at(ongoing: &OngoingRequest<'_>, infos: &[SharedInfo], place: usize) -> bool
+    ensures { IsTrue result → IsSomeAnd
+        (info_here infos.now place ongoing.now.request.now.number) (λ i. i
+        ≡ record (info_with ongoing.now.settled.config.now ongoing.now.request.now 0 [])
+        { overall = i.overall; floors = i.floors }) }
+{
+    match info_at(infos, place, ongoing.request.number) {
+        Some(info) => is_described(ongoing.settled.config, ongoing.request, info),
+        None => false,
+    }
+}
+
+/// Another owner of it, if it is changed.
+fn share_if(is_changed: bool, info: &SharedInfo) -> Result<Option<SharedInfo>, AllocError>
+    ensures { IfOk result (λ shared. shared ≡ spec.shown_if is_changed info.now) }
+{
+    if is_changed {
+        return Ok(Some(info.share()?));
+    }
+    Ok(None)
 }
 
 /// Shows a request that ended no more, and notes what changed.
@@ -204,7 +268,7 @@ fn renew_ended(
     config: &Config,
     ended: &Ended,
     place: usize,
-    infos: &mut Vec<Info>,
+    infos: &mut Vec<SharedInfo>,
     changes: &mut Changes,
 ) -> Result<(), AllocError>
     requires { IsFit config.now.floors ended.now.request }
@@ -215,9 +279,10 @@ fn renew_ended(
     ensures fit { OnOk result
         (All IsShownInfo infos.old.items → All IsShownInfo infos.new.items) }
 {
-    let shown = shown_ended(alloc, config, ended)?;
-    if differs(infos, place, &shown.info) {
-        changes.updates.push(shown)?;
+    let info = ended_info(alloc, config, ended)?;
+    if differs(infos, place, &info) {
+        let shared = SharedInfo::new(alloc, info)?;
+        changes.updates.push(&ended.request, shared)?;
     }
     forget(infos, place, ended.request.number, &mut changes.floors)
 }
@@ -229,7 +294,7 @@ fn renew_at(
     course: &Course,
     number: u16,
     place: usize,
-    infos: &mut Vec<Info>,
+    infos: &mut Vec<SharedInfo>,
     changes: &mut Changes,
 ) -> Result<usize, AllocError>
     requires ended { AreFit settled.now.config.now.floors course.now.ended.items }
@@ -301,7 +366,7 @@ fn renew_some(
     settled: &Settled<'_>,
     course: &Course,
     some: &[u16],
-    infos: &mut Vec<Info>,
+    infos: &mut Vec<SharedInfo>,
 ) -> Result<Changes, AllocError>
     requires course { IsCourse settled.now.config.now settled.now.requests.now.ongoing
         infos.old.items course.now }
@@ -322,6 +387,7 @@ fn renew_some(
     let mut changes = Changes {
         updates: Updates::new(alloc),
         floors: Vec::new(alloc),
+        statuses: Vec::new(alloc),
     };
     let mut at = 0;
     let mut place = 0;
@@ -346,7 +412,7 @@ pub(crate) fn renew(
     alloc: Global,
     settled: &Settled<'_>,
     course: &Course,
-    infos: &mut Vec<Info>,
+    infos: &mut Vec<SharedInfo>,
 ) -> Result<Changes, AllocError>
     requires course { IsCourse settled.now.config.now settled.now.requests.now.ongoing
         infos.old.items course.now }

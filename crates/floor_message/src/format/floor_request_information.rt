@@ -1,6 +1,7 @@
 //! FLOOR-REQUEST-INFORMATION: a floor request as it is shown (RFC 8855, section 5.2.15).
 
-ghost use Rattle.std.specs.Prelude.{◌≡◌, IfOk, OnOk, All, [], map, ◌↔◌, IsTrue, ◌∷◌};
+ghost use Rattle.std.specs.List.{list_any};
+ghost use Rattle.std.specs.Prelude.{◌≡◌, ◌==◌, IfOk, OnOk, All, [], filter, map, ◌↔◌, IsTrue, ◌∷◌};
 ghost use Rattle.floor_message.specs.Fits.{PriorityFits};
 ghost use Rattle.floor_message.specs.Tell.{infos_of, info_of};
 ghost use Rattle.floor_message.specs.Written as spec;
@@ -25,6 +26,7 @@ use crate::kind::{
     BENEFICIARY_INFORMATION, FLOOR_REQUEST_INFORMATION, PARTICIPANT_PROVIDED_INFO,
     REQUESTED_BY_INFORMATION,
 };
+use crate::shared_info::SharedInfo;
 use floor_wire::{AttrsView, FrameBuilder};
 use std::alloc::{AllocError, Global};
 
@@ -68,6 +70,35 @@ pub(crate) fn put_infos(out: &mut FrameBuilder, infos: &[Info]) -> Result<(), Al
         put_info(out, info)?;
     }
     Ok(())
+}
+
+/// Adds a FLOOR-REQUEST-INFORMATION for each floor request that names the floor.
+pub(crate) fn put_infos_on(
+    out: &mut FrameBuilder,
+    floor: u16,
+    infos: &[SharedInfo],
+) -> Result<(), AllocError>
+    requires priorities { All PriorityFits
+        (filter (λ i. list_any (λ f. f.0 == floor) i.floors) infos.now) }
+    requires writable { IsWritable (attributes_of (map spec.info_attr
+        (filter (λ i. list_any (λ f. f.0 == floor) i.floors) infos.now))) }
+    ensures { OnOk result (out.new ≡ with_attrs out.old (map spec.info_attr
+        (filter (λ i. list_any (λ f. f.0 == floor) i.floors) infos.now))) }
+{
+    for shared in infos {
+        let info = shared.as_info();
+        if names(info, floor) {
+            put_info(out, info)?;
+        }
+    }
+    Ok(())
+}
+
+/// Whether the floor request that is shown names the floor.
+fn names(info: &Info, floor: u16) -> bool
+    ensures { result ≡ list_any (λ f. f.0 == floor) info.now.floors }
+{
+    info.floors.as_slice().iter().any(|f| f.0 == floor)
 }
 
 /// Adds FLOOR-REQUEST-INFORMATION.
@@ -126,6 +157,24 @@ pub(crate) fn after_infos(room: usize, infos: &[Info]) -> Option<usize>
     let mut left = room;
     for info in infos {
         left = after_info(left, info)?;
+    }
+    Some(left)
+}
+
+/// What is left of the room behind the FLOOR-REQUEST-INFORMATION of each floor request that names
+/// the floor.
+pub(crate) fn after_infos_on(room: usize, floor: u16, infos: &[SharedInfo]) -> Option<usize>
+    requires { All PriorityFits
+        (filter (λ i. list_any (λ f. f.0 == floor) i.floors) infos.now) }
+    ensures { Leaves (map spec.info_attr
+        (filter (λ i. list_any (λ f. f.0 == floor) i.floors) infos.now)) room result }
+{
+    let mut left = room;
+    for shared in infos {
+        let info = shared.as_info();
+        if names(info, floor) {
+            left = after_info(left, info)?;
+        }
     }
     Some(left)
 }

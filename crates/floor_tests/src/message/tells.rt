@@ -4,7 +4,8 @@ use super::shown::bytes_of;
 use crate::cases::{assert_told, differing};
 use crate::hexadecimal::spelled;
 use floor_message::{
-    FloorStatuses, Frame, Head, Info, Tell, Who, read_tell, tell_fits, write_tell,
+    FloorStatuses, Frame, Head, Info, SharedFrame, SharedInfo, Tell, Who, read_tell, tell_fits,
+    write_tell, write_tell_alone,
 };
 use floor_wire::Octets;
 use std::alloc::{AllocError, Global};
@@ -138,8 +139,14 @@ fn push_written(
 
 /// Appends the status of a granted request for floor 1.
 fn push_granted(alloc: Global, told: &mut String) -> Result<(), AllocError> {
+    let info = granted(alloc)?;
+    push_written(alloc, told, 2, &Tell::FloorRequestStatus { info })
+}
+
+/// A granted request for floor 1.
+fn granted(alloc: Global) -> Result<Info, AllocError> {
     let floors = Vec::from_slice(alloc, &[(1, Some((3, 0)))])?;
-    let info = Info {
+    Ok(Info {
         request: 1,
         overall: Some((3, 0)),
         reason: None,
@@ -152,8 +159,7 @@ fn push_granted(alloc: Global, told: &mut String) -> Result<(), AllocError> {
         requester: None,
         priority: Some(2),
         info: None,
-    };
-    push_written(alloc, told, 2, &Tell::FloorRequestStatus { info })
+    })
 }
 
 /// Appends a HelloAck with the primitives 1 to 13, and the attributes 1 to 18.
@@ -175,6 +181,59 @@ fn push_hello_ack(alloc: Global, told: &mut String) -> Result<(), AllocError> {
 fn push_error(alloc: Global, told: &mut String) -> Result<(), AllocError> {
     let details = Octets::from_vec(Vec::from_slice(alloc, &[0x28, 0])?);
     push_written(alloc, told, 5, &Tell::Error { code: 4, details })
+}
+
+#[test]
+fn a_message_for_one_user_alone_is_addressed_to_another(rt: HostRuntime) {
+    let wanted = " 200a0000 00000001 0001000a; 200a0000 00000001 0001fffe;";
+    assert_told(&rt, addressed(rt.alloc()), wanted);
+}
+
+/// A ChairActionAck for one user alone, and the same for another.
+fn addressed(alloc: Global) -> Result<String, AllocError> {
+    let mut told = String::new(alloc);
+    let tell = Tell::ChairActionAck;
+    let head = Head {
+        conference: 1,
+        transaction: 1,
+        user: 10,
+    };
+    if tell_fits(&tell) {
+        let message = write_tell_alone(alloc, &head, &tell)?;
+        push_parts(alloc, &mut told, &message)?;
+        push_parts(alloc, &mut told, &message.addressed(0xfffe)?)?;
+    }
+    Ok(told)
+}
+
+fn push_parts(alloc: Global, told: &mut String, message: &SharedFrame) -> Result<(), AllocError> {
+    told.push_str(&spelled(alloc, message.header())?)?;
+    told.push_str(&spelled(alloc, message.payload())?)?;
+    told.push(';')
+}
+
+#[test]
+fn what_one_owner_shows_another_does_not(rt: HostRuntime) {
+    assert_told(&rt, owners(rt.alloc()), "true false, true true");
+}
+
+/// Whether each of two owners of a request shows its statuses: one was given others while both had
+/// it, and again once the other was gone.
+fn owners(alloc: Global) -> Result<String, AllocError> {
+    let mut shared = SharedInfo::new(alloc, granted(alloc)?)?;
+    let kept = shared.share()?;
+    shared.set_statuses(alloc, (2, 1), &[(1, Some((2, 1)))])?;
+    let stays = is_granted(&kept);
+    let is_still = is_granted(&shared);
+    drop(kept);
+    shared.set_statuses(alloc, (3, 0), &[(1, Some((3, 0)))])?;
+    let again = is_granted(&shared);
+    let priority = shared.as_info().priority == Some(2);
+    format!(in alloc; "{stays} {is_still}, {again} {priority}")
+}
+
+fn is_granted(shared: &SharedInfo) -> bool {
+    shared.as_info().has_statuses((3, 0), &[(1, Some((3, 0)))])
 }
 
 /// Messages, and what they tell.

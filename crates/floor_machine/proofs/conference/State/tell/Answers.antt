@@ -1,13 +1,15 @@
 use Rattle.std.proofs.Common.{◌≡◌, ℕ, List, ◌++◌, ap, map, rules, ◌∙◌}
 use Rattle.std.specs.Prelude.{filter}
 use Rattle.floor_machine.specs.declared.member.Member.{Member}
-use Rattle.floor_machine.specs.declared.tell.changed.FloorUpdate.{FloorUpdate}
+use Rattle.floor_machine.specs.declared.tell.parcels.FloorNotice.{FloorNotice}
 use Rattle.floor_machine.specs.Parcel.{Parcel}
 use Rattle.floor_machine.specs.steps.Counting.{counted_of, told_of_all}
+use Rattle.floor_machine.specs.steps.Outcomes.{FloorUpdate}
 use Rattle.floor_machine.specs.steps.Serving.{conference_of}
-use Rattle.floor_machine.specs.steps.Telling.{floors_changed, is_floor_watched, parcels_to_all}
+use Rattle.floor_machine.specs.steps.Telling.{floor_notice, floors_changed, is_floor_watched, is_watched_by, noticed_to_all}
 use Rattle.floor_machine.proofs.Asked.{on_ok, on_ok_all}
-use Rattle.floor_machine.proofs.Watched.{parcels-watched, updates-watched}
+use Rattle.floor_machine.proofs.Noticed.{noticed-all}
+use Rattle.floor_machine.proofs.Watched.{updates-watched}
 use Rattle.floor_machine.proofs.conference.State.tell.Goals as goal
 
 pub returns-clause-told : goal.returns-clause-told
@@ -15,15 +17,22 @@ returns-clause-told c =
     let s = c.args.self.now in
     let reply = c.args.reply.now in
     let updates = c.args.changes.now.updates in
-    let are : c.deref-4.result.now ≡ floors_changed s.shown.items c.args.changes.now.floors.items (filter (is_floor_watched s.members) s.config.floors) = search rules in
+    let fs : List FloorUpdate = floors_changed s.shown.items c.args.changes.now.floors.items s.config.floors in
+    let watched : List FloorUpdate = floors_changed s.shown.items c.args.changes.now.floors.items (filter (is_floor_watched s.members) s.config.floors) in
+    let notices : List FloorNotice = map (floor_notice s.config.conference) (filter (is_watched_by s.members) fs) in
     let is : c.conference-conference.result ≡ s.config.conference = search rules in
+    let are : c.deref-4.result.now ≡ map (floor_notice c.conference-conference.result) watched = search rules in
+    let all : c.deref-4.result.now ≡ notices =
+    are
+    ∙ ap (λ (n : ℕ). map (floor_notice n) watched) is
+    ∙ ap (λ (us : List FloorUpdate). map (floor_notice s.config.conference) us) (updates-watched s.shown.items c.args.changes.now.floors.items s.members s.config.floors) in
     on_ok c.put_behind.result (λ put. put
     ∙ ap (λ (ps : List Parcel). c.args.out.now.items ++ ps)
-    (c.in_ok-tell_all.ensures.told
-    ∙ ap (λ (ps : List Parcel). ps ++ told_of_all (parcels_to_all c.conference-conference.result reply updates c.deref-4.result.now s.members) s.members) c.new-parcels.ensures.items
-    ∙ ap (λ (fs : List FloorUpdate). told_of_all (parcels_to_all c.conference-conference.result reply updates fs s.members) s.members) are
-    ∙ ap (λ (n : ℕ). told_of_all (parcels_to_all n reply updates (floors_changed s.shown.items c.args.changes.now.floors.items (filter (is_floor_watched s.members) s.config.floors)) s.members) s.members) is
-    ∙ ap (λ (ps : List Parcel). told_of_all ps s.members) (parcels-watched s.config.conference reply updates s.shown.items c.args.changes.now.floors.items s.config.floors s.members)))
+    (c.in_ok-tell.ensures.told
+    ∙ ap (λ (ps : List Parcel). ps ++ told_of_all (noticed_to_all c.conference-conference.result reply updates c.deref-4.result.now s.members) s.members) c.new-parcels.ensures.items
+    ∙ ap (λ (ns : List FloorNotice). told_of_all (noticed_to_all c.conference-conference.result reply updates ns s.members) s.members) all
+    ∙ ap (λ (n : ℕ). told_of_all (noticed_to_all n reply updates notices s.members) s.members) is
+    ∙ ap (λ (ps : List Parcel). told_of_all ps s.members) (noticed-all s.config.conference reply updates fs s.members)))
     c.put_behind.ensures.out
 
 pub returns-clause-counted : goal.returns-clause-counted
@@ -31,14 +40,21 @@ returns-clause-counted c =
     let s = c.args.self.now in
     let reply = c.args.reply.now in
     let updates = c.args.changes.now.updates in
-    let are : c.deref-4.result.now ≡ floors_changed s.shown.items c.args.changes.now.floors.items (filter (is_floor_watched s.members) s.config.floors) = search rules in
+    let fs : List FloorUpdate = floors_changed s.shown.items c.args.changes.now.floors.items s.config.floors in
+    let watched : List FloorUpdate = floors_changed s.shown.items c.args.changes.now.floors.items (filter (is_floor_watched s.members) s.config.floors) in
+    let notices : List FloorNotice = map (floor_notice s.config.conference) (filter (is_watched_by s.members) fs) in
     let is : c.conference-conference.result ≡ s.config.conference = search rules in
+    let are : c.deref-4.result.now ≡ map (floor_notice c.conference-conference.result) watched = search rules in
+    let all : c.deref-4.result.now ≡ notices =
+    are
+    ∙ ap (λ (n : ℕ). map (floor_notice n) watched) is
+    ∙ ap (λ (us : List FloorUpdate). map (floor_notice s.config.conference) us) (updates-watched s.shown.items c.args.changes.now.floors.items s.members s.config.floors) in
     on_ok_all c.put_behind.result
     (ap (λ (ms : List Member). record (conference_of s) { members = ms })
-    (c.in_ok-tell_all.ensures.counted
-    ∙ ap (λ (fs : List FloorUpdate). map (counted_of (parcels_to_all c.conference-conference.result reply updates fs s.members)) s.members) are
-    ∙ ap (λ (n : ℕ). map (counted_of (parcels_to_all n reply updates (floors_changed s.shown.items c.args.changes.now.floors.items (filter (is_floor_watched s.members) s.config.floors)) s.members)) s.members) is
-    ∙ ap (λ (ps : List Parcel). map (counted_of ps) s.members) (parcels-watched s.config.conference reply updates s.shown.items c.args.changes.now.floors.items s.config.floors s.members)))
+    (c.in_ok-tell.ensures.counted
+    ∙ ap (λ (ns : List FloorNotice). map (counted_of (noticed_to_all c.conference-conference.result reply updates ns s.members)) s.members) all
+    ∙ ap (λ (n : ℕ). map (counted_of (noticed_to_all n reply updates notices s.members)) s.members) is
+    ∙ ap (λ (ps : List Parcel). map (counted_of ps) s.members) (noticed-all s.config.conference reply updates fs s.members)))
 
 pub returns-clause-floors_shown : goal.returns-clause-floors_shown
 returns-clause-floors_shown c =

@@ -1,20 +1,35 @@
-use Rattle.std.proofs.Common.{◌<◌, ◌≡◌, ◌∙◌, sym, true, false, length, arith}
-use Rattle.floor_machine.specs.steps.Telling.{floor_notice, is_watched_by}
+use Rattle.std.proofs.Common.{◌<◌, ◌≡◌, ◌∙◌, List, [], ◌∷◌, sym, ap, length, map, take, get_or, None, arith}
+use Rattle.std.specs.Prelude.{filter}
+use Rattle.std.proofs.lemmas.List.{get_or_default, map-append}
+use Rattle.floor_config.specs.declared.floors.Floor.{Floor}
+use Rattle.floor_machine.specs.steps.Outcomes.{FloorUpdate}
+use Rattle.floor_machine.specs.steps.Telling.{floor_notice, floor_update, is_one_of}
 use Rattle.floor_machine.proofs.Filtered.{take_yes, take_no}
+use Rattle.floor_machine.proofs.Fitting.{floors_changed_fit}
 use Rattle.floor_machine.proofs.tell.parcels.floor_notices.Goals as goal
-use Rattle.floor_machine.proofs.tell.parcels.floor_notices.Goals.{then-is_watched+in_ok-write_floor_notice, else-is_watched}
+use Rattle.floor_machine.proofs.tell.parcels.floor_notices.Goals.{then-is_changed+in_ok-write_floor_notice, else-is_changed}
 
-pub loop-update-preserved : goal.loop-update-preserved
-loop-update-preserved c =
-    let within : c.loop-update.update-index < length c.args.updates.now = omega arith in
-    let members = c.args.members.now in
-    elim c.if-is_watched.branch [
-      | then-is_watched+in_ok-write_floor_notice w ↦
-          let passes : is_watched_by members c.update-item.result ≡ true = sym c.is_watched.ensures ∙ w.if-is_watched.true in
-          rw (w.notices-is, w.in_ok-write_floor_notice.ensures, c.loop-update.invariant)
-          (sym (take_yes (is_watched_by members) (floor_notice c.args.conference) c.args.updates.now c.loop-update.update-index c.update-item.result within c.update-item.is passes))
-      | else-is_watched w ↦
-          let fails : is_watched_by members c.update-item.result ≡ false = sym c.is_watched.ensures ∙ w.if-is_watched.false in
-          rw (w.notices-is, c.loop-update.invariant)
-          (sym (take_no (is_watched_by members) (floor_notice c.args.conference) c.args.updates.now c.loop-update.update-index c.update-item.result within c.update-item.is fails))
+pub loop-floor-preserved : goal.loop-floor-preserved
+loop-floor-preserved c =
+    let now = c.args.now.now in
+    let changed = c.args.changed.now in
+    let floors : List Floor = c.args.floors.now in
+    let i = c.loop-floor.floor-index in
+    let notice = floor_notice c.args.conference in
+    let within : i < length floors = omega arith in
+    let x : Floor = get_or floors i record { id = 0; room = 0; chair = None } in
+    let is : x ≡ get_or floors i x = get_or_default floors i record { id = 0; room = 0; chair = None } x within in
+    elim c.if-is_changed.branch [
+      | then-is_changed+in_ok-write_floor_notice w ↦
+          rw (w.notices-is, w.in_ok-write_floor_notice.ensures, c.loop-floor.invariant)
+          (sym
+          (ap (λ (us : List FloorUpdate). map notice us) (take_yes (is_one_of changed) (floor_update now) floors i x within is (sym c.is_changed.ensures ∙ w.if-is_changed.true))
+          ∙ map-append notice (map (floor_update now) (filter (is_one_of changed) (take i floors))) (floor_update now x ∷ [])))
+      | else-is_changed w ↦
+          rw (w.notices-is, c.loop-floor.invariant)
+          (sym
+          (ap (λ (us : List FloorUpdate). map notice us) (take_no (is_one_of changed) (floor_update now) floors i x within is (sym c.is_changed.ensures ∙ w.if-is_changed.false))))
     ]
+
+pub returns-clause-shown : goal.returns-clause-shown
+returns-clause-shown c = floors_changed_fit c.args.now.now c.args.changed.now c.args.floors.now c.requires.floors c.requires.shown

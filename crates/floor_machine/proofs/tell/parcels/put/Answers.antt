@@ -4,4 +4,4 @@ use Rattle.floor_machine.proofs.tell.parcels.put.Goals as goal
 
 pub returns : goal.returns
 unfolding outgoing_bytes
-returns c = rw (c.in_ok-push.ensures.items, c.new.ensures.value, c.in_ok-frame.ensures) refl
+returns c = rw (c.in_ok-push.ensures.items, c.of.ensures.value, c.in_ok-message.ensures) refl

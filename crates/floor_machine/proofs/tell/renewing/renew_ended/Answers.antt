@@ -8,7 +8,7 @@ use Rattle.floor_machine.specs.steps.Telling.{entry_of_ended, listed, shown_of, 
 use Rattle.floor_machine.proofs.Asked.{on_ok, on_ok_both}
 use Rattle.floor_machine.proofs.Renewed.{differs-ended, fit-taken, update-differing, update-same}
 use Rattle.floor_machine.proofs.tell.renewing.renew_ended.Goals as goal
-use Rattle.floor_machine.proofs.tell.renewing.renew_ended.Goals.{then-differs+in_ok-push, else-differs}
+use Rattle.floor_machine.proofs.tell.renewing.renew_ended.Goals.{then-differs+in_ok-shared+in_ok-push, else-differs}
 
 pub returns-clause-renewed : goal.returns-clause-renewed
 returns-clause-renewed c =
@@ -18,23 +18,24 @@ returns-clause-renewed c =
     let place = c.args.place in
     let before = c.args.infos.now.items in
     let updates = c.args.changes.now.updates in
-    let s = c.in_ok-shown.shown in
+    let i : Info = c.in_ok-info.info in
+    let made : Info → Shown = λ x. record { number = number; requester = d.request.requester; beneficiary = d.request.beneficiary; info = x } in
     let otherwise : differs (info_here before place number) (shown_of config [] (entry_of_ended d)).info ≡ c.differs.result =
-    differs-ended config d s place before c.in_ok-shown.ensures.value
-    ∙ sym (c.differs.ensures ∙ ap (λ is. differs (info_here is place s.info.request) s.info) c.deref.ensures.value) in
+    differs-ended config d i place before c.in_ok-info.ensures.value
+    ∙ sym (c.differs.ensures ∙ ap (λ (is : List Info). differs (info_here is place i.request) i) c.deref.ensures.value) in
     let put : c.if-differs.changes.updates ≡ updates ++ update_from (info_here before place number) (Some (shown_of config [] (entry_of_ended d))) =
     elim c.if-differs.branch [
-      | then-differs+in_ok-push w ↦
+      | then-differs+in_ok-shared+in_ok-push w ↦
           update-differing (info_here before place number) (shown_of config [] (entry_of_ended d)) updates c.if-differs.changes.updates
           (otherwise ∙ w.if-differs.true)
-          (ap (λ (x : Changes). x.updates) w.changes-is ∙ w.in_ok-push.ensures ∙ ap (λ (x : Shown). updates ++ update_of x ∷ []) c.in_ok-shown.ensures.value)
+          (ap (λ (x : Changes). x.updates) w.changes-is ∙ w.in_ok-push.ensures ∙ ap (λ (x : Info). updates ++ update_of (made x) ∷ []) (w.in_ok-shared.ensures.value ∙ c.in_ok-info.ensures.value))
       | else-differs w ↦
           ap (λ (x : Changes). x.updates) w.changes-is
           ∙ update-same (info_here before place number) (shown_of config [] (entry_of_ended d)) updates (otherwise ∙ w.if-differs.false)
     ] in
     let floors : c.if-differs.changes.floors.items ≡ c.args.changes.now.floors.items =
     elim c.if-differs.branch [
-      | then-differs+in_ok-push w ↦ ap (λ (x : Changes). x.floors.items) w.changes-is
+      | then-differs+in_ok-shared+in_ok-push w ↦ ap (λ (x : Changes). x.floors.items) w.changes-is
       | else-differs w ↦ ap (λ (x : Changes). x.floors.items) w.changes-is
     ] in
     let behind = drop (place + length (listed (info_here before place number))) before in

@@ -1,67 +1,27 @@
-use Rattle.std.proofs.Common.{◌≡◌, ◌==◌, ◌∙◌, ◌+◌, ◌≤◌, Option, Some, ap, arith, false, refl, subst, sym, true}
-use Rattle.std.specs.Prelude.{IsSome, IsSomeAnd, IsTrue, find}
+use Rattle.std.proofs.Common.{◌≡◌, ◌∙◌, ℕ, Bool, true, false, cond, List, [], ◌∷◌, Some, ap, refl, sym}
+use Rattle.std.specs.Prelude.{◌==◌}
+use Rattle.std.proofs.lemmas.Bool.{eqb-true}
 use Rattle.floor_queue.specs.declared.request.Request.{Request}
-use Rattle.floor_queue.specs.Order.{ahead, holders, names, waits}
-use Rattle.floor_queue.specs.Queue.{Queue, IsSettled, position_of, request_at}
-use Rattle.floor_queue.specs.steps.Lines.{place_in, rank_of}
-use Rattle.floor_queue.proofs.Changing.{IsPlaced, is_placed}
-use Rattle.floor_queue.proofs.Lining.{has_line}
-use Rattle.floor_queue.proofs.Places.{among_found, position_fits}
+use Rattle.floor_queue.specs.Queue.{position_of, request_at}
 use Rattle.floor_queue.proofs.requests.Requests.position.Goals as goal
 
-abbrev queue : goal.After-holders → Queue
-queue c = record { floors = c.self.inside.floors.items; given = c.self.inside.given; ongoing = c.self.inside.ongoing }
+-- the request that is found has the number
+numbered : (rs : List Request) (n : ℕ) (r : Request) → request_at rs n ≡ Some r → r.number ≡ n
+numbered [] n r h = cc
+numbered (x ∷ rs) n r h = by (x.number == n) refl h (numbered rs n r)
+  where
+    by : (b : Bool) → (x.number == n) ≡ b → cond b (Some x) (request_at rs n) ≡ Some r → (request_at rs n ≡ Some r → r.number ≡ n) → r.number ≡ n
+    by true e h rest = let same : x ≡ r = cc in ap (λ (y : Request). y.number) (sym same) ∙ eqb-true x.number n e
+    by false e h rest = rest h
 
-found : (c : goal.After-holders) → request_at c.self.inside.ongoing c.args.request ≡ Some c.in-Some.found.now
-found c = subst (λ (q : Queue). request_at q.ongoing c.args.request ≡ Some c.in-Some.found.now) (sym c.self.view_is) (sym c.in-Some.ensures)
+pub position_of-requires-clause-ongoing : goal.position_of-requires-clause-ongoing
+position_of-requires-clause-ongoing c =
+    let r : Request = c.in-Some.found.now in
+    let is : request_at c.args.self.now.ongoing c.args.request ≡ Some r = sym c.in-Some.ensures in
+    ap (λ (n : ℕ). request_at c.args.self.now.ongoing n) (numbered c.args.self.now.ongoing c.args.request r is) ∙ is
 
-it_waits : (c : goal.After-holders) → waits c.in-Some.found.now ≡ true
-it_waits c = sym c.waits.ensures ∙ c.if-waits.true
-
-value : (c : goal.After-holders) → position_of c.args.self.now c.args.request c.args.floor ≡ 1 + ahead c.self.inside.floors.items c.self.inside.ongoing c.in-Some.found.now c.args.floor
-value c =
-    ap (λ (q : Queue). position_of q c.args.request c.args.floor) (sym c.self.view_is)
-    ∙ rw (found c, it_waits c) refl
-
-fits : (c : goal.After-holders) → 1 + ahead c.self.inside.floors.items c.self.inside.ongoing c.in-Some.found.now c.args.floor ≤ 255
-fits c =
-    rw (it_waits c) at
-    (position_fits (queue c) c.self.invariant.0 (subst IsSettled (sym c.self.view_is) c.requires.settled) c.in-Some.found.now (among_found c.self.inside.ongoing c.args.request c.in-Some.found.now (found c)) c.args.floor)
-
-placed : (c : goal.After-holders) → IsPlaced c.self.inside.floors.items c.self.inside.ongoing c.in-Some.found.now c.args.floor c.in-Some-of.line.now
-placed c =
-    is_placed c.self.inside.floors.items c.self.inside.ongoing c.self.inside.lines c.in-Some.found.now c.args.floor c.in-Some-of.line.now c.self.invariant.1 (sym c.in-Some-of.ensures)
-    (sym c.waits.ensures ∙ c.if-waits.true)
-
-place : (c : goal.After-holders) → c.place.result ≡ c.holders.result + ahead c.self.inside.floors.items c.self.inside.ongoing c.in-Some.found.now c.args.floor
-place c =
-    let at : c.place.result ≡ holders c.self.inside.ongoing c.args.floor + ahead c.self.inside.floors.items c.self.inside.ongoing c.in-Some.found.now c.args.floor =
-    c.place.ensures
-    ∙ ap (λ x. place_in x c.in-Some-of.line.now.ranks) (c.rank_of.ensures ∙ ap (λ fs. rank_of fs c.in-Some.found.now) c.deref.ensures.value)
-    ∙ (placed c).placed in
-    let held : c.holders.result ≡ holders c.self.inside.ongoing c.args.floor = c.holders.ensures ∙ (placed c).held in
-    omega (arith, at, held)
-
-pub overflow_sub-result : goal.overflow_sub-result
-overflow_sub-result c = omega (arith, place c)
-
-pub overflow_add-result : goal.overflow_add-result
-overflow_add-result c = omega (arith, place c, fits c)
-
-pub overflow_cast-result : goal.overflow_cast-result
-overflow_cast-result c = omega (arith, place c, fits c)
-
-pub returns-in-Some-of : goal.returns-in-Some-of
-returns-in-Some-of c = omega (arith, place c, value c)
-
-pub returns-in-None-of : goal.returns-in-None-of
-returns-in-None-of c =
-    let q : Queue = record { floors = c.self.inside.floors.items; given = c.self.inside.given; ongoing = c.self.inside.ongoing } in
-    let found : request_at q.ongoing c.args.request ≡ Some c.in-Some.found.now =
-    subst (λ (q : Queue). request_at q.ongoing c.args.request ≡ Some c.in-Some.found.now) (sym c.self.view_is) (sym c.in-Some.ensures) in
-    let named : IsSomeAnd (Some c.in-Some.found.now) (λ r. IsTrue (names r c.args.floor)) =
-    subst (λ (o : Option Request). IsSomeAnd o (λ r. IsTrue (names r c.args.floor))) (sym c.in-Some.ensures) c.requires.asked in
-    let line : IsSome (find (λ l. l.floor == c.args.floor) c.self.inside.lines) =
-    has_line q c.self.inside.lines c.in-Some.found.now c.args.floor c.self.invariant.0 c.self.invariant.1 (among_found q.ongoing c.args.request c.in-Some.found.now found) named in
-    let none : false ≡ true = subst IsSome (sym c.in-None-of.ensures) line in
-    cc
+pub returns-in-Some : goal.returns-in-Some
+returns-in-Some c =
+    let r : Request = c.in-Some.found.now in
+    c.position_of.ensures
+    ∙ ap (λ (n : ℕ). position_of c.args.self.now n c.args.floor) (numbered c.args.self.now.ongoing c.args.request r (sym c.in-Some.ensures))

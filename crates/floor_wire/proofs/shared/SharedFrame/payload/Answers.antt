@@ -1,15 +1,24 @@
-use Rattle.std.proofs.Common.{◌≡◌, ℕ, ◌++◌, List, length, drop, sym, ap, ◌∙◌}
+use Rattle.std.proofs.Common.{◌≡◌, ℕ, ◌++◌, List, length, drop, sym, ap, ◌∙◌, subst, Bor}
 use Rattle.std.proofs.Math.Seq.{drop-append_seam}
+use Rattle.floor_wire.specs.Held.{LiesWhole, message_lying}
 use Rattle.floor_wire.proofs.shared.SharedFrame.payload.Goals as goal
+use Rattle.floor_wire.proofs.shared.SharedFrame.payload.Goals.{in-Alone, in-Shared}
 
 -- the second of two parts
 second_part : (n : ℕ) (first rest all : List ℕ) → length first ≡ n → first ++ rest ≡ all → rest ≡ drop n all
 second_part n first rest all long is =
     sym (ap (drop n) (sym is) ∙ ap (λ (k : ℕ). drop k (first ++ rest)) (sym long) ∙ drop-append_seam first rest)
 
-pub returns : goal.returns
-returns c = record {
-  value = c.as_slice-payload.ensures
-      ∙ second_part 12 c.self.inside.header c.self.inside.payload c.args.self.now c.self.invariant.0 c.self.view_is;
-  bytes = c.a_slice_is_of_bytes.ensures;
-}
+pub returns-clause-value : goal.returns-clause-value
+returns-clause-value c =
+    elim c.match-self.branch [
+      | in-Alone w ↦
+          ap (λ (b : Bor (List ℕ)). b.now) w.payload-is
+          ∙ w.behind_header-payload.ensures
+          ∙ ap (drop 12) (w.as_slice.ensures.value ∙ sym (ap message_lying w.in-Alone.is) ∙ c.self.view_is)
+      | in-Shared w ↦
+          ap (λ (b : Bor (List ℕ)). b.now) w.payload-is
+          ∙ w.as_slice-payload.ensures
+          ∙ second_part 12 w.in-Shared._header w.in-Shared.payload c.args.self.now (subst LiesWhole w.in-Shared.is c.self.invariant).0
+          (sym (ap message_lying w.in-Shared.is) ∙ c.self.view_is)
+    ]

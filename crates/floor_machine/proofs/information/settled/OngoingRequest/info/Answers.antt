@@ -14,11 +14,11 @@ returns-clause-value c =
     let r = c.args.self.now.request.now in
     let ongoing = c.args.self.now.settled.requests.now.ongoing in
     let status : c.number.result ≡ status_number (overall_status (entry_of r)) = c.number.ensures ∙ ap status_number c.ongoing_status.ensures in
-    let shown : c.in_ok-floors.floors.items ≡ map (floor_shown c.args.self.now.settled.config.now.floors ongoing (entry_of r)) r.floors =
-    c.in_ok-floors.ensures ∙ ap (λ (fs : List Floor). map (floor_shown fs ongoing (entry_of r)) r.floors) c.args.self.now.settled.floors in
+    let shown : c.show_floors.new.shown.items ≡ map (floor_shown c.args.self.now.settled.config.now.floors ongoing (entry_of r)) r.floors =
+    c.in_ok-show_floors.ensures ∙ ap (λ (fs : List Floor). map (floor_shown fs ongoing (entry_of r)) r.floors) c.args.self.now.settled.floors in
     let P : Info → Type 0 = λ i. IfOk c.info_with.result (λ (x : Info). x ≡ i) in
     subst P
-    (ap (λ (s : ℕ). info_with c.args.self.now.settled.config.now r s c.in_ok-floors.floors.items) status
+    (ap (λ (s : ℕ). info_with c.args.self.now.settled.config.now r s c.show_floors.new.shown.items) status
     ∙ ap (λ (fs : List (ℕ × Option (ℕ × ℕ))). info_with c.args.self.now.settled.config.now r (status_number (overall_status (entry_of r))) fs) shown
     ∙ info_with-ongoing c.args.self.now.settled.config.now ongoing r)
     c.info_with.ensures.value

@@ -1,5 +1,5 @@
 use Rattle.floor_machine.proofs.Found.{names_in}
-use Rattle.floor_machine.proofs.information.settled.OngoingRequest.floors_shown.Goals as goal
+use Rattle.floor_machine.proofs.information.settled.OngoingRequest.show_floors.Goals as goal
 
 pub floor_shown-requires : goal.floor_shown-requires
 floor_shown-requires c =

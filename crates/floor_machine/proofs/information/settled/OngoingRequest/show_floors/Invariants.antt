@@ -1,6 +1,6 @@
 use Rattle.std.proofs.Common.{◌≡◌, take, map}
 use Rattle.floor_machine.specs.Shown.{entry_of, floor_shown}
-use Rattle.floor_machine.proofs.information.settled.OngoingRequest.floors_shown.Given as goal
+use Rattle.floor_machine.proofs.information.settled.OngoingRequest.show_floors.Given as goal
 
 abbrev pub invariant-loop-requested : goal.invariant-loop-requested
 invariant-loop-requested l =
