@@ -3,8 +3,8 @@ use Rattle.std.specs.Prelude.{◌≡◌, ℕ, zero, suc, List, [], ◌∷◌, �
 use Rattle.floor_wire.specs.Message.{IsMessage}
 use Rattle.floor_wire.specs.declared.octets.Held.{Held}
 use Rattle.floor_wire.specs.declared.octets.Held.TheVariants.{Own, UpTo}
-use Rattle.floor_wire.specs.declared.shared.Lies.{Lies}
-use Rattle.floor_wire.specs.declared.shared.Lies.TheVariants.{Alone, Shared}
+use Rattle.floor_wire.specs.declared.shared.Form.{Form}
+use Rattle.floor_wire.specs.declared.shared.Form.TheVariants.{Alone, Shared}
 
 -- so many numbers, one after another, from one on
 unfoldable pub counted : ℕ → ℕ → List ℕ
@@ -17,11 +17,11 @@ octets_held (Own items) = items.items
 octets_held (UpTo last) = counted last 1
 
 -- the bytes of a message: all in one place, or its header and then its payload
-abbrev pub message_lying : Lies → List ℕ
-message_lying (Alone bytes) = bytes.items
-message_lying (Shared header payload) = header ++ payload
+abbrev pub message_of : Form → List ℕ
+message_of (Alone bytes) = bytes.items
+message_of (Shared header payload) = header ++ payload
 
 -- they are those of a message, and of a payload that is shared the header is the 12 bytes before it
-abbrev pub LiesWhole : Lies → Type 0
-LiesWhole (Alone bytes) = IsMessage bytes.items
-LiesWhole (Shared header payload) = (length header ≡ 12) × IsMessage (header ++ payload)
+abbrev pub IsWhole : Form → Type 0
+IsWhole (Alone bytes) = IsMessage bytes.items
+IsWhole (Shared header payload) = (length header ≡ 12) × IsMessage (header ++ payload)

@@ -22,12 +22,12 @@ const USER_AT: usize = 10;
 /// `addressed` makes another; `header`, `payload` and `len` only look.
 #[derive(Debug, Drop)]
 pub struct SharedFrame {
-    lies: Lies,
+    form: Form,
 }
 
 /// Where a message lies: in a vector of its own, or its header here and its payload with others.
 #[derive(Debug, Drop)]
-enum Lies {
+enum Form {
     Alone(Vec<u8>),
     Shared([u8; HEADER_LEN], Bytes),
 }
@@ -37,11 +37,11 @@ impl Model for SharedFrame {
 
     ghost Value = { List ℕ };
 
-    ghost use Rattle.floor_wire.specs.Held.{LiesWhole, message_lying};
+    ghost use Rattle.floor_wire.specs.Held.{IsWhole, message_of};
 
-    ghost view = { λ f. message_lying f.lies };
+    ghost view = { λ f. message_of f.form };
 
-    ghost invariant = { λ f. LiesWhole f.lies };
+    ghost invariant = { λ f. IsWhole f.form };
 }
 
 impl SharedFrame {
@@ -54,7 +54,7 @@ impl SharedFrame {
         header.copy_from_slice(&payload.as_slice()[..HEADER_LEN]);
         payload.advance(HEADER_LEN);
         SharedFrame {
-            lies: Lies::Shared(header, payload),
+            form: Form::Shared(header, payload),
         }
     }
 
@@ -64,7 +64,7 @@ impl SharedFrame {
         ensures { result ≡ bytes.items }
     {
         SharedFrame {
-            lies: Lies::Alone(bytes),
+            form: Form::Alone(bytes),
         }
     }
 
@@ -74,19 +74,19 @@ impl SharedFrame {
         ensures value { IfOk result (λ frame. frame ≡ addressed self.now user) }
     {
         let user = user.to_be_bytes();
-        let lies = match &self.lies {
-            Lies::Alone(bytes) => {
+        let form = match &self.form {
+            Form::Alone(bytes) => {
                 let mut bytes = Vec::from_slice(*bytes.allocator(), bytes.as_slice())?;
                 bytes[USER_AT..HEADER_LEN].copy_from_slice(&user);
-                Lies::Alone(bytes)
+                Form::Alone(bytes)
             }
-            Lies::Shared(header, payload) => {
+            Form::Shared(header, payload) => {
                 let mut header = *header;
                 header[USER_AT..].copy_from_slice(&user);
-                Lies::Shared(header, payload.clone()?)
+                Form::Shared(header, payload.clone()?)
             }
         };
-        Ok(SharedFrame { lies })
+        Ok(SharedFrame { form })
     }
 
     /// The 12 bytes of the header.
@@ -95,9 +95,9 @@ impl SharedFrame {
         ensures kept { IsMessage self.now }
         ensures bytes { IsBytes result.now }
     {
-        let header = match &self.lies {
-            Lies::Alone(bytes) => &bytes.as_slice()[..HEADER_LEN],
-            Lies::Shared(header, _payload) => &header[..],
+        let header = match &self.form {
+            Form::Alone(bytes) => &bytes.as_slice()[..HEADER_LEN],
+            Form::Shared(header, _payload) => &header[..],
         };
         a_slice_is_of_bytes(header);
         header
@@ -108,9 +108,9 @@ impl SharedFrame {
         ensures value { result.now ≡ drop HEADER_LEN self.now }
         ensures bytes { IsBytes result.now }
     {
-        let payload = match &self.lies {
-            Lies::Alone(bytes) => behind_header(bytes.as_slice()),
-            Lies::Shared(_header, payload) => payload.as_slice(),
+        let payload = match &self.form {
+            Form::Alone(bytes) => behind_header(bytes.as_slice()),
+            Form::Shared(_header, payload) => payload.as_slice(),
         };
         a_slice_is_of_bytes(payload);
         payload
@@ -120,9 +120,9 @@ impl SharedFrame {
     pub fn len(&self) -> usize
         ensures value { result ≡ length self.now }
     {
-        match &self.lies {
-            Lies::Alone(bytes) => bytes.len(),
-            Lies::Shared(_header, payload) => HEADER_LEN + payload.len(),
+        match &self.form {
+            Form::Alone(bytes) => bytes.len(),
+            Form::Shared(_header, payload) => HEADER_LEN + payload.len(),
         }
     }
 }

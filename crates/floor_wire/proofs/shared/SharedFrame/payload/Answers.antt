@@ -1,6 +1,6 @@
 use Rattle.std.proofs.Common.{◌≡◌, ℕ, ◌++◌, List, length, drop, sym, ap, ◌∙◌, subst, Bor}
 use Rattle.std.proofs.Math.Seq.{drop-append_seam}
-use Rattle.floor_wire.specs.Held.{LiesWhole, message_lying}
+use Rattle.floor_wire.specs.Held.{IsWhole, message_of}
 use Rattle.floor_wire.proofs.shared.SharedFrame.payload.Goals as goal
 use Rattle.floor_wire.proofs.shared.SharedFrame.payload.Goals.{in-Alone, in-Shared}
 
@@ -15,10 +15,10 @@ returns-clause-value c =
       | in-Alone w ↦
           ap (λ (b : Bor (List ℕ)). b.now) w.payload-is
           ∙ w.behind_header-payload.ensures
-          ∙ ap (drop 12) (w.as_slice.ensures.value ∙ sym (ap message_lying w.in-Alone.is) ∙ c.self.view_is)
+          ∙ ap (drop 12) (w.as_slice.ensures.value ∙ sym (ap message_of w.in-Alone.is) ∙ c.self.view_is)
       | in-Shared w ↦
           ap (λ (b : Bor (List ℕ)). b.now) w.payload-is
           ∙ w.as_slice-payload.ensures
-          ∙ second_part 12 w.in-Shared._header w.in-Shared.payload c.args.self.now (subst LiesWhole w.in-Shared.is c.self.invariant).0
-          (sym (ap message_lying w.in-Shared.is) ∙ c.self.view_is)
+          ∙ second_part 12 w.in-Shared._header w.in-Shared.payload c.args.self.now (subst IsWhole w.in-Shared.is c.self.invariant).0
+          (sym (ap message_of w.in-Shared.is) ∙ c.self.view_is)
     ]
