@@ -5,7 +5,7 @@ use clap::{Arg, ArgAction, Command, Error};
 use std::alloc::Global;
 
 /// The version, and the line of the toolchain that the program is proved with.
-const VERSION: &str = "0.1.0 (rattle-kit-13f logic dac8208d650f15bf)";
+const VERSION: &str = "0.1.0 (rattle-kit-13b logic dac8208d650f15bf)";
 
 /// What the administrator's lines are, below the help of the words.
 const LINES: &str = "\

@@ -6,7 +6,7 @@ use std::alloc::Global;
 use std::io::{ErrorKind, Read, Write};
 
 /// What `--version` prints: the version, and the line of the toolchain that the program is proved with.
-const VERSION: &str = "floorsim 0.1.0 (rattle-kit-13f logic dac8208d650f15bf)
+const VERSION: &str = "floorsim 0.1.0 (rattle-kit-13b logic dac8208d650f15bf)
 ";
 
 /// What `--help` prints.
