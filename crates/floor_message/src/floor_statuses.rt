@@ -35,7 +35,7 @@ impl FloorStatuses {
     }
 
     /// Puts these floors and statuses in the stead of those that are there. Takes no memory where
-    /// they are no more.
+    /// they are no more. After an error what is there is of no more use.
     pub fn assign(&mut self, items: &[(u16, Option<(u8, u8)>)]) -> Result<(), AllocError>
         ensures { OnOk result (self.new ≡ items.now) }
     {

@@ -52,7 +52,8 @@ impl SharedInfo {
     }
 
     /// Shows another status and queue position of the whole request, and these floors. Takes no
-    /// memory where this is the only owner, and as many floors are shown already.
+    /// memory where this is the only owner, and as many floors are shown already. After an error
+    /// this owner shows a part of it, and is of no more use.
     pub fn set_statuses(
         &mut self,
         alloc: Global,

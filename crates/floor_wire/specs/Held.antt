@@ -16,7 +16,7 @@ abbrev pub octets_held : Held → List ℕ
 octets_held (Own items) = items.items
 octets_held (UpTo last) = counted last 1
 
--- the bytes of a message: all in one place, or its header and then its payload
+-- the bytes of a message (RFC 8855, section 5.1): all in one place, or its header and then its payload
 abbrev pub message_of : Form → List ℕ
 message_of (Alone bytes) = bytes.items
 message_of (Shared header payload) = header ++ payload
