@@ -1,7 +1,7 @@
 use Rattle.std.proofs.Common.{◌+◌, ◌*◌}
 use Rattle.floor_wire.specs.Attributes.{content_size, attributes_size}
 use Rattle.floor_wire.specs.View.{attributes_of, content_of}
-use Rattle.floor_tests.proofs.wire.shown.+shown.Given as goal
+use Rattle.test_libraries.proofs.wire.shown.+shown.Given as goal
 
 abbrev pub decreases-shown : goal.decreases-shown
 decreases-shown l = 2 * attributes_size (attributes_of l.attrs.now) + 1

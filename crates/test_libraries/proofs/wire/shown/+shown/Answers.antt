@@ -1,6 +1,6 @@
 use Rattle.std.proofs.Common.{arith}
 use Rattle.floor_wire.proofs.Elements.{smaller_at}
-use Rattle.floor_tests.proofs.wire.shown.+shown.Goals as goal
+use Rattle.test_libraries.proofs.wire.shown.+shown.Goals as goal
 
 pub shown-shown_body-requires : goal.shown-shown_body-requires
 shown-shown_body-requires t c =

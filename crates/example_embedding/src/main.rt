@@ -17,7 +17,7 @@ fn main(rt: HostRuntime) -> ExitCode {
     match show(rt.alloc(), &mut rt.stdout()) {
         Ok(()) => ExitCode::SUCCESS,
         Err(fault) => {
-            let _outcome = writeln!(rt.stderr(), "floor_embedding: {fault}");
+            let _outcome = writeln!(rt.stderr(), "example_embedding: {fault}");
             ExitCode::from(1)
         }
     }

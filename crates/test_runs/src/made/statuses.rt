@@ -30,7 +30,7 @@ fn standing(hub: &Hub) -> Option<Standing> {
 
 /// A conference stands as what was done in it: one in which nothing was done, with a request and
 /// with two, after a leave, and after a Close. How one stands that is broken off is seen by
-/// floor_memory.
+/// test_memory.
 pub fn run(alloc: Global) -> Result<usize, Fault> {
     let mut hub = Hub::new(alloc);
     let none = hub.status(1);
