@@ -12,9 +12,9 @@ mod long_messages;
 mod refusals;
 mod statuses;
 
-use crate::fault::Fault;
 use std::alloc::Global;
 use std::io::Write;
+use test_cases::Fault;
 
 /// Runs all cases that are made, and prints how many of each kind there are.
 pub fn run_made<W: Write>(alloc: Global, output: &mut W) -> Result<(), Fault> {

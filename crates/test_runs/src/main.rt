@@ -1,17 +1,16 @@
-//! Runs the cases of files, and tells where a script prints something else than its case says.
+//! Runs the cases of files by floorsim's library, and tells where a script prints something else than its
+//! case says.
 //!
 //! Its words are files and folders; a folder stands for the files in it, by name. The word `made`
 //! stands for the cases that are made by code. Each file, and each kind of those that are made, is
 //! printed with the number of its cases. Status 1 where a case differs or a file can't be run, which
-//! standard error tells.
+//! standard error tells. A case whose last line is an error ends with status 2, and every other with
+//! status 0.
 #![tactic(auto)]
 
-mod case;
-mod cases;
-mod fault;
-mod files;
 mod made;
-mod shorthands;
+mod run;
+mod scripts;
 
 use std::process::ExitCode;
 
@@ -23,5 +22,5 @@ fn main(rt: HostRuntime) -> ExitCode {
             Ok(words) => words,
         },
     };
-    ExitCode::from(files::run_words(&rt, words.as_slice(), &mut rt.stdout(), &mut rt.stderr()))
+    ExitCode::from(run::run_words(&rt, words.as_slice(), &mut rt.stdout(), &mut rt.stderr()))
 }

@@ -1,9 +1,9 @@
 //! The worked example of what is acknowledged, by the calls of a hub.
 
-use crate::fault::Fault;
 use floor_config::Config;
 use floor_hub::{Hub, HubRefusal, Refusal, RoomRefusal};
 use std::alloc::Global;
+use test_cases::Fault;
 
 /// A Hello of user 11.
 const HELLO: [u8; 12] = [0x20, 11, 0, 0, 0, 0, 0, 1, 0, 1, 0, 11];

@@ -1,8 +1,8 @@
 //! Many conferences, whose connections come and leave.
 
-use crate::case::Case;
-use crate::fault::Fault;
+use crate::scripts::Scripts;
 use std::alloc::{AllocError, Global};
+use test_cases::{Case, Fault};
 
 /// How many conferences are open at once.
 const CONFERENCES: u32 = 1_000;
@@ -48,6 +48,6 @@ pub fn run(alloc: Global) -> Result<usize, Fault> {
         let conference = (connection - 1) % CONFERENCES + 1;
         push_connection(alloc, &mut case, conference, connection)?;
     }
-    case.check(alloc, "connections of 1,000 conferences")?;
+    case.check(&mut Scripts, alloc, "connections of 1,000 conferences")?;
     Ok(1)
 }

@@ -1,8 +1,8 @@
 //! Messages that are cut at each byte.
 
-use crate::case::Case;
-use crate::fault::Fault;
+use crate::scripts::Scripts;
 use std::alloc::Global;
+use test_cases::{Case, Fault};
 
 /// How many bytes each of the messages has.
 const LEN: usize = 16;
@@ -85,7 +85,7 @@ fn check(alloc: Global, place: usize) -> Result<(), Fault> {
     let passed_on = "< 1 R(0003, 000a, 0001, 0600, 0001, 4000)\n\
                      < 2 R(0000, 000b, 0002, 0300, 0001, 4000)";
     case.extend(alloc, lines(alloc, &release, 10, 5, 1, passed_on)?.as_str())?;
-    case.check(alloc, "messages that are cut")
+    case.check(&mut Scripts, alloc, "messages that are cut")
 }
 
 /// A case for each place at which three messages may be cut: those of the example in which a release

@@ -1,10 +1,10 @@
 //! Readers and writers that fail.
 
-use crate::fault::Fault;
 use floor_script as script;
 use std::alloc::Global;
 use std::io;
 use std::io::{Read, Write};
+use test_cases::Fault;
 
 /// Gives its bytes, and then a fault.
 #[derive(Drop)]

@@ -1,11 +1,11 @@
 //! Two interleavings that give a conference the same events, each as one whole run of the hub.
 
-use crate::fault::Fault;
 use floor_config::read_configs;
 use floor_hub as hub;
 use floor_hub::{Step, Transcript};
 use floor_script::{Command, parse_line};
 use std::alloc::Global;
+use test_cases::Fault;
 
 const CONFIGURATION: &str = "[[conference]]
 id = 1

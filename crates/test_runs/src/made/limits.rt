@@ -1,8 +1,8 @@
 //! The worked example of limits: 64 live connections, 256 ongoing requests, and 65,535 numbers.
 
-use crate::case::Case;
-use crate::fault::Fault;
+use crate::scripts::Scripts;
 use std::alloc::{AllocError, Global};
+use test_cases::{Case, Fault};
 
 /// Users 10 to 26 may each have 16 ongoing requests for floor 1, which has room for one.
 const SEVENTEEN_USERS: &str = "[[conference]]
@@ -82,7 +82,7 @@ fn check_256_requests(alloc: Global) -> Result<(), Fault> {
         alloc,
         "> send 17 Request(0003, 001a, 0001)\n< 17 R(0003, 001a, 0101, 02ff, 0001, 4000)",
     )?;
-    case.check(alloc, "256 ongoing requests")
+    case.check(&mut Scripts, alloc, "256 ongoing requests")
 }
 
 /// User 10 asks for floor 1, and releases the request with a number.
@@ -164,7 +164,7 @@ fn check_65535_numbers(alloc: Global) -> Result<(), Fault> {
     push_asked_and_released(alloc, &mut case, 65_519)?;
     case.extend(alloc, last_numbers(alloc)?.as_str())?;
     case.extend(alloc, STILL_NO_NUMBER)?;
-    case.check(alloc, "65,535 numbers")
+    case.check(&mut Scripts, alloc, "65,535 numbers")
 }
 
 /// 64 connections of user 10 attach.
@@ -196,7 +196,7 @@ const BESIDE_64: &str = "
 fn check_64_connections(alloc: Global) -> Result<(), Fault> {
     let mut case = full_of_connections(alloc)?;
     case.extend(alloc, BESIDE_64)?;
-    case.check(alloc, "64 live connections")
+    case.check(&mut Scripts, alloc, "64 live connections")
 }
 
 /// The three limits of a conference, each reached and gone beyond.

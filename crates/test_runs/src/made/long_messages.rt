@@ -1,8 +1,8 @@
 //! Messages that are as long or as deep as a message can be.
 
-use crate::case::Case;
-use crate::fault::Fault;
+use crate::scripts::Scripts;
 use std::alloc::Global;
+use test_cases::{Case, Fault};
 
 fn check_longest(alloc: Global) -> Result<(), Fault> {
     let payload = "28040000".repeat(alloc, 65_535)?;
@@ -18,7 +18,7 @@ fn check_longest(alloc: Global) -> Result<(), Fault> {
     )?;
     let mut case = Case::new(alloc, "")?;
     case.extend(alloc, text.as_str())?;
-    case.check(alloc, "65,535 words")
+    case.check(&mut Scripts, alloc, "65,535 words")
 }
 
 /// The words of groups that are inside one another, 63 deep: the Length of each is 4 less.
@@ -51,7 +51,7 @@ fn check_deepest(alloc: Global) -> Result<(), Fault> {
     )?;
     let mut case = Case::new(alloc, "")?;
     case.extend(alloc, text.as_str())?;
-    case.check(alloc, "deep groups")
+    case.check(&mut Scripts, alloc, "deep groups")
 }
 
 /// The longest message, and the deepest beside one with all types that are unknown.

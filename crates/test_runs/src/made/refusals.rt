@@ -1,9 +1,9 @@
 //! Refusals by the hub's calls that no line of a script meets.
 
-use crate::fault::Fault;
 use floor_config::Config;
 use floor_hub::{Hub, HubRefusal};
 use std::alloc::Global;
+use test_cases::Fault;
 
 /// The number of a connection of user 10, or 0.
 fn attach(alloc: Global, hub: &mut Hub) -> u64 {

@@ -1,9 +1,9 @@
 //! How a hub's conferences stand.
 
-use crate::fault::Fault;
 use floor_config::Config;
 use floor_hub::{Act, Hub, HubRefusal};
 use std::alloc::Global;
+use test_cases::Fault;
 
 /// User 10 asks for floor 1, and user 11.
 const REQUESTS: [[u8; 16]; 2] = [

@@ -1,45 +1,29 @@
-//! The files of cases that the program's words name.
+//! The files of cases that a word names.
 
 use crate::cases::run_cases;
 use crate::fault::Fault;
-use crate::made::run_made;
+use crate::runner::Runner;
 use std::fs;
 use std::io::Write;
 use std::path::Path;
 use std::rt::Files;
 
-/// Runs the cases of the files that the words name, up to the first that differs, and gives the exit
-/// status.
-pub fn run_words<R, W, E>(rt: &R, words: &[String], output: &mut W, errors: &mut E) -> u8
+/// Whether the cases of each file that a word names print what they say; a folder stands for the files in
+/// it, by name. Each file is printed with the number of its cases, and `errors` is told of the first case
+/// that differs.
+pub fn run_word<R, T, W, E>(
+    rt: &R,
+    runner: &mut T,
+    word: &str,
+    output: &mut W,
+    errors: &mut E,
+) -> bool
 where
+    T: Runner,
     R: Files + AllocGlobal + Clone + Drop,
     W: Write,
     E: Write,
 {
-    for word in words {
-        if !run_word(rt, word.as_str(), output, errors) {
-            return 1;
-        }
-    }
-    0
-}
-
-/// Whether the cases of each file that a word names print what they say.
-fn run_word<R, W, E>(rt: &R, word: &str, output: &mut W, errors: &mut E) -> bool
-where
-    R: Files + AllocGlobal + Clone + Drop,
-    W: Write,
-    E: Write,
-{
-    if word == "made" {
-        return match run_made(rt.alloc(), output) {
-            Ok(()) => true,
-            Err(fault) => {
-                tell(errors, word, &fault);
-                false
-            }
-        };
-    }
     let paths = match paths_of(rt, word) {
         Ok(paths) => paths,
         Err(fault) => {
@@ -48,7 +32,7 @@ where
         }
     };
     for path in paths.iter() {
-        if let Err(fault) = run_file(rt, path.as_str(), output) {
+        if let Err(fault) = run_file(rt, runner, path.as_str(), output) {
             tell(errors, path.as_str(), &fault);
             return false;
         }
@@ -74,19 +58,20 @@ where
 }
 
 /// Runs the cases of a file, and prints their number.
-fn run_file<R, W>(rt: &R, path: &str, output: &mut W) -> Result<(), Fault>
+fn run_file<R, T, W>(rt: &R, runner: &mut T, path: &str, output: &mut W) -> Result<(), Fault>
 where
+    T: Runner,
     R: Files + AllocGlobal,
     W: Write,
 {
     let text = fs::read_to_string(rt, path)?;
-    let count = run_cases(rt.alloc(), text.as_str())?;
+    let count = run_cases(runner, rt.alloc(), text.as_str())?;
     writeln!(output, "{path} {count}")?;
     Ok(())
 }
 
 /// Tells why the cases of a file are not run to their end.
-fn tell<E: Write>(errors: &mut E, path: &str, fault: &Fault) {
+pub fn tell<E: Write>(errors: &mut E, path: &str, fault: &Fault) {
     let _written = match fault {
         Fault::Differs(difference) => writeln!(
             errors,

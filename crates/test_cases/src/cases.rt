@@ -6,10 +6,11 @@
 
 use crate::case::Case;
 use crate::fault::Fault;
+use crate::runner::Runner;
 use std::alloc::Global;
 
 /// Runs each case of a text, and gives their number.
-pub fn run_cases(alloc: Global, text: &str) -> Result<usize, Fault> {
+pub fn run_cases<R: Runner>(runner: &mut R, alloc: Global, text: &str) -> Result<usize, Fault> {
     let Some((about, configurations)) = text.split_once("\n@ ") else {
         return Err(Fault::Layout("no configuration"));
     };
@@ -18,7 +19,7 @@ pub fn run_cases(alloc: Global, text: &str) -> Result<usize, Fault> {
     }
     let mut count = 0usize;
     for below in configurations.split("\n@ ") {
-        count = count.saturating_add(run_below(alloc, below)?);
+        count = count.saturating_add(run_below(runner, alloc, below)?);
     }
     Ok(count)
 }
@@ -30,24 +31,29 @@ fn is_comment(text: &str) -> bool {
 }
 
 /// Runs each case below a configuration, and gives their number.
-fn run_below(alloc: Global, text: &str) -> Result<usize, Fault> {
+fn run_below<R: Runner>(runner: &mut R, alloc: Global, text: &str) -> Result<usize, Fault> {
     let Some((configuration, cases)) = text.split_once("\n= ") else {
         return Err(Fault::Layout("a configuration without a case"));
     };
     let mut count = 0usize;
     for case in cases.split("\n= ") {
-        run_case(alloc, behind_first(configuration), case)?;
+        run_case(runner, alloc, behind_first(configuration), case)?;
         count = count.saturating_add(1);
     }
     Ok(count)
 }
 
 /// Runs a case, whose first line is its name.
-fn run_case(alloc: Global, configuration: &str, text: &str) -> Result<(), Fault> {
+fn run_case<R: Runner>(
+    runner: &mut R,
+    alloc: Global,
+    configuration: &str,
+    text: &str,
+) -> Result<(), Fault> {
     let name = text.lines().next().unwrap_or("");
     let mut case = Case::new(alloc, configuration.trim_end())?;
     case.extend(alloc, behind_first(text))?;
-    case.check(alloc, name)
+    case.check(runner, alloc, name)
 }
 
 /// The lines behind the first.

@@ -8,12 +8,11 @@
 //!   nothing.
 //! - `>1024 line` and `<1024 line` stand for so many of these lines.
 //!
-//! Bytes may stand as a shorthand. A case whose last line is an error ends with status 2, and every
-//! other with status 0.
+//! Bytes may stand as a shorthand.
 
 use crate::fault::{Difference, Fault};
+use crate::runner::Runner;
 use crate::shorthands::spelled;
-use floor_script::run;
 use std::alloc::Global;
 
 /// A script, and what it has to print.
@@ -70,27 +69,17 @@ impl Case {
         Ok(())
     }
 
-    /// The status that the script has to end with.
-    fn status(&self) -> u8 {
-        match self.printed.as_str().lines().last() {
-            Some(line) if line.starts_with("error ") => 2,
-            _ => 0,
-        }
-    }
-
-    /// Runs the script, which prints what the case says, line by line, and ends with its status.
-    pub fn check(&self, alloc: Global, name: &str) -> Result<(), Fault> {
+    /// Runs the script, which prints what the case says, line by line.
+    pub fn check<R: Runner>(&self, runner: &mut R, alloc: Global, name: &str) -> Result<(), Fault> {
         let mut written = Vec::new(alloc);
-        let status = run(alloc, &mut self.script.as_bytes(), &mut written);
+        runner.run(alloc, self.script.as_str(), &mut written)?;
         let printed = std::str::from_utf8(&written).unwrap_or("no UTF-8\n");
         let wanted = self.printed.as_str();
-        if printed != wanted {
-            return Err(differing(alloc, name, wanted, printed)?);
+        if printed == wanted {
+            Ok(())
+        } else {
+            Err(differing(alloc, name, wanted, printed)?)
         }
-        if status != self.status() {
-            return Err(Fault::Wrong("another status"));
-        }
-        Ok(())
     }
 }
 
