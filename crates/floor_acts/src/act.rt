@@ -23,9 +23,10 @@ pub struct ActLine {
 
 /// The act that a line asks for; `None` where its first word is no act's name, whatever stands behind.
 ///
-/// Words are parted by spaces, and stand in the order of the line's form, which is looked at first.
-/// Then come the numbers, from left to right. The text behind `name` begins with the next word and goes
-/// to the end of the line.
+/// Words are parted by spaces, and stand in the order of the line's form, which is looked at first:
+/// refused by `UnknownCommand` where the line has no form of its act. Then come the numbers, from left
+/// to right, by `BadNumber`. The text behind `name` begins with the next word and goes to the end of the
+/// line.
 pub fn read_act(alloc: Global, line: &str) -> Result<Option<ActLine>, ActFault>
     ensures { Reads (act_of line.now) result }
 {

@@ -92,7 +92,9 @@ impl Client {
         }
     }
 
-    /// The frame that asks it, under the next number, which is open from then on (section 8.1).
+    /// The frame that asks it, under the next number, which is open from then on (section 8.1). Refused
+    /// by `NoTransaction` where all numbers from 1 to 65,535 are open, else by `Memory`; nothing has
+    /// changed then, and no number is spent.
     pub fn ask(&mut self, ask: Ask) -> Result<Frame, AskRefusal>
         requires fits { AskFits ask }
         ensures took { IfOk result (λ frame. spec.Asks self.old ask frame self.new) }

@@ -1,5 +1,5 @@
-//! What may happen in one conference. An event is taken apart here alone: it says of itself who joins
-//! by it and whose message it is, and a machine takes it by the call of its kind.
+//! What may happen in one conference. In this crate an event is taken apart here alone: it says of itself
+//! who joins by it and whose message it is, and a machine takes it by the call of its kind.
 
 ghost use Rattle.std.specs.Option.{option_copied};
 ghost use Rattle.std.specs.Prelude.{◌≡◌, ◌<◌, IfErr, IfOk, OnOk, length};

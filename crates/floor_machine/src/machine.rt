@@ -307,8 +307,8 @@ impl Machine {
     }
 
     /// Takes a connection of the user as a member, and gives its number: 1 for the first that ever
-    /// joined. Nobody is told. After a refusal nothing has changed, but that `Memory` leaves the
-    /// machine broken.
+    /// joined. Nobody is told. Refused are, in this order, `Broken`, `Ended`, `NoUser` and `Full`; after
+    /// a refusal nothing has changed, but that `Memory`, which comes last, leaves the machine broken.
     #[tactic(auto, using(crate::proofs::Bounds::shown_fits))]
     pub fn join(&mut self, user: u16) -> Result<u32, Refusal>
         requires { length self.old.conference.members < 4294967295 }
@@ -374,7 +374,8 @@ impl Machine {
 
     /// Takes it that a member has left, and appends what that tells the others to `out`, by
     /// ascending member. Where it was the last connection of its user, the floor requests for that
-    /// user end. After a refusal nothing has changed, but that `Memory` leaves the machine broken.
+    /// user end. Refused are, in this order, `Broken`, `Ended` and `NoMember`; after a refusal nothing
+    /// has changed, but that `Memory`, which comes last, leaves the machine broken.
     #[tactic(auto, using(crate::proofs::Bounds::shown_fits))]
     pub fn leave(&mut self, n: u32, out: &mut Vec<Parcel>) -> Result<(), Refusal>
         ensures took { OnOk result

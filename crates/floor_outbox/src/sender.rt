@@ -49,7 +49,8 @@ impl Sender {
         answer
     }
 
-    /// The same, but the taker sleeps on: whoever puts so wakes it by a [`Waker`] later.
+    /// The same, but the taker sleeps on: whoever puts so wakes it by a [`Waker`] later. The parcel comes
+    /// back where memory is refused, and was not put then.
     pub fn put_asleep<R: Wait>(&mut self, rt: &R, parcel: Parcel) -> Result<(), Parcel>
         ensures took { OnOk result (self.new
             ≡ record self.old { put = self.old.put ++ parcel ∷ [] }) }

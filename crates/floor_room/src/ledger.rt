@@ -118,8 +118,10 @@ impl Ledger {
     }
 
     /// Adds an event, where nothing refuses it, and gives the parcels that it calls for. A message
-    /// is kept as a copy of exactly its length. After `Memory` the ledger is broken off and its
-    /// journal is as it was; after every other refusal nothing has changed.
+    /// is kept as a copy of exactly its length. Refused are, in this order, `Broken`, `Ended`,
+    /// `JournalFull`, and then as the machine refuses an event of its kind. After `Memory`, which comes
+    /// last, the ledger is broken off and its journal is as it was; after every other refusal nothing
+    /// has changed.
     pub fn add(&mut self, event: Event) -> Result<Vec<Parcel>, RoomRefusal>
         ensures took { IfOk result (λ out. Added self.old self.new event out.items) }
         ensures refused { IsRefusedBy (refusal self.old event) result }

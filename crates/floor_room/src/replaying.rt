@@ -51,7 +51,9 @@ impl From<AllocError> for StepFault {
     }
 }
 
-/// What the events send the member n, where they are a journal: all bytes of its parcels.
+/// What the events send the member n, where they are a journal: all bytes of its parcels. Else
+/// `NotAJournal`, with the place of the first event that isn't lawful after those before it or is
+/// one too many.
 pub fn replay(
     alloc: Global,
     config: &Config,

@@ -120,7 +120,8 @@ impl Room {
     }
 
     /// Takes a connection of the user as a member, and gives its number: 1 for the first that ever
-    /// joined.
+    /// joined. Refused are, in this order, `Broken`, `Ended`, `JournalFull`, `NoUser` and `Full`, and
+    /// nothing has changed; after a `Memory` the room is broken off.
     pub fn join(&mut self, user: u16) -> Result<u32, RoomRefusal>
         ensures number { IfOk result (λ n. n
             ≡ length (conference_of self.old.ledger).members + 1) }
@@ -136,7 +137,9 @@ impl Room {
     }
 
     /// Takes a message of a member, and gives its place in the journal. What waits for the members
-    /// grows by what the message tells them.
+    /// grows by what the message tells them. Refused are, in this order, `Broken`, `Ended`,
+    /// `JournalFull`, `NoMember` and `Cut`, and nothing has changed; after a `Memory` the room is broken
+    /// off.
     pub fn serve(&mut self, n: u32, frame: Frame) -> Result<Place, RoomRefusal>
         ensures place { IfOk result (λ place. place ≡ length self.new.ledger.journal) }
         ensures took { OnOk result (Applied self.old self.new (Message n frame)) }
@@ -149,7 +152,9 @@ impl Room {
 
     /// Takes it that so many of the parcels to a member were taken and brought to their end, so that it
     /// is so many less behind. With what was taken the room doesn't compare it, with the member's
-    /// backlog alone. Nobody is told.
+    /// backlog alone. Nobody is told. Refused are, in this order, `Broken`, `Ended`, `JournalFull`,
+    /// `NoMember`, and `BadCount` where that is none or more than the backlog, and nothing has changed;
+    /// after a `Memory` the room is broken off.
     pub fn took(&mut self, n: u32, k: u32) -> Result<(), RoomRefusal>
         ensures took { OnOk result (Applied self.old self.new (Took n k)) }
         ensures refused { IsRefusedBy (refusal self.old.ledger (Took n k)) result }
@@ -158,7 +163,9 @@ impl Room {
         self.add(Event::Took { n, k })
     }
 
-    /// Takes it that a member has left. What waits for it stays until it is taken.
+    /// Takes it that a member has left. What waits for it stays until it is taken. Refused are, in this
+    /// order, `Broken`, `Ended`, `JournalFull` and `NoMember`, and nothing has changed; after a `Memory`
+    /// the room is broken off.
     pub fn leave(&mut self, n: u32) -> Result<(), RoomRefusal>
         ensures took { OnOk result (Applied self.old self.new (Leave n)) }
         ensures refused { IsRefusedBy (refusal self.old.ledger (Leave n)) result }
@@ -167,7 +174,10 @@ impl Room {
         self.add(Event::Leave { n })
     }
 
-    /// Does what the administrator does. What waits for the members stays, also after a Close.
+    /// Does what the administrator does. What waits for the members stays, also after a Close. Refused
+    /// are, in this order, `Broken`, `Ended`, `JournalFull`, then for a Revoke `NoRequest`, for a new user
+    /// `OutOfRange`, `DoubleUser`, for a new floor `OutOfRange`, `DoubleFloor`, `UnknownChair`, for a chair
+    /// `NoFloor`, `UnknownChair`, and nothing has changed; after a `Memory` the room is broken off.
     pub fn admin(&mut self, act: Act) -> Result<(), RoomRefusal>
         ensures took { OnOk result (Applied self.old self.new (event_of_act act)) }
         ensures refused { IsRefusedBy (refusal self.old.ledger (event_of_act act)) result }
@@ -183,7 +193,8 @@ impl Room {
         self.outboxes.len() as u32
     }
 
-    /// Takes the first parcel that waits for a member, also for one that left. Takes no memory.
+    /// Takes the first parcel that waits for a member, also for one that left. Refused by `NoMember`
+    /// where nobody has joined under the number, and by nothing else. Takes no memory.
     pub fn take(&mut self, n: u32) -> Result<Option<Parcel>, NoMember>
         ensures took { Gave self.old self.new n result }
     {

@@ -102,8 +102,9 @@ impl From<ActFault> for LineFault {
 /// The command of a line that is neither empty nor a comment.
 ///
 /// Words are parted by spaces. Numbers are one to ten decimal digits; the words of hexadecimal are
-/// joined, and spell bytes. Where several parts of a line are bad, the fault of the first is told. A
-/// line that begins with the name of an act has one of that act's forms.
+/// joined, and spell bytes. A line that begins with the name of an act has one of that act's forms.
+/// `UnknownCommand` is told where no command has the name and the form; else the fault of the first
+/// word, from the left, that is bad: `BadNumber`, or `BadHex` of the bytes.
 pub fn parse_line(alloc: Global, line: &str) -> Result<Command, LineFault>
     ensures value { Reads (command_of line.now) result }
 {

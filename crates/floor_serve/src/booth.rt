@@ -154,6 +154,9 @@ impl Booth {
     }
 
     /// Takes a connection of the user as a member, and gives its number and what takes its parcels.
+    /// Refused are, in this order, `Broken`, `Ended`, `JournalFull`, `NoUser` and `Full`, and nothing has
+    /// changed; but `Memory` for its outbox comes before them all, and changes nothing. After a `Memory`
+    /// behind them the conference is broken off.
     pub fn join<R: Wait>(&mut self, rt: &R, user: u16) -> Result<(u32, Taker), RoomRefusal>
         ensures number { IfOk result (λ r. r.0 ≡ length (conference_of self.old.ledger).members + 1) }
         ensures taken { IfOk result (λ r. r.1.taken ≡ []) }
@@ -178,7 +181,9 @@ impl Booth {
         Ok((self.members(), taker))
     }
 
-    /// Takes a message of a member, and gives its place in the journal.
+    /// Takes a message of a member, and gives its place in the journal. Refused are, in this order,
+    /// `Broken`, `Ended`, `JournalFull`, `NoMember` and `Cut`, and nothing has changed; after a `Memory`
+    /// the conference is broken off, with the message in its journal or without it.
     pub fn submit<R: Wait>(&mut self, rt: &R, n: u32, frame: Frame) -> Result<Place, RoomRefusal>
         ensures place { IfOk result (λ place. place ≡ length self.new.ledger.journal) }
         ensures took { OnOk result (Applied self.old self.new (Message n frame) []) }
@@ -224,7 +229,9 @@ impl Booth {
     }
 
     /// Takes it that so many of the parcels to a member were brought to their end, so that it is so many
-    /// less behind. Nobody is told, and nobody is woken.
+    /// less behind. Nobody is told, and nobody is woken. Refused are, in this order, `Broken`, `Ended`,
+    /// `JournalFull`, `NoMember`, and `BadCount` where that is none or more than the member's backlog, and
+    /// nothing has changed; after a `Memory` the conference is broken off.
     pub fn took<R: Wait>(&mut self, rt: &R, n: u32, k: u32) -> Result<(), RoomRefusal>
         ensures took { OnOk result (Applied self.old self.new (Took n k) []) }
         ensures refused { IsRefusedBy (refusal self.old.ledger (Took n k)) result }
@@ -233,7 +240,9 @@ impl Booth {
         self.add(rt, Event::Took { n, k })
     }
 
-    /// Takes it that a member has left. Its sender's closed mark is set, also after a refusal.
+    /// Takes it that a member has left. Its sender's closed mark is set, also after a refusal. Refused
+    /// are, in this order, `Broken`, `Ended`, `JournalFull` and `NoMember`; after a `Memory` the conference
+    /// is broken off.
     pub fn leave<R: Wait>(&mut self, rt: &R, n: u32) -> Result<(), RoomRefusal>
         ensures took { OnOk result (Applied self.old self.new (Leave n) []) }
         ensures refused { IsRefusedBy (refusal self.old.ledger (Leave n)) result }
@@ -245,7 +254,8 @@ impl Booth {
     }
 
     /// Takes it that a member has left, and takes its sender out: also where the leave is refused and
-    /// the conference has ended or is broken off. Its taker still takes what was put.
+    /// the conference has ended or is broken off. Its taker still takes what was put. Refused as `leave`:
+    /// `Broken`, `Ended`, `JournalFull`, `NoMember`.
     #[tactic(auto, using(crate::proofs::Leaving::gone_took))]
     pub fn part<R: Wait>(&mut self, rt: &R, n: u32) -> Result<(), RoomRefusal>
         ensures done { HasParted result self.old self.new n }
@@ -257,7 +267,10 @@ impl Booth {
         left
     }
 
-    /// Does what the administrator does. A Close sets the closed mark of every sender.
+    /// Does what the administrator does. A Close sets the closed mark of every sender. Refused are, in
+    /// this order, `Broken`, `Ended`, `JournalFull`, then for a Revoke `NoRequest`, for a new user
+    /// `OutOfRange`, `DoubleUser`, for a new floor `OutOfRange`, `DoubleFloor`, `UnknownChair`, for a chair
+    /// `NoFloor`, `UnknownChair`, and nothing has changed; after a `Memory` the conference is broken off.
     pub fn admin<R: Wait>(&mut self, rt: &R, act: Act) -> Result<(), RoomRefusal>
         ensures took { OnOk result (Applied self.old self.new (event_of_act act) []) }
         ensures refused { IsRefusedBy (refusal self.old.ledger (event_of_act act)) result }

@@ -55,7 +55,7 @@ impl Desk {
     }
 
     /// Takes a connection of the user as a member, and gives its seat and what takes its parcels.
-    /// Refused as [`Booth::join`].
+    /// Refused as [`Booth::join`]: `Broken`, `Ended`, `JournalFull`, `NoUser`, `Full`.
     pub fn join<R: Wait>(&self, rt: &R, user: u16) -> Result<(Seat, Taker), RoomRefusal>
         ensures seat { IfOk result (λ joined. joined.0.conference ≡ self.now.conference) }
         ensures sent { IfOk result (λ joined. joined.0.sent ≡ []) }
@@ -71,8 +71,9 @@ impl Desk {
     }
 
     /// Submits a message of the seat's member, which keeps it with its place in the journal, in the
-    /// journal's own memory. After a refusal the seat is as it was. Refused as [`Booth::submit`],
-    /// and with `Memory` and nothing changed where the seat can't grow.
+    /// journal's own memory. After a refusal the seat is as it was. Refused by `Memory` with nothing
+    /// changed where the seat can't grow, else as [`Booth::submit`]: `Broken`, `Ended`, `JournalFull`,
+    /// `NoMember`, `Cut`.
     pub fn submit<G: Gate, R: Wait>(
         &self,
         rt: &R,
@@ -104,14 +105,14 @@ impl Desk {
     }
 
     /// Takes it that so many of the parcels to a member were brought to their end, as its writer says.
-    /// Refused as [`Booth::took`].
+    /// Refused as [`Booth::took`]: `Broken`, `Ended`, `JournalFull`, `NoMember`, `BadCount`.
     pub fn took<R: Wait>(&self, rt: &R, n: u32, k: u32) -> Result<(), RoomRefusal> {
         self.booth.lock(rt).took(rt, n, k)
     }
 
     /// Takes it that the seat's member has left, and lets its writer end, also after a refusal.
-    /// Refused as [`Booth::leave`]. Of a member that is gone nothing stays but its taker, until the
-    /// writer has taken what was put.
+    /// Refused as [`Booth::leave`]: `Broken`, `Ended`, `JournalFull`, `NoMember`. Of a member that is gone
+    /// nothing stays but its taker, until the writer has taken what was put.
     pub fn leave<R: Wait>(&self, rt: &R, seat: &mut Seat) -> Result<(), RoomRefusal>
         requires { seat.old.conference ≡ self.now.conference }
         ensures kept { seat.new ≡ seat.old }
@@ -124,8 +125,8 @@ impl Desk {
         left
     }
 
-    /// Does what the administrator does. A Close lets every writer end. Refused as
-    /// [`Booth::admin`].
+    /// Does what the administrator does. A Close lets every writer end. Refused as [`Booth::admin`]:
+    /// `Broken`, `Ended`, `JournalFull`, then what the act itself is refused by.
     pub fn admin<R: Wait>(&self, rt: &R, act: Act) -> Result<(), RoomRefusal> {
         let mut booth = self.booth.lock(rt);
         let done = booth.admin(rt, act);

@@ -30,7 +30,9 @@ pub enum ReadEnd {
 
 /// Reads to the end of the source, in at most 100,000,000 reads, and submits each message for the
 /// seat. The seat keeps the messages of all bytes that were read, or where the conference or memory
-/// refuses one, those before it.
+/// refuses one, those before it. It stops before the end by `Read` at a read that failed, by
+/// `Refused` at a message that the conference refuses for another cause than memory, by `Memory`, and
+/// by `TurnLimit` behind the last of the reads.
 pub fn read_loop<S: Source, G: Gate, R: Wait>(
     rt: &R,
     source: &mut S,

@@ -24,12 +24,14 @@ impl Registry {
         }
     }
 
-    /// Opens a conference under its number. After a refusal nothing has changed.
+    /// Opens a conference under its number. Refused by `Used` where a conference was opened under it,
+    /// else by `Memory`; nothing has changed then.
     pub fn open<R: Wait>(&self, rt: &R, config: Config) -> Result<(), OpenRefusal> {
         self.table.lock(rt).open(config)
     }
 
-    /// The desk of the conference with this number, also when it is closed.
+    /// The desk of the conference with this number, also when it is closed. Refused by `NoConference`
+    /// where none was opened under it, else by `Memory`.
     pub fn desk<R: Wait>(&self, rt: &R, conference: u32) -> Result<Desk, DeskRefusal>
         ensures { IfOk result (λ desk. desk.conference ≡ conference) }
     {

@@ -51,7 +51,8 @@ impl Table {
         }
     }
 
-    /// Opens a conference under its number. After a refusal nothing has changed.
+    /// Opens a conference under its number. Refused by `Used` where a conference was opened under it,
+    /// also where it is closed, else by `Memory`; nothing has changed then.
     pub fn open(&mut self, config: Config) -> Result<(), OpenRefusal>
         ensures took { OnOk result (self.new ≡ self.old ++ config.conference ∷ []) }
         ensures free { OnOk result (is_opened self.old config.conference ≡ false) }
@@ -73,7 +74,8 @@ impl Table {
         }
     }
 
-    /// The desk of the conference with this number, also when it is closed.
+    /// The desk of the conference with this number, also when it is closed. Refused by `NoConference`
+    /// where none was opened under it, else by `Memory`.
     pub fn desk(&self, conference: u32) -> Result<Desk, DeskRefusal>
         ensures found { IfOk result (λ desk. desk.conference ≡ conference) }
         ensures opened { OnOk result (is_opened self.now conference ≡ true) }

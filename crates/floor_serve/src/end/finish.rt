@@ -39,7 +39,7 @@ struct Found {
 }
 
 /// Compares what every seat recorded with the journals of all conferences of the registry, as
-/// [`Table::finish`] does, while the registry's lock is held.
+/// [`Table::finish`] does, while the registry's lock is held: refused by `Broken`, else by `Mismatch`.
 pub fn finish<R: Wait>(rt: &R, registry: &Registry, seats: &[Seat]) -> Result<Report, FinishFault> {
     let table = registry.table.lock(rt);
     table.finish(rt, seats)
