@@ -1,8 +1,8 @@
 //! The meeting that each conference holds, and one line of it.
 
-use floor_acts::read_act;
-use floor_hub::{Act, ConnNo, Hub, HubRefusal};
-use floor_words::{read_hexadecimal, read_u16, words};
+use floor_hub::{ConnNo, Hub, HubRefusal};
+use floor_script::{Command, parse_line};
+use floor_words::{read_u32, read_u64, words};
 use std::alloc::{AllocError, AllocFailed, Global};
 
 /// What follows the number of a conference in its configuration.
@@ -27,51 +27,49 @@ id = 2
 chair = 10
 ";
 
-/// The lines of a long meeting: `attach <user>`, `send <connection> <message>`,
-/// `took <connection> <parcels>`, `leave <connection>`, and an administrator's acts as a script has them,
-/// whose conference is passed over. The connections are numbered in the order of attaching, and each
-/// message has the conference's number put in.
+/// The lines of a long meeting: those of a script of floorsim, in which `%` stands for the conference's
+/// number, a digit, and `took <connection> <parcels>`, by which parcels are acknowledged.
 pub const LONG: &str = "\
-attach 10
-attach 11
-attach 12
-send 1 200b0000 00000000 0001 000a
-send 1 20070002 00000000 0002 000a 04040001 04040002
+attach % 10
+attach % 11
+attach % 12
+send 1 200b0000 0000000% 0001 000a
+send 1 20070002 0000000% 0002 000a 04040001 04040002
 took 1 2
-user 2 13 proxy name Dave
-floor 2 3 room 2 chair 11
-send 3 20070001 00000000 0001 000c 04040002
-send 1 20010001 00000000 0003 000a 04040001
-send 2 20010004 00000000 0002 000b 04040001 1005 686921 000000 08046000
-send 3 20010002 00000000 0002 000c 04040001 0204000b
-send 2 20010001 00000000 0003 000b 04040002
-send 3 20030001 00000000 0004 000c 06040003
-send 3 20050001 00000000 0005 000c 0204000b
-send 1 20090003 00000000 0004 000a 1e0c0004 22080002 0a040200
-send 2 20020001 00000000 0005 000b 06040002
-send 3 20010003 00000000 0006 000c 04040001 04040002 0204000d
-chair 2 2 12
-chair 2 2
-send 2 20010002 00000000 0006 000b 04040001 ff040000
-send 2 20020001 00000000 0007 000b 06040063
-revoke 2 3
-chair 2 1 11
-chair 2 1
+user % 13 proxy name Dave
+floor % 3 room 2 chair 11
+send 3 20070001 0000000% 0001 000c 04040002
+send 1 20010001 0000000% 0003 000a 04040001
+send 2 20010004 0000000% 0002 000b 04040001 1005 686921 000000 08046000
+send 3 20010002 0000000% 0002 000c 04040001 0204000b
+send 2 20010001 0000000% 0003 000b 04040002
+send 3 20030001 0000000% 0004 000c 06040003
+send 3 20050001 0000000% 0005 000c 0204000b
+send 1 20090003 0000000% 0004 000a 1e0c0004 22080002 0a040200
+send 2 20020001 0000000% 0005 000b 06040002
+send 3 20010003 0000000% 0006 000c 04040001 04040002 0204000d
+chair % 2 12
+chair % 2
+send 2 20010002 0000000% 0006 000b 04040001 ff040000
+send 2 20020001 0000000% 0007 000b 06040063
+revoke % 3
+chair % 1 11
+chair % 1
 leave 3
-attach 12
-send 4 20010002 00000000 0001 000c 04040002 08048000
+attach % 12
+send 4 20010002 0000000% 0001 000c 04040002 08048000
 leave 1
-close 2
+close %
 ";
 
 /// The lines of a short meeting. Each is done behind so many of the long one.
 pub const SHORT: &str = "\
-attach 10
-attach 11
-send 1 20070001 00000000 0001 000a 04040001
-send 1 20010001 00000000 0002 000a 04040001
-send 2 20010001 00000000 0001 000b 04040001
-send 1 20020001 00000000 0003 000a 06040001
+attach % 10
+attach % 11
+send 1 20070001 0000000% 0001 000a 04040001
+send 1 20010001 0000000% 0002 000a 04040001
+send 2 20010001 0000000% 0001 000b 04040001
+send 1 20020001 0000000% 0003 000a 06040001
 leave 2
 ";
 
@@ -81,11 +79,8 @@ const FIRST_PIECE: usize = 9;
 /// One line of a meeting.
 #[derive(Debug, Drop)]
 enum Line {
-    Attach(u16),
-    Send(usize, Vec<u8>),
-    Took(usize, u32),
-    Leave(usize),
-    Admin(Act),
+    Script(Command),
+    Took { connection: u64, parcels: u32 },
 }
 
 /// Memory was refused to reading the lines, or they are no lines of a meeting.
@@ -117,9 +112,11 @@ pub struct Meeting {
 impl Meeting {
     /// The meeting of these lines, at which nobody is yet.
     pub fn new(alloc: Global, conference: u32, text: &str) -> Result<Meeting, Unread> {
+        let number = format!(in alloc; "{conference}")?;
+        let text = text.replace(alloc, "%", number.as_str())?;
         let mut lines = Vec::new(alloc);
-        for text in text.lines() {
-            lines.push(read_line(alloc, conference, text)?)?;
+        for line in text.lines() {
+            lines.push(read_line(alloc, line)?)?;
         }
         let connections = Vec::with_capacity(alloc, lines.len())?;
         Ok(Meeting {
@@ -136,77 +133,67 @@ impl Meeting {
 
     /// Does the line at this place, if there is one. A connection that isn't there does nothing.
     pub fn play(&mut self, alloc: Global, hub: &mut Hub, place: usize) -> Result<(), HubRefusal> {
-        let Some(line) = self.lines.get(place) else {
-            return Ok(());
-        };
-        match line {
-            Line::Attach(user) => {
-                let connection = hub.attach(alloc, self.conference, *user)?;
+        match self.lines.get(place) {
+            None => Ok(()),
+            Some(
+                Line::Took {
+                    connection,
+                    parcels,
+                },
+            ) => match self.connection(*connection) {
+                Some(connection) => hub.took(connection, *parcels),
+                None => Ok(()),
+            },
+            Some(Line::Script(Command::Attach { conference, user })) => {
+                let connection = hub.attach(alloc, *conference, *user)?;
                 match self.connections.push(connection) {
                     Ok(()) => Ok(()),
                     Err(_) => Err(HubRefusal::Memory),
                 }
             }
-            Line::Send(connection, message) => match self.connections.get(*connection) {
-                Some(connection) => send(hub, *connection, message),
+            Some(Line::Script(command)) => self.carry_out(alloc, hub, command),
+        }
+    }
+
+    /// What a line asks for that attaches nobody.
+    fn carry_out(&self, alloc: Global, hub: &mut Hub, command: &Command) -> Result<(), HubRefusal> {
+        match command {
+            Command::Send { connection, bytes } => match self.connection(*connection) {
+                Some(connection) => send(hub, connection, bytes.as_slice()),
                 None => Ok(()),
             },
-            Line::Took(connection, parcels) => match self.connections.get(*connection) {
-                Some(connection) => hub.took(*connection, *parcels),
+            Command::Leave { connection } => match self.connection(*connection) {
+                Some(connection) => hub.leave(connection),
                 None => Ok(()),
             },
-            Line::Leave(connection) => match self.connections.get(*connection) {
-                Some(connection) => hub.leave(*connection),
-                None => Ok(()),
-            },
-            Line::Admin(act) => match act.copy(alloc) {
-                Ok(act) => hub.admin(self.conference, act),
+            Command::Admin { conference, act } => match act.copy(alloc) {
+                Ok(act) => hub.admin(*conference, act),
                 Err(_) => Err(HubRefusal::Memory),
             },
+            _ => Ok(()),
         }
+    }
+
+    /// The number in the hub of the connection that was attached as this one of the meeting, counted
+    /// from 1.
+    fn connection(&self, number: u64) -> Option<ConnNo> {
+        let place = usize::try_from(number.checked_sub(1)?).ok()?;
+        self.connections.get(place).copied()
     }
 }
 
-fn read_line(alloc: Global, conference: u32, text: &str) -> Result<Line, Unread> {
-    let Ok(act) = read_act(alloc, text) else {
-        return Err(Unread);
-    };
-    if let Some(line) = act {
-        return Ok(Line::Admin(line.act));
-    }
+/// The line of a meeting that the text says.
+fn read_line(alloc: Global, text: &str) -> Result<Line, Unread> {
     let words = words(alloc, text)?;
-    match words.as_slice() {
-        ["attach", user] => Ok(Line::Attach(number(user)?)),
-        ["send", connection, message @ ..] => {
-            let Ok(mut message) = read_hexadecimal(alloc, message) else {
-                return Err(Unread);
-            };
-            put_conference(&mut message, conference);
-            Ok(Line::Send(place(connection)?, message))
-        }
-        ["took", connection, parcels] => {
-            Ok(Line::Took(place(connection)?, u32::from(number(parcels)?)))
-        }
-        ["leave", connection] => Ok(Line::Leave(place(connection)?)),
-        _ => Err(Unread),
+    if let ["took", connection, parcels] = words.as_slice() {
+        return Ok(Line::Took {
+            connection: read_u64(connection).ok_or(Unread)?,
+            parcels: read_u32(parcels).ok_or(Unread)?,
+        });
     }
-}
-
-/// The place of the connection with this number.
-fn place(word: &str) -> Result<usize, Unread> {
-    usize::from(number(word)?).checked_sub(1).ok_or(Unread)
-}
-
-fn number(word: &str) -> Result<u16, Unread> {
-    read_u16(word).ok_or(Unread)
-}
-
-/// Puts the number of a conference into the header of a message.
-fn put_conference(message: &mut Vec<u8>, conference: u32) {
-    for (place, byte) in conference.to_be_bytes().into_iter().enumerate() {
-        if let Some(old) = message.get_mut(place.saturating_add(4)) {
-            *old = byte;
-        }
+    match parse_line(alloc, text) {
+        Ok(command) => Ok(Line::Script(command)),
+        Err(_) => Err(Unread),
     }
 }
 
