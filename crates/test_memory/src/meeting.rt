@@ -177,7 +177,7 @@ impl Meeting {
     /// The number in the hub of the connection that was attached as this one of the meeting, counted
     /// from 1.
     fn connection(&self, number: u64) -> Option<ConnNo> {
-        let place = usize::try_from(number.checked_sub(1)?).ok()?;
+        let place = number.checked_sub(1)? as usize;
         self.connections.get(place).copied()
     }
 }
