@@ -307,9 +307,9 @@ room = 1
 id = 1
 chiar = 10
 [[conference]]
-title = "Saturday"
+titel = "Saturday"
 id = 2
-=> 1 name/6 conference 1: limits/11 conference 1, user 2: nmae/17 conference 1, floor 1: chiar/19 conference 2: title
+=> 1 name/6 conference 1: limits/11 conference 1, user 2: nmae/17 conference 1, floor 1: chiar/19 conference 2: titel
 == tables within
 [server]
 port = 1
@@ -341,30 +341,35 @@ conference = []
 [[conference]]
 id = 1
 limit = 4
+title = "Board meeting"
 [[conference.user]]
 id = 10
 name = "Ann"
 uri = "sip:ann@example.org"
 proxy = true
 port = 7010
+token = "Ann-0123456789-abcdefghi"
 [[conference.floor]]
 id = 1
 room = 1
 chair = 10
+title = "Microphone"
 =>
 == keys of another table
 [[conference]]
 id = 1
 room = 1
+token = "Ann-0123456789-abcdefghi"
 [[conference.user]]
 id = 10
 limit = 4
 chair = 10
+title = "Doctor"
 [[conference.floor]]
 id = 1
 name = "Stage"
 port = 7010
-=> 3 conference 1: room/6 conference 1, user 1: limit/7 conference 1, user 1: chair/10 conference 1, floor 1: name/11 conference 1, floor 1: port"#;
+=> 3 conference 1: room/4 conference 1: token/7 conference 1, user 1: limit/8 conference 1, user 1: chair/9 conference 1, user 1: title/12 conference 1, floor 1: name/13 conference 1, floor 1: port"#;
 
 /// What is told of the keys of a text, in the order of their lines.
 fn keys_of(alloc: Global, text: &str) -> Result<String, AllocError> {

@@ -13,14 +13,15 @@ const MAX_READS: u32 = 5_000;
 /// How many keys are told of at most.
 const MAX_TOLD: usize = 100;
 
-/// The keys of a conference's table, of a user's and of a floor's.
-const CONFERENCE: [&str; 4] = ["id", "limit", "user", "floor"];
+/// The keys of a conference's table, of a user's and of a floor's. `title` and `token` say nothing to a
+/// server, and something to the gateway for browsers, which reads the same file.
+const CONFERENCE: [&str; 5] = ["id", "limit", "user", "floor", "title"];
 
-const USER: [&str; 5] = ["id", "name", "uri", "proxy", "port"];
+const USER: [&str; 6] = ["id", "name", "uri", "proxy", "port", "token"];
 
-const FLOOR: [&str; 3] = ["id", "room", "chair"];
+const FLOOR: [&str; 4] = ["id", "room", "chair", "title"];
 
-/// A key that says nothing.
+/// A key that says nothing, neither to a server nor to the gateway for browsers.
 #[derive(Debug, Drop)]
 pub struct UnknownKey {
     /// The line, counted from 1, that it stands in, or that its value begins in where that is an array

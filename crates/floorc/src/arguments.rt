@@ -5,8 +5,8 @@ use floor_words::{read_u16, read_u32};
 use std::alloc::{AllocError, Global};
 use std::convert::AsStr;
 
-/// The version, and the line of the toolchain that the program is proved with.
-const VERSION: &str = "0.1.0 (rattle-kit-13b logic dac8208d650f15bf)";
+/// The version, and the logic that the program is proved with.
+const VERSION: &str = "0.1.0 (logic dac8208d650f15bf)";
 
 /// What the lines are, and what is printed, below the help of the words.
 const LINES: &str = "\

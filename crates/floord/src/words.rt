@@ -4,8 +4,8 @@ use clap::error::ErrorKind;
 use clap::{Arg, ArgAction, Command, Error};
 use std::alloc::Global;
 
-/// The version, and the line of the toolchain that the program is proved with.
-const VERSION: &str = "0.1.0 (rattle-kit-13b logic dac8208d650f15bf)";
+/// The version, and the logic that the program is proved with.
+const VERSION: &str = "0.1.0 (logic dac8208d650f15bf)";
 
 /// What the administrator's lines are, below the help of the words.
 const LINES: &str = "\

@@ -5,8 +5,8 @@ use floor_script::{RunFault, run_script};
 use std::alloc::Global;
 use std::io::{ErrorKind, Read, Write};
 
-/// What `--version` prints: the version, and the line of the toolchain that the program is proved with.
-const VERSION: &str = "floorsim 0.1.0 (rattle-kit-13b logic dac8208d650f15bf)
+/// What `--version` prints: the version, and the logic that the program is proved with.
+const VERSION: &str = "floorsim 0.1.0 (logic dac8208d650f15bf)
 ";
 
 /// What `--help` prints.

@@ -4,6 +4,9 @@ use clap::error::ErrorKind;
 use clap::{Arg, ArgAction, ArgMatches, Command, Error};
 use std::alloc::Global;
 
+/// The version, and the logic that the program is proved with.
+const VERSION: &str = "0.1.0 (logic dac8208d650f15bf)";
+
 /// What the words say.
 #[derive(Debug, Drop)]
 pub struct Words {
@@ -22,7 +25,7 @@ pub struct Words {
 /// Why the words say nothing.
 #[derive(Debug, Drop)]
 pub enum WordsFault {
-    /// The text that help has.
+    /// The text of the help or of the version, which they ask for.
     Help(String),
     /// The text that says what is wrong.
     Refused(String),
@@ -58,6 +61,7 @@ fn parsed(alloc: Global, words: &[String]) -> Result<Words, Error> {
 fn command<'a>(alloc: Global) -> Result<Command<'a>, Error> {
     let command = Command::new(alloc, "floorweb")
         .about("Lets browsers take part in the conferences of a floor control server (RFC 8857).")
+        .version(VERSION)
         .arg(required(alloc, "address", "Where to listen, as 127.0.0.1:7080."))?
         .arg(required(
             alloc,
@@ -95,7 +99,7 @@ fn fault_of(alloc: Global, error: Error) -> WordsFault {
         return WordsFault::Memory;
     };
     match kind {
-        ErrorKind::DisplayHelp => WordsFault::Help(text),
+        ErrorKind::DisplayHelp | ErrorKind::DisplayVersion => WordsFault::Help(text),
         ErrorKind::OutOfMemory => WordsFault::Memory,
         _ => WordsFault::Refused(text),
     }
