@@ -2,13 +2,14 @@
 """A gateway for browsers, tried over sockets: ./web.py FLOORD FLOORWEB FOLDER [GROUP ..]
 
 Starts a floord and a floorweb of its own and runs each group of tries (or those that are named):
-starts, heads, sockets, floods, many, proxy (which wants nginx and openssl), service, refused (which
+starts, heads, sockets, floods, many, unread, proxy (which wants nginx and openssl), service, refused (which
 wants a C compiler), ends. Each try has the answer that it wants: a status of HTTP, a close code of
 WebSocket (RFC 6455, section 7.4.1), or what is in the frames. Prints a line for each that fails, and
 how many passed; status 1 where one failed.
 """
 import base64
 import collections
+import fcntl
 import hashlib
 import os
 import re
@@ -21,6 +22,7 @@ import struct
 import subprocess
 import sys
 import tempfile
+import termios
 import threading
 import time
 
@@ -46,6 +48,8 @@ CUT = 130
 # How often a floor that 15 wait for is requested and given back beside one that reads nothing: it is
 # told more by it than all buffers hold.
 FLOOD = 3_000
+# How many lines a log is told that nobody reads: more than a pipe holds.
+UNREAD = 1_600
 
 passed = 0
 failed = []
@@ -625,6 +629,62 @@ def proxy(program, folder):
                               'ssl_certificate_key %s/key.pem;' % (PORT + 2, place, place))
         block = block.replace('127.0.0.1:7080', HOST)
         paths = ''.join('%s_temp_path %s;\n' % (kind, place)
+# A log that nobody reads
+
+def unread(program, folder):
+    """Standard error is a pipe that is full: pages and WebSockets are served as before, also by the thread that
+    accepts, and the end of the input ends the program."""
+    port = PORT + 4
+    gateway = Gateway(program, folder, configuration(), '--log', address='127.0.0.1:%d' % port).ready()
+
+    def reach():
+        stream = socket.create_connection(('127.0.0.1', port))
+        stream.settimeout(20)
+        return stream
+
+    def asked(request):
+        stream = reach()
+        stream.sendall(request)
+        try:
+            return status_of(reply(stream))
+        except TimeoutError:
+            return 'no answer'
+        finally:
+            stream.close()
+
+    answers = collections.Counter(asked(get('/none')) for _ in range(UNREAD))
+    check('unread: each request is answered', answers, {404: UNREAD})
+    waits = fcntl.ioctl(gateway.process.stderr, termios.FIONREAD, bytes(4))
+    check('unread: the pipe is full', struct.unpack('i', waits)[0] > 60_000, True)
+    check('unread: a page', asked(get('/')), 200)
+    stream = reach()
+    stream.sendall(upgrade('/bfcp/' + token_of(8, 11)) + frame(2, message(HELLO, conference=8, user=11)))
+    got = b''
+    try:
+        while b'\r\n\r\n\x820\x20\x0c' not in got and (piece := stream.recv(4_096)):
+            got += piece
+    except TimeoutError:
+        pass
+    check('unread: a WebSocket', b'\r\n\r\n\x820\x20\x0c' in got, True)
+    held = [reach() for _ in range(1_023)]
+    time.sleep(1)
+    check('unread: one more than there may be', asked(get('/')), 503)
+    for one in held:
+        one.close()
+    time.sleep(1)
+    check('unread: and room again', asked(get('/')), 200)
+    gateway.process.stdin.close()
+    try:
+        check('unread: the end of the input', gateway.process.wait(10), 0)
+    except subprocess.TimeoutExpired:
+        check('unread: the end of the input', 'it goes on', 0)
+        gateway.process.kill()
+    stream.close()
+    lines = gateway.process.stderr.read().decode().splitlines()
+    check('unread: what the pipe held', set(line.split(' ', 1)[1] for line in lines[:1_000]), {'refused 404 Not Found'})
+    os.unlink(gateway.path)
+
+
                         for kind in ('client_body', 'proxy', 'fastcgi', 'uwsgi', 'scgi'))
         with open(place + '/nginx.conf', 'w') as file:
             file.write('daemon off; pid %s/pid; error_log %s/errors; events { }\nhttp { access_log %s/log;\n%s%s}\n' % (
@@ -863,7 +923,7 @@ def main():
     if len(sys.argv) < 4:
         raise SystemExit(__doc__)
     floord_path, program, folder = sys.argv[1:4]
-    groups = sys.argv[4:] or ['starts', 'heads', 'sockets', 'floods', 'many', 'proxy', 'service', 'refused',
+    groups = sys.argv[4:] or ['starts', 'heads', 'sockets', 'floods', 'many', 'unread', 'proxy', 'service', 'refused',
                               'ends']
     resource.setrlimit(resource.RLIMIT_NOFILE, (8_192, 8_192))
     if 'starts' in groups:
@@ -886,10 +946,12 @@ def main():
         many(program, folder, gateway)
     if 'ends' in groups:
         ends(program, folder, floord_path, floord, gateway)
-    check('it ends', gateway.end()[0], 0)
+    check('it ends, without a log', gateway.end(), (0, '', ''))
     floord.process.kill()
     print('%d tries passed, %d failed' % (passed, len(failed)))
     sys.exit(1 if failed else 0)
 
 
 main()
+    if 'unread' in groups:
+        unread(program, folder)

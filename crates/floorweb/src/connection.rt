@@ -1,12 +1,14 @@
 //! One connection: a request, and what follows it.
 
+use crate::entry::{Entry, Place};
 use crate::gateway::Gateway;
 use crate::head::{HeadEnd, read_head};
 use crate::pair::{Pair, WRITE_SECONDS, linger};
+use crate::unserved::Unserved;
 use floor_web::{
     Asked, End, Kind, Participant, Reading, Refusal, read_request, refuse, serve, welcome,
 };
-use std::alloc::{AllocError, AllocFailed, Global};
+use std::alloc::Global;
 use std::io::{Read, Write};
 use std::net::{Ipv4Addr, Net, Shutdown, SocketAddr, TcpListener, TcpStream};
 use std::sync::{Arc, Wait};
@@ -17,43 +19,11 @@ use std::time::{Clock, Duration};
 /// How long the server may take to take a connection, in seconds.
 const CONNECT_SECONDS: u64 = 5;
 
-/// Why a connection isn't answered.
-#[derive(Clone, Copy, Debug, PartialEq, Eq)]
-pub enum Unserved {
-    /// No thread can be made for it.
-    NoThread,
-    /// Memory was refused.
-    Memory,
-}
-
-impl Unserved {
-    /// Its name.
-    pub fn name(self) -> &'static str {
-        match self {
-            Unserved::NoThread => "NoThread",
-            Unserved::Memory => "Memory",
-        }
-    }
-}
-
-impl From<AllocError> for Unserved {
-    fn from(_e: AllocError) -> Unserved {
-        Unserved::Memory
-    }
-}
-
-impl<T: Drop> From<AllocFailed<T>> for Unserved {
-    fn from(_e: AllocFailed<T>) -> Unserved {
-        Unserved::Memory
-    }
-}
-
 /// Starts the thread of a connection. Where it can't be served its socket is closed.
 pub fn start<R>(rt: R, alloc: Global, gateway: &Arc<Gateway, Global>, stream: TcpStream)
 where
     R: Net<Listener = TcpListener, Stream = TcpStream>
         + Clock
-        + Eprint
         + Threads
         + Wait
         + Copy
@@ -62,22 +32,22 @@ where
         + 'static,
 {
     let Ok(theirs) = Arc::try_clone(gateway) else {
-        gateway.log.unserved(&rt, Unserved::Memory);
+        gateway.tell(&rt, &Entry::Unserved(Unserved::Memory));
         return;
     };
     if !gateway.enter() {
-        gateway.log.refused(&rt, Refusal::Unavailable);
+        gateway.tell(&rt, &Entry::Refused(Refusal::Unavailable));
         turn_away(alloc, &stream);
         return;
     }
     let started = thread::spawn(&rt, move || {
         if let Err(unserved) = run(rt, alloc, &theirs, stream) {
-            theirs.log.unserved(&rt, unserved);
+            theirs.tell(&rt, &Entry::Unserved(unserved));
         }
         theirs.leave();
     });
     if started.is_err() {
-        gateway.log.unserved(&rt, Unserved::NoThread);
+        gateway.tell(&rt, &Entry::Unserved(Unserved::NoThread));
         gateway.leave();
     }
 }
@@ -99,7 +69,6 @@ fn run<R>(rt: R, alloc: Global, gateway: &Gateway, stream: TcpStream) -> Result<
 where
     R: Net<Listener = TcpListener, Stream = TcpStream>
         + Clock
-        + Eprint
         + Threads
         + Wait
         + Copy
@@ -144,7 +113,6 @@ fn answer<R>(
 where
     R: Net<Listener = TcpListener, Stream = TcpStream>
         + Clock
-        + Eprint
         + Threads
         + Wait
         + Copy
@@ -178,7 +146,7 @@ where
     }
 }
 
-fn answer_refusal<R: Clock + Eprint>(
+fn answer_refusal<R: Clock + Wait>(
     rt: &R,
     alloc: Global,
     gateway: &Gateway,
@@ -186,7 +154,7 @@ fn answer_refusal<R: Clock + Eprint>(
     refusal: Refusal,
     is_head: bool,
 ) -> Result<(), Unserved> {
-    gateway.log.refused(rt, refusal);
+    gateway.tell(rt, &Entry::Refused(refusal));
     let answer = refuse(alloc, refusal, is_head)?;
     send_last(rt, stream, answer.as_slice());
     Ok(())
@@ -212,7 +180,6 @@ fn connect<R>(
 where
     R: Net<Listener = TcpListener, Stream = TcpStream>
         + Clock
-        + Eprint
         + Threads
         + Wait
         + Copy
@@ -244,12 +211,13 @@ where
         gateway.remove(&rt, key);
         return Err(Unserved::NoThread);
     };
-    gateway.log.joined(&rt, participant);
+    let place = Place::of(participant);
+    gateway.tell(&rt, &Entry::Joined(place));
     pair.carry_up(&rt, behind);
     pair.hang_up();
     other.join(&rt);
     gateway.remove(&rt, key);
     let end = pair.part(&rt);
-    gateway.log.left(&rt, participant, end.unwrap_or(End::Gone));
+    gateway.tell(&rt, &Entry::Left(place, end.unwrap_or(End::Gone)));
     Ok(())
 }

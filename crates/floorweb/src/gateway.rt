@@ -1,9 +1,10 @@
 //! What all connections share: who has which token, the page, and the connections that run.
 
+use crate::entry::Entry;
 use crate::fault::GatewayFault;
-use crate::log::Log;
 use crate::pair::Pair;
 use crate::words::Words;
+use floor_log::Log;
 use floor_web::{
     File, Origins, Pages, Participants, ParticipantsFault, kind_of, read_participants,
 };
@@ -15,6 +16,7 @@ use std::path::Path;
 use std::rt::Files;
 use std::sync::atomic::{AtomicBool, AtomicUsize, Ordering};
 use std::sync::{Arc, Mutex, Wait};
+use std::time::Clock;
 
 /// How many connections there may be at once: each may have two threads and two descriptors.
 const MAX_CONNECTIONS: usize = 1_024;
@@ -22,22 +24,24 @@ const MAX_CONNECTIONS: usize = 1_024;
 /// What all connections share.
 #[derive(Drop)]
 pub struct Gateway {
+    alloc: Global,
     pub participants: Participants,
     pub pages: Pages,
     pub origins: Origins,
-    pub log: Log,
+    log: Option<Arc<Log, Global>>,
     running: AtomicUsize,
     is_ending: AtomicBool,
     pairs: Mutex<Slab<Arc<Pair, Global>>>,
 }
 
 impl Gateway {
-    /// The gateway of these words, to which nobody has connected. Whatever is wrong is told on
-    /// `errors`, with its place.
+    /// The gateway of these words, to which nobody has connected, with the log that it tells, if there
+    /// is one. Whatever is wrong is told on `errors`, with its place.
     pub fn open<R, E: Write>(
         rt: &R,
         alloc: Global,
         words: Words,
+        log: Option<Arc<Log, Global>>,
         errors: &mut E,
     ) -> Result<Gateway, GatewayFault>
     where
@@ -48,7 +52,7 @@ impl Gateway {
             config,
             folder,
             origins,
-            is_logging,
+            has_log: _,
         } = words;
         let participants = participants_of(rt, alloc, config.as_str(), errors)?;
         let pages = read_pages(rt, alloc, folder.as_str(), errors)?;
@@ -57,14 +61,31 @@ impl Gateway {
             return Err(GatewayFault::NoPage);
         }
         Ok(Gateway {
+            alloc,
             participants,
             pages,
             origins: Origins { listed: origins },
-            log: Log { is_on: is_logging },
+            log,
             running: AtomicUsize::new(0),
             is_ending: AtomicBool::new(false),
             pairs: Mutex::new(Slab::new(alloc)),
         })
+    }
+
+    /// Tells the log, where there is one, what became of a connection.
+    pub fn tell<R: Clock + Wait>(&self, rt: &R, entry: &Entry) {
+        match &self.log {
+            None => {}
+            Some(log) => log.tell(rt, entry.text(self.alloc)),
+        }
+    }
+
+    /// Ends the log, where there is one, once nothing more is to be told.
+    pub fn end_log<R: Wait>(&self, rt: &R) {
+        match &self.log {
+            None => {}
+            Some(log) => log.end(rt),
+        }
     }
 
     /// Takes a place for a connection, if one is free.

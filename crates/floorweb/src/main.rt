@@ -7,14 +7,15 @@
 
 mod connection;
 mod deadline;
+mod entry;
 mod fault;
 mod gateway;
 mod head;
-mod log;
 mod pair;
 mod run;
 #[cfg(test)]
 mod tests;
+mod unserved;
 mod words;
 
 use crate::fault::GatewayFault;
@@ -43,5 +44,6 @@ fn main(rt: HostRuntime) -> ExitCode {
         &mut rt.stdin(),
         &mut rt.stdout(),
         &mut rt.stderr(),
+        rt.stderr(),
     ))
 }

@@ -5,6 +5,7 @@ use crate::fault::GatewayFault;
 use crate::gateway::Gateway;
 use crate::words::{Words, WordsFault, parse_words};
 use floor_listen::{Accepting, after_accept};
+use floor_log::Log;
 use std::alloc::Global;
 use std::io::{Read, Write};
 use std::net::{Net, Shutdown, TcpListener, TcpStream};
@@ -20,21 +21,22 @@ const LAST_LOOKS: u32 = 60;
 
 const LOOK_MILLIS: u64 = 50;
 
-/// Serves until `input` ends, prints the name of a fault to `errors`, and gives the exit status.
-pub fn run<R, I: Read, O: Write, E: Write>(
+/// Serves until `input` ends, prints the name of a fault to `errors`, and gives the exit status. A log
+/// that the words ask for goes to the sink.
+pub fn run<R, I: Read, O: Write, E: Write, L: Write + Send + Drop + 'static>(
     rt: R,
     alloc: Global,
     words: &[String],
     input: &mut I,
     output: &mut O,
     errors: &mut E,
+    sink: L,
 ) -> u8
 where
     R: Net<Listener = TcpListener, Stream = TcpStream>
         + Files
         + AllocGlobal
         + Clock
-        + Eprint
         + Threads
         + Wait
         + Copy
@@ -56,26 +58,26 @@ where
         }
         Err(WordsFault::Memory) => return tell(errors, GatewayFault::Memory),
     };
-    match listen(rt, alloc, words, input, output, errors) {
+    match listen(rt, alloc, words, input, output, errors, sink) {
         Ok(()) => 0,
         Err(fault) => tell(errors, fault),
     }
 }
 
-fn listen<R, I: Read, O: Write, E: Write>(
+fn listen<R, I: Read, O: Write, E: Write, L: Write + Send + Drop + 'static>(
     rt: R,
     alloc: Global,
     words: Words,
     input: &mut I,
     output: &mut O,
     errors: &mut E,
+    sink: L,
 ) -> Result<(), GatewayFault>
 where
     R: Net<Listener = TcpListener, Stream = TcpStream>
         + Files
         + AllocGlobal
         + Clock
-        + Eprint
         + Threads
         + Wait
         + Copy
@@ -84,7 +86,12 @@ where
         + 'static,
 {
     let address = String::from_str(alloc, words.address.as_str())?;
-    let gateway = Arc::new(alloc, Gateway::open(&rt, alloc, words, errors)?)?;
+    let log = if words.has_log {
+        Log::start(rt, alloc, sink)
+    } else {
+        None
+    };
+    let gateway = Arc::new(alloc, Gateway::open(&rt, alloc, words, log, errors)?)?;
     let (listener, second) = bind(&rt, address.as_str(), errors)?;
     let theirs = Arc::try_clone(&gateway)?;
     let started = thread::spawn(&rt, move || accept_all(rt, alloc, &theirs, &listener));
@@ -100,6 +107,7 @@ where
     let _outcome = second.shutdown(Shutdown::Both);
     acceptor.join(&rt);
     wait_for_connections(&rt, &gateway);
+    gateway.end_log(&rt);
     outcome
 }
 
@@ -133,7 +141,6 @@ fn accept_all<R>(rt: R, alloc: Global, gateway: &Arc<Gateway, Global>, listener:
 where
     R: Net<Listener = TcpListener, Stream = TcpStream>
         + Clock
-        + Eprint
         + Threads
         + Wait
         + Copy

@@ -40,7 +40,6 @@ where
         + Files
         + AllocGlobal
         + Clock
-        + Eprint
         + Threads
         + Wait
         + Copy
@@ -53,7 +52,15 @@ where
     let mut output = Vec::new(alloc);
     let mut errors = Vec::new(alloc);
     let mut input: &[u8] = b"";
-    let status = run(rt, alloc, &words, &mut input, &mut output, &mut errors);
+    let status = run(
+        rt,
+        alloc,
+        &words,
+        &mut input,
+        &mut output,
+        &mut errors,
+        Vec::new(alloc),
+    );
     if status != 1 || !output.is_empty() {
         return Err(Fail::from("no fault"));
     }
@@ -67,7 +74,6 @@ where
         + Files
         + AllocGlobal
         + Clock
-        + Eprint
         + Threads
         + Wait
         + Copy
@@ -88,7 +94,15 @@ fn words_that_are_missing_are_refused(rt: HostRuntime) -> Result<(), Fail> {
     let mut output = Vec::new(alloc);
     let mut errors = Vec::new(alloc);
     let mut input: &[u8] = b"";
-    let status = run(rt, alloc, &words, &mut input, &mut output, &mut errors);
+    let status = run(
+        rt,
+        alloc,
+        &words,
+        &mut input,
+        &mut output,
+        &mut errors,
+        Vec::new(alloc),
+    );
     assert_eq!(rt; status, 2);
     assert!(rt; !errors.is_empty());
     Ok(())
@@ -129,7 +143,6 @@ where
         + Files
         + AllocGlobal
         + Clock
-        + Eprint
         + Threads
         + Wait
         + Copy
@@ -150,6 +163,7 @@ where
         &mut input,
         &mut output,
         &mut errors,
+        Vec::new(alloc),
     )
 }
 

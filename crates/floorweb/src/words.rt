@@ -19,7 +19,7 @@ pub struct Words {
     /// The origins that are allowed by name.
     pub origins: Vec<String>,
     /// Whether each connection that joins, is refused or leaves is told.
-    pub is_logging: bool,
+    pub has_log: bool,
 }
 
 /// Why the words say nothing.
@@ -54,7 +54,7 @@ fn parsed(alloc: Global, words: &[String]) -> Result<Words, Error> {
         config: text(alloc, &matches, "config")?,
         folder: text(alloc, &matches, "folder")?,
         origins,
-        is_logging: matches.get_flag("log"),
+        has_log: matches.get_flag("log"),
     })
 }
 

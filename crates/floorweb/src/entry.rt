@@ -1,0 +1,54 @@
+//! What the log tells: a line for each connection that joins, is refused or leaves. No line has a
+//! token, and for a message there is none.
+
+use crate::unserved::Unserved;
+use floor_web::{End, Participant, Refusal};
+use std::alloc::{AllocError, Global};
+
+/// What became of a connection.
+#[derive(Clone, Copy, Debug)]
+pub enum Entry {
+    /// A participant's connection to the server is made.
+    Joined(Place),
+    /// It has ended so.
+    Left(Place, End),
+    /// A request was refused.
+    Refused(Refusal),
+    /// A connection isn't answered.
+    Unserved(Unserved),
+}
+
+/// Who takes part: a user of a conference.
+#[derive(Clone, Copy, Debug)]
+pub struct Place {
+    pub conference: u32,
+    pub user: u16,
+}
+
+impl Place {
+    /// That of a participant.
+    pub fn of(participant: &Participant) -> Place {
+        Place {
+            conference: participant.conference,
+            user: participant.user,
+        }
+    }
+}
+
+impl Entry {
+    /// What the line says, without the time.
+    pub fn text(&self, alloc: Global) -> Result<String, AllocError> {
+        match self {
+            Entry::Joined(place) => {
+                let (conference, user) = (place.conference, place.user);
+                format!(in alloc; "joined conference {conference} user {user}")
+            }
+            Entry::Left(place, end) => {
+                let (conference, user) = (place.conference, place.user);
+                format!(in alloc; "left conference {conference} user {user}: {}", end.name())
+            }
+            Entry::Refused(refusal) => format!(in alloc; "refused {}", refusal.status()),
+            Entry::Unserved(unserved) => format!(in alloc; "unserved {}", unserved.name()),
+        }
+    }
+}
