@@ -83,8 +83,11 @@ def configuration():
     return ''.join(rows)
 
 
-LOST_USER = '[[conference]]\nid = 99\n[[conference.user]]\nid = 1\nport = %d\ntoken = "%s"\n' % (
-    FIRST_PORT + 170, token_of(99, 1))
+# Of two users more nobody listens at the port of one, and nobody accepts at that of the other.
+LOST_USERS = '[[conference]]\nid = 99\n' + ''.join(
+    '[[conference.user]]\nid = %d\nport = %d\ntoken = "%s"\n' % (user, FIRST_PORT + 170 + user, token_of(99, user))
+    for user in (1, 2))
+NO_SERVER = 4404
 
 
 class Gateway:
@@ -303,6 +306,11 @@ def starts(program, folder):
 def heads(program, folder):
     token = token_of(1, 10)
     own = 'http://' + HOST
+    deaf = socket.create_server(('127.0.0.1', FIRST_PORT + 172), backlog=0)
+    fillers = [socket.socket() for _ in range(4)]
+    for filler in fillers:
+        filler.setblocking(False)
+        filler.connect_ex(deaf.getsockname())
     bearer = 'Authorization: Bearer %s\r\n' % token
     offered = 'bfcp, token.' + token
     for name, request, status in [
@@ -355,7 +363,7 @@ def heads(program, folder):
             ('nobody\'s token', upgrade('/bfcp/nobody'), 404),
             ('no token', upgrade('/bfcp'), 404),
             ('nobody\'s token offered', upgrade('/bfcp', Sec_WebSocket_Protocol='bfcp, token.x'), 404),
-            ('a server that isn\'t there', upgrade('/bfcp/' + token_of(99, 1)), 502),
+            ('a server that accepts nothing', upgrade('/bfcp/' + token_of(99, 2)), 502),
             ('the version ahead of the token',
              upgrade('/bfcp/nobody', Sec_WebSocket_Version='8'), 426),
             ('the origin ahead of the key',
@@ -367,6 +375,8 @@ def heads(program, folder):
             check('head, no body: ' + name, body, b'')
         if status == 200:
             check('head, its policy: ' + name, b"default-src 'none'" in got, True)
+    for one in fillers + [deaf]:
+        one.close()
     for name, request in [
             ('in the path', upgrade('/bfcp/' + token)),
             ('offered', upgrade('/bfcp', Sec_WebSocket_Protocol=offered)),
@@ -458,6 +468,7 @@ def sockets(program, folder):
         check('before: ' + name, browser.primitive(), HELLO_ACK)
         browser.stream.sendall(sent + frame(2, ack))
         check('close: ' + name, browser.ends(), code)
+    check('close: a server that isn\'t there', Browser(token_of(99, 1)).ends(), NO_SERVER)
     browser = Browser(token)
     browser.send(2, message(HELLO, payload=bytes([0x7e, 252] + [0] * 250) * 1_040))
     check('the longest message but some', browser.primitive() in (HELLO_ACK, ERROR), True)
@@ -500,7 +511,7 @@ def sockets(program, folder):
 # Ends
 
 def ends(program, folder, floord_path, floord, gateway):
-    other = Gateway(program, folder, configuration(), '--log', '--origin', 'https://meet.example.com',
+    other = Gateway(program, folder, configuration() + LOST_USERS, '--log', '--origin', 'https://meet.example.com',
                     address='127.0.0.1:%d' % (PORT + 1)).ready()
     for origin, status in [('https://meet.example.com', 101), ('http://' + HOST, 403),
                            ('https://meet.example.com.evil.example', 403), (None, 101)]:
@@ -509,6 +520,10 @@ def ends(program, folder, floord_path, floord, gateway):
         stream.sendall(upgrade('/bfcp/' + token_of(3, 10), Origin=origin))
         check('listed origin: %s' % origin, status_of(stream.recv(4_096)), status)
         stream.close()
+    stream = socket.create_connection(('127.0.0.1', PORT + 1))
+    stream.sendall(upgrade('/bfcp/' + token_of(99, 1)))
+    check('a server that isn\'t there', reply(stream)[-4:], b'\x88\x02' + struct.pack('>H', NO_SERVER))
+    stream.close()
     stream = socket.create_connection(('127.0.0.1', PORT + 1))
     stream.sendall(upgrade('/bfcp/' + token_of(3, 11)))
     while not select.select([stream], [], [], 5)[0]:
@@ -530,8 +545,8 @@ def ends(program, folder, floord_path, floord, gateway):
     check('the log', sorted(row[1] for row in rows), sorted(
         ['joined conference 3 user 10', 'left conference 3 user 10: Gone'] * 2
         + ['joined conference 3 user 11', 'left conference 3 user 11: ServerGone']
-        + ['refused 403 Forbidden'] * 2))
-    check('its times', all(len(row[0]) == 20 and row[0].endswith('Z') for row in rows), True)
+        + ['no server for conference 99 user 1'] + ['refused 403 Forbidden'] * 2))
+    check('its times', all(len(row[0]) == 24 and row[0].endswith('Z') for row in rows), True)
     check('no token in it', 'token-of' in errors, False)
     browsers = [Browser(token_of(n, 10)) for n in range(1, 5)]
     for n, browser in enumerate(browsers, 1):
@@ -540,7 +555,7 @@ def ends(program, folder, floord_path, floord, gateway):
     floord.process.kill()
     floord.process.wait()
     check('floord is killed', [browser.ends() for browser in browsers], [1001] * 4)
-    check('nobody is there', status_of(ask(upgrade('/bfcp/' + token_of(1, 10)))), 502)
+    check('nobody is there', Browser(token_of(1, 10)).ends(), NO_SERVER)
     check('the page is', status_of(ask(get('/'))), 200)
     back = Server(floord_path, configuration(), limits={resource.RLIMIT_NOFILE: 4_096})
     browser = Browser(token_of(1, 10))
@@ -614,21 +629,6 @@ def floods(floord, gateway):
     check('heads that stop: all freed', gateway.freed(before, 5), before[1:])
 
 
-# A proxy
-
-def proxy(program, folder):
-    """nginx with the block of docs/OPERATION.md before the gateway, with a certificate made here."""
-    page = open(os.path.join(os.path.dirname(os.path.abspath(__file__)), '../docs/OPERATION.md')).read()
-    block = re.search(r'^server \{\n.*?^\}\n', page, re.M | re.S).group()
-    name = re.search(r'server_name (\S+);', block).group(1)
-    with tempfile.TemporaryDirectory() as place:
-        subprocess.run(['openssl', 'req', '-x509', '-newkey', 'rsa:2048', '-nodes', '-days', '2', '-subj',
-                        '/CN=' + name, '-addext', 'subjectAltName=DNS:' + name, '-keyout', place + '/key.pem',
-                        '-out', place + '/own.pem'], check=True, stderr=subprocess.DEVNULL)
-        block = block.replace('listen 443 ssl;', 'listen 127.0.0.1:%d ssl; ssl_certificate %s/own.pem; '
-                              'ssl_certificate_key %s/key.pem;' % (PORT + 2, place, place))
-        block = block.replace('127.0.0.1:7080', HOST)
-        paths = ''.join('%s_temp_path %s;\n' % (kind, place)
 # A log that nobody reads
 
 def unread(program, folder):
@@ -685,6 +685,21 @@ def unread(program, folder):
     os.unlink(gateway.path)
 
 
+# A proxy
+
+def proxy(program, folder):
+    """nginx with the block of docs/OPERATION.md before the gateway, with a certificate made here."""
+    page = open(os.path.join(os.path.dirname(os.path.abspath(__file__)), '../docs/OPERATION.md')).read()
+    block = re.search(r'^server \{\n.*?^\}\n', page, re.M | re.S).group()
+    name = re.search(r'server_name (\S+);', block).group(1)
+    with tempfile.TemporaryDirectory() as place:
+        subprocess.run(['openssl', 'req', '-x509', '-newkey', 'rsa:2048', '-nodes', '-days', '2', '-subj',
+                        '/CN=' + name, '-addext', 'subjectAltName=DNS:' + name, '-keyout', place + '/key.pem',
+                        '-out', place + '/own.pem'], check=True, stderr=subprocess.DEVNULL)
+        block = block.replace('listen 443 ssl;', 'listen 127.0.0.1:%d ssl; ssl_certificate %s/own.pem; '
+                              'ssl_certificate_key %s/key.pem;' % (PORT + 2, place, place))
+        block = block.replace('127.0.0.1:7080', HOST)
+        paths = ''.join('%s_temp_path %s;\n' % (kind, place)
                         for kind in ('client_body', 'proxy', 'fastcgi', 'uwsgi', 'scgi'))
         with open(place + '/nginx.conf', 'w') as file:
             file.write('daemon off; pid %s/pid; error_log %s/errors; events { }\nhttp { access_log %s/log;\n%s%s}\n' % (
@@ -929,7 +944,7 @@ def main():
     if 'starts' in groups:
         starts(program, folder)
     floord = Server(floord_path, configuration(), limits={resource.RLIMIT_NOFILE: 4_096})
-    gateway = Gateway(program, folder, configuration() + LOST_USER).ready()
+    gateway = Gateway(program, folder, configuration() + LOST_USERS).ready()
     if 'heads' in groups:
         heads(program, folder)
     if 'sockets' in groups:
@@ -944,6 +959,8 @@ def main():
         refused(program, folder)
     if 'many' in groups:
         many(program, folder, gateway)
+    if 'unread' in groups:
+        unread(program, folder)
     if 'ends' in groups:
         ends(program, folder, floord_path, floord, gateway)
     check('it ends, without a log', gateway.end(), (0, '', ''))
@@ -953,5 +970,3 @@ def main():
 
 
 main()
-    if 'unread' in groups:
-        unread(program, folder)

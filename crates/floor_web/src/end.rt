@@ -15,6 +15,8 @@ pub enum End {
     Gone,
     /// The floor control server's stream ended, or it refused the connection. Code 1001.
     ServerGone,
+    /// No floor control server listens at the participant's port. Code 4404.
+    NoServer,
     /// The browser broke the protocol of WebSocket (RFC 6455). Code 1002.
     Broken,
     /// The browser sent a message in fragments (RFC 8857, section 4.2). Code 1002.
@@ -41,6 +43,7 @@ impl End {
             End::Closed => "Closed",
             End::Gone => "Gone",
             End::ServerGone => "ServerGone",
+            End::NoServer => "NoServer",
             End::Broken => "Broken",
             End::Fragment => "Fragment",
             End::Text => "Text",
@@ -59,6 +62,8 @@ impl End {
         match self {
             End::Closed | End::Gone => None,
             End::ServerGone => Some(CloseCode::Away),
+            // Codes from 4000 on are an application's own.
+            End::NoServer => Some(CloseCode::Library(4_404)),
             End::Broken | End::Fragment => Some(CloseCode::Protocol),
             End::Text => Some(CloseCode::Unsupported),
             End::NoUtf8 | End::NoMessage => Some(CloseCode::Invalid),

@@ -38,7 +38,7 @@ pub enum Side {
 /// control server.
 ///
 /// `browser` and `server` take a piece of what a side sends, `close` says that a side's stream ended,
-/// and `ping` asks the browser for a sign of life. Each adds what is to be sent to the server to `up`,
+/// `lack_server` that there is no server, and `ping` asks the browser for a sign of life. Each adds what is to be sent to the server to `up`,
 /// and to the browser to `down`; the caller sends both in that order, whole. Once `end` tells an end
 /// nothing is carried any more: what `down` holds by then is still to be sent, and then the browser's
 /// socket is closed. It holds what no whole frame and no whole message is yet, and nothing by what a
@@ -163,6 +163,22 @@ impl Relay {
             Side::Browser => self.finish(End::Gone, down),
             Side::Server => self.finish(End::ServerGone, down),
         }
+    }
+
+    /// Says that no server listens at the participant's port. The browser is told by a close of its own: the
+    /// status of a handshake, which could say it too, is kept from a page.
+    pub fn lack_server(&mut self, down: &mut Vec<u8>)
+        ensures took { self.old.end ≡ None → spec.Finishes End.NoServer self.new
+            down.old.items down.new.items }
+        ensures ended { IsSome self.old.end → spec.Silent self.old self.new
+            [] [] down.old.items down.new.items }
+        ensures carried { spec.KeepsRelayed [] [] self.old self.new
+            [] [] down.old.items down.new.items }
+    {
+        if self.is_over() {
+            return;
+        }
+        self.finish(End::NoServer, down);
     }
 
     /// Asks the browser for a sign of life.

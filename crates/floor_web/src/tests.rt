@@ -215,6 +215,18 @@ fn a_browser_that_is_gone_is_sent_nothing(rt: HostRuntime) -> Result<(), Fail> {
     Ok(())
 }
 
+#[test]
+fn a_browser_without_a_server_is_told_by_a_code_of_its_own(rt: HostRuntime) -> Result<(), Fail> {
+    let alloc = rt.alloc();
+    let mut down = Vec::new(alloc);
+    let mut relay = Relay::new(alloc);
+    relay.lack_server(&mut down);
+    assert_eq!(rt; relay.end(), Some(End::NoServer));
+    // A close by 4404 (RFC 6455, section 5.5.1).
+    assert_eq!(rt; down.as_slice(), b"\x88\x02\x11\x34".as_slice());
+    Ok(())
+}
+
 /// No origin is listed.
 fn own_alone(alloc: Global) -> Origins {
     Origins {

@@ -6,10 +6,10 @@ use crate::head::{HeadEnd, read_head};
 use crate::pair::{Pair, WRITE_SECONDS, linger};
 use crate::unserved::Unserved;
 use floor_web::{
-    Asked, End, Kind, Participant, Reading, Refusal, read_request, refuse, serve, welcome,
+    Asked, End, Kind, Participant, Reading, Refusal, Relay, read_request, refuse, serve, welcome,
 };
 use std::alloc::Global;
-use std::io::{Read, Write};
+use std::io::{ErrorKind, Read, Write};
 use std::net::{Ipv4Addr, Net, Shutdown, SocketAddr, TcpListener, TcpStream};
 use std::sync::{Arc, Wait};
 use std::thread;
@@ -189,8 +189,14 @@ where
 {
     let address = SocketAddr::from((Ipv4Addr::LOCALHOST, participant.port));
     let wait = Duration::from_secs(CONNECT_SECONDS);
-    let Ok(server) = TcpStream::connect_timeout(&rt, &address, wait) else {
-        return answer_refusal(&rt, alloc, gateway, &stream, Refusal::BadGateway, false);
+    let server = match TcpStream::connect_timeout(&rt, &address, wait) {
+        Ok(server) => server,
+        Err(error) if error.kind() == ErrorKind::ConnectionRefused => {
+            return lack_server(&rt, alloc, gateway, participant, &stream, accept);
+        }
+        Err(_) => {
+            return answer_refusal(&rt, alloc, gateway, &stream, Refusal::BadGateway, false);
+        }
     };
     prepare(&server);
     // All memory is had before the browser is told that it has a WebSocket.
@@ -219,5 +225,21 @@ where
     gateway.remove(&rt, key);
     let end = pair.part(&rt);
     gateway.tell(&rt, &Entry::Left(place, end.unwrap_or(End::Gone)));
+    Ok(())
+}
+
+/// Makes the connection a WebSocket, and closes it by the code for a server that isn't there.
+fn lack_server<R: Clock + Wait>(
+    rt: &R,
+    alloc: Global,
+    gateway: &Gateway,
+    participant: &Participant,
+    stream: &TcpStream,
+    accept: &[u8; 28],
+) -> Result<(), Unserved> {
+    gateway.tell(rt, &Entry::NoServer(Place::of(participant)));
+    let mut answer = welcome(alloc, accept)?;
+    Relay::new(alloc).lack_server(&mut answer);
+    send_last(rt, stream, answer.as_slice());
     Ok(())
 }

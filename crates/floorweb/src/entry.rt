@@ -12,6 +12,8 @@ pub enum Entry {
     Joined(Place),
     /// It has ended so.
     Left(Place, End),
+    /// No server listens at a participant's port.
+    NoServer(Place),
     /// A request was refused.
     Refused(Refusal),
     /// A connection isn't answered.
@@ -46,6 +48,10 @@ impl Entry {
             Entry::Left(place, end) => {
                 let (conference, user) = (place.conference, place.user);
                 format!(in alloc; "left conference {conference} user {user}: {}", end.name())
+            }
+            Entry::NoServer(place) => {
+                let (conference, user) = (place.conference, place.user);
+                format!(in alloc; "no server for conference {conference} user {user}")
             }
             Entry::Refused(refusal) => format!(in alloc; "refused {}", refusal.status()),
             Entry::Unserved(unserved) => format!(in alloc; "unserved {}", unserved.name()),
