@@ -4,8 +4,11 @@
 //
 // (Node 22 needs no word for its WebSocket.) It wants `chromium` in the path, and the ports of
 // examples/browsers.toml. What each page shows is compared step by step: hands, queue, decisions with their
-// reasons, an administrator's revoke, a conference that is changed while it runs, keys alone, a connection that
-// is lost and had again. Pictures of the pages go to the folder PICTURES, if there is one. Status 1 at the first
+// reasons, texts that are too long, a server that is slow, an administrator's revoke, a conference that is changed
+// while it runs, keys alone, a connection that is lost and had again, links that open nothing, the end of the
+// meeting. Where a page looks otherwise than before it is looked through for what WCAG 2.2 asks at its levels A and
+// AA, as far as a program sees it: names, roles, contrast, targets, headings, landmarks; narrow, enlarged, in the
+// dark and without motion. Pictures of the pages go to the folder PICTURES, if there is one. Status 1 at the first
 // step that isn't as it should be.
 import { spawn } from "node:child_process";
 import { mkdtempSync, readFileSync, rmSync, writeFileSync } from "node:fs";
@@ -95,16 +98,23 @@ function stop(program) {
 
 /** A tab of the browser, driven over its debugging socket. */
 class Tab {
+  /** All tabs, and what the browser complained of in any. */
+  static all = [];
+  static complaints = [];
+
   static async open(name, hash = tokens[name]) {
     const answer = await fetch(`http://127.0.0.1:${DEBUGGING}/json/new?about:blank`, { method: "PUT" });
     const tab = new Tab();
     tab.name = name;
+    Tab.all.push(tab);
     tab.waiting = new Map();
     tab.complaints = [];
     tab.socket = new WebSocket((await answer.json()).webSocketDebuggerUrl);
     tab.socket.onmessage = (event) => tab.hear(JSON.parse(event.data));
     await new Promise((resolve) => (tab.socket.onopen = resolve));
     for (const domain of ["Page", "Runtime", "Log"]) await tab.send(`${domain}.enable`);
+    // Each is looked at, as by a person of its own: else the browser holds back the timers of all but one.
+    await tab.send("Emulation.setFocusEmulationEnabled", { enabled: true });
     await tab.send("Page.navigate", { url: `http://${ADDRESS}/#${hash}` });
     return tab;
   }
@@ -115,13 +125,19 @@ class Tab {
       this.waiting.delete(id);
       return error ? reject(new Error(JSON.stringify(error))) : resolve(result);
     }
-    if (method === "Runtime.exceptionThrown") this.complaints.push(params.exceptionDetails.exception?.description ?? params.exceptionDetails.text);
-    if (method === "Log.entryAdded") this.complaints.push(params.entry.text);
+    if (method === "Runtime.exceptionThrown") this.complain(params.exceptionDetails.exception?.description ?? params.exceptionDetails.text);
+    if (method === "Log.entryAdded") this.complain(params.entry.text);
+  }
+
+  complain(text) {
+    this.complaints.push(text);
+    Tab.complaints.push(`${this.name}: ${text}`);
   }
 
   send(method, params = {}) {
     const id = (this.last = (this.last ?? 0) + 1);
     return new Promise((resolve, reject) => {
+      setTimeout(() => reject(new Error(`${this.name}: no answer to ${method}`)), 60_000).unref();
       this.waiting.set(id, { resolve, reject });
       this.socket.send(JSON.stringify({ id, method, params }));
     });
@@ -137,7 +153,7 @@ class Tab {
     for (const end = Date.now() + wait; Date.now() < end; await sleep(50)) {
       if (await this.value(expression)) return void steps++;
     }
-    throw new Error(`${this.name}: never ${what}\n${await this.value("document.body?.innerText")}`);
+    throw new Error(`${this.name}: never ${what}\n${await this.value("document.body?.innerText")}\n${Tab.complaints.join("\n")}`);
   }
 
   shows(text, wait) {
@@ -162,8 +178,27 @@ class Tab {
     return this.value(`(() => {
       const card = [...document.querySelectorAll(".floor")].find((one) => one.querySelector("h2").textContent === ${JSON.stringify(floor)});
       card.querySelector(".more").open = true;
-      card.querySelector("[name=${name}]").value = ${JSON.stringify(text)};
+      const field = card.querySelector("[name=${name}]");
+      field.value = ${JSON.stringify(text)};
+      field.dispatchEvent(new Event("input"));
     })()`);
+  }
+
+  /** Waits until a floor's card has a part that says this. */
+  says(floor, part, text, wait) {
+    return this.until(`[...document.querySelectorAll(".floor")].some((one) => one.querySelector("h2").textContent === ${JSON.stringify(floor)} && one.querySelector(${JSON.stringify(part)}).textContent.trim() === ${JSON.stringify(text)})`, `${part} of ${floor}: "${text}"`, wait);
+  }
+
+  /** Waits until the focus is on what has this label. */
+  async focus(label) {
+    await this.until(`(document.activeElement?.getAttribute("aria-label") ?? document.activeElement?.textContent ?? "").trim() === ${JSON.stringify(label)}`, `the focus on ${label}`);
+  }
+
+  /** Whether what the page shows can be perceived and used: what is wrong, a line each (WCAG 2.2, levels A and AA). */
+  async audit(where) {
+    const wrong = await this.value(`(${audit})()`);
+    if (wrong.length) throw new Error(`${this.name}, ${where}: ${wrong.join("\n")}`);
+    steps++;
   }
 
   async key(key, code = key.toUpperCase().charCodeAt(0)) {
@@ -193,10 +228,89 @@ class Tab {
 
   async picture(name, whole = true) {
     if (!pictures) return;
+    // What lies behind another tab isn't drawn.
+    await this.send("Page.bringToFront");
     await sleep(300);
     const { data } = await this.send("Page.captureScreenshot", { format: "png", captureBeyondViewport: whole });
     writeFileSync(join(pictures, `${name}.png`), Buffer.from(data, "base64"));
   }
+}
+
+/** Runs in the page. */
+function audit() {
+  const wrong = [];
+  const name = (node) => `${node.tagName.toLowerCase()}${node.id ? `#${node.id}` : ""}${node.className ? `.${node.className}` : ""} "${node.textContent.trim().slice(0, 30)}"`;
+  const isSeen = (node) => node.checkVisibility({ opacityProperty: true, visibilityProperty: true });
+  const seen = [...document.body.querySelectorAll("*")].filter(isSeen);
+  // 1.4.3, 1.4.11: contrast of texts, and of the edges of what is filled in or pressed.
+  const colour = (text) => {
+    const [r, g, b, a = 1] = text.match(/[\d.]+/g).map(Number);
+    return { r, g, b, a };
+  };
+  const over = (top, below) => ({ r: top.r * top.a + below.r * (1 - top.a), g: top.g * top.a + below.g * (1 - top.a), b: top.b * top.a + below.b * (1 - top.a), a: 1 });
+  const ground = (node) => {
+    if (!node) return { r: 255, g: 255, b: 255, a: 1 };
+    const own = colour(getComputedStyle(node).backgroundColor);
+    return own.a === 1 ? own : over(own, ground(node.parentElement));
+  };
+  const light = ({ r, g, b }) => {
+    const [x, y, z] = [r, g, b].map((part) => (part / 255 <= 0.04045 ? part / 255 / 12.92 : ((part / 255 + 0.055) / 1.055) ** 2.4));
+    return 0.2126 * x + 0.7152 * y + 0.0722 * z;
+  };
+  const contrast = (one, other) => {
+    const [low, high] = [light(one), light(other)].sort((x, y) => x - y);
+    return (high + 0.05) / (low + 0.05);
+  };
+  for (const node of seen) {
+    const style = getComputedStyle(node);
+    const isOff = node.closest(":disabled, [aria-disabled=true]");
+    const hasText = [...node.childNodes].some((child) => child.nodeType === 3 && child.data.trim()) || node.matches("input:not([type=checkbox]), select");
+    if (hasText && !isOff) {
+      const is = contrast(over(colour(style.color), ground(node)), ground(node));
+      const size = parseFloat(style.fontSize);
+      const wanted = size >= 24 || (size >= 18.66 && Number(style.fontWeight) >= 700) ? 3 : 4.5;
+      if (is < wanted) wrong.push(`contrast ${is.toFixed(2)} of ${name(node)}`);
+    }
+    if (node.matches("button, select, input:not([type=checkbox])") && !isOff) {
+      const edge = contrast(colour(style.borderTopColor), ground(node.parentElement));
+      const body = contrast(ground(node), ground(node.parentElement));
+      if (Math.max(edge, body) < 3) wrong.push(`edge ${edge.toFixed(2)} of ${name(node)}`);
+    }
+    // 2.5.8: targets of 24 pixels.
+    if (node.matches("button, select, input, summary")) {
+      const { width, height } = (node.matches("input[type=checkbox]") ? node.closest("label") : node).getBoundingClientRect();
+      if (width < 24 || height < 24) wrong.push(`${width} x ${height}: ${name(node)}`);
+    }
+    // 4.1.2, 1.3.1: a name for whatever is used; 2.4.6: an order of headings.
+    if (node.matches("button, select, input, summary")) {
+      const label = node.getAttribute("aria-label") || node.labels?.[0]?.textContent || (node.matches("button, summary") && node.textContent);
+      if (!label?.trim()) wrong.push(`no name: ${name(node)}`);
+      // 2.5.3: what is seen of it is in its name.
+      const words = node.matches("button") && node.getAttribute("aria-label");
+      if (words && !node.textContent.toLowerCase().split(/\s+/).every((word) => words.toLowerCase().includes(word))) wrong.push(`another name: ${name(node)}, ${words}`);
+    }
+    if (node.matches("[tabindex]") && node.tabIndex > 0) wrong.push(`an order of its own: ${name(node)}`);
+    for (const attribute of ["aria-labelledby", "aria-describedby"]) {
+      for (const id of (node.getAttribute(attribute) ?? "").split(/\s+/).filter(Boolean)) {
+        if (!document.getElementById(id)) wrong.push(`${attribute} of ${name(node)}: no ${id}`);
+      }
+    }
+    if (node.matches("dialog, section[aria-labelledby], article") && !document.getElementById(node.getAttribute("aria-labelledby"))?.textContent.trim()) wrong.push(`no name: ${name(node)}`);
+  }
+  const ids = [...document.querySelectorAll("[id]")].map((node) => node.id);
+  for (const id of ids.filter((one, at) => ids.indexOf(one) !== at)) wrong.push(`twice: #${id}`);
+  const levels = seen.filter((node) => node.matches("h1, h2, h3, h4")).map((node) => Number(node.tagName[1]));
+  if (levels[0] !== 1 || levels.filter((level) => level === 1).length !== 1) wrong.push("not one h1 in front");
+  levels.forEach((level, at) => level > (levels[at - 1] ?? 0) + 1 && wrong.push(`h${level} behind h${levels[at - 1]}`));
+  // 1.3.1: all of it is in a landmark, but for what is told on top of it. 3.1.1, 2.4.2: a language, a title.
+  for (const child of document.body.children) if (isSeen(child) && !child.matches("header, main, dialog, [role=alert]")) wrong.push(`beside the landmarks: ${name(child)}`);
+  if (!document.documentElement.lang || !document.title.trim()) wrong.push("no language or no title");
+  // 1.4.10: no line is read by scrolling sideways; nothing is cut off.
+  if (document.documentElement.scrollWidth > innerWidth) wrong.push(`${document.documentElement.scrollWidth} wide, of ${innerWidth}`);
+  for (const node of seen) {
+    if (node.scrollWidth > node.clientWidth + 1 && node.clientWidth && getComputedStyle(node).overflowX === "hidden") wrong.push(`cut off: ${name(node)}`);
+  }
+  return wrong;
 }
 
 async function meet(floord, gateway) {
@@ -208,9 +322,27 @@ async function meet(floord, gateway) {
   }
   await dee.size(1_060, 760, false);
 
-  // Hands are raised, with a text and a priority; the chair sees them in order.
+  // What is too long isn't sent, and says so while it is typed: a letter with an accent has two bytes.
+  await ann.says("Microphone", ".left", "62 bytes left");
+  await ann.fill("Microphone", "info", "ü".repeat(31));
+  await ann.says("Microphone", ".left", "0 bytes left");
+  await ann.fill("Microphone", "info", "ü".repeat(32));
+  await ann.says("Microphone", ".left", "Too long by 2 bytes");
+  await ann.press("Microphone", "Raise hand");
+  await sleep(500);
+  await ann.says("Microphone", ".standing", "");
+  await ann.says("Microphone", ".hand", "Raise hand");
+  await ann.until("document.querySelector('[name=info]').validationMessage.includes('too long by 2 bytes')", "what is wrong with the text");
+  await ann.audit("a text that is too long");
+
+  // Hands are raised, with a text and a priority; the chair sees them in order. A server that is slow is waited for.
+  floord.kill("SIGSTOP");
   await ann.fill("Microphone", "info", "Budget: two questions");
   await ann.press("Microphone", "Raise hand");
+  await ann.says("Microphone", ".hand", "Asking …");
+  await ann.says("Microphone", ".standing", "Asking …");
+  await ann.picture("asking");
+  floord.kill("SIGCONT");
   await ann.shows("The chair hasn't decided yet");
   await ben.fill("Microphone", "priority", "3");
   await ben.fill("Microphone", "info", "A correction to the minutes");
@@ -239,10 +371,16 @@ async function meet(floord, gateway) {
   await dee.tabTo("Deny Ben");
   await dee.key("Enter", 13);
   await dee.type("Not on the agenda");
+  await dee.audit("the question for a reason");
   await dee.picture("reason", false);
   await dee.key("Enter", 13);
   await ben.shows("Microphone: your hand was denied: Not on the agenda");
-  await ben.picture("denied");
+  // It stands on the card until the next press, where a phone shows it; the chair's focus is on what is next.
+  await ben.says("Microphone", ".standing", "Your hand was denied: Not on the agenda");
+  await ben.until("(({ top, bottom }) => 0 < top && bottom < innerHeight)(document.querySelector('.standing').getBoundingClientRect())", "the denial in sight");
+  await dee.focus("Microphone");
+  await ben.audit("a denial, dark");
+  await ben.picture("denied", false);
 
   // A hand is lowered by its key, and raised again; all hands are lowered at once.
   await cid.key("r");
@@ -251,7 +389,24 @@ async function meet(floord, gateway) {
   await cid.shows("hasn't decided yet");
   await ben.press("Microphone", "Raise hand");
   await ben.shows("hasn't decided yet");
+  await ben.says("Microphone", ".standing", "Your hand is up. The chair hasn't decided yet.");
+
+  // Of two hands one is denied by keys: the focus is on the other's.
+  await dee.value("document.activeElement.blur()");
+  await dee.tabTo("Deny Cid");
+  await dee.key("Enter", 13);
+  await dee.type("Twice");
+  await dee.key("Enter", 13);
+  await cid.says("Microphone", ".standing", "Your hand was denied: Twice");
+  await dee.focus("Put in the queue: Ben");
+  await cid.press("Microphone", "Raise hand");
+  await cid.says("Microphone", ".standing", "Your hand is up. The chair hasn't decided yet.");
+
   await dee.press("Microphone", "Lower all hands");
+  await dee.value("document.querySelector('dialog input').value = 'é'.repeat(16)");
+  await dee.value("document.querySelector('dialog input').dispatchEvent(new Event('input'))");
+  await dee.until("document.querySelector('dialog .left').textContent === 'Too long by 2 bytes' && !document.querySelector('dialog form').checkValidity()", "a reason that is too long");
+  await dee.value("document.querySelector('dialog input').value = ''");
   await dee.type("The session is over");
   await dee.key("Enter", 13);
   await ben.shows("your hand was denied: The session is over");
@@ -270,7 +425,7 @@ async function meet(floord, gateway) {
 
   await change(floord, all);
 
-  // What is refused has its name of RFC 8855.
+  // What is refused has its name of RFC 8855, by which the page finds its sentence.
   const refused = await cid.value(`(async () => {
     const { Session } = await import("./session.js");
     const { floorRequest, floorRelease } = await import("./bfcp.js");
@@ -293,23 +448,93 @@ async function meet(floord, gateway) {
   // A link that is nobody's; a phone; labels; no complaint of the browser.
   const nobody = await Tab.open("nobody", "nobodys-token-nobodys-token");
   await nobody.shows("This link opens no meeting");
-  await ben.size(320, 640);
-  await ben.until("document.documentElement.scrollWidth <= 320", "as narrow as 320 pixels");
-  await dee.until(`[...document.querySelectorAll("button, input, select")].every((one) => one.getAttribute("aria-label") || one.textContent.trim() || one.labels?.length)`, "every control labelled");
+  await nobody.focus("This link opens no meeting");
+  await nobody.audit("nobody's link");
+  const without = await Tab.open("without", "");
+  await without.size(390, 844);
+  await without.shows("This page needs your own link");
+  await without.shows("No link");
+  await without.audit("no link");
+  await without.picture("without", false);
+  await looks(all);
   for (const tab of all) if (tab.complaints.length) throw new Error(`${tab.name}: ${tab.complaints}`);
   const { settings } = { settings: await ann.value("[...document.querySelectorAll('#settings input')].map((box) => box.checked).join()") };
   if (settings !== "false,false,true") throw new Error(`settings ${settings}`);
 
   // The connection is lost, and had again by itself.
+  await ben.fill("Microphone", "info", "What I wanted to say");
+  await ben.press("Microphone", "Raise hand");
+  await ben.says("Microphone", ".standing", "Your hand is up. The chair hasn't decided yet.");
   await stop(gateway);
   await ann.shows("Not connected");
   await ann.shows("The connection was lost: your hands are down");
+  await ann.says("Screen", ".standing", "The connection was lost, and the floor was given back.");
+  await ben.says("Microphone", ".standing", "The connection was lost, and your hand is down.");
   await ann.picture("lost");
   const again = await start(floorwebPath, ADDRESS, config, folder);
   for (const tab of all) await tab.until("document.body.classList.contains('open')", "connected again", 40_000);
-  await ann.press("Microphone", "Raise hand");
-  await dee.shows("Ann raises a hand");
+
+  // One press raises the hand again that was lost, with its text.
+  await ben.says("Microphone", ".hand", "Raise hand again");
+  await ben.audit("a hand that was lost");
+  await ben.picture("again", false);
+  await dee.value("document.querySelector('#events').replaceChildren()");
+  await ben.press("Microphone", "Raise hand again");
+  await dee.shows("Ben raises a hand");
+  await dee.shows("What I wanted to say");
+  await ben.says("Microphone", ".hand", "Lower hand");
+
+  // A meeting that has ended says so, and nothing is tried again but by a press.
+  await order(floord, "close 1", "ok closed 1");
+  for (const tab of all) await tab.shows("The meeting has ended", 20_000);
+  await ann.focus("The meeting has ended");
+  await ann.hides("Raise hand");
+  await ann.audit("the end");
+  await ann.picture("ended", false);
+  const late = await Tab.open("late", tokens.Ann);
+  await late.shows("The meeting has ended", 20_000);
+  await late.value("window.made = 0; window.WebSocket = class extends WebSocket { constructor(...words) { super(...words); window.made++; } }; 0");
+  await sleep(5_000);
+  await late.until("window.made === 0", "no try");
+  await late.value("document.querySelector('#notice button').click()");
+  await late.until("window.made > 0", "a try");
   return again;
+}
+
+/** How the page looks and is used: narrow, enlarged, in the dark, without motion, by keys. */
+async function looks([ann, ben, cid, dee]) {
+  for (const scheme of ["dark", "light"]) {
+    for (const tab of [ann, dee]) {
+      await tab.send("Emulation.setEmulatedMedia", { features: [{ name: "prefers-color-scheme", value: scheme }] });
+      await tab.value("document.querySelectorAll('details').forEach((one) => (one.open = true)); 0");
+      await tab.audit(scheme);
+    }
+  }
+  await ben.size(320, 640);
+  await ben.audit("320 pixels");
+  await ben.picture("narrow");
+  // 200 per cent of a window of 1,280 by 1,024, and letters of twice the size alone.
+  await dee.size(640, 512, false);
+  await dee.audit("200 per cent");
+  await dee.value("document.documentElement.style.fontSize = '200%'");
+  await dee.audit("letters of twice the size");
+  await dee.picture("large");
+  await dee.value("document.documentElement.style.fontSize = ''");
+  await dee.size(1_060, 760, false);
+  await cid.send("Emulation.setEmulatedMedia", { features: [{ name: "prefers-reduced-motion", value: "reduce" }] });
+  await cid.until("[...document.querySelectorAll('*')].every((one) => getComputedStyle(one).transitionDuration === '0s' && getComputedStyle(one).animationName === 'none')", "nothing that moves");
+  // Whatever is pressed by a mouse is reached by the key Tab, and seen to be.
+  await cid.value("document.activeElement.blur()");
+  const wanted = await cid.value("[...document.querySelectorAll('button, summary, input, select')].filter((one) => one.checkVisibility() && !one.disabled).length");
+  const reached = new Set();
+  for (let turn = 0; turn < wanted + 2; turn++) {
+    await cid.key("Tab", 9);
+    reached.add(await cid.value("[...document.querySelectorAll('*')].indexOf(document.activeElement)"));
+    await cid.until("document.activeElement === document.body || getComputedStyle(document.activeElement).outlineStyle !== 'none'", "a focus that is seen");
+    steps--;
+  }
+  if (reached.size < wanted) throw new Error(`the key Tab reaches ${reached.size} of ${wanted}`);
+  steps++;
 }
 
 /** A user and a floor more, another chair, and none for a while: of these the pages' file knows nothing. */
@@ -335,7 +560,10 @@ async function change(floord, [ann, ben, cid, dee]) {
   await dee.until(`[...document.querySelectorAll(".pending .who")].some((one) => one.textContent === "Ben")`, "Ben's hand");
   await order(floord, "chair 1 1 12", "ok chair 1 1");
   await dee.press("Microphone", "Give the floor to Ben");
-  await dee.shows("Unauthorized Operation");
+  await dee.shows("You may not do this: somebody else decides here.");
+  await dee.picture("refused", false);
+  await dee.until("document.querySelector('#alert').hidden", "that it goes by itself", 20_000);
+  await dee.shows("You may not do this: somebody else decides here.");
   await order(floord, "chair 1 1 13", "ok chair 1 1");
   await dee.press("Microphone", "Give the floor to Ben");
   await ben.shows("You have the floor.");
@@ -357,7 +585,7 @@ const floord = await start(floordPath, config);
 let gateway = await start(floorwebPath, ADDRESS, config, folder);
 const browser = spawn("chromium", [
   "--headless=new", "--no-sandbox", "--disable-gpu", "--disable-dev-shm-usage", "--no-first-run",
-  "--disable-background-networking", "--disable-component-update", "--disable-sync", "--no-proxy-server",
+  "--disable-background-networking", "--disable-background-timer-throttling", "--disable-renderer-backgrounding", "--disable-component-update", "--disable-sync", "--no-proxy-server",
   `--remote-debugging-port=${DEBUGGING}`, `--user-data-dir=${profile}`, "about:blank",
 ], { stdio: "ignore" });
 let status = 0;
@@ -370,9 +598,12 @@ try {
   console.log(`${steps} steps as they should be`);
 } catch (error) {
   console.log(`FAILED behind ${steps} steps: ${error.stack}`);
+  for (const tab of Tab.all) await tab.picture(`failed-${tab.name}`, false);
   status = 1;
 } finally {
+  const gone = new Promise((resolve) => browser.once("exit", resolve));
   browser.kill();
+  await gone;
   gateway.stdin.end();
   floord.stdin.end();
   await sleep(1_000);

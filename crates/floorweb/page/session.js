@@ -7,6 +7,11 @@ const FIRST_WAIT = 500;
 const LONGEST_WAIT = 15_000;
 const ANSWER_WAIT = 10_000;
 
+/** The code by which floorweb closes where the server's port refuses it. */
+const NO_SERVER = 4404;
+/** At which of them running the meeting is taken to have ended: a server that starts anew is back before. */
+const MAX_REFUSED = 3;
+
 /** An Error message of the server, by its name in RFC 8855. */
 export class Refused extends Error {
   constructor({ code, name }, info) {
@@ -24,8 +29,10 @@ export class Lost extends Error {}
  */
 export class Session extends EventTarget {
   state = "connecting";
-  /** Why the connection ended or waits, in words. */
-  reason = "";
+  /** Once it has ended: `meeting` (it isn't there any more), `messages` (they were taken for no BFCP) or `refused`. */
+  cause = "";
+  /** Once it waits: how many seconds it does. */
+  seconds = 0;
   /** The ongoing requests of each floor, as the server told them last. */
   floors = new Map();
   #token;
@@ -34,12 +41,20 @@ export class Session extends EventTarget {
   #transaction = 0;
   #waiting = new Map();
   #wait = FIRST_WAIT;
+  #refused = 0;
   #timer;
 
   constructor(token, meeting) {
     super();
     this.#token = token;
     this.#meeting = meeting;
+  }
+
+  /** Connects anew where it has ended. */
+  again() {
+    this.#wait = FIRST_WAIT;
+    this.#refused = 0;
+    this.connect();
   }
 
   connect() {
@@ -76,9 +91,11 @@ export class Session extends EventTarget {
       this.supports = new Set(first(ack.attributes, "SUPPORTED-ATTRIBUTES"));
       this.#take(await this.ask(floorQuery(this.#meeting.floors.map((floor) => floor.id))));
       this.#wait = FIRST_WAIT;
+      this.#refused = 0;
       this.#enter("open");
     } catch (error) {
-      if (!(error instanceof Lost)) this.#end(error.message);
+      // An Error 1 says that the conference doesn't exist (RFC 8855, section 5.2.6).
+      if (!(error instanceof Lost)) this.#end(error.code === 1 ? "meeting" : "refused");
     }
   }
 
@@ -120,22 +137,23 @@ export class Session extends EventTarget {
     this.#waiting.clear();
     this.floors.clear();
     if (this.state === "ended") return;
-    if (code === 1002 || code === 1003 || code === 1007) {
-      return this.#end("the server took this page's messages for no BFCP");
-    }
-    this.#enter("waiting", `again in ${Math.ceil(this.#wait / 1000)} s`);
+    if (code === 1002 || code === 1003 || code === 1007) return this.#end("messages");
+    this.#refused = code === NO_SERVER ? this.#refused + 1 : 0;
+    if (this.#refused === MAX_REFUSED) return this.#end("meeting");
+    this.seconds = Math.ceil(this.#wait / 1000);
+    this.#enter("waiting");
     this.#timer = setTimeout(() => this.connect(), this.#wait * (0.75 + Math.random() / 2));
     this.#wait = Math.min(2 * this.#wait, LONGEST_WAIT);
   }
 
-  #end(reason) {
-    this.#enter("ended", reason);
+  #end(cause) {
+    this.cause = cause;
+    this.#enter("ended");
     this.#socket.close();
   }
 
-  #enter(state, reason = "") {
+  #enter(state) {
     this.state = state;
-    this.reason = reason;
     this.dispatchEvent(new Event("state"));
   }
 }

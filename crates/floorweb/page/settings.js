@@ -1,5 +1,7 @@
 // What a page does at one's turn, and whether it takes a key: as each browser was asked to.
 
+import { told } from "./texts.js";
+
 /** What is on before anybody asked. */
 const FIRST = { sound: false, notice: false, key: true };
 
@@ -18,7 +20,7 @@ export function prepareSettings(node, warn) {
     box.addEventListener("change", async () => {
       if (box.name === "notice" && box.checked && (await askForNotices()) !== "granted") {
         box.checked = false;
-        warn("This browser lets the page show no notifications.");
+        warn(told.noNotices);
       }
       localStorage.setItem(box.name, box.checked ? "on" : "off");
       if (box.name === "sound" && box.checked) play();
@@ -33,7 +35,8 @@ async function askForNotices() {
 
 /** Tells somebody who looks elsewhere that the turn has come. */
 export function alertTurn(text) {
-  navigator.vibrate?.(200);
+  // A browser complains of a page that shakes before anybody has touched it.
+  if (navigator.userActivation?.hasBeenActive) navigator.vibrate?.(200);
   if (isOn("sound")) play();
   if (isOn("notice") && document.hidden && "Notification" in window && Notification.permission === "granted") {
     try {
