@@ -16,6 +16,7 @@ import re
 import resource
 import select
 import shlex
+import shutil
 import socket
 import ssl
 import struct
@@ -268,6 +269,8 @@ class Browser:
 
 def starts(program, folder):
     empty = tempfile.mkdtemp()
+    with open(empty + '/style.css', 'w') as file:
+        file.write('p { }')
     user = '[[conference]]\nid = 1\n[[conference.user]]\nid = 10\n'
     strong = 'token = "0123456789012345678901"\n'
     for name, text, at, address, fault, place in [
@@ -298,7 +301,7 @@ def starts(program, folder):
     for words, status in [(['--help'], 0), ([], 2), ([HOST], 2), (['--what', HOST, 'a', 'b'], 2)]:
         ran = subprocess.run([program] + words, capture_output=True, text=True)
         check('words: %s' % words, ran.returncode, status)
-    os.rmdir(empty)
+    shutil.rmtree(empty)
 
 
 # Heads
@@ -411,6 +414,17 @@ def heads(program, folder):
     check('a head that stops', status_of(reply(stream)), 408)
     check('in its time', HEAD <= time.monotonic() - began < HEAD + 3, True)
     check('a head that drips', status_of(reply(other)), 408)
+    check('in its time too', HEAD <= time.monotonic() - began < HEAD + 3, True)
+    for name, request, status in [('the page', get('/'), 200), ('an absent file', get('/none'), 404)]:
+        stream = connect()
+        stream.sendall(request)
+        try:
+            stream.sendall(b'x' * 300_000)
+        except OSError as error:
+            check('what comes behind a request: ' + name, error, None)
+        time.sleep(0.2)
+        got = reply(stream)
+        check('an answer isn\'t taken back: ' + name, (status_of(got), got.endswith(b'<reset>')), (status, False))
 
 
 # Sockets
@@ -511,7 +525,11 @@ def sockets(program, folder):
 # Ends
 
 def ends(program, folder, floord_path, floord, gateway):
-    other = Gateway(program, folder, configuration() + LOST_USERS, '--log', '--origin', 'https://meet.example.com',
+    place = tempfile.mkdtemp()
+    shutil.copytree(folder, place, dirs_exist_ok=True)
+    with open(place + '/two.dots.js', 'w') as file:
+        file.write('// a file whose name has two dots')
+    other = Gateway(program, place, configuration() + LOST_USERS, '--log', '--origin', 'https://meet.example.com',
                     address='127.0.0.1:%d' % (PORT + 1)).ready()
     for origin, status in [('https://meet.example.com', 101), ('http://' + HOST, 403),
                            ('https://meet.example.com.evil.example', 403), (None, 101)]:
@@ -520,6 +538,11 @@ def ends(program, folder, floord_path, floord, gateway):
         stream.sendall(upgrade('/bfcp/' + token_of(3, 10), Origin=origin))
         check('listed origin: %s' % origin, status_of(stream.recv(4_096)), status)
         stream.close()
+    stream = socket.create_connection(('127.0.0.1', PORT + 1))
+    stream.sendall(get('/two.dots.js'))
+    check('a name with two dots', status_of(reply(stream)), 200)
+    stream.close()
+    shutil.rmtree(place)
     stream = socket.create_connection(('127.0.0.1', PORT + 1))
     stream.sendall(upgrade('/bfcp/' + token_of(99, 1)))
     check('a server that isn\'t there', reply(stream)[-4:], b'\x88\x02' + struct.pack('>H', NO_SERVER))
@@ -886,6 +909,8 @@ def service(program, folder):
 # Many
 
 def many(program, folder, gateway, count=500):
+    # Until the last of the tries before has let go.
+    time.sleep(3)
     before = gateway.use()
     began = time.monotonic()
     browsers = []
@@ -927,11 +952,20 @@ def many(program, folder, gateway, count=500):
     for _ in range(1_024):
         held.append(connect())
     time.sleep(1)
-    check('one more than there may be', status_of(ask(get('/'))), 503)
-    for stream in held:
+    silent = [connect() for _ in range(40)]
+    began = time.monotonic()
+    check('one more than there may be', [status_of(ask(get('/'))) for _ in range(20)], [503] * 20)
+    check('behind some that say nothing', time.monotonic() - began < 5, True)
+    check('these are told too', [status_of(reply(stream)) for stream in silent], [503] * 40)
+    for stream in held + silent:
         stream.close()
     time.sleep(1)
+    # Who was refused has kept no place.
+    held = [connect() for _ in range(1_023)]
+    time.sleep(1)
     check('and room again', status_of(ask(get('/'))), 200)
+    for stream in held:
+        stream.close()
 
 
 def main():
