@@ -1,6 +1,6 @@
 //! The lines that wait to be written, up to a bound.
 
-ghost use Rattle.std.specs.Prelude.{◌≡◌, ◌≤◌, ◌++◌, [], ◌∷◌, IfOk, IsErr, OnErr, OnOk, length, true};
+ghost use Rattle.std.specs.Prelude.{◌≡◌, ◌≤◌, ◌++◌, [], ◌∷◌, IfOk, IsErr, OnOk, false, length, true};
 
 use std::alloc::{AllocError, Global};
 use std::mem;
@@ -55,7 +55,8 @@ impl Waiting {
         }
     }
 
-    /// Adds a line behind the others, where it could be made and there is room for it.
+    /// Adds a line behind the others, where it could be made and there is room for it. After an error none is
+    /// added.
     fn added(&mut self, line: Result<String, AllocError>) -> Result<(), AllocError>
         ensures out { OnOk result (IfOk line (λ text.
             self.new.lines.items ≡ self.old.lines.items ++ text ∷ [])) }
