@@ -40,6 +40,8 @@ impl Waiting {
 
     /// Takes a line in. Where there is no memory, or as many wait as may, the log is given up.
     pub fn add(&mut self, line: Result<String, AllocError>)
+        ensures out { self.new.is_over ≡ false → IfOk line (λ text.
+            self.new.lines.items ≡ self.old.lines.items ++ text ∷ []) }
         ensures over { self.old.is_over ≡ true → self.new ≡ self.old }
         ensures full { MAX_WAITING ≤ length self.old.lines.items → self.new.is_over ≡ true }
         ensures unmade { IsErr line → self.new.is_over ≡ true }
