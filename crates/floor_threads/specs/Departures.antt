@@ -11,10 +11,10 @@ use Rattle.floor_serve.specs.declared.fault.ReadFault.{ReadFault}
 use Rattle.floor_serve.specs.declared.fault.ReadFault.TheVariants as fault
 use Rattle.floor_serve.specs.declared.reading.ReadEnd.{ReadEnd}
 use Rattle.floor_serve.specs.declared.reading.ReadEnd.TheVariants as end
-use Rattle.floord.specs.declared.departure.Departure.{Departure}
-use Rattle.floord.specs.declared.departure.Departure.TheVariants as left
-use Rattle.floord.specs.declared.departure.Refused.{Refused}
-use Rattle.floord.specs.declared.departure.Refused.TheVariants as refused
+use Rattle.floor_threads.specs.declared.departure.Departure.{Departure}
+use Rattle.floor_threads.specs.declared.departure.Departure.TheVariants as left
+use Rattle.floor_threads.specs.declared.departure.Refused.{Refused}
+use Rattle.floor_threads.specs.declared.departure.Refused.TheVariants as refused
 
 -- what a table of connections refuses one by
 abbrev pub refused_by_table : Unserved → Refused

@@ -2,7 +2,7 @@
 
 use super::clients::{free_port, write_file};
 use crate::binding::Shared;
-use crate::run::{serve, tell};
+use crate::running::{serve, tell};
 use crate::socket::Socket;
 use floor_config::read_configs;
 use floor_serve::{Frame, FreePass, Registry};

@@ -1,6 +1,6 @@
 //! The words of the program.
 
-use crate::run::run;
+use crate::running::run;
 use std::io::sink;
 use std::test::Fail;
 

@@ -1,7 +1,7 @@
 //! Why a connection isn't served, or isn't any more, as the log tells.
 
 ghost use Rattle.std.specs.Prelude.{◌≡◌};
-ghost use Rattle.floord.specs.Departures.{departure_of, departure_of_read, name_of_departure, name_of_refused, refused_by_desk, refused_by_table};
+ghost use Rattle.floor_threads.specs.Departures.{departure_of, departure_of_read, name_of_departure, name_of_refused, refused_by_desk, refused_by_table};
 
 use floor_listen::Unserved;
 use floor_serve::{DeskRefusal, Phase, ReadEnd, ReadFault, RoomRefusal};

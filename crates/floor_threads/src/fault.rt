@@ -1,7 +1,7 @@
 //! What a stop has found, and the fault that a refusal of the board is where it ends the server.
 
 ghost use Rattle.std.specs.Prelude.{◌≡◌};
-ghost use Rattle.floord.specs.Faults.{fault_of_opening, fault_of_stop, stopped};
+ghost use Rattle.floor_threads.specs.Faults.{fault_of_opening, fault_of_stop, stopped};
 
 use floor_console::{BoardRefusal, StopRefusal, Stopped};
 use floor_listen::ServerFault;

@@ -1,7 +1,7 @@
 //! How many lines are answered, and what ends the server.
 
 use super::clients::{Server, ask, free_port, line, prepare, run_to_end, write_file};
-use crate::run::run;
+use crate::running::run;
 use floor_serve::FreePass;
 use std::io::sink;
 use std::net::{Shutdown, TcpListener};

@@ -1,6 +1,6 @@
 //! What the tests over sockets use: a server in a thread, and its clients.
 
-use crate::run::run_with;
+use crate::running::run_with;
 use floor_serve::Gate;
 use floor_words::read_u32;
 use std::alloc::Global;

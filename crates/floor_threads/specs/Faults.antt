@@ -15,8 +15,8 @@ use Rattle.floor_listen.specs.declared.ending.ServerFault.TheVariants.{CannotRea
 use Rattle.floor_serve.specs.declared.end.finish.Report.{Report}
 use Rattle.floor_serve.specs.declared.fault.FinishFault.{FinishFault}
 use Rattle.floor_serve.specs.declared.fault.FinishFault.TheVariants as finish
-use Rattle.floord.specs.declared.reason.PortFault.{PortFault}
-use Rattle.floord.specs.declared.reason.PortFault.TheVariants as port
+use Rattle.floor_threads.specs.declared.reason.PortFault.{PortFault}
+use Rattle.floor_threads.specs.declared.reason.PortFault.TheVariants as port
 
 -- the fault of a server whose first conferences can't be opened; the numbers of a configuration differ, so none is in use but by want of memory
 abbrev pub fault_of_opening : BoardRefusal → ServerFault

@@ -1,7 +1,7 @@
 //! What is told of a configuration: by a check, and by the lines that open one.
 
 use super::clients::free_port;
-use crate::run::run;
+use crate::running::run;
 use std::alloc::Global;
 use std::fs;
 use std::io::sink;
