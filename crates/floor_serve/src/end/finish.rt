@@ -1,6 +1,6 @@
 //! The end: what every seat recorded, against the journals of the conferences.
 
-ghost use Rattle.std.specs.Prelude.{◌≡◌, ◌↔◌, ℕ, All, IfErr, IfOk, IfSome, IsTrue, Err, min, OnErr, OnOk, length, false, true};
+ghost use Rattle.std.specs.Prelude.{◌≡◌, ◌↔◌, ℕ, List, All, IfErr, IfOk, IfSome, IsTrue, Err, min, OnErr, OnOk, length, false, true};
 ghost use Rattle.floor_serve.specs.Booth as spec;
 ghost use Rattle.floor_serve.specs.Booth.{IsBooth};
 ghost use Rattle.floor_serve.specs.Finish.{Agrees, AreOneMember, Finished};
@@ -40,7 +40,9 @@ struct Found {
 
 /// Compares what every seat recorded with the journals of all conferences of the registry, as
 /// [`Table::finish`] does, while the registry's lock is held: refused by `Broken`, else by `Mismatch`.
-pub fn finish<R: Wait>(rt: &R, registry: &Registry, seats: &[Seat]) -> Result<Report, FinishFault> {
+pub fn finish<R: Wait>(rt: &R, registry: &Registry, seats: &[Seat]) -> Result<Report, FinishFault>
+    ensures { (opened : List ℕ) × Finished opened seats.now result }
+{
     let table = registry.table.lock(rt);
     table.finish(rt, seats)
 }
