@@ -1,5 +1,6 @@
--- Worked runs, computed: two interleavings that give a conference the same events, and a step for each refusal.
-use Rattle.std.specs.Prelude.{◌≡◌, ℕ, zero, suc, false, List, [], ◌∷◌, ◌++◌, None, refl}
+-- Worked runs, computed: two interleavings that give a conference the same events, a step for each refusal, and steps that acknowledge and that change a conference.
+use Rattle.std.specs.Prelude.{◌≡◌, ℕ, zero, suc, false, List, [], ◌∷◌, ◌++◌, Some, None, refl}
+use Rattle.std.proofs.Common.{sym, ◌∙◌}
 use Rattle.floor_config.specs.Configuration.{Configuration}
 use Rattle.floor_config.specs.declared.users.User.{User}
 use Rattle.floor_wire.specs.Message.{messages, messages_of_at_most}
@@ -7,8 +8,8 @@ use Rattle.floor_wire.specs.Spelled.{spelled, spelled_within}
 use Rattle.floor_message.specs.Ask.{ask}
 use Rattle.floor_machine.specs.declared.act.Act.{Act}
 use Rattle.floor_machine.specs.declared.event.Event.{Event}
-use Rattle.floor_machine.specs.declared.event.Event.TheVariants.{Join, Message, Leave as Leaves, Close}
-use Rattle.floor_machine.specs.declared.machine.Refusal.TheVariants.{Ended, NoUser, Full, NoRequest}
+use Rattle.floor_machine.specs.declared.event.Event.TheVariants.{Join, Message, Took as Takes, Leave as Leaves, Close, AddUser, AddFloor, SetChair}
+use Rattle.floor_machine.specs.declared.machine.Refusal.TheVariants.{Ended, NoUser, Full, NoRequest, BadCount, DoubleUser, NoFloor}
 use Rattle.floor_machine.specs.Shown.{info_of}
 use Rattle.floor_machine.specs.Same.{same_info}
 use Rattle.floor_machine.specs.Checks.{refusal}
@@ -21,9 +22,10 @@ use Rattle.floor_machine.specs.Journal.{parcels_of}
 use Rattle.floor_room.specs.declared.refusal.RoomRefusal.TheVariants.{Refused as ByMachine}
 use Rattle.floor_hub.specs.declared.refusal.HubRefusal.TheVariants.{Used, NoConference, NoConnection, ByRoom}
 use Rattle.floor_hub.specs.declared.step.Step.{Step}
-use Rattle.floor_hub.specs.declared.step.Step.TheVariants.{Open, Attach, Piece, Serve, Leave, Admin}
+use Rattle.floor_hub.specs.declared.step.Step.TheVariants.{Open, Attach, Piece, Serve, Took, Leave, Admin}
 use Rattle.floor_hub.specs.declared.step.Answer.TheVariants.{Done, Attached, Nothing, Served, Refused}
 use Rattle.floor_hub.specs.World.{nothing}
+use Rattle.floor_hub.specs.Laws.{GiveAlike}
 use Rattle.floor_hub.specs.Runs.{alone, answers, answers_to, events, queues, steps_of}
 
 -- a user without name, URI and port
@@ -90,6 +92,11 @@ one_events = refl
 pub two_events : events 1 two_conferences ≡ one_journal
 unfolding ask spelled spelled_within outgoing_bytes info_of same_info refusal change shown settled reply changed_requests changed_floors due told next parcels_of messages messages_of_at_most
 two_events = refl
+
+-- the headline speaks of these two
+pub headline_applies : GiveAlike 1 (demonstration 1) one_conference two_conferences
+unfolding ask spelled spelled_within outgoing_bytes info_of same_info refusal change shown settled reply changed_requests changed_floors due told next parcels_of messages messages_of_at_most
+headline_applies = record { first = refl; second = refl; events = one_events ∙ sym two_events }
 
 pub other_events : events 2 two_conferences ≡ Join 10 ∷ Message 1 other_request ∷ Close ∷ []
 unfolding ask spelled spelled_within outgoing_bytes info_of same_info refusal change shown settled reply changed_requests changed_floors due told next parcels_of messages messages_of_at_most
@@ -225,6 +232,61 @@ refusals_answers = refl
 pub refusals_events : events 1 refusals ≡ Join 10 ∷ Join 11 ∷ Leaves 2 ∷ Close ∷ []
 unfolding ask spelled spelled_within outgoing_bytes info_of same_info refusal change shown settled reply changed_requests changed_floors due told next parcels_of messages messages_of_at_most
 refusals_events = refl
+
+-- user 10 acknowledges the answer to its request, not before it is queued and not twice; a user is added, and joins
+abbrev acknowledged : List Step
+acknowledged =
+    Open (demonstration 1)
+    ∷ Attach 1 10
+    ∷ Took 1 1
+    ∷ Piece 1 first_request
+    ∷ Serve 1
+    ∷ Took 1 0
+    ∷ Took 1 2
+    ∷ Took 1 1
+    ∷ Took 1 1
+    ∷ Took 2 1
+    ∷ Admin 1 (Act.AddUser (plain 10))
+    ∷ Admin 1 (Act.SetChair 9 None)
+    ∷ Admin 1 (Act.AddUser (plain 13))
+    ∷ Attach 1 13
+    ∷ Admin 1 (Act.AddFloor record { id = 2; room = 1; chair = None })
+    ∷ Admin 1 (Act.SetChair 2 (Some 13))
+    ∷ []
+
+pub acknowledged_answers : answers nothing acknowledged ≡
+    Done
+    ∷ Attached 1
+    ∷ Refused (ByRoom (ByMachine BadCount))
+    ∷ Done
+    ∷ Served
+    ∷ Refused (ByRoom (ByMachine BadCount))
+    ∷ Refused (ByRoom (ByMachine BadCount))
+    ∷ Done
+    ∷ Refused (ByRoom (ByMachine BadCount))
+    ∷ Refused NoConnection
+    ∷ Refused (ByRoom (ByMachine DoubleUser))
+    ∷ Refused (ByRoom (ByMachine NoFloor))
+    ∷ Done
+    ∷ Attached 2
+    ∷ Done
+    ∷ Done
+    ∷ []
+unfolding ask spelled spelled_within outgoing_bytes info_of same_info refusal change shown settled reply changed_requests changed_floors due told next parcels_of messages messages_of_at_most
+acknowledged_answers = refl
+
+-- what is acknowledged, and what the administrator changes, are events
+pub acknowledged_events : events 1 acknowledged ≡
+    Join 10
+    ∷ Message 1 first_request
+    ∷ Takes 1 1
+    ∷ AddUser (plain 13)
+    ∷ Join 13
+    ∷ AddFloor record { id = 2; room = 1; chair = None }
+    ∷ SetChair 2 (Some 13)
+    ∷ []
+unfolding ask spelled spelled_within outgoing_bytes info_of same_info refusal change shown settled reply changed_requests changed_floors due told next parcels_of messages messages_of_at_most
+acknowledged_events = refl
 
 -- so many connections of user 10
 abbrev attaches : ℕ → List Step
