@@ -1,14 +1,16 @@
 //! An outbox whose two ends are in two threads: nothing that was put before the closed mark is lost,
 //! and who sleeps wakes by it.
 
-use super::{HELLO, frame};
-use crate::*;
+use crate::calls::{check, unless};
+use crate::seat::bytes_frame;
 use floor_outbox::pair;
+use floor_serve::{Frame, Parcel, Sender, Taken, Taker};
 use std::alloc::Global;
 use std::sync::Wait;
 use std::sync::atomic::{AtomicU32, Ordering};
-use std::test::*;
 use std::thread;
+use std::thread::Threads;
+use test_cases::Fault;
 
 /// How many outboxes are closed.
 const OUTBOXES: u32 = 20_000;
@@ -78,8 +80,8 @@ fn take_each<R: Wait>(rt: &R, takers: Vec<Taker>, waiting: Waiting) -> u32 {
 }
 
 /// The ends of so many outboxes, and a Hello for each.
-fn outboxes(alloc: Global) -> Result<(Vec<(Sender, Frame)>, Vec<Taker>), Fail> {
-    let hello = frame(alloc, &HELLO)?;
+fn outboxes(alloc: Global) -> Result<(Vec<(Sender, Frame)>, Vec<Taker>), Fault> {
+    let hello = bytes_frame(alloc, "200b0000 00000001 0001 000a")?;
     let mut senders = Vec::new(alloc);
     let mut takers = Vec::new(alloc);
     for _ in 0..OUTBOXES {
@@ -90,17 +92,45 @@ fn outboxes(alloc: Global) -> Result<(Vec<(Sender, Frame)>, Vec<Taker>), Fail> {
     Ok((senders, takers))
 }
 
-#[test]
-fn what_is_put_before_the_mark_is_taken(rt: HostRuntime) -> Result<(), Fail> {
-    for waiting in [Waiting::Looks, Waiting::Sleeps] {
-        let (senders, takers) = outboxes(rt.alloc())?;
-        let (put, whole) = thread::join(
-            &rt,
-            || close_each(&rt, senders, waiting),
-            || take_each(&rt, takers, waiting),
-        );
-        assert!(rt; put);
-        assert_eq!(rt; whole, OUTBOXES);
-    }
-    Ok(())
+/// Whether each parcel that one thread puts before it closes the outbox is taken in another thread.
+fn are_taken<R: Threads + Wait + Sync>(
+    rt: &R,
+    ends: (Vec<(Sender, Frame)>, Vec<Taker>),
+    waiting: Waiting,
+) -> bool {
+    let (senders, takers) = ends;
+    let (put, whole) = thread::join(
+        rt,
+        || close_each(rt, senders, waiting),
+        || take_each(rt, takers, waiting),
+    );
+    put && whole == OUTBOXES
+}
+
+/// What is put before the mark is taken, where the taker looks.
+pub fn run<R: Threads + Wait + Sync>(rt: &R, alloc: Global) -> Result<usize, Fault> {
+    let wrong = unless(
+        are_taken(rt, outboxes(alloc)?, Waiting::Looks),
+        "a parcel is lost",
+    );
+    check(
+        alloc,
+        "what is put before the mark is taken by who looks",
+        wrong,
+    )?;
+    Ok(1)
+}
+
+/// What is put before the mark is taken, where the taker sleeps.
+pub fn run_sleeping<R: Threads + Wait + Sync>(rt: &R, alloc: Global) -> Result<usize, Fault> {
+    let wrong = unless(
+        are_taken(rt, outboxes(alloc)?, Waiting::Sleeps),
+        "a parcel is lost",
+    );
+    check(
+        alloc,
+        "what is put before the mark is taken by who sleeps",
+        wrong,
+    )?;
+    Ok(1)
 }
