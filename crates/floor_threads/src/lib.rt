@@ -20,8 +20,6 @@ mod reason;
 mod running;
 mod server;
 mod socket;
-#[cfg(test)]
-mod tests;
 mod words;
 
 pub use binding::{Binding, Shared};
