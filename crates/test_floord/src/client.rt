@@ -33,6 +33,7 @@ impl Client {
             + Copy
             + Drop
             + Send
+            + Sync
             + 'static,
     {
         match TcpStream::connect(rt, address) {

@@ -24,6 +24,7 @@ where
         + Copy
         + Drop
         + Send
+        + Sync
         + 'static,
 {
     let (address, name) = place.split_once(' ').unwrap_or(("127.0.0.1", place));
@@ -43,6 +44,7 @@ where
         + Copy
         + Drop
         + Send
+        + Sync
         + 'static,
 {
     match connected(rt, stage, rest)? {
@@ -205,6 +207,7 @@ where
         + Copy
         + Drop
         + Send
+        + Sync
         + 'static,
 {
     match connected(rt, stage, port)? {
@@ -228,6 +231,7 @@ where
         + Copy
         + Drop
         + Send
+        + Sync
         + 'static,
 {
     match served(rt, stage, port, bytes)? {
@@ -247,6 +251,7 @@ where
         + Copy
         + Drop
         + Send
+        + Sync
         + 'static,
 {
     let (port, rest) = first_word(rest);
@@ -272,6 +277,7 @@ where
         + Copy
         + Drop
         + Send
+        + Sync
         + 'static,
 {
     let (port, rest) = first_word(rest);
@@ -300,6 +306,7 @@ where
         + Copy
         + Drop
         + Send
+        + Sync
         + 'static,
 {
     let (port, text) = first_word(rest);
@@ -326,6 +333,7 @@ where
         + Copy
         + Drop
         + Send
+        + Sync
         + 'static,
 {
     let seconds: u64 = match rest.parse() {

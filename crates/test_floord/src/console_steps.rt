@@ -28,6 +28,7 @@ where
         + Copy
         + Drop
         + Send
+        + Sync
         + 'static,
 {
     let (path, text) = first_word(rest);
@@ -46,6 +47,7 @@ where
         + Copy
         + Drop
         + Send
+        + Sync
         + 'static,
 {
     match bound(rt, stage, rest)? {
@@ -68,6 +70,7 @@ where
         + Copy
         + Drop
         + Send
+        + Sync
         + 'static,
 {
     let is_free = bound(rt, stage, rest)?.is_some();
@@ -86,6 +89,7 @@ where
         + Copy
         + Drop
         + Send
+        + Sync
         + 'static,
 {
     let number = stage.ports.number(name)?;
@@ -116,6 +120,7 @@ where
         + Copy
         + Drop
         + Send
+        + Sync
         + 'static,
 {
     let (words, taking) = match rest {
@@ -126,7 +131,7 @@ where
         "log nothing" => ("--log conferences.toml", Taking::Nothing),
         _ => return Err(Fault::Layout("no such start")),
     };
-    let start = stage.start(rt, words_of(stage.alloc, words)?, taking)?;
+    let start = stage.start(words_of(stage.alloc, words)?, taking)?;
     let server = Running::start(rt, start)?;
     let line = server.line(stage.alloc);
     stage.server = Some(server);
@@ -161,6 +166,7 @@ where
         + Copy
         + Drop
         + Send
+        + Sync
         + 'static,
 {
     let words = words_of(stage.alloc, rest)?;
@@ -190,6 +196,7 @@ where
         + Copy
         + Drop
         + Send
+        + Sync
         + 'static,
 {
     let (output, ended) = ran(rt, stage, rest)?;
@@ -210,6 +217,7 @@ where
         + Copy
         + Drop
         + Send
+        + Sync
         + 'static,
 {
     let (output, ended) = ran(rt, stage, rest)?;
@@ -284,6 +292,7 @@ where
         + Copy
         + Drop
         + Send
+        + Sync
         + 'static,
 {
     let Some((wanted, line)) = rest.split_once(": ") else {
@@ -313,6 +322,15 @@ fn bounded(alloc: Global, text: &str, least: usize, most: usize) -> Result<Strin
     }
 }
 
+/// The answer to `stop`, which says whether there were as many events as the journal has.
+fn journaled(alloc: Global, text: &str, events: usize) -> Result<String, Fault> {
+    let wanted = format!(in alloc; " events {events}")?;
+    match text.strip_suffix(wanted.as_str()) {
+        Some(words) => Ok(format!(in alloc; "{words} events as in the journal")?),
+        None => said(alloc, text),
+    }
+}
+
 pub fn stop<R>(rt: &R, stage: &mut Stage, rest: &str) -> Result<String, Fault>
 where
     R: Net<Listener = TcpListener, Stream = TcpStream>
@@ -324,12 +342,16 @@ where
         + Copy
         + Drop
         + Send
+        + Sync
         + 'static,
 {
-    let (least, most) = first_word(rest);
-    let (least, most) = (number(least)?, number(most)?);
     let text = stage.server()?.ask(stage.alloc, "stop")?;
-    let text = bounded(stage.alloc, text.as_str(), least, most)?;
+    let text = if rest == "journal" {
+        journaled(stage.alloc, text.as_str(), stage.journaled)?
+    } else {
+        let (least, most) = first_word(rest);
+        bounded(stage.alloc, text.as_str(), number(least)?, number(most)?)?
+    };
     behind_end(rt, stage, text.as_str())
 }
 
@@ -344,6 +366,7 @@ where
         + Copy
         + Drop
         + Send
+        + Sync
         + 'static,
 {
     let server = stage.server()?;
@@ -364,6 +387,7 @@ where
         + Copy
         + Drop
         + Send
+        + Sync
         + 'static,
 {
     let Some(server) = stage.server.take() else {
@@ -386,6 +410,7 @@ where
         + Copy
         + Drop
         + Send
+        + Sync
         + 'static,
 {
     let told = stage.told.text.lock(rt);
@@ -395,9 +420,11 @@ where
 
 /// A line of the log without its time, where that lies between two others.
 fn without_time<'a>(line: &'a str, began: &str, now: &str) -> &'a str {
-    match line.split_once(' ') {
-        Some((time, text)) if began <= time && time <= now && time.len() == now.len() => text,
-        _ => line,
+    let (time, text) = line.split_once(' ').unwrap_or(("", line));
+    if began <= time && time <= now && time.len() == now.len() {
+        text
+    } else {
+        line
     }
 }
 
@@ -424,6 +451,7 @@ where
         + Copy
         + Drop
         + Send
+        + Sync
         + 'static,
 {
     let text = log_text(rt, stage)?;
@@ -451,6 +479,7 @@ where
         + Copy
         + Drop
         + Send
+        + Sync
         + 'static,
 {
     let wanted = format!(in stage.alloc; "{rest}\n")?;

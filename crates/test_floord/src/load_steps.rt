@@ -53,6 +53,7 @@ where
         + Copy
         + Drop
         + Send
+        + Sync
         + 'static,
 {
     for _ in 0..MAX_LOOKS {
@@ -75,6 +76,7 @@ where
         + Copy
         + Drop
         + Send
+        + Sync
         + 'static,
 {
     let is_held = comes(rt, &stage.holding.is_met);
@@ -106,6 +108,7 @@ where
         + Copy
         + Drop
         + Send
+        + Sync
         + 'static,
 {
     let (conference, port) = first_word(rest);
@@ -139,6 +142,7 @@ where
         + Copy
         + Drop
         + Send
+        + Sync
         + 'static,
 {
     let alloc = stage.alloc;
@@ -168,6 +172,7 @@ where
         + Copy
         + Drop
         + Send
+        + Sync
         + 'static,
 {
     let wanted = load
@@ -202,6 +207,7 @@ where
         + Copy
         + Drop
         + Send
+        + Sync
         + 'static,
 {
     for word in rest.split(' ') {
@@ -231,6 +237,7 @@ where
         + Copy
         + Drop
         + Send
+        + Sync
         + 'static,
 {
     let mut heard = 0usize;
@@ -276,6 +283,7 @@ where
         + Copy
         + Drop
         + Send
+        + Sync
         + 'static,
 {
     let others = number(rest)?;
@@ -343,6 +351,7 @@ where
         + Copy
         + Drop
         + Send
+        + Sync
         + 'static,
 {
     let alloc = stage.alloc;
@@ -370,6 +379,7 @@ where
         + Copy
         + Drop
         + Send
+        + Sync
         + 'static,
 {
     let Some((flooding, other)) = rest.split_once(": ") else {
@@ -440,6 +450,7 @@ where
         + Copy
         + Drop
         + Send
+        + Sync
         + 'static,
 {
     let (client, rest) = first_word(rest);

@@ -31,6 +31,7 @@ where
         + Copy
         + Drop
         + Send
+        + Sync
         + 'static,
 {
     match name {
@@ -55,6 +56,7 @@ where
         + Copy
         + Drop
         + Send
+        + Sync
         + 'static,
 {
     let (_client, stream) = two_ends(rt)?;
@@ -78,6 +80,7 @@ where
         + Copy
         + Drop
         + Send
+        + Sync
         + 'static,
 {
     let Ok(mut configs) = read_configs(rt.alloc(), CONFIGURATION) else {
@@ -116,6 +119,7 @@ where
         + Copy
         + Drop
         + Send
+        + Sync
         + 'static,
 {
     let alloc = rt.alloc();
@@ -150,6 +154,7 @@ where
         + Copy
         + Drop
         + Send
+        + Sync
         + 'static,
 {
     let alloc = rt.alloc();
@@ -178,6 +183,7 @@ where
         + Copy
         + Drop
         + Send
+        + Sync
         + 'static,
 {
     for _ in 0..64 {
@@ -200,6 +206,7 @@ where
         + Copy
         + Drop
         + Send
+        + Sync
         + 'static,
 {
     let (_client, stream) = two_ends(rt)?;
@@ -228,6 +235,7 @@ where
         + Copy
         + Drop
         + Send
+        + Sync
         + 'static,
 {
     let alloc = stage.alloc;
@@ -258,6 +266,7 @@ where
         + Copy
         + Drop
         + Send
+        + Sync
         + 'static,
 {
     connect_all(rt, shared)?;
@@ -290,6 +299,7 @@ where
         + Copy
         + Drop
         + Send
+        + Sync
         + 'static,
 {
     let alloc = rt.alloc();
@@ -324,6 +334,7 @@ where
         + Copy
         + Drop
         + Send
+        + Sync
         + 'static,
 {
     let alloc = stage.alloc;

@@ -29,6 +29,7 @@ where
         + Copy
         + Drop
         + Send
+        + Sync
         + 'static,
 {
     let listener = TcpListener::bind(rt, "127.0.0.1:0")?;
@@ -49,6 +50,7 @@ impl Ports {
             + Copy
             + Drop
             + Send
+            + Sync
             + 'static,
     {
         let mut numbers = Vec::new(rt.alloc());

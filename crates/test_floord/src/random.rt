@@ -173,6 +173,7 @@ where
         + Copy
         + Drop
         + Send
+        + Sync
         + 'static,
 {
     let alloc = stage.alloc;
@@ -212,6 +213,7 @@ where
         + Copy
         + Drop
         + Send
+        + Sync
         + 'static,
 {
     let text = fs::read_to_string(rt, "conferences.toml")?;
@@ -239,6 +241,7 @@ where
         + Copy
         + Drop
         + Send
+        + Sync
         + 'static,
 {
     let mut all = Vec::new(rt.alloc());
@@ -260,6 +263,7 @@ where
         + Copy
         + Drop
         + Send
+        + Sync
         + 'static,
 {
     let alloc = stage.alloc;
@@ -268,6 +272,7 @@ where
     let all = join_all(rt, players)?;
     let journal = answer(stage, "journal 1")?;
     let events = events_of(alloc, journal.as_str())?;
+    stage.journaled = events.len();
     let others = count_others(events.as_slice());
     let mut n = 0u32;
     let mut called = 0u32;

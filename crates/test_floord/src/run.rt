@@ -29,6 +29,7 @@ where
         + Copy
         + Drop
         + Send
+        + Sync
         + 'static,
 {
     for word in words {
@@ -51,6 +52,7 @@ where
         + Copy
         + Drop
         + Send
+        + Sync
         + 'static,
 {
     match paths_of(rt, word) {
@@ -75,6 +77,7 @@ where
         + Copy
         + Drop
         + Send
+        + Sync
         + 'static,
 {
     for path in paths {
@@ -97,6 +100,7 @@ where
         + Copy
         + Drop
         + Send
+        + Sync
         + 'static,
 {
     match count_of(rt, path) {
@@ -122,6 +126,7 @@ where
         + Copy
         + Drop
         + Send
+        + Sync
         + 'static,
 {
     let text = fs::read_to_string(rt, path)?;
@@ -144,6 +149,7 @@ where
         + Copy
         + Drop
         + Send
+        + Sync
         + 'static,
 {
     let mut stage = Stage::new(rt)?;
@@ -174,6 +180,7 @@ where
         + Copy
         + Drop
         + Send
+        + Sync
         + 'static,
 {
     match step(rt, stage, line) {

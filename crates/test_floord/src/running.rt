@@ -1,14 +1,14 @@
 //! A server that runs in a thread, with its console.
 
 use crate::client::MAX_SECONDS;
-use crate::gate::Held;
-use crate::sink::Sink;
+use crate::gate::{Held, Holding};
+use crate::sink::{Sink, Taking, Told};
 use floor_threads::run_with;
 use std::alloc::Global;
 use std::io::{Read, Write};
 use std::net::{Net, Shutdown, TcpListener, TcpStream};
 use std::rt::Files;
-use std::sync::Wait;
+use std::sync::{Arc, Wait};
 use std::thread;
 use std::thread::{JoinHandle, Threads};
 use std::time::{Clock, Duration};
@@ -30,10 +30,11 @@ pub struct Running {
 
 /// What a server is started with.
 #[derive(Drop)]
-pub struct Start<R> {
+pub struct Start {
     pub words: Vec<String>,
-    pub sink: Sink<R>,
-    pub gate: Held<R>,
+    pub told: Arc<Told, Global>,
+    pub taking: Taking,
+    pub holding: Arc<Holding, Global>,
 }
 
 /// Two ends of a stream: what one is written, the other reads.
@@ -48,6 +49,7 @@ where
         + Copy
         + Drop
         + Send
+        + Sync
         + 'static,
 {
     let listener = TcpListener::bind(rt, "127.0.0.1:0")?;
@@ -57,7 +59,7 @@ where
 }
 
 /// Runs the program to its end.
-fn run_to_end<R>(rt: R, alloc: Global, start: Start<R>, console: TcpStream) -> Ended
+fn run_to_end<R>(rt: R, alloc: Global, start: Start, console: TcpStream) -> Ended
 where
     R: Net<Listener = TcpListener, Stream = TcpStream>
         + Files
@@ -68,9 +70,15 @@ where
         + Copy
         + Drop
         + Send
+        + Sync
         + 'static,
 {
-    let Start { words, sink, gate } = start;
+    let Start {
+        words,
+        told,
+        taking,
+        holding,
+    } = start;
     let mut errors = Vec::new(alloc);
     let mut input = &console;
     let mut output = &console;
@@ -81,15 +89,15 @@ where
         &mut input,
         &mut output,
         &mut errors,
-        sink,
-        gate,
+        Sink { rt, told, taking },
+        Held { rt, holding },
     );
     Ended { status, errors }
 }
 
 impl Running {
     /// Starts a server.
-    pub fn start<R>(rt: &R, start: Start<R>) -> Result<Running, Fault>
+    pub fn start<R>(rt: &R, start: Start) -> Result<Running, Fault>
     where
         R: Net<Listener = TcpListener, Stream = TcpStream>
             + Files
@@ -100,6 +108,7 @@ impl Running {
             + Copy
             + Drop
             + Send
+            + Sync
             + 'static,
     {
         let (console, theirs) = two_ends(rt)?;
@@ -155,6 +164,7 @@ impl Running {
             + Copy
             + Drop
             + Send
+            + Sync
             + 'static,
     {
         let Running { console: _, thread } = self;

@@ -1,11 +1,11 @@
 //! What a case has: its ports, its server, its clients.
 
 use crate::client::Client;
-use crate::gate::{Held, Holding};
+use crate::gate::Holding;
 use crate::load_steps::Loaded;
 use crate::ports::Ports;
 use crate::running::{Running, Start};
-use crate::sink::{Sink, Taking, Told};
+use crate::sink::{Taking, Told};
 use jiff::Timestamp;
 use std::alloc::Global;
 use std::fs;
@@ -28,6 +28,8 @@ pub struct Stage {
     /// Their own ports, also of those that were dropped; 0 where one couldn't connect.
     peers: Vec<u16>,
     pub loads: Vec<Loaded>,
+    /// How many events the journal had that random clients were compared with.
+    pub journaled: usize,
     /// The ports that another program listens on.
     pub taken: Vec<TcpListener>,
     pub holding: Arc<Holding, Global>,
@@ -48,6 +50,7 @@ where
         + Copy
         + Drop
         + Send
+        + Sync
         + 'static,
 {
     let alloc = rt.alloc();
@@ -74,6 +77,7 @@ impl Stage {
             + Copy
             + Drop
             + Send
+            + Sync
             + 'static,
     {
         let alloc = rt.alloc();
@@ -88,6 +92,7 @@ impl Stage {
             clients: Vec::new(alloc),
             peers: Vec::new(alloc),
             loads: Vec::new(alloc),
+            journaled: 0,
             taken: Vec::new(alloc),
             holding,
             told,
@@ -107,6 +112,7 @@ impl Stage {
             + Copy
             + Drop
             + Send
+            + Sync
             + 'static,
     {
         let text = self.ports.numbered(self.alloc, text)?;
@@ -116,29 +122,12 @@ impl Stage {
     }
 
     /// What a server is started with that logs, if it is asked to, to a sink that takes so.
-    pub fn start<R>(&self, rt: &R, words: Vec<String>, taking: Taking) -> Result<Start<R>, Fault>
-    where
-        R: Net<Listener = TcpListener, Stream = TcpStream>
-            + Files
-            + AllocGlobal
-            + Clock
-            + Threads
-            + Wait
-            + Copy
-            + Drop
-            + Send
-            + 'static,
-    {
-        let told = Arc::try_clone(&self.told)?;
-        let holding = Arc::try_clone(&self.holding)?;
+    pub fn start(&self, words: Vec<String>, taking: Taking) -> Result<Start, Fault> {
         Ok(Start {
             words,
-            sink: Sink {
-                rt: *rt,
-                told,
-                taking,
-            },
-            gate: Held { rt: *rt, holding },
+            told: Arc::try_clone(&self.told)?,
+            taking,
+            holding: Arc::try_clone(&self.holding)?,
         })
     }
 

@@ -10,8 +10,9 @@
 //!   it prints something.
 //! - `console LINE` hands the server a line, and prints its answer. `until BEGINNING: LINE` hands
 //!   it again and again until the answer begins so.
-//! - `stop LEAST MOST` stops the server, of whose events it prints these bounds where there are so many, and
-//!   `end input` ends its input. Then its status is printed.
+//! - `stop LEAST MOST` stops the server, of whose events it prints these bounds where there are so many,
+//!   `stop journal` says instead whether there are as many as in the journal that random clients were
+//!   compared with, and `end input` ends its input. Then its status is printed.
 //! - `log` prints the lines of the log in the order of the alphabet, with the number of the client in place
 //!   of a peer's port, and without the time where that is right. `logged TEXT` waits until a line ends so.
 //!   `writes` prints how often the sink was written to.
@@ -54,6 +55,7 @@ where
         + Copy
         + Drop
         + Send
+        + Sync
         + 'static,
 {
     let (word, rest) = first_word(line);
@@ -87,6 +89,7 @@ where
         + Copy
         + Drop
         + Send
+        + Sync
         + 'static,
 {
     match word {
@@ -122,6 +125,7 @@ where
         + Copy
         + Drop
         + Send
+        + Sync
         + 'static,
 {
     match word {

@@ -1,5 +1,5 @@
-//! Cases that are code: gates that hold a conference, writers and outboxes in threads of their own, and what
-//! is left in the outbox of a member of a booth.
+//! Cases that are code: gates that hold a conference, writers and outboxes in threads of their own, and a
+//! member that leaves a booth.
 
 mod booths;
 mod gates;
@@ -19,6 +19,7 @@ pub fn run_calls<R: Threads + Wait + Sync>(
 ) -> Result<usize, Fault> {
     match word {
         "calls/booths" => booths::run(rt, alloc),
+        "calls/full_journals" => booths::run_full(rt, alloc),
         "calls/gates" => gates::run(rt, alloc),
         "calls/openings" => gates::run_opening(rt, alloc),
         "calls/outboxes" => outboxes::run(rt, alloc),

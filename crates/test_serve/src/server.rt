@@ -171,20 +171,29 @@ impl Server {
     fn seats_at(&mut self, places: &[usize]) -> Result<Vec<Seat>, Fault> {
         let mut seats = Vec::with_capacity(self.alloc, places.len())?;
         for place in places {
-            match self.seats.get_mut(*place) {
-                Some(seat) => push_some(&mut seats, seat.take())?,
-                None => return Err(Fault::Layout("no such seat")),
-            }
+            seats.push(self.seat_at(*place)?)?;
         }
         Ok(seats)
     }
 
     fn put_back(&mut self, places: &[usize], seats: Vec<Seat>) {
         for (place, seat) in places.iter().zip(seats) {
-            match self.seats.get_mut(*place) {
-                Some(old) => *old = Some(seat),
-                None => {}
-            }
+            self.put_at(*place, seat);
+        }
+    }
+
+    /// Takes out the seat at this place, which has one.
+    fn seat_at(&mut self, place: usize) -> Result<Seat, Fault> {
+        match self.seats.get_mut(place) {
+            Some(seat) => seat.take().ok_or(Fault::Layout("a seat stands twice")),
+            None => Err(Fault::Layout("no such seat")),
+        }
+    }
+
+    fn put_at(&mut self, place: usize, seat: Seat) {
+        match self.seats.get_mut(place) {
+            Some(old) => *old = Some(seat),
+            None => {}
         }
     }
 
@@ -194,19 +203,18 @@ impl Server {
         };
         let (one, first) = self.message(first)?;
         let (two, second) = self.message(second)?;
-        let places = [one, two];
-        let mut seats = self.seats_at(places.as_slice())?;
-        let taken = match (
-            self.members.get(one),
-            self.members.get(two),
-            seats.as_mut_slice(),
-        ) {
-            (Some(one), Some(two), [a, b]) => {
-                both_taken(rt, (&one.desk, a, first), (&two.desk, b, second))
-            }
+        let mut a = self.seat_at(one)?;
+        let mut b = self.seat_at(two)?;
+        let taken = match (self.members.get(one), self.members.get(two)) {
+            (Some(one), Some(two)) => are_taken(
+                rt,
+                (&one.desk, &mut a, first),
+                (&two.desk, &mut b, second),
+            ),
             _ => false,
         };
-        self.put_back(places.as_slice(), seats);
+        self.put_at(one, a);
+        self.put_at(two, b);
         line(
             self.alloc,
             if taken {
@@ -224,16 +232,8 @@ impl Server {
     }
 }
 
-/// Appends a seat that is there.
-fn push_some(seats: &mut Vec<Seat>, seat: Option<Seat>) -> Result<(), Fault> {
-    match seat {
-        Some(seat) => Ok(seats.push(seat)?),
-        None => Err(Fault::Layout("a seat stands twice")),
-    }
-}
-
 /// Whether two messages, each from a thread of its own, are taken.
-fn both_taken<R: Threads + Wait + Sync>(
+fn are_taken<R: Threads + Wait + Sync>(
     rt: &R,
     first: (&Desk, &mut Seat, Frame),
     second: (&Desk, &mut Seat, Frame),

@@ -123,28 +123,41 @@ fn are_acknowledged<R: Wait>(rt: &R, desk: &Desk) -> bool {
     false
 }
 
+/// Whether the Hellos of users 10 and 11, each user's from a thread of its own, are taken.
+fn both_hellos<R: Threads + Wait + Sync>(
+    rt: &R,
+    alloc: Global,
+    desk: &Desk,
+    ten: &mut Seat,
+    eleven: &mut Seat,
+) -> bool {
+    thread::join(
+        rt,
+        || hellos(rt, alloc, desk, ten, 10),
+        || hellos(rt, alloc, desk, eleven, 11),
+    ) == (true, true)
+}
+
 /// What was written for each member once their Hellos, each user's from a thread of its own, were taken;
 /// `None` where one wasn't, or wasn't acknowledged. Then they leave.
 fn spoken<R: Threads + Wait + Sync>(
     rt: &R,
     alloc: Global,
     desk: &Desk,
-    seats: (&mut Seat, &mut Seat),
+    seats: (Seat, Seat),
     wrote: &[Mutex<Vec<u8>>; 2],
-) -> Option<[Vec<u8>; 2]> {
-    let (ten, eleven) = seats;
-    let taken = thread::join(
-        rt,
-        || hellos(rt, alloc, desk, ten, 10),
-        || hellos(rt, alloc, desk, eleven, 11),
-    );
-    let parts = (copied(rt, alloc, &wrote[0]), copied(rt, alloc, &wrote[1]));
+) -> Option<(Vec<u8>, Vec<u8>)> {
+    let (mut ten, mut eleven) = seats;
+    let taken = both_hellos(rt, alloc, desk, &mut ten, &mut eleven);
+    let first = copied(rt, alloc, &wrote[0]);
+    let second = copied(rt, alloc, &wrote[1]);
     // While both are members, so that the journal has all that their writers acknowledge.
-    let heard = taken == (true, true) && are_acknowledged(rt, desk);
-    let left = (left(rt, desk, ten), left(rt, desk, eleven));
-    match (parts, heard && left == (None, None)) {
-        ((Some(first), Some(second)), true) => Some([first, second]),
-        _ => None,
+    let heard = taken && are_acknowledged(rt, desk);
+    let left = (left(rt, desk, &mut ten), left(rt, desk, &mut eleven));
+    if heard && left == (None, None) {
+        Some((first?, second?))
+    } else {
+        None
     }
 }
 
@@ -155,9 +168,9 @@ fn heard<R: Threads + Wait + Sync>(
     alloc: Global,
     desk: &Desk,
     wrote: &[Mutex<Vec<u8>>; 2],
-) -> Option<[Vec<u8>; 2]> {
-    let (mut ten, mut first) = desk.join(rt, 10).ok()?;
-    let (mut eleven, mut second) = desk.join(rt, 11).ok()?;
+) -> Option<(Vec<u8>, Vec<u8>)> {
+    let (ten, mut first) = desk.join(rt, 10).ok()?;
+    let (eleven, mut second) = desk.join(rt, 11).ok()?;
     let (written, parts) = thread::join(
         rt,
         || {
@@ -167,7 +180,7 @@ fn heard<R: Threads + Wait + Sync>(
                 || writes(rt, alloc, &wrote[1], desk, 2, &mut second),
             )
         },
-        || spoken(rt, alloc, desk, (&mut ten, &mut eleven), wrote),
+        || spoken(rt, alloc, desk, (ten, eleven), wrote),
     );
     let all = Ok(Written {
         parcels: 200,
@@ -211,8 +224,17 @@ fn called_for(alloc: Global, journal: &str, n: u32) -> Result<Vec<u8>, Fault> {
 }
 
 /// Whether a member's writer had written a beginning of what the journal calls for, and in the end all.
-fn are_called_for<R: Wait>(rt: &R, called: &[u8], part: &[u8], wrote: &Mutex<Vec<u8>>) -> bool {
-    called.starts_with(part) && wrote.lock(rt).as_slice() == called
+fn is_called_for<R: Wait>(
+    rt: &R,
+    alloc: Global,
+    journal: &str,
+    n: u32,
+    part: Vec<u8>,
+    wrote: &Mutex<Vec<u8>>,
+) -> Result<bool, Fault> {
+    let called = called_for(alloc, journal, n)?;
+    let began = called.starts_with(part.as_slice());
+    Ok(began && wrote.lock(rt).as_slice() == called.as_slice())
 }
 
 /// Two users send Hellos, each from a thread of its own, while the writer of each is in another.
@@ -225,15 +247,13 @@ pub fn run<R: Threads + Wait + Sync>(rt: &R, alloc: Global) -> Result<usize, Fau
     let wrote = [Mutex::new(Vec::new(alloc)), Mutex::new(Vec::new(alloc))];
     let parts = heard(rt, alloc, &desk, &wrote);
     let journal = desk.journal_text(rt)?;
-    let first = called_for(alloc, journal.as_str(), 1)?;
-    let second = called_for(alloc, journal.as_str(), 2)?;
     let wrong = match parts {
         None => Some("a message isn't taken, acknowledged or written"),
-        Some([one, two]) => unless(
-            are_called_for(rt, &first, &one, &wrote[0])
-                && are_called_for(rt, &second, &two, &wrote[1]),
-            "other bytes than the journal calls for",
-        ),
+        Some((one, two)) => {
+            let first = is_called_for(rt, alloc, journal.as_str(), 1, one, &wrote[0])?;
+            let second = is_called_for(rt, alloc, journal.as_str(), 2, two, &wrote[1])?;
+            unless(first && second, "other bytes than the journal calls for")
+        }
     };
     check(
         alloc,
