@@ -1,0 +1,254 @@
+//! What the log tells.
+
+use super::clients::{
+    Server, ask, connect, free_port, hear, line, log_lines, prepare, run_logged, send, two_ends,
+};
+use floor_config::read_configs;
+use floor_serve::{Act, Desk, FreePass};
+use floor_threads::{Binding, Log, Shared, Socket, accept_all};
+use std::alloc::Global;
+use std::io::{ErrorKind, Read, Write};
+use std::net::{Net, Shutdown, TcpListener, TcpStream};
+use std::sync::{Arc, Wait};
+use std::test::Fail;
+use std::thread::Threads;
+use std::time::{Clock, Duration};
+use std::{fs, io, thread};
+
+const HELLO: &str = "200b0000 00000001 0001 000a";
+
+const OTHER_HELLO: &str = "200b0000 00000002 0001 000a";
+
+/// The lines of a run, in the order of the alphabet. Member 1 ends its stream, 2 does inside a message,
+/// 3 resets its connection, 4 is there at the stop; conference 2 is closed while its member is there.
+const RUN: &str = "conference 1 opened
+conference 1 user 10 port FIRST ended
+conference 1 user 10 port FIRST listens
+conference 1 user 10 port FIRST n 1 joined
+conference 1 user 10 port FIRST n 1 left EndOfStream
+conference 1 user 10 port FIRST n 2 joined
+conference 1 user 10 port FIRST n 2 left InsideMessage
+conference 1 user 10 port FIRST n 3 joined
+conference 1 user 10 port FIRST n 3 left Reset
+conference 1 user 10 port FIRST n 4 joined
+conference 1 user 10 port FIRST n 4 left Stopped
+conference 2 closed
+conference 2 opened
+conference 2 user 10 port SECOND ended
+conference 2 user 10 port SECOND listens
+conference 2 user 10 port SECOND n 1 joined
+conference 2 user 10 port SECOND n 1 left Closed
+";
+
+/// How often a status is asked for at most, 10 milliseconds apart.
+const MAX_ASKS: u32 = 2_000;
+
+/// Whether conference 1 was found without members before it was asked for too often.
+fn is_left(rt: &HostRuntime, server: &Server) -> Result<bool, Fail> {
+    for _ in 0..MAX_ASKS {
+        if ask(rt, server, "status 1")?
+            .as_str()
+            .starts_with("conference 1 members 0 ")
+        {
+            return Ok(true);
+        }
+        thread::sleep(rt, Duration::from_millis(10));
+    }
+    Ok(false)
+}
+
+/// Connects to a port, and says Hello, of whose answer so many bytes are read.
+fn greet(rt: &HostRuntime, port: u16, hello: &str, read: usize) -> Result<TcpStream, Fail> {
+    let mut client = connect(rt, port)?;
+    send(rt, &mut client, hello).ok_or("says Hello")?;
+    hear(rt, &mut client, read).ok_or("is answered")?;
+    Ok(client)
+}
+
+/// Three members of conference 1 come and go, each in another way.
+fn come_and_go(rt: &HostRuntime, server: &Server, port: u16) -> Result<bool, Fail> {
+    let first = greet(rt, port, HELLO, 48)?;
+    first.shutdown(Shutdown::Write)?;
+    let first_left = is_left(rt, server)?;
+    let mut second = greet(rt, port, HELLO, 48)?;
+    second.write_all(&[0x20, 11, 0])?;
+    second.shutdown(Shutdown::Write)?;
+    let second_left = is_left(rt, server)?;
+    // What is closed with bytes that it has not read is reset.
+    let third = greet(rt, port, HELLO, 47)?;
+    drop(third);
+    Ok(first_left && second_left && is_left(rt, server)?)
+}
+
+#[test]
+fn a_run_is_told_line_by_line(rt: HostRuntime) -> Result<(), Fail> {
+    let alloc = rt.alloc();
+    let ports = [free_port(&rt)?, free_port(&rt)?];
+    let (mut log, sink) = two_ends(&rt)?;
+    let conferences = [(1, ports[0]), (2, ports[1])];
+    let (console, mut start) = prepare(&rt, "logged.toml", &conferences)?;
+    start.ask_for_log(alloc)?;
+    let thread = thread::spawn(&rt, move || run_logged(rt, alloc, start, sink, FreePass))?;
+    let server = Server { console, thread };
+    assert_eq!(rt; line(&rt, &server)?.as_str(), "ready");
+    assert!(rt; come_and_go(&rt, &server, ports[0])?);
+    let mut closed = greet(&rt, ports[1], OTHER_HELLO, 48)?;
+    assert_eq!(rt; ask(&rt, &server, "close 2")?.as_str(), "ok closed 2");
+    let mut byte = [0u8; 1];
+    assert_eq!(rt; closed.read(&mut byte)?, 0);
+    let _stopped = greet(&rt, ports[0], HELLO, 48)?;
+    let stopped = ask(&rt, &server, "stop")?;
+    assert!(rt;
+        stopped.as_str().starts_with("ok stopped seats 5 "),
+        "{stopped}"
+    );
+    assert_eq!(rt; server.end(&rt), 0);
+    let first = format!(in alloc; "{}", ports[0])?;
+    let second = format!(in alloc; "{}", ports[1])?;
+    let told = log_lines(alloc, &mut log)?
+        .replace(alloc, first.as_str(), "FIRST")?
+        .replace(alloc, second.as_str(), "SECOND")?;
+    assert_eq!(rt; told.as_str(), RUN);
+    fs::remove_file(&rt, "logged.toml")?;
+    Ok(())
+}
+
+/// The lines of ports of which each refuses a connection, in the order of the alphabet.
+const REFUSED: &str = "conference 1 user 10 port 1 accepts again
+conference 1 user 10 port 1 cannot accept
+conference 1 user 10 port 1 refused Full
+conference 1 user 10 port 2 refused Ended
+conference 1 user 11 port 5 refused Ended
+conference 3 user 10 port 3 refused Connections
+conference 4 user 10 port 4 refused NoConference
+";
+
+/// The configuration of conference 1, in which there is user 10.
+const CONFIGURATION: &str = "[[conference]]\nid = 1\n[[conference.user]]\nid = 10\n";
+
+/// Connects to a port of the server's, behind some accepts that fail, and waits for the end of the connection.
+fn refuse<R>(
+    rt: R,
+    alloc: Global,
+    shared: &Arc<Shared<FreePass>, Global>,
+    place: (u32, u16, u16),
+    fails: u32,
+) -> Result<(), Fail>
+where
+    R: Net<Listener = TcpListener, Stream = TcpStream>
+        + Clock
+        + Threads
+        + Wait
+        + Copy
+        + Drop
+        + Send
+        + 'static,
+{
+    let (conference, user, port) = place;
+    let binding = Binding::new(Arc::try_clone(shared)?, conference, user, port);
+    let binding = Arc::new(alloc, binding)?;
+    let (_client, stream) = two_ends(&rt)?;
+    let mut incoming = Vec::new(alloc);
+    for _ in 0..fails {
+        incoming.push(Err(io::Error::from(ErrorKind::Other)))?;
+    }
+    incoming.push(Ok(stream))?;
+    accept_all(rt, alloc, &binding, incoming.into_iter());
+    binding.wait(&rt);
+    Ok(())
+}
+
+/// Takes the places of a conference's members.
+fn fill<R: Wait>(rt: &R, desk: &Desk) -> Result<(), Fail> {
+    for _ in 0..64 {
+        let Ok(_joined) = desk.join(rt, 10) else {
+            return Err(Fail::from("the user doesn't join"));
+        };
+    }
+    Ok(())
+}
+
+/// Takes the places of conference 3's connections.
+fn connect_all<R>(rt: &R, alloc: Global, shared: &Shared<FreePass>) -> Result<(), Fail>
+where
+    R: Net<Listener = TcpListener, Stream = TcpStream> + Wait,
+{
+    let (_client, stream) = two_ends(rt)?;
+    let socket = Socket::new(alloc, stream)?;
+    for _ in 0..128 {
+        let Ok(_begun) = shared.connections.begin(rt, 3, 30, socket.share()?) else {
+            return Err(Fail::from("no connection begins"));
+        };
+    }
+    Ok(())
+}
+
+#[test]
+fn a_refused_connection_is_told_with_its_cause(rt: HostRuntime) -> Result<(), Fail> {
+    let alloc = rt.alloc();
+    let (mut log, sink) = two_ends(&rt)?;
+    let started = Log::start(rt, alloc, sink).ok_or("a log starts")?;
+    let shared = Arc::new(
+        alloc,
+        Shared::new(alloc, FreePass, Some(Arc::try_clone(&started)?)),
+    )?;
+    let mut configs = read_configs(alloc, CONFIGURATION).map_err(|_| "no configuration")?;
+    let Ok(()) = shared
+        .registry
+        .open(&rt, configs.pop().ok_or("no conference")?)
+    else {
+        return Err(Fail::from("the conference doesn't open"));
+    };
+    let Ok(desk) = shared.registry.desk(&rt, 1) else {
+        return Err(Fail::from("no desk"));
+    };
+    connect_all(&rt, alloc, &shared)?;
+    refuse(rt, alloc, &shared, (3, 10, 3), 0)?;
+    refuse(rt, alloc, &shared, (4, 10, 4), 0)?;
+    fill(&rt, &desk)?;
+    refuse(rt, alloc, &shared, (1, 10, 1), 2)?;
+    let Ok(()) = desk.admin(&rt, Act::Close) else {
+        return Err(Fail::from("the conference isn't closed"));
+    };
+    refuse(rt, alloc, &shared, (1, 10, 2), 0)?;
+    refuse(rt, alloc, &shared, (1, 11, 5), 0)?;
+    started.end(&rt);
+    drop(started);
+    let told = log_lines(alloc, &mut log)?;
+    assert_eq!(rt; told.as_str(), REFUSED);
+    Ok(())
+}
+
+/// A sink that takes nothing.
+#[derive(Drop)]
+struct Closed;
+
+impl Write for Closed {
+    fn write(&mut self, _buf: &[u8]) -> io::Result<usize> {
+        Err(io::Error::from(ErrorKind::BrokenPipe))
+    }
+
+    fn flush(&mut self) -> io::Result<()> {
+        Ok(())
+    }
+}
+
+#[test]
+fn a_log_that_cannot_be_written_is_given_up(rt: HostRuntime) -> Result<(), Fail> {
+    let alloc = rt.alloc();
+    let port = free_port(&rt)?;
+    let (console, mut start) = prepare(&rt, "unlogged.toml", &[(1, port)])?;
+    start.ask_for_log(alloc)?;
+    let thread = thread::spawn(&rt, move || run_logged(rt, alloc, start, Closed, FreePass))?;
+    let server = Server { console, thread };
+    assert_eq!(rt; line(&rt, &server)?.as_str(), "ready");
+    let _client = greet(&rt, port, HELLO, 48)?;
+    assert!(rt;
+        ask(&rt, &server, "stop")?
+            .as_str()
+            .starts_with("ok stopped seats 1 ")
+    );
+    assert_eq!(rt; server.end(&rt), 0);
+    fs::remove_file(&rt, "unlogged.toml")?;
+    Ok(())
+}
