@@ -119,19 +119,20 @@ fn placed(alloc: Global, text: &str) -> Result<u32, Fault> {
 /// with their number.
 fn events_lines(alloc: Global, journal: &str, word: &str) -> Result<String, Fault> {
     let mut printed = String::new(alloc);
-    let (mut last, mut count) = ("", 0u32);
+    let (mut last, mut count) = (String::new(alloc), 0u32);
     for text in journal.lines() {
         let event = text.split_once(' ').unwrap_or(("", text)).1;
         if !event.split(' ').any(|other| other == word) {
             continue;
         }
-        if event != last {
-            push_counted(&mut printed, last, count)?;
-            (last, count) = (event, 0);
+        if event != last.as_str() {
+            push_counted(&mut printed, last.as_str(), count)?;
+            last = String::from_str(alloc, event)?;
+            count = 0;
         }
         count = count.saturating_add(1);
     }
-    push_counted(&mut printed, last, count)?;
+    push_counted(&mut printed, last.as_str(), count)?;
     Ok(printed)
 }
 

@@ -1,5 +1,7 @@
 //! A member of a booth that leaves: what is left in its outbox, and who leaves a full journal.
 
+ghost use Rattle.floor_serve.specs.Senders.{sender_of};
+
 use crate::calls::{check, unless};
 use crate::seat::bytes_frame;
 use floor_config::Config;
@@ -21,8 +23,7 @@ const HELLO_ACK: [u8; 48] = [
 
 /// What nobody took of a member that left is reclaimed.
 pub fn run<R: Wait>(rt: &R, alloc: Global) -> Result<usize, Fault> {
-    let mut booth = Booth::new(alloc, Config::demonstration(alloc)?)?;
-    let wrong = match reclaimed(rt, alloc, &mut booth)? {
+    let wrong = match reclaimed(rt, alloc)? {
         None => Some("the member isn't taken, answered or let go"),
         Some(outbox) => unless(holds_the_answer(rt, outbox), "another outbox"),
     };
@@ -32,8 +33,9 @@ pub fn run<R: Wait>(rt: &R, alloc: Global) -> Result<usize, Fault> {
 
 /// The outbox of a user that joined, said Hello and left.
 #[tactic(auto, using(floor_serve::proofs::Leaving::gone_took))]
-fn reclaimed<R: Wait>(rt: &R, alloc: Global, booth: &mut Booth) -> Result<Option<Outbox>, Fault> {
+fn reclaimed<R: Wait>(rt: &R, alloc: Global) -> Result<Option<Outbox>, Fault> {
     let hello = bytes_frame(alloc, HELLO)?;
+    let mut booth = Booth::new(alloc, Config::demonstration(alloc)?)?;
     let Ok((n, taker)) = booth.join(rt, 10) else {
         return Ok(None);
     };
