@@ -39,3 +39,6 @@ pub use seat::{Receipt, Seat, Sent};
 pub use table::Table;
 pub use wakers::Wakers;
 pub use writing::{Written, write_loop, write_parcel};
+
+#[cfg(test)]
+mod tests;

@@ -3,7 +3,3 @@
 mod commands;
 mod one_room;
 mod refusals;
-
-pub use commands::parsed;
-pub use one_room::exchanged;
-pub use refusals::told;

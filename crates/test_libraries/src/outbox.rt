@@ -1,74 +1,68 @@
-//! An outbox of one sender and one taker.
+//! What no clause says of an outbox.
 
-use crate::cases::{nth_word, number};
-use floor_outbox::{Parcel, Sender, Taken, pair, rejoin};
+use floor_outbox::*;
 use floor_wire::Frame;
-use std::alloc::{AllocError, Global};
-use std::fmt::Write;
-use std::sync::Wait;
+use std::alloc::Global;
+use std::test::*;
 
-/// What each line of a script answers, and what is left at its end, where the two are joined again.
-pub fn told<R: Wait>(rt: &R, alloc: Global, script: &str) -> Result<String, AllocError> {
+/// A parcel for member 1: a Hello with this transaction.
+fn parcel(alloc: Global, transaction: u8) -> Result<Parcel, Fail> {
+    let bytes = [0x20, 0x0b, 0, 0, 0, 0, 0, 1, 0, transaction, 0, 10];
+    let hello = Frame::of(alloc, &bytes)?.ok_or("no message")?;
+    Ok(Parcel::new(1, hello))
+}
+
+/// The transaction of a parcel.
+fn transaction_of(parcel: &Parcel) -> Option<u8> {
+    parcel.header().get(9).copied()
+}
+
+/// The transaction of the parcel that was taken, if one was.
+fn transaction_in(taken: &Taken) -> Option<u8> {
+    match taken {
+        Taken::Parcel(parcel) => transaction_of(parcel),
+        Taken::Empty | Taken::Closed => None,
+    }
+}
+
+#[test]
+fn parcels_are_taken_in_order_and_the_rest_is_popped(rt: HostRuntime) -> Result<(), Fail> {
+    let alloc = rt.alloc();
+    let (first, second) = (parcel(alloc, 1)?, parcel(alloc, 2)?);
+    let (mut sender, mut taker) = pair(alloc)?;
+    assert!(rt; matches!(taker.take(&rt), Taken::Empty));
+    assert!(rt; sender.put(&rt, first).is_ok() && sender.put(&rt, second).is_ok());
+    taker.wait(&rt);
+    let first = taker.take(&rt);
+    assert_eq!(rt; transaction_in(&first), Some(1));
+    let mut outbox = rejoin(&rt, sender, taker);
+    let second = outbox.pop(&rt).ok_or("nothing is left")?;
+    assert_eq!(rt; transaction_of(&second), Some(2));
+    assert!(rt; outbox.pop(&rt).is_none());
+    Ok(())
+}
+
+#[test]
+fn the_closed_mark_stays_and_wakes(rt: HostRuntime) -> Result<(), Fail> {
+    let alloc = rt.alloc();
     let (mut sender, mut taker) = pair(alloc)?;
     let mark = taker.mark()?;
-    let mut told = String::new(alloc);
-    for line in script.lines() {
-        let answer = match nth_word(line, 0) {
-            "put" => put(rt, alloc, &mut sender, number(nth_word(line, 1)))?,
-            "mark" if mark.is_set() => "set",
-            "mark" => "open",
-            "close" => {
-                sender.close();
-                "closed"
-            }
-            "wait" => {
-                taker.wait(rt);
-                "waited"
-            }
-            _ => "",
-        };
-        told.push_str(answer)?;
-        if line == "take" {
-            push_taken(&mut told, &taker.take(rt))?;
-        }
-        told.push('\n')?;
-    }
-    let mut outbox = rejoin(rt, sender, taker);
-    for _ in 0..9 {
-        if let Some(parcel) = outbox.pop(rt) {
-            write!(told, "left {}\n", transaction_of(&parcel))?;
-        }
-    }
-    Ok(told)
-}
-
-/// Puts a Hello with this transaction.
-fn put<R: Wait>(
-    rt: &R,
-    alloc: Global,
-    sender: &mut Sender,
-    transaction: u16,
-) -> Result<&'static str, AllocError> {
-    let [high, low] = transaction.to_be_bytes();
-    let bytes = [0x20, 0x0b, 0, 0, 0, 0, 0, 1, high, low, 0, 10];
-    let Some(hello) = Frame::of(alloc, &bytes)? else {
-        return Ok("no message");
-    };
-    match sender.put(rt, Parcel::new(1, hello)) {
-        Ok(()) => Ok("put"),
-        Err(_) => Ok("refused"),
-    }
-}
-
-/// The transaction of a parcel, of at most 255.
-fn transaction_of(parcel: &Parcel) -> u8 {
-    parcel.header().get(9).copied().unwrap_or(0)
-}
-
-fn push_taken(told: &mut String, taken: &Taken) -> Result<(), AllocError> {
-    match taken {
-        Taken::Parcel(parcel) => write!(told, "parcel {}", transaction_of(parcel)),
-        Taken::Empty => told.push_str("empty"),
-        Taken::Closed => told.push_str("closed"),
-    }
+    assert!(rt; !mark.is_set());
+    assert!(rt; sender.put(&rt, parcel(alloc, 1)?).is_ok());
+    taker.wait(&rt);
+    sender.close();
+    taker.wait(&rt);
+    assert!(rt; mark.is_set());
+    let first = taker.take(&rt);
+    assert_eq!(rt;
+        transaction_in(&first),
+        Some(1),
+        "what was put before the mark"
+    );
+    assert!(rt; matches!(taker.take(&rt), Taken::Closed) && mark.is_set());
+    assert!(rt; sender.put(&rt, parcel(alloc, 2)?).is_ok());
+    let behind = taker.take(&rt);
+    assert_eq!(rt; transaction_in(&behind), Some(2), "what was put behind it");
+    assert!(rt; matches!(taker.take(&rt), Taken::Closed));
+    Ok(())
 }

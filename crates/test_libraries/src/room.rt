@@ -2,16 +2,132 @@
 
 mod changes;
 
-use crate::cases::{barred, nth_word};
+use crate::cases::{assert_told, barred, differing};
 use crate::framed::message;
 use crate::hexadecimal::{frame, spelled};
-pub use changes::answered;
 use floor_room::{
     Act, Config, Event, Frame, Ledger, Parcel, ReplayFault, Room, RoomRefusal, add_lines,
     journal_text, replay,
 };
 use floor_words::{read_u16, read_u32};
 use std::alloc::{AllocError, Global};
+
+/// Each line of a script, and behind a `>` what it answers.
+/// Users 10 and 11 ask for floor 1, and 10 gives it back; what user 11 is sent is 80 bytes.
+const RELEASE_PASSES_THE_FLOOR_ON: &str = "\
+join 10 > ok 1
+join 11 > ok 2
+serve 1 20010001000000010002000a04040001 > ok 3
+serve 2 20010001000000010001000b04040001 > ok 4
+serve 1 20020001000000010003000a06040001 > ok 5
+status > 2 1 5 open
+waits 2 > 2
+replay 2 > sent 20040007 00000001 0001000b 1e1c0002 24080002 0a040201 22080001 0a040201 1c04000b 08044000 20040007 00000001 0000000b 1e1c0002 24080002 0a040300 22080001 0a040300 1c04000b 08044000
+take 2 > sent 20040007 00000001 0001000b 1e1c0002 24080002 0a040201 22080001 0a040201 1c04000b 08044000
+take 2 > sent 20040007 00000001 0000000b 1e1c0002 24080002 0a040300 22080001 0a040300 1c04000b 08044000
+take 2 > none
+replay 3 > none
+revoke 9 > NoRequest
+revoke 2 > ok
+leave 2 > ok
+close > ok
+journal > 1 join 10|2 join 11|3 message 1 20010001000000010002000a04040001|4 message 2 20010001000000010001000b04040001|5 message 1 20020001000000010003000a06040001|6 revoke 2|7 leave 2|8 close|end 8|
+status > 1 0 8 ended";
+
+/// A refused line adds no event, and a room that is broken off keeps what waits.
+const REFUSALS: &str = "\
+journal > end 0|
+join 99 > NoUser
+leave 1 > NoMember
+take 1 > NoMember
+waits 1 > NoMember
+join 10 > ok 1
+serve 2 200b0000000000010001000a > NoMember
+serve 0 200b0000000000010001000a > NoMember
+revoke 1 > NoRequest
+serve 1 20010001000000010002000a04040001 > ok 2
+closed > no
+break_off > ok
+closed > Broken
+serve 1 200b0000000000010001000a > Broken
+took 1 1 > Broken
+close > Broken
+take 1 > sent 20040007 00000001 0002000a 1e1c0001 24080001 0a040300 22080001 0a040300 1c04000a 08044000
+take 1 > none
+status > 1 1 2 broken";
+
+/// A conference that has ended takes nothing, and keeps what waits.
+const ENDED: &str = "\
+join 12 > ok 1
+serve 1 20010001000000010002000c04040001 > ok 2
+leave 1 > ok
+close > ok
+join 10 > Ended
+took 1 1 > Ended
+leave 1 > Ended
+close > Ended
+waits 1 > 1";
+
+/// Whoever is 1,024 parcels behind is cut by the next one, for good; what was told to it before waits,
+/// and may be acknowledged.
+const CUT: &str = "\
+join 10 > ok 1
+took 1 1 > BadCount
+took 2 0 > NoMember
+hellos 1024 > 1024
+took 1 0 > BadCount
+took 1 1025 > BadCount
+cut 1 > no
+hellos 1 > 1
+cut 1 > yes
+cut 2 > no
+serve 1 200b0000000000010001000a > Cut
+took 1 1024 > ok
+took 1 1 > BadCount
+cut 1 > yes
+serve 1 200b0000000000010001000a > Cut
+leave 1 > ok
+cut 1 > yes
+took 1 0 > NoMember
+waits 1 > 1024
+status > 0 0 1028 open";
+
+/// An acknowledgement is an event, of which nobody is told.
+const ACKNOWLEDGED: &str = "\
+join 10 > ok 1
+serve 1 200b0000000000010001000a > ok 2
+take 1 > sent 200c0009 00000001 0001000a 160f0102 03040506 0708090a 0b0c0d00 14140204 06080a0c 0e101214 16181a1c 1e202224
+took 1 1 > ok
+waits 1 > 0
+serve 1 20020001000000010002000a06040001 > ok 4
+journal > 1 join 10|2 message 1 200b0000000000010001000a|3 took 1 1|4 message 1 20020001000000010002000a06040001|end 4|
+replay 1 > sent 200c0009 00000001 0001000a 160f0102 03040506 0708090a 0b0c0d00 14140204 06080a0c 0e101214 16181a1c 1e202224 200d0001 00000001 0002000a 0c030700";
+
+/// A journal of two million events is full: behind the join stand a million Hellos, and between each
+/// two of them the acknowledgement of an answer.
+const FULL_JOURNAL: &str = "\
+join 10 > ok 1
+fill 2000000 > 1000000 served, 999999 acknowledged
+serve 1 200b0000000000010001000a > JournalFull
+took 1 1 > JournalFull
+leave 1 > JournalFull
+closed > JournalFull
+status > 1 0 2000000 open";
+
+/// 64 members at most are live, and one more may join where one has left.
+const FULL_ROOM: &str = "\
+joins 64 > ok 64
+joins 1 > Full
+leave 3 > ok
+joins 1 > ok 65";
+
+/// The lines of a script that answer something else than is wanted, and how many it has.
+fn told_of_script(alloc: Global, script: &str) -> Result<String, AllocError> {
+    let mut room = Room::new(alloc, Config::demonstration(alloc)?)?;
+    differing(alloc, script, "\n", " > ", |alloc, line| {
+        answer(alloc, &mut room, line)
+    })
+}
 
 /// What a line of a script answers.
 fn answer(alloc: Global, room: &mut Room, line: &str) -> Result<String, AllocError> {
@@ -20,6 +136,7 @@ fn answer(alloc: Global, room: &mut Room, line: &str) -> Result<String, AllocErr
         "waits" => waits(alloc, room, number(rest)),
         "status" => status(alloc, room),
         "journal" => text_of(alloc, room.journal()),
+        "replay" => replayed(alloc, room.journal(), number(rest)),
         "closed" => closed(alloc, room),
         "cut" => String::from_str(
             alloc,
@@ -114,6 +231,10 @@ fn status(alloc: Global, room: &Room) -> Result<String, AllocError> {
     format!(in alloc; "{members} {ongoing} {events} {phase}")
 }
 
+fn replayed(alloc: Global, events: &[Event], n: u32) -> Result<String, AllocError> {
+    replayed_from(alloc, &Config::demonstration(alloc)?, events, n)
+}
+
 /// What the events tell a member, from the configuration with which the conference opened.
 fn replayed_from(
     alloc: Global,
@@ -197,6 +318,48 @@ fn join_often(alloc: Global, room: &mut Room, joins: u32) -> Result<String, Allo
     Ok(answered)
 }
 
+#[test]
+fn a_journal_that_is_run_again_sends_what_was_sent(rt: HostRuntime) {
+    let told = told_of_script(rt.alloc(), RELEASE_PASSES_THE_FLOOR_ON);
+    assert_told(&rt, told, "18 cases");
+}
+
+#[test]
+fn a_refused_event_is_named_and_a_broken_room_keeps_what_waits(rt: HostRuntime) {
+    assert_told(&rt, told_of_script(rt.alloc(), REFUSALS), "19 cases");
+}
+
+#[test]
+fn a_conference_that_has_ended_keeps_what_waits(rt: HostRuntime) {
+    assert_told(&rt, told_of_script(rt.alloc(), ENDED), "9 cases");
+}
+
+#[test]
+fn a_member_that_is_1024_parcels_behind_is_cut(rt: HostRuntime) {
+    assert_told(&rt, told_of_script(rt.alloc(), CUT), "20 cases");
+}
+
+#[test]
+fn an_acknowledgement_is_an_event(rt: HostRuntime) {
+    assert_told(&rt, told_of_script(rt.alloc(), ACKNOWLEDGED), "8 cases");
+}
+
+#[test]
+fn an_acknowledgement_has_a_line_in_the_journal(rt: HostRuntime) {
+    let events = [Event::Join { user: 10 }, Event::Took { n: 2, k: 64 }];
+    assert_told(
+        &rt,
+        text_of(rt.alloc(), &events),
+        "1 join 10|2 took 2 64|end 2|",
+    );
+}
+
+#[test]
+fn a_piece_of_a_journal_has_4096_events_or_256_kib(rt: HostRuntime) {
+    assert_told(&rt, pieces(rt.alloc(), 10, 40_000), "4 4 2 0");
+    assert_told(&rt, pieces(rt.alloc(), 5_000, 0), "4096 904 0 0");
+}
+
 /// How many lines each of four pieces of a journal has. The journal has so many messages with a payload
 /// of so many bytes.
 fn pieces(alloc: Global, count: usize, len: usize) -> Result<String, AllocError> {
@@ -223,38 +386,27 @@ fn text_of(alloc: Global, events: &[Event]) -> Result<String, AllocError> {
     barred(alloc, &journal_text(alloc, events)?)
 }
 
-/// What a line comes to that isn't one of a room.
-pub fn whole(alloc: Global, line: &str) -> Result<String, AllocError> {
-    match nth_word(line, 0) {
-        "acknowledgement" => {
-            let events = [Event::Join { user: 10 }, Event::Took { n: 2, k: 64 }];
-            text_of(alloc, &events)
-        }
-        "acts" => changes::lines_of_acts(alloc),
-        "pieces" => {
-            let count = usize::from(read_u16(nth_word(line, 1)).unwrap_or(0));
-            pieces(
-                alloc,
-                count,
-                usize::from(read_u16(nth_word(line, 2)).unwrap_or(0)),
-            )
-        }
-        "early" => early(alloc, line),
-        "ledger" => told_behind_a_join(alloc),
-        _ => told_of_lengths(alloc),
-    }
+#[test]
+fn an_event_that_comes_too_early_has_its_place(rt: HostRuntime) {
+    let events = [Event::Leave { n: 1 }];
+    assert_told(&rt, replayed(rt.alloc(), &events, 1), "NotAJournal 1");
+    let events = [Event::Join { user: 10 }, Event::Took { n: 1, k: 1 }];
+    assert_told(&rt, replayed(rt.alloc(), &events, 1), "NotAJournal 2");
 }
 
-/// What an event that comes too early tells member 1.
-fn early(alloc: Global, line: &str) -> Result<String, AllocError> {
-    let config = Config::demonstration(alloc)?;
-    match nth_word(line, 1) {
-        "leave" => replayed_from(alloc, &config, &[Event::Leave { n: 1 }], 1),
-        _ => {
-            let events = [Event::Join { user: 10 }, Event::Took { n: 1, k: 1 }];
-            replayed_from(alloc, &config, &events, 1)
-        }
-    }
+#[test]
+fn a_journal_is_full_at_two_million_events(rt: HostRuntime) {
+    assert_told(&rt, told_of_script(rt.alloc(), FULL_JOURNAL), "7 cases");
+}
+
+#[test]
+fn a_room_is_full_at_64_live_members(rt: HostRuntime) {
+    assert_told(&rt, told_of_script(rt.alloc(), FULL_ROOM), "4 cases");
+}
+
+#[test]
+fn a_ledger_gives_the_parcels_of_its_event(rt: HostRuntime) {
+    assert_told(&rt, told_behind_a_join(rt.alloc()), "told 1");
 }
 
 fn told_behind_a_join(alloc: Global) -> Result<String, AllocError> {
@@ -289,6 +441,11 @@ fn is_kept(events: &[Event], place: usize, bytes: &[u8]) -> bool {
         Some(Event::Message { frame, .. }) => frame.bytes() == bytes,
         _ => false,
     }
+}
+
+#[test]
+fn messages_of_every_length_are_kept_as_they_came(rt: HostRuntime) {
+    assert_told(&rt, told_of_lengths(rt.alloc()), "200 kept");
 }
 
 fn told_of_lengths(alloc: Global) -> Result<String, AllocError> {

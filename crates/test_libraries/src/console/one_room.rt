@@ -1,6 +1,6 @@
 //! A board that holds one room.
 
-use crate::cases::barred;
+use crate::cases::{assert_told, barred, differing};
 use crate::hexadecimal::frame;
 use floor_config::Config;
 use floor_console::{
@@ -125,13 +125,53 @@ fn serve(alloc: Global, room: &mut Room, n: u32, message: &str) -> Result<(), Al
     Ok(())
 }
 
-/// What the board answers each line, with a bar behind each line of an answer.
-pub fn exchanged(alloc: Global, script: &str) -> Result<String, AllocError> {
+/// A line, and the lines that answer it, with a bar behind each.
+const EXCHANGE: &str = "\
+status 1=conference 1 members 2 ongoing 1 events 5 open|
+journal 1=1 join 10|2 join 11|3 message 1 20010001000000010002000a04040001|4 message 2 20010001000000010001000b04040001|5 message 1 20020001000000010003000a06040001|end 5|
+revoke 1 9=error NoRequest|
+close 7=error NoConference|
+revoke 7 1=error NoConference|
+status 7=error NoConference|
+journal 7=error NoConference|
+close x=error BadNumber|
+halt=error UnknownCommand|
+open a.toml=error CannotRead|
+revoke 1 2=ok revoked 1 2|
+status 1=conference 1 members 2 ongoing 0 events 6 open|
+user 1 13 name Ann=ok user 1 13|
+floor 1 5 room 2 chair 12=ok floor 1 5|
+chair 1 5=ok chair 1 5|
+chair 1 5 99=error UnknownChair|
+user 9 13=error NoConference|
+floor 9 6=error NoConference|
+chair 9 5=error NoConference|
+user 1 14 port 0=error BadNumber|
+user 1 14 port 7010 name  Ann  Lee =ok user 1 14|
+user 1 10 port 7011=error DoubleUser|
+user 1 15 uri a=error UnknownCommand|
+floor 1 5=error DoubleFloor|
+floor 1 6 room 0 chair 99=error OutOfRange|
+chair 1 9 99=error NoFloor|
+status 1=conference 1 members 2 ongoing 0 events 10 open|
+close 1=ok closed 1|
+close 1=error Ended|
+revoke 1 2=error Ended|
+user 1 16=error Ended|
+floor 1 6=error Ended|
+chair 1 5 10=error Ended|
+status 1=conference 1 members 2 ongoing 0 events 11 ended|
+stop=ok stopped seats 2 events 11|
+=";
+
+#[test]
+fn a_board_of_one_room_answers(rt: HostRuntime) {
+    assert_told(&rt, exchanged(rt.alloc()), "36 cases");
+}
+
+fn exchanged(alloc: Global) -> Result<String, AllocError> {
     let mut board = board(alloc)?;
-    let mut told = String::new(alloc);
-    for line in script.lines() {
-        told.push_str(barred(alloc, &run_line(alloc, &mut board, line)?)?.as_str())?;
-        told.push('\n')?;
-    }
-    Ok(told)
+    differing(alloc, EXCHANGE, "\n", "=", |alloc, line| {
+        barred(alloc, &run_line(alloc, &mut board, line)?)
+    })
 }

@@ -1,5 +1,6 @@
 //! The text of each refusal.
 
+use crate::cases::assert_told;
 use floor_console::{
     Board, BoardRefusal, ConfigFault, Floor, Refusal, RoomRefusal, Status, StopRefusal, Stopped,
     Text, User, run_line,
@@ -74,38 +75,17 @@ impl Board for Refusing {
     }
 }
 
-/// What a board tells that refuses everything.
-pub fn told(alloc: Global, line: &str) -> Result<String, AllocError> {
-    match line {
-        "broken" => fault_told(alloc, StopRefusal::Broken { conference: 7 }),
-        "mismatch" => {
-            let fault = StopRefusal::Mismatch {
-                conference: 7,
-                n: 12,
-            };
-            fault_told(alloc, fault)
-        }
-        "memory" => without_memory(alloc),
-        _ => refusals_told(alloc),
-    }
-}
-
-/// How many refusals for want of memory are no answer.
-fn without_memory(alloc: Global) -> Result<String, AllocError> {
-    let mut count = 0u32;
-    for refusal in [
-        BoardRefusal::Memory,
-        BoardRefusal::ByConfiguration(ConfigFault::Memory),
-        BoardRefusal::ByRoom(RoomRefusal::Refused(Refusal::Memory)),
-    ] {
-        let fault = StopRefusal::Broken { conference: 1 };
-        let mut board = Refusing { refusal, fault };
-        let told = run_line(alloc, &mut board, "close 1");
-        if told.is_err() && refusal.name() == "Memory" {
-            count = count.saturating_add(1);
-        }
-    }
-    format!(in alloc; "{count} without memory\n")
+#[test]
+fn each_refusal_is_told_by_name(rt: HostRuntime) {
+    let wanted = "error NoConference
+error CannotRead
+error CannotListen
+error Used
+error DoubleUser
+error JournalFull
+error Broken
+";
+    assert_told(&rt, refusals_told(rt.alloc()), wanted);
 }
 
 /// What is told of each refusal.
@@ -150,10 +130,39 @@ fn refusal_told(alloc: Global, refusal: BoardRefusal) -> Result<String, AllocErr
     Ok(told)
 }
 
+#[test]
+fn a_fault_of_the_stop_is_told(rt: HostRuntime) {
+    let broken = StopRefusal::Broken { conference: 7 };
+    assert_told(&rt, fault_told(rt.alloc(), broken), "error Broken 7\n");
+    let mismatch = StopRefusal::Mismatch {
+        conference: 7,
+        n: 12,
+    };
+    assert_told(
+        &rt,
+        fault_told(rt.alloc(), mismatch),
+        "error Mismatch 7 12\n",
+    );
+}
+
 fn fault_told(alloc: Global, fault: StopRefusal) -> Result<String, AllocError> {
     let mut board = Refusing {
         refusal: BoardRefusal::Used,
         fault,
     };
     run_line(alloc, &mut board, "stop")
+}
+
+#[test]
+fn want_of_memory_is_no_answer(rt: HostRuntime) {
+    for refusal in [
+        BoardRefusal::Memory,
+        BoardRefusal::ByConfiguration(ConfigFault::Memory),
+        BoardRefusal::ByRoom(RoomRefusal::Refused(Refusal::Memory)),
+    ] {
+        let fault = StopRefusal::Broken { conference: 1 };
+        let mut board = Refusing { refusal, fault };
+        let told = run_line(rt.alloc(), &mut board, "close 1");
+        assert!(rt; told.is_err() && refusal.name() == "Memory");
+    }
 }

@@ -1,7 +1,7 @@
 //! Messages and changes at their greatest size.
 
 use super::runs::join;
-use crate::cases::{number, part};
+use crate::cases::{assert_told, differing, number, part};
 use crate::framed::message;
 use crate::hexadecimal::{payload, spelled};
 use floor_config::{Floors, Users};
@@ -68,16 +68,33 @@ fn told(
     Ok(out)
 }
 
-/// What a whole run tells.
-pub fn told_whole(alloc: Global, line: &str) -> Result<String, AllocError> {
-    match line {
-        "crowd" => told_of_crowd(alloc),
-        _ => told_of_backlog(alloc),
-    }
+/// Each case: its name, the floors of the conference, a primitive and a payload. Behind `=>` how many
+/// messages are told, the ongoing requests, and the payloads that are told.
+const MESSAGES: &str = "\
+33 floors, of which 33 doesn't exist, which is error code 6 | 32 | 1 | \
+    04040001 04040002 04040003 04040004 04040005 04040006 04040007 04040008 04040009 0404000a \
+    0404000b 0404000c 0404000d 0404000e 0404000f 04040010 04040011 04040012 04040013 04040014 \
+    04040015 04040016 04040017 04040018 04040019 0404001a 0404001b 0404001c 0404001d 0404001e \
+    0404001f 04040020 04040021 \
+    => 1, 0: 0c030600
+a PARTICIPANT-PROVIDED-INFO of 102 bytes, of which 62 are told | 1 | 1 | \
+    04040001 1068, 102 x 61 \
+    => 1, 1: 1e5c0001 24080001 0a040300 22080001 0a040300 1c04000a 08044000 10406161 \
+    61616161 61616161 61616161 61616161 61616161 61616161 61616161 61616161 61616161 61616161 \
+    61616161 61616161 61616161 61616161 61616161
+a query of 9 floors, which is answered by 9 statuses | 9 | 7 | \
+    04040009 04040008 04040007 04040006 04040005 04040004 04040003 04040002 04040001 \
+    => 9, 0: 04040009 04040008 04040007 04040006 04040005 04040004 04040003 04040002 04040001
+a message of 32 KiB | 1 | 7 | 8189 x 04040001 \
+    => 1, 0: 04040001";
+
+#[test]
+fn messages_of_many_attributes_are_served(rt: HostRuntime) {
+    let told = differing(rt.alloc(), MESSAGES, "\n", " => ", told_of_message);
+    assert_told(&rt, told, "4 cases");
 }
 
-/// What a message of many attributes tells.
-pub fn told_of_message(alloc: Global, case: &str) -> Result<String, AllocError> {
+fn told_of_message(alloc: Global, case: &str) -> Result<String, AllocError> {
     match machine(alloc, number(part(case, 1)), 1, 16)? {
         Some(mut machine) => told_by(alloc, &mut machine, case),
         None => String::from_str(alloc, "no machine"),
@@ -93,6 +110,12 @@ fn told_by(alloc: Global, machine: &mut Machine, case: &str) -> Result<String, A
         text.push_str(&spelled(alloc, parcel.payload())?)?;
     }
     Ok(text)
+}
+
+#[test]
+fn a_leave_ends_256_requests_and_tells_a_member_288_messages(rt: HostRuntime) {
+    let wanted = "256 asked, 256 ongoing, left true, 0 ongoing, 1 live, 288 told, all to 1 true";
+    assert_told(&rt, told_of_crowd(rt.alloc()), wanted);
 }
 
 fn told_of_crowd(alloc: Global) -> Result<String, AllocError> {
@@ -130,6 +153,13 @@ fn push_leave(alloc: Global, text: &mut String, machine: &mut Machine) -> Result
     write!(text, ", {} live", machine.live_members())?;
     let to_one = out.iter().all(|parcel| parcel.n() == 1);
     write!(text, ", {} told, all to 1 {to_one}", out.len())
+}
+
+#[test]
+fn a_member_that_is_1024_messages_behind_is_cut(rt: HostRuntime) {
+    let wanted = "1024 told, cut false; 0 told, cut true; took 1025 BadCount; took 1024 Ok; \
+        cut true, Hello Cut";
+    assert_told(&rt, told_of_backlog(rt.alloc()), wanted);
 }
 
 fn told_of_backlog(alloc: Global) -> Result<String, AllocError> {

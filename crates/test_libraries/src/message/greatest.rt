@@ -5,7 +5,7 @@
 //! place from 0 for `#`.
 
 use super::shown::{asked, shown, written};
-use crate::cases::number;
+use crate::cases::{assert_told, differing, number};
 use crate::framed::message;
 use crate::hexadecimal::payload;
 use floor_message::{
@@ -77,7 +77,7 @@ fn ask_text(alloc: Global, ask: &Ask) -> Result<String, AllocError> {
 }
 
 /// What a case's message asks, and how it is written where it fits.
-pub fn ask_answer(alloc: Global, case: &str) -> Result<String, AllocError> {
+fn ask_answer(alloc: Global, case: &str) -> Result<String, AllocError> {
     match frame_of(alloc, case)? {
         None => String::from_str(alloc, "no message"),
         Some(frame) => asked_and_written(alloc, &frame),
@@ -98,6 +98,85 @@ fn ask_and_written(alloc: Global, frame: &Frame, ask: &Ask) -> Result<String, Al
         text.push_str(&compared(alloc, &written, frame.bytes())?)?;
     }
     Ok(text)
+}
+
+const ASKS: &str = "\
+as many floors as a message holds
+> 7: 65535 x 0404#
+< FloorQuery 65535 Some(65534)
+
+the most floors that are written
+> 7: 60000 x 0404#
+< FloorQuery 60000 Some(59999); written in 60000 units, the same
+
+a floor more
+> 7: 60001 x 0404#
+< FloorQuery 60001 Some(60000)
+
+a request for as many floors as a message holds
+> 1: 65534 x 0404#, 1 x 08048000
+< FloorRequest 65534 Some(65533) None 4 0
+
+the greatest request that is written
+> 1: 60000 x 0404#, 1 x 0204000b 1040, 62 x 61, 1 x 08048000
+< FloorRequest 60000 Some(59999) Some(11) 4 62; written in 60018 units, the same
+
+the longest text, behind all other attributes
+> 1: 1 x 04040001, 65470 x 28040000, 1 x 10ff, 253 x 61, 1 x 00
+< FloorRequest 1 Some(1) None 2 62; written in 18 units
+
+a group that ends with the message, and judges as many floors as it holds
+> 9: 65472 x 28040000, 1 x 1efc0007 24080007 0a040200, 60 x 2204#
+< ChairAction 7 60 Some((59, Accepted)) 0
+
+the most verdicts that are written, behind byte 65,535
+> 9: 16384 x 28040000, 1 x 1efc0007, 31 x 2208#0a040700
+< ChairAction 7 31 Some((30, Revoked)) 0; written in 63 units
+
+the most verdicts
+> 9: 1 x 1efc0007, 31 x 2208#0a040700
+< ChairAction 7 31 Some((30, Revoked)) 0; written in 63 units, the same
+
+the most verdicts with a reason, and the longest reason
+> 9: 1 x 1ef80007 24240007 1220, 30 x 61, 26 x 2208#0a040700
+< ChairAction 7 26 Some((25, Revoked)) 30; written in 62 units, the same
+
+a verdict more with a reason
+> 9: 1 x 1ee40007 24080007 1203 6100, 27 x 2208#0a040700
+< ChairAction 7 27 Some((26, Revoked)) 1
+
+62 floors without a verdict
+> 9: 1 x 1efc0007, 62 x 2204#
+< UnableToParseMessage []
+
+a number at the end
+> 2: 65534 x 28040000, 1 x 06040007
+< FloorRelease { request: 7 }; written in 1 units
+
+a number at the end of a query
+> 3: 65534 x 28040000, 1 x 06040007
+< FloorRequestQuery { request: 7 }; written in 1 units
+
+a beneficiary at the end
+> 5: 65534 x 28040000, 1 x 0204000b
+< UserQuery { beneficiary: Some(11) }; written in 1 units
+
+an unknown type with M at the end
+> 11: 65534 x 28040000, 1 x 29040000
+< UnknownMandatoryAttribute [40]
+
+an attribute at the end that overruns the message
+> 11: 65534 x 28040000, 1 x 28050000
+< UnableToParseMessage []
+
+an Error
+> 13: 65535 x 28040000
+< no answer";
+
+#[test]
+fn the_greatest_messages_are_asked(rt: HostRuntime) {
+    let told = differing(rt.alloc(), ASKS, "\n\n", "\n< ", ask_answer);
+    assert_told(&rt, told, "18 cases");
 }
 
 /// How long a user's name and URI are.
@@ -158,7 +237,7 @@ fn tell_text(alloc: Global, tell: &Tell) -> Result<String, AllocError> {
 }
 
 /// What a case's message tells, and how it is written where it fits.
-pub fn tell_answer(alloc: Global, case: &str) -> Result<String, AllocError> {
+fn tell_answer(alloc: Global, case: &str) -> Result<String, AllocError> {
     match frame_of(alloc, case)? {
         None => String::from_str(alloc, "no message"),
         Some(frame) => told_and_written(alloc, &frame),
@@ -186,7 +265,86 @@ fn tell_and_written(
     Ok(text)
 }
 
-/// Whether a case's bytes are a message.
-pub fn is_message(alloc: Global, case: &str) -> Result<String, AllocError> {
+const TELLS: &str = "\
+a floor with as many requests as a message holds
+> 8: 1 x 04040001, 65534 x 1e04#
+< floor Some(1), 65534, request 65533 0 nobody 0; written in 65535 units, the same
+
+as many requests, and no floor
+> 8: 65535 x 1e04#
+< floor None, 65535, request 65534 0 nobody 0; written in 65535 units, the same
+
+full groups behind byte 65,535
+> 8: 1 x 04040001, 1040 x 1efc#1cf8000a18f4 6161 \
+    00000000 00000000 00000000 00000000 00000000 00000000 00000000 00000000 00000000 00000000 \
+    00000000 00000000 00000000 00000000 00000000 00000000 00000000 00000000 00000000 00000000 \
+    00000000 00000000 00000000 00000000 00000000 00000000 00000000 00000000 00000000 00000000 \
+    00000000 00000000 00000000 00000000 00000000 00000000 00000000 00000000 00000000 00000000 \
+    00000000 00000000 00000000 00000000 00000000 00000000 00000000 00000000 00000000 00000000 \
+    00000000 00000000 00000000 00000000 00000000 00000000 00000000 00000000 00000000 00000000
+< floor Some(1), 1040, request 1039 0 user 10 242 0 0; written in 65521 units, the same
+
+users with requests in all units
+> 6: 65535 x 1e04#
+< nobody, 65535, request 65534 0 nobody 0; written in 65535 units, the same
+
+the longest name, and a request in every other unit
+> 6: 1 x 1cfc000a 18f8, 246 x 61, 65472 x 1e04#
+< user 10 246 0, 65472, request 65471 0 nobody 0; written in 65535 units, the same
+
+the longest URI
+> 6: 1 x 1cfc000a 1af8, 246 x 61
+< user 10 0 246, 0; written in 63 units, the same
+
+as many floors as a group holds
+> 4: 1 x 1efc0007, 62 x 2204#
+< request 7 62 nobody 0; written in 63 units, the same
+
+as many floors with their statuses as a group holds
+> 4: 1 x 1efc0007, 31 x 2208#0a0403ff
+< request 7 31 nobody 0; written in 63 units, the same
+
+the longest text, behind byte 65,535
+> 4: 65472 x 28040000, 1 x 1efc0007 10f8, 246 x 61
+< request 7 0 nobody 246; written in 63 units
+
+an answer without attributes
+> 10: 65535 x 28040000
+< ChairActionAck; written in 0 units
+
+253 primitives and 253 types
+> 12: 1 x 16ff, 253 x 01, 1 x 0014ff, 253 x 02, 1 x 00
+< HelloAck 253 253; written in 128 units, the same
+
+252 details
+> 13: 1 x 0cff04, 252 x 28, 1 x 00
+< Error 4 252; written in 64 units, the same
+
+an unknown type with M at the end
+> 10: 65534 x 28040000, 1 x 29040000
+< BadMessage
+
+an attribute at the end that overruns the message
+> 10: 65534 x 28040000, 1 x 28050000
+< BadMessage";
+
+#[test]
+fn the_greatest_messages_are_told(rt: HostRuntime) {
+    let told = differing(rt.alloc(), TELLS, "\n\n", "\n< ", tell_answer);
+    assert_told(&rt, told, "14 cases");
+}
+
+/// Each line: the units behind a header, and the payload. Behind `=>` whether they are a message.
+const LONGEST: &str = "\
+65,535 units > 11: 65535 x 28040000 => true
+65,536 units > 11: 65535 x 28040000, 1 x 28040000 => false";
+
+#[test]
+fn a_unit_more_than_65535_is_in_no_message(rt: HostRuntime) {
+    let told = differing(rt.alloc(), LONGEST, "\n", " => ", is_message);
+    assert_told(&rt, told, "2 cases");
+}
+
+fn is_message(alloc: Global, case: &str) -> Result<String, AllocError> {
     format!(in alloc; "{}", frame_of(alloc, case)?.is_some())
 }

@@ -1,6 +1,7 @@
 //! Many payloads of one word: what they ask is read back where it is written.
 
 use super::shown::{asked, is_read_back, written};
+use crate::cases::assert_told;
 use crate::framed::message;
 use floor_message::{Ask, Frame};
 use std::alloc::{AllocError, Global};
@@ -90,6 +91,19 @@ fn attributes(alloc: Global) -> Result<Vec<[u8; 4]>, AllocError> {
     Ok(attributes)
 }
 
+#[test]
+fn what_an_attribute_of_any_type_and_length_asks_is_read_back(
+    rt: HostRuntime,
+) -> Result<(), AllocError> {
+    // UserQuery, FloorQuery and Hello need no attribute: 140 words are attributes that keep their
+    // shape without an unknown mandatory one. FloorRequest needs FLOOR-ID, with M or without (14),
+    // FloorRelease and FloorRequestQuery need FLOOR-REQUEST-ID (7 each). So there are
+    // 3 * 140 + 14 + 7 + 7 asks.
+    let told = told_of_payloads(rt.alloc(), &attributes(rt.alloc())?);
+    assert_told(&rt, told, "448 asks");
+    Ok(())
+}
+
 const LETTERS: [u8; 8] = [0x00, 0x02, 0x04, 0x06, 0x08, 0x10, 0x1e, 0xff];
 
 /// Each word of four letters.
@@ -107,13 +121,20 @@ fn four_letters(alloc: Global) -> Result<Vec<[u8; 4]>, AllocError> {
     Ok(words)
 }
 
-/// How many of the payloads of a name ask something.
-pub fn told(alloc: Global, line: &str) -> Result<String, AllocError> {
-    match line {
-        "attributes" => told_of_payloads(alloc, &attributes(alloc)?),
-        "four letters" => told_of_payloads(alloc, &four_letters(alloc)?),
-        _ => told_of_none(alloc),
-    }
+#[test]
+fn what_any_payload_of_four_letters_asks_is_read_back(rt: HostRuntime) -> Result<(), AllocError> {
+    // UserQuery, FloorQuery and Hello are asked by 576 words, 64 for each type of the alphabet and
+    // each Length that it may have. FloorRequest, FloorRelease and FloorRequestQuery need one type,
+    // of Length 4. So there are 3 * 576 + 3 * 64 asks.
+    let told = told_of_payloads(rt.alloc(), &four_letters(rt.alloc())?);
+    assert_told(&rt, told, "1920 asks");
+    Ok(())
+}
+
+#[test]
+fn three_primitives_ask_without_a_payload(rt: HostRuntime) {
+    // UserQuery, FloorQuery and Hello.
+    assert_told(&rt, told_of_none(rt.alloc()), "3 asks");
 }
 
 fn told_of_none(alloc: Global) -> Result<String, AllocError> {

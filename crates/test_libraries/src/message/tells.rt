@@ -1,6 +1,7 @@
 //! What messages of the server tell, and how they are written.
 
 use super::shown::bytes_of;
+use crate::cases::{assert_told, differing};
 use crate::hexadecimal::spelled;
 use floor_message::{
     FloorStatuses, Frame, Head, Info, SharedFrame, SharedInfo, Tell, Who, read_tell, tell_fits,
@@ -9,8 +10,65 @@ use floor_message::{
 use floor_wire::Octets;
 use std::alloc::{AllocError, Global};
 
+/// Messages that are written as they were read, so that nothing is told of them.
+const WRITTEN_AGAIN: &str = "\
+HelloAck
+> 200c0009 00000001 0001 000a 160f0102 03040506 0708090a 0b0c0d00 14140204 06080a0c \
+    0e101214 16181a1c 1e202224
+
+a granted request
+> 20040007 00000001 0002 000a 1e1c0001 24080001 0a040300 22080001 0a040300 1c04000a \
+    08044000
+
+a request for two floors
+> 20040009 00000001 0001 000b 1e240002 24080002 0a040201 22080001 0a040201 22080002 \
+    0a040201 1c04000b 08044000
+
+a request for a beneficiary, told to it
+> 20040008 00000001 0000 000b 1e200001 24080001 0a040300 22080001 0a040300 1c04000b \
+    2004000c 08044000
+
+a request with a text
+> 20040009 00000001 0000 000b 1e240001 24080001 0a0402ff 22080001 0a040100 1c04000b \
+    08040000 1005 c3a961 000000
+
+a user with a name and a URI
+> 20060005 00000001 0001 000a 1c14000d 1805416e 6e000000 1a077369 703a6100
+
+a user with a name and a request
+> 2006000a 00000001 0001 000a 1c0c000d 1805416e 6e000000 1e1c0001 24080001 0a040300 \
+    22080001 0a040300 1c04000a 08044000
+
+no user and no request
+> 20060000 00000001 0001 000a
+
+a floor without requests
+> 20080001 00000001 0000 000a 04040001
+
+no floor
+> 20080000 00000001 0002 000a
+
+a floor and its request
+> 20080008 00000001 0000 000a 04040002 1e1c0001 24080001 0a040300 22080002 0a040300 \
+    1c04000b 08044000
+
+ChairActionAck
+> 200a0000 00000001 0001 000c
+
+an Error of another conference
+> 200d0001 00000002 0005 000a 0c030100
+
+an Error with details
+> 200d0002 00000001 0001 000a 0c050428 00000000";
+
+#[test]
+fn a_message_from_the_server_is_read_and_written_again(rt: HostRuntime) {
+    let told = differing(rt.alloc(), WRITTEN_AGAIN, "\n\n", "\n< ", written_again);
+    assert_told(&rt, told, "14 cases");
+}
+
 /// What is written of a case's message, where it isn't its bytes.
-pub fn written_again(alloc: Global, case: &str) -> Result<String, AllocError> {
+fn written_again(alloc: Global, case: &str) -> Result<String, AllocError> {
     match Frame::of(alloc, &bytes_of(alloc, case)?)? {
         None => String::from_str(alloc, "no message"),
         Some(frame) => other_written(alloc, &frame),
@@ -41,8 +99,18 @@ fn other_than(
     }
 }
 
+#[test]
+fn a_written_tell_has_its_bytes(rt: HostRuntime) {
+    let wanted =
+        " 20040007 00000001 0002000a 1e1c0001 24080001 0a040300 22080001 0a040300 1c04000a \
+        08044000; 200c0009 00000001 0001000a 160f0102 03040506 0708090a 0b0c0d00 14140204 06080a0c \
+        0e101214 16181a1c 1e202224; 200d0002 00000001 0005000a 0c050428 00000000; 200a0000 \
+        00000001 0001000a;";
+    assert_told(&rt, four_written(rt.alloc()), wanted);
+}
+
 /// A tell of each kind but the statuses of a user and of a floor, as it is written.
-pub fn four_written(alloc: Global) -> Result<String, AllocError> {
+fn four_written(alloc: Global) -> Result<String, AllocError> {
     let mut told = String::new(alloc);
     push_granted(alloc, &mut told)?;
     push_hello_ack(alloc, &mut told)?;
@@ -115,8 +183,14 @@ fn push_error(alloc: Global, told: &mut String) -> Result<(), AllocError> {
     push_written(alloc, told, 5, &Tell::Error { code: 4, details })
 }
 
+#[test]
+fn a_message_for_one_user_alone_is_addressed_to_another(rt: HostRuntime) {
+    let wanted = " 200a0000 00000001 0001000a; 200a0000 00000001 0001fffe;";
+    assert_told(&rt, addressed(rt.alloc()), wanted);
+}
+
 /// A ChairActionAck for one user alone, and the same for another.
-pub fn addressed(alloc: Global) -> Result<String, AllocError> {
+fn addressed(alloc: Global) -> Result<String, AllocError> {
     let mut told = String::new(alloc);
     let tell = Tell::ChairActionAck;
     let head = Head {
@@ -138,9 +212,14 @@ fn push_parts(alloc: Global, told: &mut String, message: &SharedFrame) -> Result
     told.push(';')
 }
 
+#[test]
+fn what_one_owner_shows_another_does_not(rt: HostRuntime) {
+    assert_told(&rt, owners(rt.alloc()), "true false, true true");
+}
+
 /// Whether each of two owners of a request shows its statuses: one was given others while both had
 /// it, and again once the other was gone.
-pub fn owners(alloc: Global) -> Result<String, AllocError> {
+fn owners(alloc: Global) -> Result<String, AllocError> {
     let mut shared = SharedInfo::new(alloc, granted(alloc)?)?;
     let kept = shared.share()?;
     shared.set_statuses(alloc, (2, 1), &[(1, Some((2, 1)))])?;
@@ -157,8 +236,31 @@ fn is_granted(shared: &SharedInfo) -> bool {
     shared.as_info().has_statuses((3, 0), &[(1, Some((3, 0)))])
 }
 
+/// Messages, and what they tell.
+const FIELDS: &str = "\
+attributes in any order, the first of each, and some that don't belong
+> 2004000c 00000001 0000 000b 04040007 1e240001 0804a000 08040000 1c04000b 1c04000c \
+    22040002 24040001 24080001 0a040300 1e040002 28040000
+< FloorRequestStatus { info: Info { request: 1, overall: None, reason: None, floors: FloorStatuses { \
+    items: [(2, None)] }, beneficiary: Some(Who { user: 11, name: None, uri: None }), \
+    requester: None, priority: Some(4), info: None } }
+
+types with their last bit set
+> 200c0003 00000001 0001 000a 1404 0305 1604 0102 1603 0900
+< HelloAck { primitives: Octets { items: [1, 2] }, attributes: Octets { items: [1, 2] } }
+
+an error code without details
+> 200d0002 00000001 0001 000a 0c0305ff 0c0306ff
+< Error { code: 5, details: Octets { items: [] } }";
+
+#[test]
+fn attributes_are_read_as_what_they_tell(rt: HostRuntime) {
+    let told = differing(rt.alloc(), FIELDS, "\n\n", "\n< ", told_of);
+    assert_told(&rt, told, "3 cases");
+}
+
 /// What a case's message tells, or its fault.
-pub fn told_of(alloc: Global, case: &str) -> Result<String, AllocError> {
+fn told_of(alloc: Global, case: &str) -> Result<String, AllocError> {
     match Frame::of(alloc, &bytes_of(alloc, case)?)? {
         None => String::from_str(alloc, "no message"),
         Some(frame) => match read_tell(alloc, &frame) {
@@ -166,4 +268,56 @@ pub fn told_of(alloc: Global, case: &str) -> Result<String, AllocError> {
             Err(fault) => format!(in alloc; "{fault:?}"),
         },
     }
+}
+
+/// Messages that tell nothing.
+const BAD: &str = "\
+another version
+> 400a0000 00000001 0001 000c
+< BadMessage
+
+a primitive of a client
+> 200b0000 00000001 0001 000c
+< BadMessage
+
+a primitive that only an unreliable transport needs
+> 20100000 00000001 0001 000c
+< BadMessage
+
+attributes that don't parse
+> 200a0001 00000001 0001 000c 10010000
+< BadMessage
+
+an unknown attribute with M
+> 200a0001 00000001 0001 000c 29040000
+< BadMessage
+
+an unknown attribute with M inside a group
+> 20060002 00000001 0001 000c 1c08000d 29040000
+< BadMessage
+
+a FloorRequestStatus without FLOOR-REQUEST-INFORMATION
+> 20040001 00000001 0001 000c 04040001
+< BadMessage
+
+a HelloAck without SUPPORTED-ATTRIBUTES
+> 200c0001 00000001 0001 000c 16030100
+< BadMessage
+
+a HelloAck without SUPPORTED-PRIMITIVES
+> 200c0001 00000001 0001 000c 14030200
+< BadMessage
+
+an Error without ERROR-CODE
+> 200d0000 00000001 0001 000c
+< BadMessage
+
+an ERROR-CODE without a code
+> 200d0001 00000001 0001 000c 0c020000
+< BadMessage";
+
+#[test]
+fn a_bad_message_tells_nothing(rt: HostRuntime) {
+    let told = differing(rt.alloc(), BAD, "\n\n", "\n< ", told_of);
+    assert_told(&rt, told, "11 cases");
 }

@@ -1,6 +1,6 @@
 //! Messages in a stream, their headers, and messages of the greatest length.
 
-use crate::cases::part;
+use crate::cases::{assert_told, differing, part};
 use crate::hexadecimal::{bytes, frame, spelled};
 use floor_wire::{
     Attr, Attrs, Body, Frame, Framer, Header, SharedFrame, fits_message, read_attrs, write_attrs,
@@ -12,15 +12,17 @@ const HELLO: &str = "200b0000 00000001 0001000a";
 
 const FLOOR_REQUEST: &str = "20010001 00000001 0002000a 04040001";
 
-/// Three messages that are taken whole, and no byte behind them.
-const THREE: &str = " 200b0000 00000001 0001000a| 5f630002 fffffffe 12348765 01020304 05060708\
-    | 20010001 00000001 0002000a 04040001| 0";
-
 const OTHER_VERSION: &str = "5f630002 fffffffe 12348765 01020304 05060708";
+
+#[test]
+fn a_framer_gives_a_message_and_keeps_the_byte_behind_it(rt: HostRuntime) {
+    let wanted = "false true 200b0000 00000001 0001000a| 1";
+    assert_told(&rt, told_of_framer(rt.alloc()), wanted);
+}
 
 /// Whether a framer is ready before a Hello and a byte, and behind them, what it gives, and how many
 /// bytes it keeps.
-pub fn told_of_framer(alloc: Global) -> Result<String, AllocError> {
+fn told_of_framer(alloc: Global) -> Result<String, AllocError> {
     let mut framer = Framer::new(alloc);
     let mut told = format!(in alloc; "{}", framer.ready())?;
     framer.push(&bytes(alloc, HELLO)?)?;
@@ -41,16 +43,37 @@ fn push_next(alloc: Global, told: &mut String, framer: &mut Framer) -> Result<()
     Ok(())
 }
 
-/// The message that a case's bytes are.
-pub fn framed(alloc: Global, case: &str) -> Result<String, AllocError> {
+/// Each line: its name, bytes, and the message that they are.
+const FRAMES: &str = "\
+Hello | 200b0000 00000001 0001 000a => 200b0000 00000001 0001000a
+another version | 5f630002 fffffffe 1234 8765 01020304 05060708 => 5f630002 fffffffe 12348765 01020304 05060708
+no byte | => none
+a header that lacks a byte | 200b0000 00000001 0001 00 => none
+a byte too many | 200b0000 00000001 0001 000a 20 => none
+a payload that lacks a byte | 20010001 00000001 0002 000a 040400 => none";
+
+#[test]
+fn a_frame_is_exactly_one_message(rt: HostRuntime) {
+    let told = differing(rt.alloc(), FRAMES, "\n", " =>", framed);
+    assert_told(&rt, told, "6 cases");
+}
+
+fn framed(alloc: Global, case: &str) -> Result<String, AllocError> {
     match frame(alloc, part(case, 1))? {
         None => String::from_str(alloc, " none"),
         Some(frame) => spelled(alloc, frame.bytes()),
     }
 }
 
+#[test]
+fn a_header_has_the_fields_of_its_bits(rt: HostRuntime) {
+    let wanted = "version 2, R true, F true, reserved 7, primitive 99, length 2, \
+        conference 4294967294, transaction 4660, user 34661";
+    assert_told(&rt, other_version(rt.alloc()), wanted);
+}
+
 /// The fields of the header of a message of another version.
-pub fn other_version(alloc: Global) -> Result<String, AllocError> {
+fn other_version(alloc: Global) -> Result<String, AllocError> {
     match frame(alloc, OTHER_VERSION)? {
         None => String::from_str(alloc, "no message"),
         Some(frame) => fields_of(alloc, frame.header()),
@@ -69,8 +92,14 @@ fn fields_of(alloc: Global, header: Header) -> Result<String, AllocError> {
     )
 }
 
+#[test]
+fn a_written_message_has_its_header_and_attributes(rt: HostRuntime) {
+    let wanted = " 20010001 00000001 0002000a 04040001";
+    assert_told(&rt, written(rt.alloc()), wanted);
+}
+
 /// A FloorRequest of an attribute with M, as it is written.
-pub fn written(alloc: Global) -> Result<String, AllocError> {
+fn written(alloc: Global) -> Result<String, AllocError> {
     let floor = Attr {
         kind: 2,
         must: true,
@@ -80,8 +109,14 @@ pub fn written(alloc: Global) -> Result<String, AllocError> {
     spelled(alloc, frame.bytes())
 }
 
+#[test]
+fn a_message_is_addressed_to_another_user(rt: HostRuntime) {
+    let wanted = " 20010001 00000001 0002fffe / 04040001 / 16";
+    assert_told(&rt, addressed(rt.alloc()), wanted);
+}
+
 /// The FloorRequest, addressed to user 0xfffe.
-pub fn addressed(alloc: Global) -> Result<String, AllocError> {
+fn addressed(alloc: Global) -> Result<String, AllocError> {
     match frame(alloc, FLOOR_REQUEST)? {
         None => String::from_str(alloc, "no message"),
         Some(frame) => parts_of(alloc, &SharedFrame::of(frame).addressed(0xfffe)?),
@@ -97,9 +132,18 @@ fn parts_of(alloc: Global, message: &SharedFrame) -> Result<String, AllocError> 
     Ok(told)
 }
 
+/// Three messages that are taken whole, and no byte behind them.
+const THREE: &str = " 200b0000 00000001 0001000a| 5f630002 fffffffe 12348765 01020304 05060708\
+    | 20010001 00000001 0002000a 04040001| 0";
+
+#[test]
+fn every_cut_of_three_messages_gives_the_same_messages(rt: HostRuntime) {
+    assert_told(&rt, differing_cuts(rt.alloc()), "1225 cuts");
+}
+
 /// The places of two cuts at which other messages are taken than are wanted, and how many cuts there
 /// are.
-pub fn differing_cuts(alloc: Global) -> Result<String, AllocError> {
+fn differing_cuts(alloc: Global) -> Result<String, AllocError> {
     let mut stream = bytes(alloc, HELLO)?;
     stream.extend_from_slice(&bytes(alloc, OTHER_VERSION)?)?;
     stream.extend_from_slice(&bytes(alloc, FLOOR_REQUEST)?)?;
@@ -133,8 +177,13 @@ fn taken(alloc: Global, pieces: [&[u8]; 3]) -> Result<String, AllocError> {
     Ok(told)
 }
 
+#[test]
+fn ten_thousand_waiting_messages_are_taken_one_by_one(rt: HostRuntime) {
+    assert_told(&rt, many_taken(rt.alloc()), "10000 taken, then none true");
+}
+
 /// How many of ten thousand Hellos are taken, and whether none is taken then.
-pub fn many_taken(alloc: Global) -> Result<String, AllocError> {
+fn many_taken(alloc: Global) -> Result<String, AllocError> {
     let hello = bytes(alloc, HELLO)?;
     let mut stream = Vec::new(alloc);
     for _ in 0..10_000 {
@@ -178,21 +227,19 @@ fn longest(alloc: Global) -> Result<Vec<Attr>, AllocError> {
     Ok(attrs)
 }
 
-/// What is read of a message of the greatest length that is written.
-pub fn longest_read(alloc: Global) -> Result<String, AllocError> {
-    let attrs = longest(alloc)?;
-    read_again(alloc, write_attrs(alloc, &attrs)?)
-}
-
-/// Whether the attributes of a message of the greatest length fit, and how it is framed.
-pub fn longest_framed(alloc: Global) -> Result<String, AllocError> {
-    let attrs = longest(alloc)?;
-    if !fits_message(&attrs) {
-        return String::from_str(alloc, "fits false");
-    }
-    let frame = Frame::of_attributes(alloc, 7, 1, 2, 10, &attrs)?;
-    let told = framed_again(alloc, &frame)?;
-    format!(in alloc; "fits true, {}", told.as_str())
+#[test]
+fn a_message_of_the_greatest_length_is_written_framed_and_read(
+    rt: HostRuntime,
+) -> Result<(), AllocError> {
+    let attrs = longest(rt.alloc())?;
+    assert!(rt; fits_message(&attrs));
+    let written = write_attrs(rt.alloc(), &attrs)?;
+    let wanted = "262140 bytes, 65535 attributes, BadLength(262140) with a group of Length 5";
+    assert_told(&rt, read_again(rt.alloc(), written), wanted);
+    let frame = Frame::of_attributes(rt.alloc(), 7, 1, 2, 10, &attrs)?;
+    let wanted = "length 65535, a message true, ready true, taken true, 262152 bytes";
+    assert_told(&rt, framed_again(rt.alloc(), &frame), wanted);
+    Ok(())
 }
 
 /// How many bytes there are, how many attributes are read of them, and what is read of them and a
