@@ -5,25 +5,8 @@
 //! all was in order; 1 for a fault, which standard error names; 2 for words that are refused.
 #![tactic(auto)]
 
-mod binding;
-mod check;
-mod connection;
-mod connections;
-mod departure;
-mod entry;
-mod fault;
-mod lines;
-mod log;
-mod port;
-mod reason;
-mod run;
-mod server;
-mod socket;
-#[cfg(test)]
-mod tests;
-mod words;
-
 use floor_listen::{Ending, ServerFault};
+use floor_threads::{run, tell};
 use std::io::ErrorKind;
 use std::process::ExitCode;
 
@@ -42,7 +25,7 @@ fn main(rt: HostRuntime) -> ExitCode {
             return end(&rt, Ending::Refused);
         }
     };
-    ExitCode::from(run::run(
+    ExitCode::from(run(
         rt,
         alloc,
         words.as_slice(),
@@ -55,5 +38,5 @@ fn main(rt: HostRuntime) -> ExitCode {
 
 /// Ends before anything is run.
 fn end(rt: &HostRuntime, ending: Ending) -> ExitCode {
-    ExitCode::from(run::tell(&mut rt.stderr(), ending))
+    ExitCode::from(tell(&mut rt.stderr(), ending))
 }

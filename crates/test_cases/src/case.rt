@@ -73,7 +73,12 @@ impl Case {
     pub fn check<R: Runner>(&self, runner: &mut R, alloc: Global, name: &str) -> Result<(), Fault> {
         let mut written = Vec::new(alloc);
         runner.run(alloc, self.script.as_str(), &mut written)?;
-        let printed = std::str::from_utf8(&written).unwrap_or("no UTF-8\n");
+        self.compare(alloc, name, &written)
+    }
+
+    /// Compares what the script has printed with what the case says, line by line.
+    pub fn compare(&self, alloc: Global, name: &str, written: &[u8]) -> Result<(), Fault> {
+        let printed = std::str::from_utf8(written).unwrap_or("no UTF-8\n");
         let wanted = self.printed.as_str();
         if printed == wanted {
             Ok(())

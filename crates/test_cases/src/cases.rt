@@ -9,19 +9,35 @@ use crate::fault::Fault;
 use crate::runner::Runner;
 use std::alloc::Global;
 
+/// A case with its name.
+#[derive(Drop)]
+pub struct NamedCase {
+    pub name: String,
+    pub case: Case,
+}
+
 /// Runs each case of a text, and gives their number.
 pub fn run_cases<R: Runner>(runner: &mut R, alloc: Global, text: &str) -> Result<usize, Fault> {
+    let cases = read_cases(alloc, text)?;
+    for named in cases.iter() {
+        named.case.check(runner, alloc, named.name.as_str())?;
+    }
+    Ok(cases.len())
+}
+
+/// The cases of a text, for whoever runs their scripts otherwise than by a [`Runner`].
+pub fn read_cases(alloc: Global, text: &str) -> Result<Vec<NamedCase>, Fault> {
     let Some((about, configurations)) = text.split_once("\n@ ") else {
         return Err(Fault::Layout("no configuration"));
     };
     if !is_comment(about) {
         return Err(Fault::Layout("a line above all configurations"));
     }
-    let mut count = 0usize;
+    let mut cases = Vec::new(alloc);
     for below in configurations.split("\n@ ") {
-        count = count.saturating_add(run_below(runner, alloc, below)?);
+        read_below(alloc, below, &mut cases)?;
     }
-    Ok(count)
+    Ok(cases)
 }
 
 /// Whether each line is a comment or empty.
@@ -30,30 +46,26 @@ fn is_comment(text: &str) -> bool {
         .all(|line| line.is_empty() || line.starts_with('#'))
 }
 
-/// Runs each case below a configuration, and gives their number.
-fn run_below<R: Runner>(runner: &mut R, alloc: Global, text: &str) -> Result<usize, Fault> {
-    let Some((configuration, cases)) = text.split_once("\n= ") else {
+/// Appends the cases below a configuration.
+fn read_below(alloc: Global, text: &str, cases: &mut Vec<NamedCase>) -> Result<(), Fault> {
+    let Some((configuration, below)) = text.split_once("\n= ") else {
         return Err(Fault::Layout("a configuration without a case"));
     };
-    let mut count = 0usize;
-    for case in cases.split("\n= ") {
-        run_case(runner, alloc, behind_first(configuration), case)?;
-        count = count.saturating_add(1);
+    for case in below.split("\n= ") {
+        cases.push(read_case(alloc, behind_first(configuration), case)?)?;
     }
-    Ok(count)
+    Ok(())
 }
 
-/// Runs a case, whose first line is its name.
-fn run_case<R: Runner>(
-    runner: &mut R,
-    alloc: Global,
-    configuration: &str,
-    text: &str,
-) -> Result<(), Fault> {
+/// A case, whose first line is its name.
+fn read_case(alloc: Global, configuration: &str, text: &str) -> Result<NamedCase, Fault> {
     let name = text.lines().next().unwrap_or("");
     let mut case = Case::new(alloc, configuration.trim_end())?;
     case.extend(alloc, behind_first(text))?;
-    case.check(runner, alloc, name)
+    Ok(NamedCase {
+        name: String::from_str(alloc, name)?,
+        case,
+    })
 }
 
 /// The lines behind the first.

@@ -41,7 +41,7 @@ where
 }
 
 /// The file that a word names, or the files of the folder, by name.
-fn paths_of<R>(rt: &R, word: &str) -> Result<Vec<String>, Fault>
+pub fn paths_of<R>(rt: &R, word: &str) -> Result<Vec<String>, Fault>
 where
     R: Files + AllocGlobal + Clone + Drop,
 {

@@ -13,7 +13,7 @@ mod runner;
 mod shorthands;
 
 pub use case::Case;
-pub use cases::run_cases;
+pub use cases::{NamedCase, read_cases, run_cases};
 pub use fault::{Difference, Fault};
-pub use files::{run_word, tell};
+pub use files::{paths_of, run_word, tell};
 pub use runner::Runner;

@@ -45,11 +45,18 @@ pub fn spelled(alloc: Global, line: &str) -> Result<String, Fault> {
     for piece in line.split(')') {
         match piece.split_once('(') {
             None => out.push_str(piece)?,
-            Some((front, arguments)) => {
-                let (front, name) = front.rsplit_once(' ').unwrap_or(("", front));
-                out.push_str(front)?;
-                push_shorthand(alloc, &mut out, name, arguments)?;
-            }
+            Some((front, arguments)) => match front.rsplit_once(' ') {
+                // No name: the brackets are the line's own.
+                Some((_, "")) => {
+                    out.push_str(piece)?;
+                    out.push(')')?;
+                }
+                named => {
+                    let (front, name) = named.unwrap_or(("", front));
+                    out.push_str(front)?;
+                    push_shorthand(alloc, &mut out, name, arguments)?;
+                }
+            },
         }
     }
     Ok(out)

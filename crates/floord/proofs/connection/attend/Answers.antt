@@ -1,6 +1,0 @@
-use Rattle.std.proofs.Common.{◌∙◌}
-use Rattle.floord.proofs.Seats.{same_conference}
-use Rattle.floord.proofs.connection.attend.Goals as goal
-
-pub leave-gone-requires : goal.leave-gone-requires
-leave-gone-requires g c = same_conference _ _ _ _ _ _ _ c.read_loop-end.ensures.after ∙ c.requires
