@@ -44,6 +44,7 @@ pub mod Moved
 pub mod Walk
 pub mod Skipped
 pub mod Marked
+pub mod Narrowed
 pub mod Courses
 pub mod Users
 pub mod Acts

@@ -1,5 +1,5 @@
 -- What the steps of one event find, one after another, and the parcels that are made of it.
-use Rattle.std.specs.Prelude.{◌≡◌, All, ℕ, ◌==◌, ◌&&◌, ◌||◌, nat_lt, length, not, if◌then◌else◌, Bool, true, false, List, [], ◌∷◌, ◌++◌, map, filter, find, fold, max, Option, Some, None, option_map}
+use Rattle.std.specs.Prelude.{◌≡◌, All, ℕ, ◌==◌, ◌&&◌, ◌||◌, nat_lt, length, not, if◌then◌else◌, Bool, true, false, List, [], ◌∷◌, ◌++◌, map, filter, find, count_by, fold, max, Option, Some, None, option_map}
 use Rattle.std.specs.List.{list_all, list_any, flat_map}
 use Rattle.std.specs.Option.{option_map_or}
 use Rattle.floor_config.specs.Configuration.{Configuration}
@@ -112,10 +112,13 @@ update_of shown =
 abbrev pub is_of : ℕ → Update → Bool
 is_of user update = update.requester == user || update.beneficiary == user
 
--- the users of each of the updates are among these
+-- these numbers with one more, unless it is among them
+abbrev pub noting : ℕ → List ℕ → List ℕ
+noting user users = if list_any (λ u. u == user) users then users else users ++ user ∷ []
+
+-- the users of the updates are these, each once
 abbrev pub AreOf : List ℕ → List Update → Type 0
-AreOf users updates =
-    list_all (λ u. list_any (λ k. k == u.requester) users && list_any (λ k. k == u.beneficiary) users) updates ≡ true
+AreOf users updates = (k : ℕ) → count_by (λ u. u == k) users ≡ (if list_any (is_of k) updates then 1 else 0)
 
 -- the status of a request, if it is shown otherwise than before
 abbrev pub update_if : List Info → Shown → List Update
