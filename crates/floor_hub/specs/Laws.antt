@@ -41,6 +41,11 @@ abbrev pub JournalsAreOpened : Type 0
 JournalsAreOpened = (config : Configuration) (es : List Event) → IsJournal config es →
     configuration config.conference (steps_of config es) ≡ Some config
 
+-- and queue what the journal calls for, at each n
+abbrev pub JournalsAreQueued : Type 0
+JournalsAreQueued = (config : Configuration) (es : List Event) → IsJournal config es →
+    (n : ℕ) → queued config.conference (steps_of config es) n ≡ Q config es n
+
 -- a conference has the same events alone
 abbrev pub EventsAlone : Type 0
 EventsAlone = (c : ℕ) (steps : List Step) → events c (alone c steps) ≡ events c steps

@@ -1,7 +1,7 @@
 //! Laws of worlds. Each is the contract of a function that does nothing.
 
 ghost use Rattle.floor_hub.specs.Kept.{IsKept};
-ghost use Rattle.floor_hub.specs.Laws.{AnswersAlone, ArrivalsFit, ConfigurationStays, EventsAlone, EventsAreAJournal, Headline, IdleStays, JournalsAreEvents, JournalsAreOpened, NumbersAlone, QueuedIsCalledFor, StepAdds, StepKeeps, StepNumbers, TwoWorlds};
+ghost use Rattle.floor_hub.specs.Laws.{AnswersAlone, ArrivalsFit, ConfigurationStays, EventsAlone, EventsAreAJournal, Headline, IdleStays, JournalsAreEvents, JournalsAreOpened, JournalsAreQueued, NumbersAlone, QueuedIsCalledFor, StepAdds, StepKeeps, StepNumbers, TwoWorlds};
 ghost use Rattle.floor_hub.specs.World.{nothing};
 
 /// The first world is kept, and each step keeps it: so the events of every conference are a journal
@@ -22,10 +22,12 @@ pub fn step_adds()
 {}
 
 /// Each journal of a configuration is the events of its own steps: the Open, then an attach for a
-/// Join, a piece and a serve for a Message, a leave for a Leave, an act for an act.
+/// Join, a piece and a serve for a Message, a took for a Took, a leave for a Leave, an act for an act.
+/// So what it calls for at a member, wherever it stands, is what a hub queues by these steps.
 pub fn each_journal_is_run()
     ensures events { JournalsAreEvents }
     ensures configuration { JournalsAreOpened }
+    ensures queued { JournalsAreQueued }
 {}
 
 /// A conference alone has the same events, its steps have the same answers, and each of its
