@@ -30,6 +30,7 @@ pub mod Staying
 pub mod Live
 pub mod Counting
 pub mod Sender
+pub mod Passed
 pub mod Counted
 pub mod Reachable
 pub mod Reasoned

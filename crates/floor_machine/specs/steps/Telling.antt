@@ -1,5 +1,5 @@
 -- What the steps of one event find, one after another, and the parcels that are made of it.
-use Rattle.std.specs.Prelude.{◌≡◌, All, ℕ, ◌==◌, ◌&&◌, ◌||◌, nat_lt, length, not, if◌then◌else◌, Bool, true, false, List, [], ◌∷◌, ◌++◌, map, filter, find, fold, max, Option, Some, None, option_map}
+use Rattle.std.specs.Prelude.{◌≡◌, All, ℕ, ◌==◌, ◌&&◌, ◌||◌, not, if◌then◌else◌, Bool, true, false, List, [], ◌∷◌, ◌++◌, map, filter, find, fold, max, Option, Some, None, option_map}
 use Rattle.std.specs.List.{list_all, list_any, flat_map}
 use Rattle.std.specs.Option.{option_map_or}
 use Rattle.floor_config.specs.Configuration.{Configuration}
@@ -188,10 +188,6 @@ is_watched_by members update = list_any (λ m. m.is_live && is_watched m update)
 abbrev pub is_floor_watched : List Member → Floor → Bool
 is_floor_watched members f = list_any (λ m. m.is_live && list_any (λ floor. floor == f.id) m.watched) members
 
--- a live member watches some floor
-abbrev pub has_watcher : List Member → Bool
-has_watcher members = list_any (λ m. m.is_live && nat_lt 0 (length m.watched)) members
-
 -- a status of a changed request, to the member
 abbrev pub update_to : ℕ → Member → Update → Outgoing
 update_to conference m update = notice conference m.user update.tell
@@ -230,6 +226,11 @@ noticed_to conference reply requests notices m =
     map (parcel m.n) (answered_to reply m.n)
     ++ map (λ u. parcel m.n (update_to conference m u)) (filter (is_due_to reply m) requests)
     ++ map (floor_notice_to m) (filter (is_noticed m) notices)
+
+-- the reply is to the member, a changed request is one of its user, or it watches a changed floor
+abbrev pub is_concerned : Option Replied → List Update → List FloorNotice → Member → Bool
+is_concerned reply requests notices m =
+    option_map_or (is_to m.n) reply false || list_any (is_noticed m) notices || list_any (is_of m.user) requests
 
 -- the parcels of the live members, in their order
 abbrev pub noticed_to_all : ℕ → Option Replied → List Update → List FloorNotice → List Member → List Parcel

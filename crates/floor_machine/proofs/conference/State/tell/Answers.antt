@@ -6,7 +6,7 @@ use Rattle.floor_machine.specs.Parcel.{Parcel}
 use Rattle.floor_machine.specs.steps.Counting.{counted_of, told_of_all}
 use Rattle.floor_machine.specs.steps.Outcomes.{FloorUpdate}
 use Rattle.floor_machine.specs.steps.Serving.{conference_of}
-use Rattle.floor_machine.specs.steps.Telling.{floor_notice, floors_changed, is_floor_watched, is_watched_by, noticed_to_all}
+use Rattle.floor_machine.specs.steps.Telling.{floor_notice, floor_update, floors_changed, is_floor_watched, is_one_of, is_watched_by, noticed_to_all}
 use Rattle.floor_machine.proofs.Asked.{on_ok, on_ok_all}
 use Rattle.floor_machine.proofs.Noticed.{noticed-all}
 use Rattle.floor_machine.proofs.Watched.{updates-watched}
@@ -18,7 +18,7 @@ returns-clause-told c =
     let reply = c.args.reply.now in
     let updates = c.args.changes.now.updates in
     let fs : List FloorUpdate = floors_changed s.shown.items c.args.changes.now.floors.items s.config.floors in
-    let watched : List FloorUpdate = floors_changed s.shown.items c.args.changes.now.floors.items (filter (is_floor_watched s.members) s.config.floors) in
+    let watched : List FloorUpdate = map (floor_update s.shown.items) (filter (is_floor_watched s.members) (filter (is_one_of c.args.changes.now.floors.items) s.config.floors)) in
     let notices : List FloorNotice = map (floor_notice s.config.conference) (filter (is_watched_by s.members) fs) in
     let is : c.conference-conference.result ≡ s.config.conference = search rules in
     let are : c.deref-4.result.now ≡ map (floor_notice c.conference-conference.result) watched = search rules in
@@ -41,7 +41,7 @@ returns-clause-counted c =
     let reply = c.args.reply.now in
     let updates = c.args.changes.now.updates in
     let fs : List FloorUpdate = floors_changed s.shown.items c.args.changes.now.floors.items s.config.floors in
-    let watched : List FloorUpdate = floors_changed s.shown.items c.args.changes.now.floors.items (filter (is_floor_watched s.members) s.config.floors) in
+    let watched : List FloorUpdate = map (floor_update s.shown.items) (filter (is_floor_watched s.members) (filter (is_one_of c.args.changes.now.floors.items) s.config.floors)) in
     let notices : List FloorNotice = map (floor_notice s.config.conference) (filter (is_watched_by s.members) fs) in
     let is : c.conference-conference.result ≡ s.config.conference = search rules in
     let are : c.deref-4.result.now ≡ map (floor_notice c.conference-conference.result) watched = search rules in
