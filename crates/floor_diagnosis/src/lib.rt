@@ -11,8 +11,6 @@ mod checks;
 mod diagnosis;
 mod doubles;
 mod place;
-#[cfg(test)]
-mod tests;
 mod unknown;
 mod values;
 

@@ -19,8 +19,6 @@ mod participants;
 mod refusal;
 mod relay;
 mod reply;
-#[cfg(test)]
-mod tests;
 
 pub use asked::Asked;
 pub use end::End;

@@ -5,20 +5,7 @@
 //! memory, or where no transaction is left; 2 where the words are refused.
 #![tactic(auto)]
 
-mod arguments;
-mod command;
-mod fault;
-mod lines;
-mod messages;
-mod run;
-mod session;
-mod socket_fault;
-mod stream;
-#[cfg(test)]
-mod tests;
-mod writing;
-
-use run::run;
+use floor_terminal::run;
 use std::io::ErrorKind;
 use std::process::ExitCode;
 

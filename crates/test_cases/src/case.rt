@@ -7,6 +7,7 @@
 //! - `>  words` and `<  words`, with two spaces, go on with the line above. An empty line says
 //!   nothing.
 //! - `>1024 line` and `<1024 line` stand for so many of these lines.
+//! - `>> line` and `<< line` are such lines as they stand, for texts that aren't bytes.
 //!
 //! Bytes may stand as a shorthand.
 
@@ -46,8 +47,11 @@ impl Case {
 
     fn push_line(&mut self, alloc: Global, line: &str) -> Result<(), Fault> {
         let (mark, text) = line.split_once(' ').unwrap_or((line, ""));
-        if mark == "#" {
-            return push_script(alloc, &mut self.script, line);
+        match mark {
+            "#" => return push_script(alloc, &mut self.script, line),
+            ">>" => return push_plain(&mut self.script, text),
+            "<<" => return push_plain(&mut self.printed, text),
+            _ => {}
         }
         if let Some(count) = mark.strip_prefix('>') {
             let text = spelled(alloc, text)?;
@@ -103,6 +107,13 @@ fn differing(alloc: Global, name: &str, wanted: &str, printed: &str) -> Result<F
 /// The line with a number, counted from 1, or nothing.
 fn line_of(text: &str, number: usize) -> &str {
     text.lines().nth(number.saturating_sub(1)).unwrap_or("")
+}
+
+/// Appends a line as it stands.
+fn push_plain(lines: &mut String, line: &str) -> Result<(), Fault> {
+    lines.push_str(line)?;
+    lines.push('\n')?;
+    Ok(())
 }
 
 /// How often a line stands, of which a mark says so, or once where it says nothing.

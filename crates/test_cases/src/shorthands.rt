@@ -39,7 +39,7 @@ Chair 20090003 00000001 #1 #2 1e0c #3 2208 #4 0a04 #5
 Chair2 20090005 00000001 #1 #2 1e14 #3 2208 #4 0a04 #5 2208 #6 0a04 #7
 ";
 
-/// A line whose shorthands are written out.
+/// A line whose shorthands are written out. What stands in parentheses behind a space is text.
 pub fn spelled(alloc: Global, line: &str) -> Result<String, Fault> {
     let mut out = String::new(alloc);
     for piece in line.split(')') {
@@ -47,8 +47,13 @@ pub fn spelled(alloc: Global, line: &str) -> Result<String, Fault> {
             None => out.push_str(piece)?,
             Some((front, arguments)) => {
                 let (front, name) = front.rsplit_once(' ').unwrap_or(("", front));
-                out.push_str(front)?;
-                push_shorthand(alloc, &mut out, name, arguments)?;
+                if name.is_empty() {
+                    out.push_str(piece)?;
+                    out.push(')')?;
+                } else {
+                    out.push_str(front)?;
+                    push_shorthand(alloc, &mut out, name, arguments)?;
+                }
             }
         }
     }

@@ -1,7 +1,0 @@
-use Rattle.std.proofs.Common.{[]}
-use Rattle.floorc.specs.Session.{Received}
-use Rattle.floorc.proofs.messages.next_message.Given as goal
-
-abbrev pub invariant-loop : goal.invariant-loop
-invariant-loop g l =
-    Received (g.S.Stream.remaining l.initial.stream) (g.S.Stream.remaining l.stream) (g.S.Stream.contents l.initial.stream) (g.S.Stream.contents l.stream) l.initial.framer [] l.framer

@@ -1,8 +1,0 @@
-use Rattle.floorc.proofs.Growing.{part_written}
-use Rattle.floorc.proofs.writing.write_whole.Goals as goal
-
-pub loop-at-preserved : goal.loop-at-preserved
-loop-at-preserved g c =
-    let more = part_written c.args.bytes.now c.loop-at.at c.in_ok-count.count (g.W.Write.contents c.args.output.now) (g.W.Write.contents c.loop-at.output) (g.W.Write.contents c.write.new.self)
-    c.loop-at.invariant.within c.in_ok-count.ensures.bound c.loop-at.invariant.grew c.in_ok-count.ensures.bytes in
-    record { within = more.0; grew = more.1 }
