@@ -22,7 +22,7 @@ use std::alloc::{AllocError, Global};
 
 /// What the message tells, and under which head.
 ///
-/// It is a bad message where its version isn't 1; its primitive isn't one that a server tells by;
+/// It is a bad message (`BadMessage`) where its version isn't 1; its primitive isn't one that a server tells by;
 /// its payload spells no attributes; an unknown attribute has M set; FLOOR-REQUEST-INFORMATION is
 /// missing in a FloorRequestStatus, or SUPPORTED-PRIMITIVES or SUPPORTED-ATTRIBUTES in a HelloAck;
 /// ERROR-CODE is missing or has no code in an Error.
