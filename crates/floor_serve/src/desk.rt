@@ -17,9 +17,9 @@ use std::sync::{Arc, Mutex, Wait};
 /// One conference as threads share it. Each call but `journal_text` is one hold of the conference's
 /// lock, and wakes whom it told something once the lock is given back. Contracts see its number.
 ///
-/// Changes: `join`, `submit`, `took` and `leave` of a member, `admin` of the administrator, and
-/// `break_off`. Readers: `conference`, `status`, `journal_text`. What the calls do to the conference
-/// stands in the contracts of [`Booth`].
+/// Changes: `join`, `submit`, `took` and `leave` of a member, `admin` of the administrator. Readers:
+/// `conference`, `status`, `journal_text`. What the calls do to the conference stands in the
+/// contracts of [`Booth`].
 #[derive(Drop)]
 pub struct Desk {
     conference: u32,
@@ -134,13 +134,6 @@ impl Desk {
         drop(booth);
         wakers.wake();
         done
-    }
-
-    /// Breaks the conference off, and lets every writer end: for a caller that meets want of memory
-    /// itself, or gives a conference up that takes no Close, as where its journal is full. Takes no
-    /// memory.
-    pub fn break_off<R: Wait>(&self, rt: &R) {
-        self.booth.lock(rt).break_off();
     }
 
     /// How the conference stands. Takes no memory.
