@@ -19,6 +19,8 @@ mod registry;
 mod seat;
 mod senders;
 mod table;
+#[cfg(test)]
+mod tests;
 mod wakers;
 mod writing;
 
@@ -39,6 +41,3 @@ pub use seat::{Receipt, Seat, Sent};
 pub use table::Table;
 pub use wakers::Wakers;
 pub use writing::{Written, write_loop, write_parcel};
-
-#[cfg(test)]
-mod tests;
