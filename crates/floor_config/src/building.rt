@@ -17,7 +17,8 @@ use std::alloc::Global;
 
 impl Config {
     /// The configuration of these values, tested in the order in which a text would be. An empty
-    /// name or URI counts as absent.
+    /// name or URI counts as absent. Refused are, in this order, `OutOfRange` of the limit or a user,
+    /// `DoubleUser`, `OutOfRange` of a floor, `DoubleFloor` and `UnknownChair`.
     #[tactic(auto, unfolding(crate::specs::Building::built))]
     pub fn build(
         alloc: Global,

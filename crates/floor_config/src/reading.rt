@@ -54,8 +54,10 @@ use crate::{chairs, doubles, values};
 use std::alloc::Global;
 use toml::{Table, Value};
 
-/// The configurations of a text in TOML, in its order, or the first fault. A text without
-/// conferences has to say so, by an empty array.
+/// The configurations of a text in TOML, in its order, or the first fault: `Syntax`; then conference
+/// by conference what a key is refused by (`MissingKey`, `WrongType`, `OutOfRange`), and behind its
+/// users `DoubleUser`, behind its floors `DoubleFloor` and `UnknownChair`; at last `DoubleConference`
+/// and `DoublePort`. A text without conferences has to say so, by an empty array.
 pub fn read_configs(alloc: Global, text: &str) -> Result<Vec<Config>, ConfigFault>
     ensures value { Gives (λ configs. configs.items) result (reading text.now) }
     ensures conferences { IfOk result (λ configs. AllDiffer (conference_ids configs.items)) }

@@ -28,6 +28,11 @@ use std::alloc::{AllocError, Global};
 
 /// What the message asks of the server; None for an Error, which is left unanswered.
 ///
+/// Else the error code of the first check that applies: `UnsupportedVersion`,
+/// `ConferenceDoesNotExist`, `UserDoesNotExist`, `UnauthorizedOperation`, `UnknownPrimitive`,
+/// `UnableToParseMessage` where the payload spells no attributes, `UnknownMandatoryAttribute` with the
+/// types as details, and `UnableToParseMessage` where what is required is missing.
+///
 /// The text of a FloorRequest is cut to at most 62 bytes, the reason of a ChairAction to at most 30,
 /// and a priority is at most 4.
 pub fn read_ask(alloc: Global, frame: &Frame, binding: &Binding) -> Result<Option<Ask>, AskFault>

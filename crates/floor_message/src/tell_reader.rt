@@ -22,10 +22,10 @@ use std::alloc::{AllocError, Global};
 
 /// What the message tells, and under which head.
 ///
-/// It is a bad message where its version isn't 1; its primitive isn't one that a server tells by;
-/// its payload spells no attributes; an unknown attribute has M set; FLOOR-REQUEST-INFORMATION is
-/// missing in a FloorRequestStatus, or SUPPORTED-PRIMITIVES or SUPPORTED-ATTRIBUTES in a HelloAck;
-/// ERROR-CODE is missing or has no code in an Error.
+/// It is a bad message (`BadMessage`) where its version isn't 1; its primitive isn't one that a
+/// server tells by; its payload spells no attributes; an unknown attribute has M set;
+/// FLOOR-REQUEST-INFORMATION is missing in a FloorRequestStatus, or SUPPORTED-PRIMITIVES or
+/// SUPPORTED-ATTRIBUTES in a HelloAck; ERROR-CODE is missing or has no code in an Error.
 pub fn read_tell(alloc: Global, frame: &Frame) -> Result<(Head, Tell), TellFault>
     ensures value { IfOk result (λ read. spec.tell frame.now ≡ Some read) }
     ensures bad_message { IsErrOf result TellFault.BadMessage → spec.tell frame.now ≡ None }

@@ -240,7 +240,8 @@ impl Requests {
     }
 
     /// Adds a request, which gets the next number. A floor without a chair is Accepted at once, one
-    /// with a chair is Pending. After a refusal nothing has changed.
+    /// with a chair is Pending. Refused by `Full` where 256 are ongoing, then by `NoNumber` where the
+    /// number 65,535 was given, then by `Memory`; nothing has changed then.
     pub fn add(&mut self, new: New) -> Result<u16, AddRefusal>
         requires { IsAddable self.old.floors new }
         ensures number { IfOk result (λ number. number ≡ self.old.given + 1) }

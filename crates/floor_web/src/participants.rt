@@ -137,7 +137,8 @@ impl Participants {
     }
 }
 
-/// The users of a configuration who have a token.
+/// The users of a configuration who have a token. Else `Config` with the configuration's own fault;
+/// `WeakToken` or `MissingPort` of the first such user; `DoubleToken`; `NoToken` where none has one.
 #[tactic(auto, unfolding(crate::specs::Participants::reading))]
 pub fn read_participants(alloc: Global, text: &str) -> Result<Participants, ParticipantsFault>
     ensures value { spec.Gives result (spec.reading text.now) }

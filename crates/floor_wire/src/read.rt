@@ -24,7 +24,8 @@ pub(crate) struct Head {
 }
 
 /// The attributes that the bytes spell, or the first fault in the order of offsets, where what is
-/// inside a group stands behind the group's head.
+/// inside a group stands behind the group's head: `BadLength` of a Length that its type doesn't have,
+/// which is looked at first, or `Overrun` of one that passes the end.
 pub fn read_attrs(alloc: Global, bytes: &[u8]) -> Result<Attrs, WireFault>
     ensures found { IfOk result (λ attrs. Spells attrs bytes.now) }
     ensures fault { IfErr result (λ e. IsFaultFrom 0 bytes.now e) }

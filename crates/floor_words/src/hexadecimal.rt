@@ -53,7 +53,7 @@ impl<T: Drop> From<AllocFailed<T>> for HexadecimalFault {
 }
 
 /// The bytes that words of hexadecimal spell together, in either case: only the joined digits have
-/// to be even in number.
+/// to be even in number. Else `BadHex`.
 pub fn read_hexadecimal(alloc: Global, words: &[&str]) -> Result<Vec<u8>, HexadecimalFault>
     ensures value { IfOk result
         (λ bytes. spelled (map (λ w. w.now) words.now) ≡ Some bytes.items) }
