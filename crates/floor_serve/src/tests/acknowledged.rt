@@ -117,45 +117,91 @@ fn took_counts(rt: HostRuntime) -> Result<(), Fail> {
     Ok(())
 }
 
-/// User 10 asks for floor 1; user 11 asks what happens on it, and sends a Hello.
+/// User 10 asks for floor 1.
 const REQUEST: [u8; 16] = [0x20, 1, 0, 1, 0, 0, 0, 1, 0, 1, 0, 10, 4, 4, 0, 1];
 
-const QUERY: [u8; 16] = [0x20, 7, 0, 1, 0, 0, 0, 1, 0, 1, 0, 11, 4, 4, 0, 1];
-
-const OTHER_HELLO: [u8; 12] = [0x20, 11, 0, 0, 0, 0, 0, 1, 0, 2, 0, 11];
-
-/// A desk at which user 10 has floor 1, its seat, and what takes the parcels of user 11, who watches
-/// the floor and is 1,024 parcels behind.
-fn watched<R: Wait>(rt: &R, alloc: Global) -> Result<(Desk, Seat, Taker), Fail> {
-    let (_registry, desk) = opened(rt, alloc)?;
-    let (mut ten, _first) = joined(rt, &desk, 10)?;
-    let (mut eleven, second) = joined(rt, &desk, 11)?;
-    let mut taken = submits(rt, &desk, &mut ten, frame(alloc, &REQUEST)?);
-    taken = submits(rt, &desk, &mut eleven, frame(alloc, &QUERY)?) && taken;
-    let hello = frame(alloc, &OTHER_HELLO)?;
+/// A seat of a user who watches floor 1 and is 1,024 parcels behind, and what takes them.
+fn behind<R: Wait>(rt: &R, alloc: Global, desk: &Desk, user: u8) -> Result<(Seat, Taker), Fail> {
+    let (mut seat, taker) = joined(rt, desk, u16::from(user))?;
+    let query = [0x20, 7, 0, 1, 0, 0, 0, 1, 0, 1, 0, user, 4, 4, 0, 1];
+    let mut taken = submits(rt, desk, &mut seat, frame(alloc, &query)?);
+    let hello = frame(alloc, &[0x20, 11, 0, 0, 0, 0, 0, 1, 0, 2, 0, user])?;
     for _ in 0..1023 {
-        taken = submits(rt, &desk, &mut eleven, hello.share()?) && taken;
+        taken = submits(rt, desk, &mut seat, hello.share()?) && taken;
     }
     if taken {
-        Ok((desk, ten, second))
+        Ok((seat, taker))
     } else {
         Err(Fail::from("a message is refused"))
     }
 }
 
+/// A desk at which user 10 has floor 1, its seat, and what takes the parcels of users 11 and 12, who
+/// watch the floor and are 1,024 parcels behind.
+fn watched<R: Wait>(rt: &R, alloc: Global) -> Result<(Desk, Seat, [Taker; 2]), Fail> {
+    let (_registry, desk) = opened(rt, alloc)?;
+    let (mut ten, _first) = joined(rt, &desk, 10)?;
+    if !submits(rt, &desk, &mut ten, frame(alloc, &REQUEST)?) {
+        return Err(Fail::from("the request is refused"));
+    }
+    let (_eleven, second) = behind(rt, alloc, &desk, 11)?;
+    let (_twelve, third) = behind(rt, alloc, &desk, 12)?;
+    Ok((desk, ten, [second, third]))
+}
+
+/// How many of two takers are closed.
+fn closed(takers: &[Taker; 2]) -> Result<u32, Fail> {
+    let mut count = 0u32;
+    for taker in takers {
+        if taker.mark()?.is_set() {
+            count = count.saturating_add(1);
+        }
+    }
+    Ok(count)
+}
+
 #[test]
-fn a_leave_closes_whom_it_cuts(rt: HostRuntime) -> Result<(), Fail> {
-    let (desk, mut seat, taker) = watched(&rt, rt.alloc())?;
-    assert!(rt; !taker.mark()?.is_set());
+fn a_leave_closes_each_whom_it_cuts(rt: HostRuntime) -> Result<(), Fail> {
+    let (desk, mut seat, takers) = watched(&rt, rt.alloc())?;
+    assert_eq!(rt; closed(&takers)?, 0);
     assert!(rt; leaves(&rt, &desk, &mut seat));
-    assert!(rt; taker.mark()?.is_set());
+    assert_eq!(rt; closed(&takers)?, 2);
     Ok(())
 }
 
 #[test]
-fn a_revoke_closes_whom_it_cuts(rt: HostRuntime) -> Result<(), Fail> {
-    let (desk, _seat, taker) = watched(&rt, rt.alloc())?;
+fn a_revoke_closes_each_whom_it_cuts(rt: HostRuntime) -> Result<(), Fail> {
+    let (desk, _seat, takers) = watched(&rt, rt.alloc())?;
     assert!(rt; desk.admin(&rt, Act::Revoke(1)).is_ok());
-    assert!(rt; taker.mark()?.is_set());
+    assert_eq!(rt; closed(&takers)?, 2);
+    Ok(())
+}
+
+/// A registry, a desk of its conference, and what takes the parcels of its two members.
+fn with_two<R: Wait>(rt: &R, alloc: Global) -> Result<(Registry, Desk, [Taker; 2]), Fail> {
+    let (registry, desk) = opened(rt, alloc)?;
+    let (_ten, first) = joined(rt, &desk, 10)?;
+    let (_eleven, second) = joined(rt, &desk, 11)?;
+    Ok((registry, desk, [first, second]))
+}
+
+#[test]
+fn a_close_closes_each_member(rt: HostRuntime) -> Result<(), Fail> {
+    let (_registry, desk, takers) = with_two(&rt, rt.alloc())?;
+    assert_eq!(rt; closed(&takers)?, 0);
+    assert!(rt; desk.admin(&rt, Act::Close).is_ok());
+    assert_eq!(rt; closed(&takers)?, 2);
+    Ok(())
+}
+
+#[test]
+fn a_conference_that_is_broken_off_closes_each_member(rt: HostRuntime) -> Result<(), Fail> {
+    let (registry, _desk, takers) = with_two(&rt, rt.alloc())?;
+    {
+        let table = registry.table.lock(&rt);
+        let slot = table.slots.first().ok_or("no conference")?;
+        slot.booth.lock(&rt).break_off();
+    }
+    assert_eq!(rt; closed(&takers)?, 2);
     Ok(())
 }

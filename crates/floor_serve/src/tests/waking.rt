@@ -1,6 +1,6 @@
 //! Who wakes when an event tells several members.
 
-use super::{frame, joined, opened, submits};
+use super::{frame, joined, leaves, opened, submits};
 use crate::*;
 use std::alloc::Global;
 use std::sync::Wait;
@@ -36,17 +36,51 @@ fn watching<R: Wait>(rt: &R, alloc: Global, desk: &Desk, user: u8) -> Result<(Se
     }
 }
 
+/// User 10 asks for floor 1 among three members who watch it, and is the first or the last of them who
+/// joined. Says who of the three, in the order in which they joined, isn't told and woken; nobody, where
+/// all is well.
+fn missed<R: Wait>(rt: &R, alloc: Global, users: [u8; 3]) -> Result<Option<u8>, Fail> {
+    let (_registry, desk) = opened(rt, alloc)?;
+    let mut members = Vec::new(alloc);
+    for user in users {
+        members.push((user, watching(rt, alloc, &desk, user)?))?;
+    }
+    for (user, (seat, _)) in members.iter_mut() {
+        if *user == 10 && !submits(rt, &desk, seat, frame(alloc, &REQUEST)?) {
+            return Err(Fail::from("the request is refused"));
+        }
+    }
+    for (user, (_, taker)) in members.iter_mut() {
+        // A FloorRequestStatus for the requester, then a FloorStatus for each that watches.
+        let wanted = if *user == 10 { 4 } else { 8 };
+        if heard(rt, taker) != Some(wanted) {
+            return Ok(Some(*user));
+        }
+    }
+    Ok(None)
+}
+
 #[test]
 fn each_member_whom_an_event_tells_wakes(rt: HostRuntime) -> Result<(), Fail> {
+    for users in [[10, 11, 12], [11, 10, 12], [11, 12, 10]] {
+        assert_eq!(rt;
+            missed(&rt, rt.alloc(), users)?,
+            None,
+            "joined as {users:?}"
+        );
+    }
+    Ok(())
+}
+
+#[test]
+fn a_leave_wakes_whom_it_tells(rt: HostRuntime) -> Result<(), Fail> {
     let alloc = rt.alloc();
     let (_registry, desk) = opened(&rt, alloc)?;
-    let (mut ten, mut first) = watching(&rt, alloc, &desk, 10)?;
+    let (mut ten, _first) = joined(&rt, &desk, 10)?;
     let (_eleven, mut second) = watching(&rt, alloc, &desk, 11)?;
-    let (_twelve, mut third) = watching(&rt, alloc, &desk, 12)?;
     assert!(rt; submits(&rt, &desk, &mut ten, frame(alloc, &REQUEST)?));
-    // A FloorRequestStatus for the requester, then a FloorStatus for each that watches.
-    assert_eq!(rt; heard(&rt, &mut first), Some(4), "the requester");
-    assert_eq!(rt; heard(&rt, &mut second), Some(8), "one that watches");
-    assert_eq!(rt; heard(&rt, &mut third), Some(8), "another one");
+    assert_eq!(rt; heard(&rt, &mut second), Some(8), "the floor is held");
+    assert!(rt; leaves(&rt, &desk, &mut ten));
+    assert_eq!(rt; heard(&rt, &mut second), Some(8), "and free again");
     Ok(())
 }
