@@ -11,6 +11,7 @@ mod load;
 mod logged;
 mod ports;
 mod replayed;
+mod sinks;
 mod slow;
 mod sockets;
 mod words;

@@ -4,14 +4,15 @@ use floor_serve::Gate;
 use floor_threads::run_with;
 use floor_words::read_u32;
 use std::alloc::Global;
-use std::fs;
-use std::io::{Read, Write, sink};
+use std::io::{ErrorKind, Read, Write, sink};
 use std::net::{Net, TcpListener, TcpStream};
 use std::rt::Files;
-use std::sync::Wait;
+use std::sync::atomic::{AtomicU64, Ordering};
+use std::sync::{Arc, Wait};
 use std::test::Fail;
 use std::thread::{JoinHandle, Threads};
 use std::time::Clock;
+use std::{fs, io};
 
 /// A server in a thread of its own, with the other end of its standard input and output.
 #[derive(Drop)]
@@ -151,6 +152,23 @@ where
     )
 }
 
+/// What fails at each write, and counts them.
+#[derive(Drop)]
+pub struct Closed {
+    pub asked: Arc<AtomicU64, Global>,
+}
+
+impl Write for Closed {
+    fn write(&mut self, _buf: &[u8]) -> io::Result<usize> {
+        self.asked.fetch_add(1, Ordering::SeqCst);
+        Err(io::Error::from(ErrorKind::BrokenPipe))
+    }
+
+    fn flush(&mut self) -> io::Result<()> {
+        Ok(())
+    }
+}
+
 /// Two ends of a stream: what one is written, the other reads.
 pub fn two_ends<R: Net<Listener = TcpListener, Stream = TcpStream>>(
     rt: &R,
@@ -212,11 +230,15 @@ pub fn events_of_stop(stopped: &str, words: &str) -> Option<u32> {
 
 /// The next line that the server prints.
 pub fn line<R: AllocGlobal>(rt: &R, server: &Server) -> Result<String, Fail> {
-    let mut console = &server.console;
-    let mut text = Vec::new(rt.alloc());
+    next_line(rt.alloc(), &server.console)
+}
+
+/// The next line of a stream, without its line feed; what there is where the stream ends before.
+pub fn next_line(alloc: Global, mut stream: &TcpStream) -> Result<String, Fail> {
+    let mut text = Vec::new(alloc);
     for _ in 0..10_000 {
         let mut byte = [0u8; 1];
-        if console.read(&mut byte)? == 0 || byte[0] == b'\n' {
+        if stream.read(&mut byte)? == 0 || byte[0] == b'\n' {
             break;
         }
         text.push(byte[0])?;
@@ -231,6 +253,19 @@ pub fn connect<R: Net<Listener = TcpListener, Stream = TcpStream> + AllocGlobal>
 ) -> Result<TcpStream, Fail> {
     let address = format!(in rt.alloc(); "127.0.0.1:{port}")?;
     Ok(TcpStream::connect(rt, address.as_str())?)
+}
+
+/// Connects to a port, and says Hello, of whose answer so many bytes are read.
+pub fn greet<R: Net<Listener = TcpListener, Stream = TcpStream> + AllocGlobal>(
+    rt: &R,
+    port: u16,
+    hello: &str,
+    read: usize,
+) -> Result<TcpStream, Fail> {
+    let mut client = connect(rt, port)?;
+    send(rt, &mut client, hello).ok_or("says Hello")?;
+    hear(rt, &mut client, read).ok_or("is answered")?;
+    Ok(client)
 }
 
 /// Sends a message that is given as spaced hexadecimal; `None` where the stream has ended.

@@ -1,10 +1,12 @@
 //! How many lines are answered, and what ends the server.
 
-use super::clients::{Server, ask, free_port, line, prepare, run_to_end, write_file};
+use super::clients::{Closed, Server, ask, free_port, line, prepare, run_to_end, write_file};
 use floor_serve::FreePass;
 use floor_threads::run;
 use std::io::sink;
 use std::net::{Shutdown, TcpListener};
+use std::sync::Arc;
+use std::sync::atomic::{AtomicU64, Ordering};
 use std::test::Fail;
 use std::{fs, thread};
 
@@ -81,5 +83,35 @@ fn each_end_has_its_status_and_its_last_lines(rt: HostRuntime) -> Result<(), Fai
     ] {
         fs::remove_file(&rt, path)?;
     }
+    Ok(())
+}
+
+#[test]
+fn a_server_that_cannot_print_ends_at_once(rt: HostRuntime) -> Result<(), Fail> {
+    let alloc = rt.alloc();
+    write_file(&rt, "unprinted.toml", &[(1, free_port(&rt)?)])?;
+    let words = vec![in alloc;
+        String::from_str(alloc, "floord")?,
+        String::from_str(alloc, "unprinted.toml")?,
+    ]?;
+    let asked = Arc::new(alloc, AtomicU64::new(0))?;
+    let mut output = Closed {
+        asked: Arc::try_clone(&asked)?,
+    };
+    let mut errors = Vec::new(alloc);
+    let mut input: &[u8] = b"status 1\n";
+    let status = run(
+        rt,
+        alloc,
+        &words,
+        &mut input,
+        &mut output,
+        &mut errors,
+        sink(),
+    );
+    assert_eq!(rt; status, 1);
+    assert_eq!(rt; errors.as_slice(), b"floord: CannotWrite\n".as_slice());
+    assert_eq!(rt; asked.load(Ordering::SeqCst), 1, "it wasn't ready");
+    fs::remove_file(&rt, "unprinted.toml")?;
     Ok(())
 }

@@ -1,4 +1,4 @@
-//! A stop that finds something wrong.
+//! A start that fails, and a stop that finds something wrong.
 
 use super::clients::{free_port, write_file};
 use floor_config::read_configs;
@@ -72,5 +72,33 @@ fn a_stop_that_finds_a_mismatch_says_so_and_ends_by_a_fault(rt: HostRuntime) -> 
     assert_eq!(rt; tell(&mut errors, ending), 1);
     assert_eq!(rt; errors.as_slice(), b"floord: Mismatch\n".as_slice());
     fs::remove_file(&rt, "faults.toml")?;
+    Ok(())
+}
+
+#[test]
+fn a_start_that_fails_gives_its_ports_back(rt: HostRuntime) -> Result<(), Fail> {
+    let alloc = rt.alloc();
+    let others = TcpListener::bind(&rt, "127.0.0.1:0")?;
+    let port = free_port(&rt)?;
+    let conferences = [(1, port), (2, others.local_addr()?.port())];
+    write_file(&rt, "half.toml", &conferences)?;
+    let mut input: &[u8] = b"";
+    let mut output = Vec::new(alloc);
+    let mut errors = Vec::new(alloc);
+    let ending = serve(
+        rt,
+        alloc,
+        "half.toml",
+        &mut input,
+        &mut output,
+        &mut errors,
+        Shared::new(alloc, FreePass, None),
+    );
+    assert_eq!(rt; output.len(), 0);
+    assert_eq!(rt; tell(&mut errors, ending), 1);
+    assert!(rt; errors.as_slice().ends_with(b"floord: CannotListen\n"));
+    let address = format!(in alloc; "127.0.0.1:{port}")?;
+    let _free = TcpListener::bind(&rt, address.as_str())?;
+    fs::remove_file(&rt, "half.toml")?;
     Ok(())
 }

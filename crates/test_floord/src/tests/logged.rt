@@ -1,7 +1,7 @@
 //! What the log tells.
 
 use super::clients::{
-    Server, ask, connect, free_port, hear, line, log_lines, prepare, run_logged, send, two_ends,
+    Server, ask, free_port, greet, line, log_lines, prepare, run_logged, two_ends,
 };
 use floor_config::read_configs;
 use floor_serve::{Act, Desk, FreePass};
@@ -57,14 +57,6 @@ fn is_left(rt: &HostRuntime, server: &Server) -> Result<bool, Fail> {
     Ok(false)
 }
 
-/// Connects to a port, and says Hello, of whose answer so many bytes are read.
-fn greet(rt: &HostRuntime, port: u16, hello: &str, read: usize) -> Result<TcpStream, Fail> {
-    let mut client = connect(rt, port)?;
-    send(rt, &mut client, hello).ok_or("says Hello")?;
-    hear(rt, &mut client, read).ok_or("is answered")?;
-    Ok(client)
-}
-
 /// Three members of conference 1 come and go, each in another way.
 fn come_and_go(rt: &HostRuntime, server: &Server, port: u16) -> Result<bool, Fail> {
     let first = greet(rt, port, HELLO, 48)?;
@@ -117,6 +109,7 @@ fn a_run_is_told_line_by_line(rt: HostRuntime) -> Result<(), Fail> {
 const REFUSED: &str = "conference 1 user 10 port 1 accepts again
 conference 1 user 10 port 1 cannot accept
 conference 1 user 10 port 1 refused Full
+conference 1 user 10 port 1 refused Full
 conference 1 user 10 port 2 refused Ended
 conference 1 user 11 port 5 refused Ended
 conference 3 user 10 port 3 refused Connections
@@ -126,13 +119,15 @@ conference 4 user 10 port 4 refused NoConference
 /// The configuration of conference 1, in which there is user 10.
 const CONFIGURATION: &str = "[[conference]]\nid = 1\n[[conference.user]]\nid = 10\n";
 
-/// Connects to a port of the server's, behind some accepts that fail, and waits for the end of the connection.
+/// Connects so often to a port of the server's, behind some accepts that fail, and waits for the end of the
+/// connections.
 fn refuse<R>(
     rt: R,
     alloc: Global,
     shared: &Arc<Shared<FreePass>, Global>,
     place: (u32, u16, u16),
     fails: u32,
+    connections: u32,
 ) -> Result<(), Fail>
 where
     R: Net<Listener = TcpListener, Stream = TcpStream>
@@ -147,12 +142,16 @@ where
     let (conference, user, port) = place;
     let binding = Binding::new(Arc::try_clone(shared)?, conference, user, port);
     let binding = Arc::new(alloc, binding)?;
-    let (_client, stream) = two_ends(&rt)?;
     let mut incoming = Vec::new(alloc);
     for _ in 0..fails {
         incoming.push(Err(io::Error::from(ErrorKind::Other)))?;
     }
-    incoming.push(Ok(stream))?;
+    let mut clients = Vec::new(alloc);
+    for _ in 0..connections {
+        let (client, stream) = two_ends(&rt)?;
+        clients.push(client)?;
+        incoming.push(Ok(stream))?;
+    }
     accept_all(rt, alloc, &binding, incoming.into_iter());
     binding.wait(&rt);
     Ok(())
@@ -203,52 +202,18 @@ fn a_refused_connection_is_told_with_its_cause(rt: HostRuntime) -> Result<(), Fa
         return Err(Fail::from("no desk"));
     };
     connect_all(&rt, alloc, &shared)?;
-    refuse(rt, alloc, &shared, (3, 10, 3), 0)?;
-    refuse(rt, alloc, &shared, (4, 10, 4), 0)?;
+    refuse(rt, alloc, &shared, (3, 10, 3), 0, 1)?;
+    refuse(rt, alloc, &shared, (4, 10, 4), 0, 1)?;
     fill(&rt, &desk)?;
-    refuse(rt, alloc, &shared, (1, 10, 1), 2)?;
+    refuse(rt, alloc, &shared, (1, 10, 1), 2, 2)?;
     let Ok(()) = desk.admin(&rt, Act::Close) else {
         return Err(Fail::from("the conference isn't closed"));
     };
-    refuse(rt, alloc, &shared, (1, 10, 2), 0)?;
-    refuse(rt, alloc, &shared, (1, 11, 5), 0)?;
+    refuse(rt, alloc, &shared, (1, 10, 2), 0, 1)?;
+    refuse(rt, alloc, &shared, (1, 11, 5), 0, 1)?;
     started.end(&rt);
     drop(started);
     let told = log_lines(alloc, &mut log)?;
     assert_eq!(rt; told.as_str(), REFUSED);
-    Ok(())
-}
-
-/// A sink that takes nothing.
-#[derive(Drop)]
-struct Closed;
-
-impl Write for Closed {
-    fn write(&mut self, _buf: &[u8]) -> io::Result<usize> {
-        Err(io::Error::from(ErrorKind::BrokenPipe))
-    }
-
-    fn flush(&mut self) -> io::Result<()> {
-        Ok(())
-    }
-}
-
-#[test]
-fn a_log_that_cannot_be_written_is_given_up(rt: HostRuntime) -> Result<(), Fail> {
-    let alloc = rt.alloc();
-    let port = free_port(&rt)?;
-    let (console, mut start) = prepare(&rt, "unlogged.toml", &[(1, port)])?;
-    start.ask_for_log(alloc)?;
-    let thread = thread::spawn(&rt, move || run_logged(rt, alloc, start, Closed, FreePass))?;
-    let server = Server { console, thread };
-    assert_eq!(rt; line(&rt, &server)?.as_str(), "ready");
-    let _client = greet(&rt, port, HELLO, 48)?;
-    assert!(rt;
-        ask(&rt, &server, "stop")?
-            .as_str()
-            .starts_with("ok stopped seats 1 ")
-    );
-    assert_eq!(rt; server.end(&rt), 0);
-    fs::remove_file(&rt, "unlogged.toml")?;
     Ok(())
 }
