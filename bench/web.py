@@ -164,6 +164,15 @@ def ask(request):
     return reply(stream)
 
 
+def answer_of(stream, seconds):
+    """The status by which a connection is answered, also where that isn't within so many seconds."""
+    stream.settimeout(seconds)
+    try:
+        return status_of(reply(stream))
+    except TimeoutError:
+        return 'no answer'
+
+
 def get(path, method='GET', more=''):
     return ('%s %s HTTP/1.1\r\nHost: %s\r\n%s\r\n' % (method, path, HOST, more)).encode()
 
@@ -954,9 +963,14 @@ def many(program, folder, gateway, count=500):
     time.sleep(1)
     silent = [connect() for _ in range(40)]
     began = time.monotonic()
-    check('one more than there may be', [status_of(ask(get('/'))) for _ in range(20)], [503] * 20)
+    answers = []
+    for _ in range(20):
+        stream = connect()
+        stream.sendall(get('/'))
+        answers.append(answer_of(stream, 3))
+    check('one more than there may be', answers, [503] * 20)
     check('behind some that say nothing', time.monotonic() - began < 5, True)
-    check('these are told too', [status_of(reply(stream)) for stream in silent], [503] * 40)
+    check('these are told too', [answer_of(stream, 3) for stream in silent], [503] * 40)
     for stream in held + silent:
         stream.close()
     time.sleep(1)
