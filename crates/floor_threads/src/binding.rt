@@ -21,12 +21,12 @@ pub struct Shared<G> {
     pub connections: Connections,
     pub gate: G,
     /// The log, where one is asked for.
-    pub log: Option<Arc<Log, Global>>,
+    pub log: Option<Log>,
 }
 
 impl<G> Shared<G> {
     /// What the ports of a server share that opened nothing yet.
-    pub fn new(alloc: Global, gate: G, log: Option<Arc<Log, Global>>) -> Shared<G> {
+    pub fn new(alloc: Global, gate: G, log: Option<Log>) -> Shared<G> {
         Shared {
             registry: Registry::new(alloc),
             connections: Connections::new(alloc),
@@ -100,10 +100,7 @@ impl<G> Binding<G> {
 
     /// The log, where one is asked for.
     pub fn log(&self) -> Option<&Log> {
-        match &self.shared.log {
-            Some(log) => Some(&**log),
-            None => None,
-        }
+        self.shared.log.as_ref()
     }
 
     /// Tells the log, where there is one.

@@ -1,9 +1,7 @@
 //! What the log tells: a line for what becomes of a conference, a port or a connection.
 
 use crate::departure::{Departure, Refused};
-use jiff::Timestamp;
 use std::alloc::{AllocError, Global};
-use std::time::SystemTime;
 
 /// What became of a conference, a port or a connection.
 #[derive(Clone, Copy, Debug)]
@@ -62,17 +60,8 @@ pub struct Peer {
 }
 
 impl Entry {
-    /// The line, with the time, where there is a clock, and a line feed.
-    pub fn line(&self, alloc: Global, now: Option<SystemTime>) -> Result<String, AllocError> {
-        let text = self.text(alloc)?;
-        let text = text.as_str();
-        match time_of(now) {
-            Some(time) => format!(in alloc; "{time:.3} {text}\n"),
-            None => format!(in alloc; "- {text}\n"),
-        }
-    }
-
-    fn text(&self, alloc: Global) -> Result<String, AllocError> {
+    /// What a line of the log says, without the time and the line feed.
+    pub fn text(&self, alloc: Global) -> Result<String, AllocError> {
         match self {
             Entry::Opened { conference } => format!(in alloc; "conference {conference} opened"),
             Entry::Closed { conference } => format!(in alloc; "conference {conference} closed"),
@@ -93,14 +82,6 @@ impl Entry {
                 of_member(alloc, peer, *n, told.as_str())
             }
         }
-    }
-}
-
-/// The time, which is none beyond the year 9999.
-fn time_of(now: Option<SystemTime>) -> Option<Timestamp> {
-    match now {
-        None => None,
-        Some(now) => Timestamp::try_from(now).ok(),
     }
 }
 

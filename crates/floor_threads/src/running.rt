@@ -107,7 +107,7 @@ where
 }
 
 /// The log, where one is asked for and there are memory and a thread for it.
-fn log_of<R, L>(rt: R, alloc: Global, has_log: bool, sink: L) -> Option<Arc<Log, Global>>
+fn log_of<R, L>(rt: R, alloc: Global, has_log: bool, sink: L) -> Option<Log>
 where
     R: Threads + Wait + Copy + Drop + Send + 'static,
     L: Write + Send + Drop + 'static,

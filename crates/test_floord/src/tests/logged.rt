@@ -187,10 +187,7 @@ fn a_refused_connection_is_told_with_its_cause(rt: HostRuntime) -> Result<(), Fa
     let alloc = rt.alloc();
     let (mut log, sink) = two_ends(&rt)?;
     let started = Log::start(rt, alloc, sink).ok_or("a log starts")?;
-    let shared = Arc::new(
-        alloc,
-        Shared::new(alloc, FreePass, Some(Arc::try_clone(&started)?)),
-    )?;
+    let shared = Arc::new(alloc, Shared::new(alloc, FreePass, Some(started)))?;
     let mut configs = read_configs(alloc, CONFIGURATION).map_err(|_| "no configuration")?;
     let Ok(()) = shared
         .registry
@@ -211,8 +208,10 @@ fn a_refused_connection_is_told_with_its_cause(rt: HostRuntime) -> Result<(), Fa
     };
     refuse(rt, alloc, &shared, (1, 10, 2), 0, 1)?;
     refuse(rt, alloc, &shared, (1, 11, 5), 0, 1)?;
+    let Some(started) = &shared.log else {
+        return Err(Fail::from("there is no log"));
+    };
     started.end(&rt);
-    drop(started);
     let told = log_lines(alloc, &mut log)?;
     assert_eq!(rt; told.as_str(), REFUSED);
     Ok(())
