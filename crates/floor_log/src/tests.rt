@@ -5,14 +5,17 @@ use crate::waiting::MAX_WAITING;
 use std::alloc::Global;
 use std::io::{ErrorKind, Read, Write};
 use std::net::{Net, TcpListener, TcpStream};
-use std::sync::atomic::{AtomicU64, Ordering};
+use std::sync::atomic::{AtomicBool, AtomicU64, Ordering};
 use std::sync::{Arc, Wait};
 use std::test::Fail;
-use std::time::{Clock, Duration, Instant};
+use std::time::{Clock, Duration};
 use std::{io, thread};
 
 /// How often a count is looked at most, 10 milliseconds apart.
 const MAX_LOOKS: u32 = 500;
+
+/// How often a sink that takes nothing looks at most whether it is let go, 10 milliseconds apart.
+const MAX_STALLED_LOOKS: u32 = 3_000;
 
 /// Two ends of a connection.
 fn two_ends<R: Net<Listener = TcpListener, Stream = TcpStream>>(
@@ -108,18 +111,49 @@ fn a_log_that_cannot_be_written_is_given_up_at_once(rt: HostRuntime) -> Result<(
     Ok(())
 }
 
+/// A sink that takes nothing until it is let go, or has waited too long.
+#[derive(Drop)]
+struct Stalled<R> {
+    rt: R,
+    lets_go: Arc<AtomicBool, Global>,
+    gave_up: Arc<AtomicBool, Global>,
+}
+
+impl<R: Clock> Write for Stalled<R> {
+    fn write(&mut self, buf: &[u8]) -> io::Result<usize> {
+        for _ in 0..MAX_STALLED_LOOKS {
+            if self.lets_go.load(Ordering::SeqCst) {
+                return Ok(buf.len());
+            }
+            thread::sleep(&self.rt, Duration::from_millis(10));
+        }
+        self.gave_up.store(true, Ordering::SeqCst);
+        self.lets_go.store(true, Ordering::SeqCst);
+        Ok(buf.len())
+    }
+
+    fn flush(&mut self) -> io::Result<()> {
+        Ok(())
+    }
+}
+
 #[test]
 fn a_sink_that_takes_nothing_holds_nobody_up(rt: HostRuntime) -> Result<(), Fail> {
     let alloc = rt.alloc();
-    // Whoever would hear it reads nothing: the buffers between hold some lines, and no more.
-    let (_heard, sink) = two_ends(&rt)?;
+    let lets_go = Arc::new(alloc, AtomicBool::new(false))?;
+    let gave_up = Arc::new(alloc, AtomicBool::new(false))?;
+    let sink = Stalled {
+        rt,
+        lets_go: Arc::try_clone(&lets_go)?,
+        gave_up: Arc::try_clone(&gave_up)?,
+    };
     let log = Log::start(rt, alloc, sink).ok_or("a log starts")?;
-    let long = "a line of a log that nobody reads ".repeat(alloc, 30)?;
-    let begun = Instant::now(&rt)?;
-    for _ in 0..2 * MAX_WAITING {
-        log.tell(&rt, String::from_str(alloc, long.as_str()));
+    // One is with the sink, as many wait as may, and one is more than these.
+    for _ in 0..MAX_WAITING + 2 {
+        log.tell(&rt, String::from_str(alloc, "a line that nobody reads"));
     }
     log.end(&rt);
-    assert!(rt; begun.elapsed(&rt)? < Duration::from_secs(120));
+    assert!(rt; !gave_up.load(Ordering::SeqCst));
+    lets_go.store(true, Ordering::SeqCst);
     Ok(())
 }
