@@ -36,9 +36,8 @@ fn watching<R: Wait>(rt: &R, alloc: Global, desk: &Desk, user: u8) -> Result<(Se
     }
 }
 
-/// User 10 asks for floor 1 among three members who watch it, and is the first or the last of them who
-/// joined. Says who of the three, in the order in which they joined, isn't told and woken; nobody, where
-/// all is well.
+/// User 10 asks for floor 1 among three members who watch it, and who joined in this order. Gives the
+/// first of them who isn't told what it should be; a member that nobody wakes waits for ever.
 fn missed<R: Wait>(rt: &R, alloc: Global, users: [u8; 3]) -> Result<Option<u8>, Fail> {
     let (_registry, desk) = opened(rt, alloc)?;
     let mut members = Vec::new(alloc);
