@@ -11,6 +11,7 @@ pub mod Named
 pub mod Once
 pub mod Picking
 pub mod Reasons
+pub mod Rising
 pub mod Plain
 pub mod Puts
 pub mod Rooms

@@ -6,6 +6,7 @@ ghost use Rattle.floor_message.specs.Picked.{distinct, numbers, IsOnceBy};
 ghost use Rattle.floor_message.specs.Written as spec;
 ghost use Rattle.floor_message.specs.steps.Adding.{add_new};
 ghost use Rattle.floor_message.specs.steps.Leaves.{Leaves};
+ghost use Rattle.floor_message.specs.steps.Rising.{Rise};
 ghost use Rattle.floor_message.specs.steps.Writing.{with_attrs};
 ghost use Rattle.floor_wire.specs.Spelling.{canon};
 ghost use Rattle.floor_wire.specs.View.{attributes_of};
@@ -99,8 +100,34 @@ pub(crate) fn floors_fit(floors: &[u16]) -> bool
     floors.len() <= MOST_FLOORS && is_each_once(floors)
 }
 
-/// Whether no number stands twice.
+/// Whether no number stands twice. Ascending ones are looked at once each, others compared with each
+/// behind them.
+#[tactic(auto, using(crate::proofs::Rising::risen_once))]
 fn is_each_once(numbers: &[u16]) -> bool
+    ensures { IsTrue result ↔ IsOnceBy (λ n. n) numbers.now }
+{
+    is_ascending(numbers) || is_nowhere_again(numbers)
+}
+
+/// Whether each number is above the one before it.
+fn is_ascending(numbers: &[u16]) -> bool
+    ensures { IsTrue result ↔ Rise numbers.now }
+{
+    let Some((first, others)) = numbers.split_first() else {
+        return true;
+    };
+    let mut last = *first;
+    for number in others {
+        if *number <= last {
+            return false;
+        }
+        last = *number;
+    }
+    true
+}
+
+/// Whether no number stands once more behind itself.
+fn is_nowhere_again(numbers: &[u16]) -> bool
     ensures { IsTrue result ↔ IsOnceBy (λ n. n) numbers.now }
 {
     let mut rest = numbers;

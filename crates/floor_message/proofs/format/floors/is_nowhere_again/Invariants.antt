@@ -1,6 +1,6 @@
 use Rattle.std.proofs.Common.{length}
 use Rattle.floor_message.specs.Picked.{IsOnceBy}
-use Rattle.floor_message.proofs.format.floors.is_each_once.Given as goal
+use Rattle.floor_message.proofs.format.floors.is_nowhere_again.Given as goal
 
 abbrev pub invariant-loop-rest : goal.invariant-loop-rest
 invariant-loop-rest l = (IsOnceBy (λ n. n) l.rest → IsOnceBy (λ n. n) l.numbers) × (IsOnceBy (λ n. n) l.numbers → IsOnceBy (λ n. n) l.rest)
