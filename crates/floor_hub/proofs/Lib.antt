@@ -30,3 +30,7 @@ pub mod Waiting
 pub mod Entries
 pub mod Advancing
 pub mod GoesOn
+pub mod Listing
+pub mod Concerning
+pub mod Attaching
+pub mod Naming

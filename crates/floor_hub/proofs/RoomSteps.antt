@@ -67,6 +67,7 @@ room-same shut_by why own r s calm shut told adds e =
       broken = (λ b. inl (sym same ∙ b), λ h. elim h [ inl b ↦ same ∙ b | inr want ↦ absurd (calm want) ]);
       shut = λ b. (shut b, e);
       told = told;
+      config = ap (λ (x : Room). x.ledger.config) e;
       journal = subst (λ (x : Room). AddsOwn why own r.ledger.journal x.ledger.journal) (sym e) adds;
       outboxes = subst (λ (x : Room). QueuesMore r.outboxes x.outboxes) (sym e) (queues-same r.outboxes);
     }
@@ -81,6 +82,7 @@ room-event shut_by why own r s e put b sound want told adds is =
       broken = (λ t. inr (want.0 (sym now ∙ t)), λ h. elim h [ inl t ↦ absurd (true_false (sym t ∙ sound)) | inr w ↦ now ∙ want.1 w ]);
       shut = λ broken. absurd (true_false (sym broken ∙ sound));
       told = λ t. absurd (told t);
+      config = ap (λ (x : Room). x.ledger.config) is;
       journal = subst (λ (x : Room). AddsOwn why own r.ledger.journal x.ledger.journal) (sym is) adds;
       outboxes = subst (λ (x : Room). QueuesMore r.outboxes x.outboxes) (sym is) (queues-more put 1 e r.outboxes);
     }
@@ -100,6 +102,7 @@ room-off shut_by own r s sound e = record {
   broken = (λ b. inr refl, λ h. ap (λ (x : Room). x.ledger.is_broken) e);
   shut = λ broken. absurd (true_false (sym broken ∙ sound));
   told = λ t. absurd (memory_broken t);
+  config = ap (λ (x : Room). x.ledger.config) e;
   journal = inl (ap (λ (x : Room). x.ledger.journal) e);
   outboxes = subst (λ (x : Room). QueuesMore r.outboxes x.outboxes) (sym e) (queues-same r.outboxes);
 }
@@ -238,6 +241,7 @@ other-shut other shut_by why own r s sound a = record {
   shut = λ b. absurd (true_false (sym b ∙ sound));
   told = a.told;
   journal = a.journal;
+  config = a.config;
   outboxes = a.outboxes;
 }
 

@@ -31,3 +31,14 @@ SameConnections old new = (number : ℕ) → connection_at new number ≡ connec
 pub record Puts (old new : Connections) (number : ℕ) (x : Option Connection) : Type 0 where
   pub here : connection_at new number ≡ x
   pub others : (other : ℕ) → nat_eq number other ≡ false → connection_at new other ≡ connection_at old other
+
+-- the same place in the same conference, or no connection both times
+abbrev pub SamePlace : Option Connection → Option Connection → Type 0
+SamePlace None None = Unit {0}
+SamePlace None (Some y) = ⊥
+SamePlace (Some x) None = ⊥
+SamePlace (Some x) (Some y) = (y.conference ≡ x.conference) × (y.n ≡ x.n)
+
+-- each live connection stays so, at its place, and no other comes
+abbrev pub StayLive : Connections → Connections → Type 0
+StayLive old new = (number : ℕ) → SamePlace (connection_at old number) (connection_at new number)

@@ -4,11 +4,13 @@ use Rattle.std.specs.Map.{lookup}
 use Rattle.floor_room.specs.Room.{Room}
 use Rattle.floor_hub.specs.Connections.{Connections}
 
--- the rooms by conference; the live connections by number; and how many arrivals there were
+-- the rooms by conference; the live connections by number; how many arrivals there were; and the numbers of those that the last call
+-- concerned which could concern anybody
 pub record Hub : Type 0 where
   pub rooms : List (ℕ × Room)
   pub connections : Connections
   pub arrivals : ℕ
+  pub concerned : List ℕ
 
 -- the room of a conference
 abbrev pub room_at : Hub → ℕ → Option Room

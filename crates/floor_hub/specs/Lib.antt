@@ -8,6 +8,7 @@ pub mod StandsFor
 pub mod Calls
 pub mod Rooms
 pub mod Left
+pub mod Concerned
 pub mod Runs
 pub mod Laws
 pub mod Examples

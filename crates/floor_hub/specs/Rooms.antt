@@ -1,22 +1,24 @@
 -- What a call of the hub has done to the rooms.
-use Rattle.std.specs.Prelude.{◌≡◌, ◌≢◌, ◌↔◌, ◌⊎◌, ℕ, List, [], ◌∷◌, ◌++◌, nat_eq, if◌then◌else◌, true, false, Option, Some, None, is_some, map, take, Result, Ok, Err}
+use Rattle.std.specs.Prelude.{◌≡◌, ◌≢◌, ◌↔◌, ◌⊎◌, ℕ, ◌+◌, List, [], ◌∷◌, ◌++◌, nat_eq, if◌then◌else◌, Bool, true, false, Option, Some, None, is_some, map, take, Result, Ok, Err, MatchResult}
+use Rattle.std.specs.Option.{option_map_or}
 use Rattle.floor_config.specs.Configuration.{Configuration}
 use Rattle.floor_wire.specs.Message.{messages}
 use Rattle.floor_machine.specs.declared.act.Act.{Act}
 use Rattle.floor_machine.specs.declared.event.Event.{Event}
 use Rattle.floor_machine.specs.declared.event.Event.TheVariants.{Join, Message, Took, Leave}
+use Rattle.floor_machine.specs.Conference.{is_cut}
 use Rattle.floor_machine.specs.Machine.{event_of_act}
 use Rattle.floor_machine.specs.Parcel.{Parcel}
 use Rattle.floor_machine.specs.declared.machine.Refusal.TheVariants.{Broken, Memory}
 use Rattle.floor_room.specs.declared.refusal.RoomRefusal.TheVariants.{Refused as ByMachine}
-use Rattle.floor_room.specs.Ledger.{closed}
+use Rattle.floor_room.specs.Ledger.{closed, conference_of}
 use Rattle.floor_room.specs.Outbox.{Outbox}
-use Rattle.floor_room.specs.Room.{Room, new_room}
-use Rattle.floor_room.specs.Taking.{Gave}
+use Rattle.floor_room.specs.Room.{IsRoom, Room, new_room}
+use Rattle.floor_room.specs.Taking.{Gave, outbox_of}
 use Rattle.floor_hub.specs.declared.refusal.HubRefusal.{HubRefusal}
-use Rattle.floor_hub.specs.declared.refusal.HubRefusal.TheVariants.{NoConnection, ByRoom}
+use Rattle.floor_hub.specs.declared.refusal.HubRefusal.TheVariants.{NoConnection, ByRoom, Memory as NoMemory}
 use Rattle.floor_hub.specs.declared.connection.Connection.{Connection}
-use Rattle.floor_hub.specs.Connections.{SameConnections}
+use Rattle.floor_hub.specs.Connections.{Puts, SameConnections, connection_at}
 use Rattle.floor_hub.specs.Hub.{Hub, room_at}
 
 -- nothing has changed
@@ -76,6 +78,7 @@ pub record RoomAfter (shut_by why : Option HubRefusal) (own : List Event) (old n
   pub broken : (new.ledger.is_broken ≡ true) ↔ ((old.ledger.is_broken ≡ true) ⊎ (why ≡ by_memory))
   pub shut : old.ledger.is_broken ≡ true → (why ≡ shut_by) × (new ≡ old)
   pub told : why ≡ by_broken → old.ledger.is_broken ≡ true
+  pub config : new.ledger.config ≡ old.ledger.config
   pub journal : AddsOwn why own old.ledger.journal new.ledger.journal
   pub outboxes : QueuesMore old.outboxes new.outboxes
 
@@ -94,8 +97,9 @@ abbrev pub RoomOf : Option HubRefusal → Option HubRefusal → (Connection → 
 RoomOf shut_by why own None old new = SameHub old new × (why ≢ by_memory) × (why ≢ by_broken)
 RoomOf shut_by why own (Some x) old new = OneRoom shut_by why (own x) x.conference old new
 
--- the conference has a room now, and the others are as they were
+-- the conference had no room and has one now, and the others are as they were
 pub record Opens (config : Configuration) (old new : Hub) : Type 0 where
+  pub absent : room_at old config.conference ≡ None
   pub room : room_at new config.conference ≡ Some (new_room config)
   pub others : (d : ℕ) → nat_eq config.conference d ≡ false → room_at new d ≡ room_at old d
 
@@ -114,3 +118,41 @@ pub record TakenFrom (c n : ℕ) (parcel : Option Parcel) (old new : Hub) : Type
 abbrev pub TakenOf : Option Connection → Result (Option Parcel) HubRefusal → Hub → Hub → Type 0
 TakenOf None result old new = (result ≡ Err NoConnection) × SameHub old new
 TakenOf (Some x) result old new = (parcel : Option Parcel) × (result ≡ Ok parcel) × TakenFrom x.conference x.n parcel old new
+
+-- whether the member of a live connection is cut: no without one, and of a broken room nothing is said
+abbrev pub CutIs : Hub → Option Connection → Bool → Type 0
+CutIs h None result = result ≡ false
+CutIs h (Some x) result = (r : Room) → room_at h x.conference ≡ Some r → r.ledger.is_broken ≡ false → result ≡ is_cut (conference_of r.ledger) x.n
+
+-- how many parcels to the member n were taken, and none where nobody has joined under the number
+abbrev pub taken_of : Room → ℕ → ℕ
+taken_of r n = option_map_or (λ o. o.taken) (outbox_of r.outboxes n) 0
+
+-- A connection was attached to this conference: it has the next number, and nothing was taken of what is told to its member.
+pub record Joins (conference number : ℕ) (old new : Hub) : Type 0 where
+  pub connection : Connection
+  pub room : Room
+  pub next : number ≡ old.arrivals + 1
+  pub fresh : connection_at old.connections number ≡ None
+  pub put : Puts old.connections new.connections number (Some connection)
+  pub place : connection.conference ≡ conference
+  pub there : room_at new conference ≡ Some room
+  pub untaken : taken_of room connection.n ≡ 0
+
+-- the room of a live connection is sent what its journal calls for
+abbrev pub KeptOf : Option Connection → Hub → Type 0
+KeptOf None h = Unit {0}
+KeptOf (Some x) h = (r : Room) → room_at h x.conference ≡ Some r → IsRoom r
+
+-- the bytes of a parcel, if there is one
+abbrev pub bytes_in : Option Parcel → List ℕ
+bytes_in None = []
+bytes_in (Some p) = p.bytes
+
+-- A call that puts the first parcel that waits behind the bytes of a buffer: NoConnection where no live connection has the number; else it says whether one waited, or memory was refused and nothing has changed.
+abbrev pub TakenInto : Option Connection → Result Bool HubRefusal → List ℕ → List ℕ → Hub → Hub → Type 0
+TakenInto None result before after old new = (result ≡ Err NoConnection) × (after ≡ before) × SameHub old new
+TakenInto (Some x) result before after old new =
+    MatchResult result
+    (λ waited. (parcel : Option Parcel) × (waited ≡ is_some parcel) × (after ≡ before ++ bytes_in parcel) × TakenFrom x.conference x.n parcel old new)
+    (λ r. (r ≡ NoMemory) × (after ≡ before) × SameHub old new)

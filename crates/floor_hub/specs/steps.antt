@@ -4,3 +4,4 @@ pub mod Lending
 pub mod Found
 pub mod Serving
 pub mod Running
+pub mod Attached

@@ -1,8 +1,9 @@
 //! What a room has queued to one of its members, as bytes.
 
-ghost use Rattle.std.specs.Prelude.{◌≡◌, ◌++◌, IfOk, OnOk};
+ghost use Rattle.std.specs.Prelude.{◌≡◌, ◌++◌, IfOk, OnErr, OnOk, length, take};
 ghost use Rattle.floor_room.specs.Replay.{bytes_of};
-ghost use Rattle.floor_hub.specs.steps.Running.{QueuedIn};
+ghost use Rattle.floor_hub.specs.Concerned.{waiting};
+ghost use Rattle.floor_hub.specs.steps.Running.{QueuedIn, first_bytes};
 
 use floor_room::{Parcel, Room};
 use floor_wire::Octets;
@@ -42,11 +43,42 @@ fn put_all(parcels: &[Parcel], bytes: &mut Vec<u8>) -> Result<(), AllocError>
     Ok(())
 }
 
-/// Puts the bytes of a parcel.
+/// Puts the bytes of a parcel. After an error some first of them were put.
 fn put(parcel: &Parcel, bytes: &mut Vec<u8>) -> Result<(), AllocError>
-    ensures { OnOk result (bytes.new.items ≡ bytes.old.items ++ parcel.now.bytes) }
+    ensures next { OnOk result (bytes.new.items ≡ bytes.old.items ++ parcel.now.bytes) }
+    ensures left { take (length bytes.old.items) bytes.new.items ≡ bytes.old.items }
 {
     bytes.extend_from_slice(parcel.header())?;
     bytes.extend_from_slice(parcel.payload())?;
     Ok(())
+}
+
+/// Puts the bytes of the first parcel that waits for a member. After an error nothing has changed.
+pub(crate) fn put_first(room: &Room, n: u32, bytes: &mut Vec<u8>) -> Result<(), AllocError>
+    ensures next { OnOk result
+        (bytes.new.items ≡ bytes.old.items ++ first_bytes (waiting room.now n)) }
+    ensures left { OnErr result (bytes.new.items ≡ bytes.old.items) }
+{
+    match room.held(n) {
+        Some(held) => match held.front() {
+            Some(parcel) => put_whole(parcel, bytes),
+            None => Ok(()),
+        },
+        None => Ok(()),
+    }
+}
+
+/// Puts the bytes of a parcel. After an error nothing has changed.
+fn put_whole(parcel: &Parcel, bytes: &mut Vec<u8>) -> Result<(), AllocError>
+    ensures next { OnOk result (bytes.new.items ≡ bytes.old.items ++ parcel.now.bytes) }
+    ensures left { OnErr result (bytes.new.items ≡ bytes.old.items) }
+{
+    let before = bytes.len();
+    match put(parcel, bytes) {
+        Ok(()) => Ok(()),
+        Err(_) => {
+            bytes.truncate(before);
+            Err(AllocError)
+        }
+    }
 }

@@ -1,29 +1,33 @@
 //! All conferences at once: their rooms and their connections.
 
-ghost use Rattle.std.specs.Prelude.{◌≡◌, ◌++◌, ℕ, Err, nat_eq, IfErr, IfNone, IfOk, IfSome, MatchResult, None, OnErr, OnOk, Some};
+ghost use Rattle.std.specs.Prelude.{◌≡◌, ◌++◌, ◌∷◌, [], false, ℕ, Err, nat_eq, IfErr, IfNone, IfOk, IfSome, MatchResult, None, OnErr, OnOk, Some};
 ghost use Rattle.indexmap.specs.IndexMap.{get};
+ghost use Rattle.floor_machine.specs.Conference.{is_cut};
+ghost use Rattle.floor_room.specs.Ledger.{conference_of};
 ghost use Rattle.floor_room.specs.Room.{IsRoom, Room as Kept};
 ghost use Rattle.floor_room.specs.Status.{IsStatus};
 ghost use Rattle.floor_hub.specs.Calls.{Fails, FailsGone, FailsSame, Turns, answer_of};
-ghost use Rattle.floor_hub.specs.Connections.{Puts, SameConnections, connection_at};
+ghost use Rattle.floor_hub.specs.Concerned.{Concerns, waiting};
+ghost use Rattle.floor_hub.specs.Connections.{Puts, SameConnections, StayLive, connection_at};
 ghost use Rattle.floor_hub.specs.Hub.{room_at};
 ghost use Rattle.floor_hub.specs.Left.{LeftAt, LeftLeaving, LeftServing, LeftTaking};
-ghost use Rattle.floor_hub.specs.Rooms.{OneRoom, Opens, RoomOf, SameHub, TakenOf, admin_event, attach_event, by_broken, leave_event, refusal_in, serve_event, took_event};
+ghost use Rattle.floor_hub.specs.Rooms.{CutIs, Joins, KeptOf, OneRoom, Opens, RoomOf, SameHub, TakenInto, TakenOf, admin_event, attach_event, by_broken, leave_event, refusal_in, serve_event, took_event};
 ghost use Rattle.floor_hub.specs.StandsFor.{StandsFor};
 ghost use Rattle.floor_hub.specs.World.{World, nothing};
 ghost use Rattle.floor_hub.specs.declared.step.Answer.TheVariants.{Attached, Done};
 ghost use Rattle.floor_hub.specs.declared.step.Step.TheVariants.{Admin, Attach, Leave, Open, Piece, Serve, Took};
+ghost use Rattle.floor_hub.specs.steps.Attached.{ConcernedBy, ConcernedOf, PutsLive, SameLive, as_before, attached_to, joined_as, live_in, without};
 ghost use Rattle.floor_hub.specs.steps.Found.{AtConnection, AtRoom};
-ghost use Rattle.floor_hub.specs.steps.Running.{QueuedIn};
+ghost use Rattle.floor_hub.specs.steps.Running.{QueuedIn, first_bytes};
 ghost use Rattle.floor_hub.specs.steps.Serving.{AttachIn, LeaveOf, ServeOf, TakeOf, TookOf};
 
+use crate::attached::joined;
+use crate::concerned::Concerned;
 use crate::connection::{ConnNo, Connection, Place};
 use crate::connections::Connections;
-use crate::gathering::queued_to;
+use crate::gathering::{put_first, queued_to};
 use crate::refusal::HubRefusal;
-use crate::rooms::{
-    admin_at, break_at, join_at, leave_room, open_at, serve_room, take_room, took_room,
-};
+use crate::rooms::{admin_at, leave_room, open_at, serve_room, take_room, took_room};
 use crate::step::Served;
 use floor_room::{Act, Config, Parcel, Refusal, Room, RoomRefusal, Status};
 use floor_wire::{Framer, Octets};
@@ -37,7 +41,9 @@ use std::marker::Model;
 /// - Conferences: `open`, `admin`, `status`.
 /// - Connections: `attach`, then `piece` and `serve` as bytes come, `take` as they are sent, `took`
 ///   once they were, and `leave` at the end. Whoever is more than 1,024 parcels behind is cut: it is
-///   told nothing more, and its messages are refused by `Cut`.
+///   told nothing more, its messages are refused by `Cut`, and `is_cut` tells it.
+/// - `concerned` names, after each call, the connections that have something to take, that it cut, or
+///   whose conference it closed or broke off.
 ///
 /// A refused call changes nothing. Want of memory does so in `open` and `piece`, too; in `attach`,
 /// `serve`, `took`, `leave` and `admin` it breaks that one conference's room off, and no other. It
@@ -47,6 +53,7 @@ pub struct Hub {
     rooms: IndexMap<u32, Room>,
     connections: Connections,
     arrivals: u64,
+    concerned: Concerned,
 }
 
 impl Model for Hub {
@@ -54,19 +61,23 @@ impl Model for Hub {
 
     ghost Value = { Hub };
 
-    ghost use Rattle.floor_hub.specs.StandsFor.{Stood};
+    ghost use Rattle.floor_hub.specs.steps.Attached.{IsKeptHub};
 
     ghost view = { λ h. record {
       rooms = h.rooms.entries;
       connections = h.connections;
       arrivals = h.arrivals;
+      concerned = h.concerned.numbers;
     } };
 
-    ghost invariant = { λ h. Stood record {
-      rooms = h.rooms.entries;
-      connections = h.connections;
-      arrivals = h.arrivals;
-    } };
+    ghost invariant = { λ h. IsKeptHub
+        record {
+          rooms = h.rooms.entries;
+          connections = h.connections;
+          arrivals = h.arrivals;
+          concerned = h.concerned.numbers;
+        }
+        h.concerned };
 }
 
 impl Hub {
@@ -78,6 +89,7 @@ impl Hub {
             rooms: IndexMap::new(alloc),
             connections: Connections::new(alloc),
             arrivals: 0,
+            concerned: Concerned::new(alloc),
         }
     }
 
@@ -88,7 +100,9 @@ impl Hub {
             (λ _. Turns self.new w (Open config) Done)
             (λ r. FailsSame self.new w (Open config) r) }
         ensures took { OnOk result (Opens config self.old self.new) }
+        ensures connections { SameConnections self.old.connections self.new.connections }
         ensures left { OnErr result (SameHub self.old self.new) }
+        ensures concerned { self.new.concerned ≡ self.old.concerned }
     {
         open_at(alloc, &mut self.rooms, config)
     }
@@ -112,12 +126,15 @@ impl Hub {
         ensures found { IfOk result (λ number. (x : Connection)
             × (connection_at self.new.connections number ≡ Some x)
             × (x.conference ≡ conference)) }
+        ensures joined { IfOk result (λ number. Joins conference number self.old self.new) }
+        ensures concerned { Concerns self.old self.new }
     {
         let number = self.arrivals + 1;
         let joined = attach_at(
             alloc,
             &mut self.rooms,
             &mut self.connections,
+            &mut self.concerned,
             number,
             conference,
             user,
@@ -138,7 +155,9 @@ impl Hub {
             (λ _. Turns self.new w (Piece number bytes.now) Done)
             (λ r. FailsSame self.new w (Piece number bytes.now) r) }
         ensures rooms { (c : ℕ) → room_at self.new c ≡ room_at self.old c }
+        ensures connections { StayLive self.old.connections self.new.connections }
         ensures left { OnErr result (SameHub self.old self.new) }
+        ensures concerned { self.new.concerned ≡ self.old.concerned }
     {
         push_at(&mut self.connections, number, bytes)
     }
@@ -152,10 +171,17 @@ impl Hub {
             (λ r. Fails self.new w (Serve number) r) }
         ensures room { RoomOf by_broken (refusal_in result) serve_event
             (connection_at self.old.connections number) self.old self.new }
+        ensures connections { StayLive self.old.connections self.new.connections }
         ensures left { IfErr result (LeftServing number
             (connection_at self.old.connections number) self.old self.new) }
+        ensures concerned { Concerns self.old self.new }
     {
-        serve_at(&mut self.rooms, &mut self.connections, number)
+        serve_at(
+            &mut self.rooms,
+            &mut self.connections,
+            &mut self.concerned,
+            number,
+        )
     }
 
     /// Takes it that so many of the parcels to a connection were taken and brought to their end, so
@@ -168,10 +194,18 @@ impl Hub {
             (λ r. Fails self.new w (Took number k) r) }
         ensures room { RoomOf by_broken (refusal_in result) (took_event k)
             (connection_at self.old.connections number) self.old self.new }
+        ensures connections { StayLive self.old.connections self.new.connections }
         ensures left { IfErr result (LeftTaking k
             (connection_at self.old.connections number) self.old self.new) }
+        ensures concerned { Concerns self.old self.new }
     {
-        took_at(&mut self.rooms, &self.connections, number, k)
+        took_at(
+            &mut self.rooms,
+            &self.connections,
+            &mut self.concerned,
+            number,
+            k,
+        )
     }
 
     /// Ends a connection, and tells its conference. Refused by `NoConnection` alone: where the room
@@ -183,10 +217,17 @@ impl Hub {
             (λ r. FailsGone self.new w (Leave number) r) }
         ensures room { RoomOf None (refusal_in result) leave_event
             (connection_at self.old.connections number) self.old self.new }
+        ensures gone { Puts self.old.connections self.new.connections number None }
         ensures left { IfErr result (LeftLeaving number
             (connection_at self.old.connections number) self.old self.new) }
+        ensures concerned { Concerns self.old self.new }
     {
-        leave_at(&mut self.rooms, &mut self.connections, number)
+        leave_at(
+            &mut self.rooms,
+            &mut self.connections,
+            &mut self.concerned,
+            number,
+        )
     }
 
     /// Does what the administrator of a conference does. Refused by `NoConference`, else as the
@@ -199,9 +240,11 @@ impl Hub {
             (λ r. Fails self.new w (Admin conference act) r) }
         ensures room { OneRoom by_broken (refusal_in result) (admin_event act) conference
             self.old self.new }
+        ensures connections { StayLive self.old.connections self.new.connections }
         ensures left { IfErr result (LeftAt (admin_event act) conference self.old self.new) }
+        ensures concerned { Concerns self.old self.new }
     {
-        admin_at(&mut self.rooms, conference, act)
+        admin_at(&mut self.rooms, &mut self.concerned, conference, act)
     }
 
     /// How the room of a conference stands. Refused by `NoConference`. Takes no memory.
@@ -225,15 +268,83 @@ impl Hub {
         }
     }
 
+    /// Whether the member of a live connection is cut: it came to be more than 1,024 messages behind,
+    /// and is told nothing more. False where no live connection has the number; of one whose
+    /// conference's room is broken off nothing is said. Takes no memory.
+    pub fn is_cut(&self, number: ConnNo) -> bool
+        ensures value { CutIs self.now (connection_at self.now.connections number) result }
+    {
+        match self.connections.get(number) {
+            Some(connection) => is_cut_at(&self.rooms, connection),
+            None => false,
+        }
+    }
+
+    /// Whom the last of `attach`, `serve`, `took`, `leave` and `admin` concerned, ascending: the live
+    /// connections to which it queued something, those whose member it cut, and where it closed the
+    /// conference or broke it off, all of that conference. Takes no memory, and so do those calls for
+    /// it: there is room since the attach.
+    pub fn concerned(&self) -> &[ConnNo]
+        ensures value { result.now ≡ self.now.concerned }
+    {
+        self.concerned.numbers()
+    }
+
     /// Takes the first parcel that waits for a connection, also where its conference's room is
     /// broken off. Refused by `NoConnection`, where no live connection has the number, and by
     /// nothing else. Takes no memory.
     pub fn take(&mut self, number: ConnNo) -> Result<Option<Parcel>, HubRefusal>
         ensures given { TakenOf (connection_at self.old.connections number) result
             self.old self.new }
+        ensures kept { KeptOf (connection_at self.old.connections number) self.old }
         ensures stands { (w : World) → StandsFor self.old w → StandsFor self.new w }
+        ensures concerned { self.new.concerned ≡ self.old.concerned }
     {
         take_at(&mut self.rooms, &self.connections, number)
+    }
+}
+
+impl Hub {
+    /// Takes the first parcel that waits for a connection, as `take` does, puts its bytes behind those
+    /// of a buffer, and says whether one waited. Refused by `NoConnection`. After `Memory` nothing has
+    /// changed.
+    pub fn take_into(&mut self, number: ConnNo, buffer: &mut Vec<u8>) -> Result<bool, HubRefusal>
+        ensures given { TakenInto (connection_at self.old.connections number) result
+            buffer.old.items buffer.new.items self.old self.new }
+        ensures kept { OnOk result (KeptOf (connection_at self.old.connections number) self.old) }
+        ensures stands { (w : World) → StandsFor self.old w → StandsFor self.new w }
+        ensures concerned { self.new.concerned ≡ self.old.concerned }
+    {
+        match self.put_first(number, buffer) {
+            Ok(()) => {}
+            Err(_) => return Err(HubRefusal::Memory),
+        }
+        match self.take(number) {
+            Ok(Some(_)) => Ok(true),
+            Ok(None) => Ok(false),
+            Err(refusal) => Err(refusal),
+        }
+    }
+
+    /// Puts the bytes of the first parcel that waits for a connection behind those of a buffer. After
+    /// an error nothing has changed.
+    fn put_first(&self, number: ConnNo, buffer: &mut Vec<u8>) -> Result<(), AllocError>
+        ensures absent { connection_at self.now.connections number ≡ None
+            → (buffer.new.items ≡ buffer.old.items) × OnErr result ⊥ }
+        ensures next { (x : Connection) (r : Kept)
+            → connection_at self.now.connections number ≡ Some x
+            → room_at self.now x.conference ≡ Some r
+            → OnOk result (buffer.new.items
+            ≡ buffer.old.items ++ first_bytes (waiting r x.n)) }
+        ensures left { OnErr result (buffer.new.items ≡ buffer.old.items) }
+    {
+        match self.connections.get(number) {
+            Some(connection) => match self.rooms.get(&connection.conference) {
+                Some(room) => put_first(room, connection.n, buffer),
+                None => Ok(()),
+            },
+            None => Ok(()),
+        }
     }
 }
 
@@ -273,21 +384,66 @@ impl Hub {
     }
 }
 
-/// Attaches a connection of a user under this number.
+/// Attaches a connection of a user under this number, which no connection has.
 fn attach_at(
     alloc: Global,
     rooms: &mut IndexMap<u32, Room>,
     connections: &mut Connections,
+    concerned: &mut Concerned,
     number: ConnNo,
     conference: u32,
     user: u16,
 ) -> Result<(), HubRefusal>
+    requires { connection_at connections.old number ≡ None }
     ensures room { AtRoom (AttachIn conference user number connections.old connections.new)
         (get nat_eq rooms.old) (get nat_eq rooms.new) conference result }
     ensures left { OnErr result (SameConnections connections.old connections.new) }
+    ensures concerned { ConcernedBy
+        (attached_to (live_in concerned.old conference) number result)
+        (get nat_eq rooms.old) (get nat_eq rooms.new) conference concerned.old concerned.new }
 {
-    match join_at(rooms, conference, user) {
-        Err(refusal) => Err(refusal),
+    match rooms.get_mut(&conference) {
+        Some(room) => {
+            let was_shut = concerned.look(conference, room);
+            let done = attach_in(
+                alloc,
+                room,
+                connections,
+                concerned,
+                number,
+                conference,
+                user,
+            );
+            concerned.name(conference, room, was_shut);
+            done
+        }
+        None => {
+            concerned.nobody();
+            Err(HubRefusal::NoConference)
+        }
+    }
+}
+
+/// Attaches a connection of a user to a room.
+fn attach_in(
+    alloc: Global,
+    room: &mut Room,
+    connections: &mut Connections,
+    concerned: &mut Concerned,
+    number: ConnNo,
+    conference: u32,
+    user: u16,
+) -> Result<(), HubRefusal>
+    requires { connection_at connections.old number ≡ None }
+    ensures room { AttachIn conference user number connections.old connections.new
+        room.old room.new result }
+    ensures left { OnErr result (SameConnections connections.old connections.new) }
+    ensures live { OnOk result (PutsLive concerned.old concerned.new conference
+        (live_in concerned.old conference ++ joined_as room.old room.new number ∷ [])) }
+    ensures same { OnErr result (SameLive concerned.old concerned.new) }
+{
+    match room.join(user) {
+        Err(why) => Err(HubRefusal::ByRoom(why)),
         Ok(n) => {
             let connection = Connection {
                 conference,
@@ -295,9 +451,16 @@ fn attach_at(
                 held: Framer::new(alloc),
             };
             match connections.insert(number, connection) {
-                Ok(_) => Ok(()),
+                Ok(_) => match concerned.add(conference, joined(room, number, n)) {
+                    Ok(()) => Ok(()),
+                    Err(_) => {
+                        let _taken = connections.remove(number);
+                        room.break_off();
+                        Err(HubRefusal::ByRoom(RoomRefusal::Refused(Refusal::Memory)))
+                    }
+                },
                 Err(_) => {
-                    break_at(rooms, conference);
+                    room.break_off();
                     Err(HubRefusal::ByRoom(RoomRefusal::Refused(Refusal::Memory)))
                 }
             }
@@ -329,14 +492,21 @@ fn push_at(connections: &mut Connections, number: ConnNo, bytes: &[u8]) -> Resul
 fn serve_at(
     rooms: &mut IndexMap<u32, Room>,
     connections: &mut Connections,
+    concerned: &mut Concerned,
     number: ConnNo,
 ) -> Result<Served, HubRefusal>
     ensures connection { AtConnection ServeOf (get nat_eq rooms.old) (get nat_eq rooms.new)
         connections.old connections.new number result }
+    ensures concerned { ConcernedOf (λ x. as_before (live_in concerned.old x.conference))
+        (connection_at connections.old number) (get nat_eq rooms.old) (get nat_eq rooms.new)
+        concerned.old concerned.new }
 {
     match connections.get_mut(number) {
-        Some(connection) => serve_room(rooms, connection),
-        None => Err(HubRefusal::NoConnection),
+        Some(connection) => serve_room(rooms, concerned, connection),
+        None => {
+            concerned.nobody();
+            Err(HubRefusal::NoConnection)
+        }
     }
 }
 
@@ -344,15 +514,22 @@ fn serve_at(
 fn took_at(
     rooms: &mut IndexMap<u32, Room>,
     connections: &Connections,
+    concerned: &mut Concerned,
     number: ConnNo,
     k: u32,
 ) -> Result<(), HubRefusal>
     ensures connection { AtConnection (TookOf k) (get nat_eq rooms.old) (get nat_eq rooms.new)
         connections.now connections.now number result }
+    ensures concerned { ConcernedOf (λ x. as_before (live_in concerned.old x.conference))
+        (connection_at connections.now number) (get nat_eq rooms.old) (get nat_eq rooms.new)
+        concerned.old concerned.new }
 {
     match connections.get(number) {
-        Some(connection) => took_room(rooms, connection, k),
-        None => Err(HubRefusal::NoConnection),
+        Some(connection) => took_room(rooms, concerned, connection, k),
+        None => {
+            concerned.nobody();
+            Err(HubRefusal::NoConnection)
+        }
     }
 }
 
@@ -364,6 +541,8 @@ fn take_at(
 ) -> Result<Option<Parcel>, HubRefusal>
     ensures connection { AtConnection TakeOf (get nat_eq rooms.old) (get nat_eq rooms.new)
         connections.now connections.now number result }
+    ensures kept { (x : Connection) (r : Kept) → connection_at connections.now number ≡ Some x
+        → get nat_eq rooms.old x.conference ≡ Some r → IsRoom r }
 {
     match connections.get(number) {
         Some(connection) => take_room(rooms, connection),
@@ -375,13 +554,33 @@ fn take_at(
 fn leave_at(
     rooms: &mut IndexMap<u32, Room>,
     connections: &mut Connections,
+    concerned: &mut Concerned,
     number: ConnNo,
 ) -> Result<(), HubRefusal>
     ensures connection { AtConnection LeaveOf (get nat_eq rooms.old) (get nat_eq rooms.new)
         connections.old connections.new number result }
+    ensures concerned { ConcernedOf
+        (λ x. as_before (without number (live_in concerned.old x.conference)))
+        (connection_at connections.old number) (get nat_eq rooms.old) (get nat_eq rooms.new)
+        concerned.old concerned.new }
 {
     match connections.remove(number) {
-        Some(connection) => leave_room(rooms, &connection),
-        None => Err(HubRefusal::NoConnection),
+        Some(connection) => leave_room(rooms, concerned, number, &connection),
+        None => {
+            concerned.nobody();
+            Err(HubRefusal::NoConnection)
+        }
+    }
+}
+
+/// Whether the member of a connection is cut.
+fn is_cut_at(rooms: &IndexMap<u32, Room>, connection: &Connection) -> bool
+    ensures { (r : Kept) → get nat_eq rooms.now connection.now.conference ≡ Some r
+        → r.ledger.is_broken ≡ false
+        → result ≡ is_cut (conference_of r.ledger) connection.now.n }
+{
+    match rooms.get(&connection.conference) {
+        Some(room) => room.is_cut(connection.n),
+        None => false,
     }
 }

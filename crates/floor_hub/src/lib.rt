@@ -4,6 +4,8 @@
 //! and waits for nothing. Whoever calls it binds each connection to a conference and a user.
 #![tactic(auto)]
 
+mod attached;
+mod concerned;
 mod connection;
 mod connections;
 mod gathering;

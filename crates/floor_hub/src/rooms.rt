@@ -5,14 +5,16 @@ ghost use Rattle.indexmap.specs.IndexMap.{Updates, get};
 ghost use Rattle.floor_machine.specs.Machine.{event_of_act};
 ghost use Rattle.floor_machine.specs.declared.event.Event.TheVariants.{Took};
 ghost use Rattle.floor_machine.specs.Parcel.{Parcel as Waiting};
-ghost use Rattle.floor_room.specs.Room.{Room as Kept, broken_room, new_room};
+ghost use Rattle.floor_room.specs.Room.{IsRoom, Room as Kept, new_room};
 ghost use Rattle.floor_room.specs.Taking.{Gave};
 ghost use Rattle.floor_room.specs.declared.outbox.NoMember.{NoMember};
 ghost use Rattle.floor_room.specs.declared.refusal.RoomRefusal.{RoomRefusal};
+ghost use Rattle.floor_hub.specs.steps.Attached.{ConcernedBy, as_before, live_in, without};
 ghost use Rattle.floor_hub.specs.steps.Found.{AtRoom};
-ghost use Rattle.floor_hub.specs.steps.Serving.{EventIn, IsServable, JoinIn, LeaveFailsIn, LeavesIn, ServedIn};
+ghost use Rattle.floor_hub.specs.steps.Serving.{EventIn, IsServable, LeaveFailsIn, LeavesIn, ServedIn};
 
-use crate::connection::Connection;
+use crate::concerned::Concerned;
+use crate::connection::{ConnNo, Connection};
 use crate::refusal::HubRefusal;
 use crate::step::Served;
 use floor_room::{Act, Config, Parcel, Refusal, Room, RoomRefusal};
@@ -53,36 +55,35 @@ pub(crate) fn open_at(
 /// Does an act in the room of a conference.
 pub(crate) fn admin_at(
     rooms: &mut IndexMap<u32, Room>,
+    concerned: &mut Concerned,
     conference: u32,
     act: Act,
 ) -> Result<(), HubRefusal>
     ensures room { AtRoom (EventIn (event_of_act act))
         (get nat_eq rooms.old) (get nat_eq rooms.new) conference result }
+    ensures concerned { ConcernedBy (as_before (live_in concerned.old conference))
+        (get nat_eq rooms.old) (get nat_eq rooms.new) conference concerned.old concerned.new }
 {
     match rooms.get_mut(&conference) {
-        Some(room) => match room.admin(act) {
-            Ok(()) => Ok(()),
-            Err(why) => Err(HubRefusal::ByRoom(why)),
-        },
-        None => Err(HubRefusal::NoConference),
+        Some(room) => {
+            let was_shut = concerned.look(conference, room);
+            let done = admin_in(room, act);
+            concerned.name(conference, room, was_shut);
+            done
+        }
+        None => {
+            concerned.nobody();
+            Err(HubRefusal::NoConference)
+        }
     }
 }
 
-/// Joins a user in the room of a conference.
-pub(crate) fn join_at(
-    rooms: &mut IndexMap<u32, Room>,
-    conference: u32,
-    user: u16,
-) -> Result<u32, HubRefusal>
-    ensures room { AtRoom (JoinIn user)
-        (get nat_eq rooms.old) (get nat_eq rooms.new) conference result }
+fn admin_in(room: &mut Room, act: Act) -> Result<(), HubRefusal>
+    ensures { EventIn (event_of_act act) room.old room.new result }
 {
-    match rooms.get_mut(&conference) {
-        Some(room) => match room.join(user) {
-            Ok(n) => Ok(n),
-            Err(why) => Err(HubRefusal::ByRoom(why)),
-        },
-        None => Err(HubRefusal::NoConference),
+    match room.admin(act) {
+        Ok(()) => Ok(()),
+        Err(why) => Err(HubRefusal::ByRoom(why)),
     }
 }
 
@@ -149,6 +150,8 @@ fn leave_in(room: &mut Room, n: u32) -> Result<(), HubRefusal>
 /// Tells its room that a connection has left.
 pub(crate) fn leave_room(
     rooms: &mut IndexMap<u32, Room>,
+    concerned: &mut Concerned,
+    number: ConnNo,
     connection: &Connection,
 ) -> Result<(), HubRefusal>
     ensures room { (room : Kept) → get nat_eq rooms.old connection.now.conference ≡ Some room
@@ -156,16 +159,31 @@ pub(crate) fn leave_room(
         × OnOk result (LeavesIn room new connection.now.n)
         × IfErr result (λ r. (why : RoomRefusal) × (r ≡ HubRefusal.ByRoom why)
         × LeaveFailsIn room new connection.now.n why) }
+    ensures concerned { ConcernedBy
+        (as_before (without number (live_in concerned.old connection.now.conference)))
+        (get nat_eq rooms.old) (get nat_eq rooms.new) connection.now.conference
+        concerned.old concerned.new }
 {
-    match rooms.get_mut(&connection.conference) {
-        Some(room) => leave_in(room, connection.n),
-        None => Ok(()),
+    let conference = connection.conference;
+    match rooms.get_mut(&conference) {
+        Some(room) => {
+            concerned.remove(conference, number);
+            let was_shut = concerned.look(conference, room);
+            let left = leave_in(room, connection.n);
+            concerned.name(conference, room, was_shut);
+            left
+        }
+        None => {
+            concerned.nobody();
+            Ok(())
+        }
     }
 }
 
 /// Serves the next message of a connection in its room.
 pub(crate) fn serve_room(
     rooms: &mut IndexMap<u32, Room>,
+    concerned: &mut Concerned,
     connection: &mut Connection,
 ) -> Result<Served, HubRefusal>
     ensures room { (room : Kept) → get nat_eq rooms.old connection.old.conference ≡ Some room
@@ -173,29 +191,60 @@ pub(crate) fn serve_room(
         × ServedIn room new connection.old.n connection.old.held connection.new.held result }
     ensures place { (connection.new.conference ≡ connection.old.conference)
         × (connection.new.n ≡ connection.old.n) }
+    ensures concerned { ConcernedBy (as_before (live_in concerned.old connection.old.conference))
+        (get nat_eq rooms.old) (get nat_eq rooms.new) connection.old.conference
+        concerned.old concerned.new }
 {
-    match rooms.get_mut(&connection.conference) {
-        Some(room) => serve_in(room, connection.n, &mut connection.held),
-        None => Ok(Served::Nothing),
+    let conference = connection.conference;
+    match rooms.get_mut(&conference) {
+        Some(room) => {
+            let was_shut = concerned.look(conference, room);
+            let served = serve_in(room, connection.n, &mut connection.held);
+            concerned.name(conference, room, was_shut);
+            served
+        }
+        None => {
+            concerned.nobody();
+            Ok(Served::Nothing)
+        }
     }
 }
 
 /// Tells its room that so many of the parcels to a connection were brought to their end.
 pub(crate) fn took_room(
     rooms: &mut IndexMap<u32, Room>,
+    concerned: &mut Concerned,
     connection: &Connection,
     k: u32,
 ) -> Result<(), HubRefusal>
     ensures room { (room : Kept) → get nat_eq rooms.old connection.now.conference ≡ Some room
         → (new : Kept) × Updates nat_eq rooms.old rooms.new connection.now.conference (Some new)
         × EventIn (Took connection.now.n k) room new result }
+    ensures concerned { ConcernedBy (as_before (live_in concerned.old connection.now.conference))
+        (get nat_eq rooms.old) (get nat_eq rooms.new) connection.now.conference
+        concerned.old concerned.new }
 {
-    match rooms.get_mut(&connection.conference) {
-        Some(room) => match room.took(connection.n, k) {
-            Ok(()) => Ok(()),
-            Err(why) => Err(HubRefusal::ByRoom(why)),
-        },
-        None => Ok(()),
+    let conference = connection.conference;
+    match rooms.get_mut(&conference) {
+        Some(room) => {
+            let was_shut = concerned.look(conference, room);
+            let taken = took_in(room, connection.n, k);
+            concerned.name(conference, room, was_shut);
+            taken
+        }
+        None => {
+            concerned.nobody();
+            Ok(())
+        }
+    }
+}
+
+fn took_in(room: &mut Room, n: u32, k: u32) -> Result<(), HubRefusal>
+    ensures { EventIn (Took n k) room.old room.new result }
+{
+    match room.took(n, k) {
+        Ok(()) => Ok(()),
+        Err(why) => Err(HubRefusal::ByRoom(why)),
     }
 }
 
@@ -209,24 +258,18 @@ pub(crate) fn take_room(
         × Updates nat_eq rooms.old rooms.new connection.now.conference (Some new)
         × Gave room new connection.now.n given
         × MatchResult given (λ p. result ≡ Ok p) (λ _. IsErr result) }
+    ensures kept { (room : Kept) → get nat_eq rooms.old connection.now.conference ≡ Some room
+        → IsRoom room }
 {
     match rooms.get_mut(&connection.conference) {
-        Some(room) => match room.take(connection.n) {
-            Ok(parcel) => Ok(parcel),
-            Err(_) => Err(HubRefusal::NoConnection),
-        },
+        Some(room) => {
+            // What its contract says of the room is handed out.
+            let _journal = room.journal();
+            match room.take(connection.n) {
+                Ok(parcel) => Ok(parcel),
+                Err(_) => Err(HubRefusal::NoConnection),
+            }
+        }
         None => Err(HubRefusal::NoConnection),
-    }
-}
-
-/// Breaks the room of a conference off.
-pub(crate) fn break_at(rooms: &mut IndexMap<u32, Room>, conference: u32)
-    ensures broken { (room : Kept) → get nat_eq rooms.old conference ≡ Some room
-        → Updates nat_eq rooms.old rooms.new conference
-        (Some (broken_room room)) }
-{
-    match rooms.get_mut(&conference) {
-        Some(room) => room.break_off(),
-        None => {}
     }
 }

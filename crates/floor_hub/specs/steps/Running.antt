@@ -1,6 +1,7 @@
 -- How far a run has come.
 use Rattle.std.specs.Prelude.{◌≡◌, ℕ, ◌≤◌, List, [], ◌∷◌, length, false, Some, Result, IfOk, map, ◌≢◌, ◌⊎◌}
 use Rattle.floor_machine.specs.Journal.{Q}
+use Rattle.floor_machine.specs.Parcel.{Parcel}
 use Rattle.floor_room.specs.Outbox.{Outbox}
 use Rattle.floor_room.specs.Ledger.{conference_of}
 use Rattle.floor_room.specs.Room.{Room}
@@ -51,3 +52,8 @@ IsRunOn r = (r ≢ NoMemory) × (r ≢ ByRoom (ByMachine OutOfMemory)) × (r ≢
 -- after this refusal it doesn't: it is want of memory, now or before
 abbrev pub StopsRun : HubRefusal → Type 0
 StopsRun r = (r ≡ NoMemory) ⊎ ((r ≡ ByRoom (ByMachine OutOfMemory)) ⊎ (r ≡ ByRoom (ByMachine Broken)))
+
+-- the bytes of the first of these parcels, if there is one
+abbrev pub first_bytes : List Parcel → List ℕ
+first_bytes [] = []
+first_bytes (p ∷ ps) = p.bytes

@@ -66,12 +66,6 @@ EventIn e old new result =
     OnOk result (Applied old new e)
     × IfErr result (λ x. (why : RoomRefusal) × (x ≡ ByRoom why) × IsRefusedBy {T = Unit {0}} (refusal old.ledger e) (Err why) × Left old new e why)
 
--- it was asked to take a user, whose number was given
-abbrev pub JoinIn : ℕ → Room → Room → Result ℕ HubRefusal → Type 0
-JoinIn user old new result =
-    IfOk result (λ n. (n ≡ length (conference_of old.ledger).members + 1) × Applied old new (Join user) × (n ≡ length new.outboxes))
-    × IfErr result (λ x. (why : RoomRefusal) × (x ≡ ByRoom why) × IsRefusedBy {T = Unit {0}} (refusal old.ledger (Join user)) (Err why) × Left old new (Join user) why)
-
 -- a connection of a user was attached to this conference under this number
 abbrev pub AttachIn : ℕ → ℕ → ℕ → Connections → Connections → Room → Room → Result (Unit {0}) HubRefusal → Type 0
 AttachIn c user number old_connections new_connections old new result =

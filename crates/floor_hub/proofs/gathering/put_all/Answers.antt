@@ -6,4 +6,4 @@ pub loop-parcel-preserved : goal.loop-parcel-preserved
 loop-parcel-preserved c =
     let within : c.loop-parcel.parcel-index < length c.args.parcels.now = omega arith in
     put_more c.args.parcels.now c.loop-parcel.parcel-index c.parcel-item.result c.args.bytes.now.items c.loop-parcel.bytes.items c.put.new.bytes.items within c.parcel-item.is
-    c.loop-parcel.invariant c.in_ok-put.ensures
+    c.loop-parcel.invariant c.in_ok-put.ensures.next

@@ -14,22 +14,25 @@ use Rattle.floor_hub.specs.declared.refusal.HubRefusal.{HubRefusal}
 use Rattle.floor_hub.specs.declared.refusal.HubRefusal.TheVariants.{ByRoom}
 use Rattle.floor_hub.specs.declared.step.Step.TheVariants.{Admin}
 use Rattle.floor_hub.specs.declared.step.Answer.TheVariants.{Done}
-use Rattle.floor_hub.specs.Connections.{SameConnections, connection_at}
+use Rattle.floor_hub.specs.Connections.{SameConnections, StayLive, connection_at}
 use Rattle.floor_hub.specs.Hub.{Hub, room_at}
 use Rattle.floor_hub.specs.Left.{LeftAt}
 use Rattle.floor_hub.specs.Rooms.{OneRoom, admin_event, by_broken, refusal_in}
-use Rattle.floor_hub.specs.StandsFor.{StandsFor}
+use Rattle.floor_hub.specs.StandsFor.{StandsFor, Stood}
 use Rattle.floor_hub.specs.Calls.{IsWant, Fails, Turns}
 use Rattle.floor_hub.specs.World.{turn, World}
 use Rattle.floor_hub.proofs.Closing.{ended, good, stood}
 use Rattle.floor_hub.proofs.Outboxes.{grows-one, keeps-outboxes, were-same}
 use Rattle.floor_hub.proofs.hub.Hub.admin.Goals as goal
+use Rattle.floor_hub.proofs.Attaching.{place-same}
+use Rattle.floor_hub.proofs.Naming.{Named, named-at}
+use Rattle.floor_hub.specs.Concerned.{Concerns}
 
 abbrev old : goal.After-admin_at → Hub
-old c = record { rooms = c.self.inside.rooms.entries; connections = c.self.inside.connections; arrivals = c.self.inside.arrivals }
+old c = record { rooms = c.self.inside.rooms.entries; connections = c.self.inside.connections; arrivals = c.self.inside.arrivals; concerned = c.self.inside.concerned.numbers }
 
 abbrev new : goal.After-admin_at → Hub
-new c = record { rooms = c.admin_at.new.rooms.entries; connections = c.self.inside.connections; arrivals = c.self.inside.arrivals }
+new c = record { rooms = c.admin_at.new.rooms.entries; connections = c.self.inside.connections; arrivals = c.self.inside.arrivals; concerned = c.admin_at.new.concerned.numbers }
 
 turns : (c : goal.After-admin_at) (w : World) → StandsFor (old c) w → MatchResult c.admin_at.result (λ v. Turns (new c) w (Admin c.args.conference c.args.act) (Done)) (λ r. Fails (new c) w (Admin c.args.conference c.args.act) r)
 turns c w st =
@@ -45,12 +48,26 @@ room c =
     event-room c.args.conference (event_of_act c.args.act) (old c) (new c) c.admin_at.result (room_at (old c) c.args.conference) refl c.admin_at.ensures.room.absent
     (λ r is. let t = c.admin_at.ensures.room.there r is in (t.0, t.1, t.2, t.3.0, t.3.1))
 
-pub invariant_of-self : goal.invariant_of-self
-invariant_of-self c =
-    let w = c.self.invariant.0 in
-    stood (new c) w w (Admin c.args.conference c.args.act) (IsWant (turn w (Admin c.args.conference c.args.act)).answer) (λ v. Done) c.admin_at.result (turns c w c.self.invariant.1)
+still_stood : (c : goal.After-admin_at) → Stood (new c)
+still_stood c =
+    let w = c.self.invariant.stood.0 in
+    stood (new c) w w (Admin c.args.conference c.args.act) (IsWant (turn w (Admin c.args.conference c.args.act)).answer) (λ v. Done) c.admin_at.result (turns c w c.self.invariant.stood.1)
     (keeps-outboxes (old c) (new c) (grows-one by_broken (refusal_in c.admin_at.result) (admin_event c.args.act) c.args.conference (old c) (new c) (room c))
-    (were-same (old c).connections (new c).connections (λ k. refl)) c.self.invariant.2)
+    (were-same (old c).connections (new c).connections (λ k. refl)) c.self.invariant.stood.2)
+
+named : (c : goal.After-admin_at) → Named c.admin_at.new.concerned (old c) (new c)
+named c =
+    named-at by_broken (refusal_in c.admin_at.result) (admin_event c.args.act) c.args.conference c.self.inside.concerned c.admin_at.new.concerned (old c) (new c) (room c)
+    c.admin_at.ensures.concerned refl (λ k. place-same (connection_at (old c).connections k) (connection_at (new c).connections k) refl) c.self.invariant.attached
+
+pub invariant_of-self : goal.invariant_of-self
+invariant_of-self c = record { stood = still_stood c; attached = (named c).0 }
+
+pub returns-clause-concerned : goal.returns-clause-concerned
+returns-clause-concerned c = subst (λ h. Concerns h (new c)) c.self.view_is (named c).1
+
+pub returns-clause-connections : goal.returns-clause-connections
+returns-clause-connections c = subst (λ h. StayLive h.connections (new c).connections) c.self.view_is (λ k. place-same (connection_at (old c).connections k) (connection_at (new c).connections k) refl)
 
 pub returns-clause-next : goal.returns-clause-next
 returns-clause-next c = λ w st. turns c w (subst (λ h. StandsFor h w) (sym c.self.view_is) st)

@@ -1,4 +1,4 @@
-use Rattle.std.proofs.Common.{◌≡◌, ℕ, ◌+◌, ◌≤◌, [], Some, None, arith, length, refl, sym, subst}
+use Rattle.std.proofs.Common.{◌≡◌, ◌≢◌, ℕ, ◌+◌, ◌≤◌, [], Some, None, arith, length, refl, sym, subst}
 use Rattle.std.specs.Prelude.{Ok, Err, Option, Result}
 use Rattle.floor_hub.specs.declared.refusal.HubRefusal.{HubRefusal}
 use Rattle.floor_hub.specs.declared.refusal.HubRefusal.TheVariants.{NoConference}
@@ -8,8 +8,8 @@ use Rattle.floor_hub.specs.Connections.{connection_at}
 use Rattle.floor_hub.specs.declared.connection.Connection.{Connection}
 use Rattle.floor_hub.specs.Hub.{Hub, room_at}
 use Rattle.floor_hub.specs.Left.{LeftAt}
-use Rattle.floor_hub.specs.Rooms.{OneRoom, attach_event, by_broken}
-use Rattle.floor_hub.specs.StandsFor.{HasOutbox, HaveOutboxes, StandsFor}
+use Rattle.floor_hub.specs.Rooms.{Joins, OneRoom, attach_event, by_broken}
+use Rattle.floor_hub.specs.StandsFor.{HasOutbox, HaveOutboxes, StandsFor, Stood}
 use Rattle.floor_hub.specs.Calls.{IsWant, Fails, Turns}
 use Rattle.floor_hub.specs.World.{turn, World}
 use Rattle.floor_hub.proofs.Arriving.{attach_result}
@@ -21,18 +21,26 @@ use Rattle.floor_room.specs.Ledger.{conference_of}
 use Rattle.floor_room.specs.Room.{Room}
 use Rattle.floor_hub.proofs.Outboxes.{grows-one, has-joined, keeps-outboxes, were-same}
 use Rattle.floor_hub.proofs.hub.Hub.attach.Goals as goal
+use Rattle.floor_hub.proofs.Attaching.{last-untaken, next-is-free, place-same}
+use Rattle.floor_hub.proofs.Naming.{Named, named-at, named-attached}
+use Rattle.floor_hub.specs.Concerned.{Concerns}
 
 pub overflow_add-number : goal.overflow_add-number
 overflow_add-number c =
-    let w = c.self.invariant.0 in
-    let st = c.self.invariant.1 in
+    let w = c.self.invariant.stood.0 in
+    let st = c.self.invariant.stood.1 in
     omega (arith, st.stands.count, places_fit w st.kept st.numbered)
 
+pub attach_at-joined-requires : goal.attach_at-joined-requires
+attach_at-joined-requires c =
+    next-is-free (record { rooms = c.self.inside.rooms.entries; connections = c.self.inside.connections; arrivals = c.self.inside.arrivals; concerned = c.self.inside.concerned.numbers }) c.self.invariant.stood.0
+    c.self.invariant.stood.1
+
 abbrev old_ok : goal.After-self-1 → Hub
-old_ok c = record { rooms = c.self.inside.rooms.entries; connections = c.self.inside.connections; arrivals = c.self.inside.arrivals }
+old_ok c = record { rooms = c.self.inside.rooms.entries; connections = c.self.inside.connections; arrivals = c.self.inside.arrivals; concerned = c.self.inside.concerned.numbers }
 
 abbrev new_ok : goal.After-self-1 → Hub
-new_ok c = record { rooms = c.attach_at-joined.new.rooms.entries; connections = c.attach_at-joined.new.connections; arrivals = c.self.inside.arrivals + 1 }
+new_ok c = record { rooms = c.attach_at-joined.new.rooms.entries; connections = c.attach_at-joined.new.connections; arrivals = c.self.inside.arrivals + 1; concerned = c.attach_at-joined.new.concerned.numbers }
 
 turns_ok : (c : goal.After-self-1) (w : World) → StandsFor (old_ok c) w → Turns (new_ok c) w (Attach c.args.conference c.args.user) (Attached (c.self.inside.arrivals + 1))
 turns_ok c w st =
@@ -59,13 +67,45 @@ has_outboxes c (Some r) is =
     let first : 1 ≤ n = omega arith in
     let last : n ≤ length t.0.outboxes = omega (arith, t.3.0.2) in
     has-joined (old_ok c) (new_ok c) (c.self.inside.arrivals + 1) (record { conference = c.args.conference; n = n; held = [] })
-    (grows-one by_broken None (attach_event c.args.user) c.args.conference (old_ok c) (new_ok c) (room_ok c)) t.3.0.1 (subst (λ (z : Option Room). HasOutbox z n) (sym t.1) (first, last)) c.self.invariant.2
+    (grows-one by_broken None (attach_event c.args.user) c.args.conference (old_ok c) (new_ok c) (room_ok c)) t.3.0.1 (subst (λ (z : Option Room). HasOutbox z n) (sym t.1) (first, last)) c.self.invariant.stood.2
+
+still_stood_ok : (c : goal.After-self-1) → Stood (new_ok c)
+still_stood_ok c =
+    let w = c.self.invariant.stood.0 in
+    stood {T = Unit {0}} (new_ok c) w w (Attach c.args.conference c.args.user) (IsWant (turn w (Attach c.args.conference c.args.user)).answer) (λ v. Attached (c.self.inside.arrivals + 1)) (Ok tt) (turns_ok c w c.self.invariant.stood.1)
+    (has_outboxes c (room_at (old_ok c) c.args.conference) refl)
+
+there : (c : goal.After-self-1) → room_at (old_ok c) c.args.conference ≢ None
+there c none = ok_err (c.in-Ok.ensures.room.absent none).0
+
+named_ok : (c : goal.After-self-1) → Named c.attach_at-joined.new.concerned (old_ok c) (new_ok c)
+named_ok c =
+    named-attached by_broken (attach_event c.args.user) c.self.invariant.stood.0 c.args.conference c.self.inside.concerned c.attach_at-joined.new.concerned (old_ok c) (new_ok c) c.self.invariant.stood.1 (room_ok c)
+    c.in-Ok.ensures.concerned refl (λ r is. (c.in-Ok.ensures.room.there r is).3.0.1) (there c) c.self.invariant.attached
 
 pub invariant_of-self : goal.invariant_of-self
-invariant_of-self c =
-    let w = c.self.invariant.0 in
-    stood {T = Unit {0}} (new_ok c) w w (Attach c.args.conference c.args.user) (IsWant (turn w (Attach c.args.conference c.args.user)).answer) (λ v. Attached (c.self.inside.arrivals + 1)) (Ok tt) (turns_ok c w c.self.invariant.1)
-    (has_outboxes c (room_at (old_ok c) c.args.conference) refl)
+invariant_of-self c = record { stood = still_stood_ok c; attached = (named_ok c).0 }
+
+pub returns-in-Ok-clause-concerned : goal.returns-in-Ok-clause-concerned
+returns-in-Ok-clause-concerned c = subst (λ h. Concerns h (new_ok c)) c.self.view_is (named_ok c).1
+
+joins : (c : goal.After-self-1) (y : Option Room) → room_at (old_ok c) c.args.conference ≡ y → Joins c.args.conference (c.self.inside.arrivals + 1) (old_ok c) (new_ok c)
+joins c None is = absurd (there c is)
+joins c (Some r) is =
+    let t = c.in-Ok.ensures.room.there r is in
+    record {
+      connection = record { conference = c.args.conference; n = length (conference_of r.ledger).members + 1; held = [] };
+      room = t.0;
+      next = refl;
+      fresh = next-is-free (old_ok c) c.self.invariant.stood.0 c.self.invariant.stood.1;
+      put = t.3.0.1;
+      place = refl;
+      there = t.1;
+      untaken = last-untaken r t.0 c.args.user (length (conference_of r.ledger).members) t.3.0.0 t.3.0.2;
+    }
+
+pub returns-in-Ok-clause-joined : goal.returns-in-Ok-clause-joined
+returns-in-Ok-clause-joined c = subst (λ h. Joins c.args.conference (c.self.inside.arrivals + 1) h (new_ok c)) c.self.view_is (joins c (room_at (old_ok c) c.args.conference) refl)
 
 pub returns-in-Ok-clause-next : goal.returns-in-Ok-clause-next
 returns-in-Ok-clause-next c = λ w st. turns_ok c w (subst (λ h. StandsFor h w) (sym c.self.view_is) st)
@@ -86,10 +126,10 @@ pub returns-in-Ok-clause-found : goal.returns-in-Ok-clause-found
 returns-in-Ok-clause-found c = made c (room_at (old_ok c) c.args.conference) refl
 
 abbrev old_err : goal.In-Err → Hub
-old_err c = record { rooms = c.self.inside.rooms.entries; connections = c.self.inside.connections; arrivals = c.self.inside.arrivals }
+old_err c = record { rooms = c.self.inside.rooms.entries; connections = c.self.inside.connections; arrivals = c.self.inside.arrivals; concerned = c.self.inside.concerned.numbers }
 
 abbrev new_err : goal.In-Err → Hub
-new_err c = record { rooms = c.attach_at-joined.new.rooms.entries; connections = c.attach_at-joined.new.connections; arrivals = c.self.inside.arrivals }
+new_err c = record { rooms = c.attach_at-joined.new.rooms.entries; connections = c.attach_at-joined.new.connections; arrivals = c.self.inside.arrivals; concerned = c.attach_at-joined.new.concerned.numbers }
 
 turns_err : (c : goal.In-Err) (w : World) → StandsFor (old_err c) w → Fails (new_err c) w (Attach c.args.conference c.args.user) c.in-Err.refusal
 turns_err c w st =
@@ -104,12 +144,23 @@ room_err c =
     attach-room c.args.conference c.args.user (old_err c) (new_err c) (Err c.in-Err.refusal) (room_at (old_err c) c.args.conference) refl c.in-Err.ensures.room.absent
     (λ r is. let t = c.in-Err.ensures.room.there r is in (t.0, t.1, t.2, t.3.0, t.3.1))
 
-pub invariant_of-self-in-Err : goal.invariant_of-self-in-Err
-invariant_of-self-in-Err c =
-    let w = c.self.invariant.0 in
-    stood {T = Unit {0}} (new_err c) w w (Attach c.args.conference c.args.user) (IsWant (turn w (Attach c.args.conference c.args.user)).answer) (λ v. Attached (c.self.inside.arrivals + 1)) (Err c.in-Err.refusal) (turns_err c w c.self.invariant.1)
+still_stood_err : (c : goal.In-Err) → Stood (new_err c)
+still_stood_err c =
+    let w = c.self.invariant.stood.0 in
+    stood {T = Unit {0}} (new_err c) w w (Attach c.args.conference c.args.user) (IsWant (turn w (Attach c.args.conference c.args.user)).answer) (λ v. Attached (c.self.inside.arrivals + 1)) (Err c.in-Err.refusal) (turns_err c w c.self.invariant.stood.1)
     (keeps-outboxes (old_err c) (new_err c) (grows-one by_broken (Some c.in-Err.refusal) (attach_event c.args.user) c.args.conference (old_err c) (new_err c) (room_err c))
-    (were-same (old_err c).connections (new_err c).connections c.in-Err.ensures.left) c.self.invariant.2)
+    (were-same (old_err c).connections (new_err c).connections c.in-Err.ensures.left) c.self.invariant.stood.2)
+
+named_err : (c : goal.In-Err) → Named c.attach_at-joined.new.concerned (old_err c) (new_err c)
+named_err c =
+    named-at by_broken (Some c.in-Err.refusal) (attach_event c.args.user) c.args.conference c.self.inside.concerned c.attach_at-joined.new.concerned (old_err c) (new_err c) (room_err c)
+    c.in-Err.ensures.concerned refl (λ k. place-same (connection_at (old_err c).connections k) (connection_at (new_err c).connections k) (c.in-Err.ensures.left k)) c.self.invariant.attached
+
+pub invariant_of-self-in-Err : goal.invariant_of-self-in-Err
+invariant_of-self-in-Err c = record { stood = still_stood_err c; attached = (named_err c).0 }
+
+pub returns-in-Err-clause-concerned : goal.returns-in-Err-clause-concerned
+returns-in-Err-clause-concerned c = subst (λ h. Concerns h (new_err c)) c.self.view_is (named_err c).1
 
 pub returns-in-Err-clause-next : goal.returns-in-Err-clause-next
 returns-in-Err-clause-next c = λ w st. turns_err c w (subst (λ h. StandsFor h w) (sym c.self.view_is) st)

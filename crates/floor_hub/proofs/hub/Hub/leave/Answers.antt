@@ -1,8 +1,8 @@
 use Rattle.floor_hub.proofs.Departing.{leave_result}
 use Rattle.floor_hub.proofs.Left.{left-leave}
 use Rattle.floor_hub.proofs.RoomSteps.{leave-room}
-use Rattle.std.proofs.Common.{◌≡◌, ℕ, false, Some, None, refl, sym, subst}
-use Rattle.std.specs.Prelude.{IfErr, MatchResult, OnOk, nat_eq}
+use Rattle.std.proofs.Common.{◌≡◌, ℕ, false, Some, None, refl, sym, ◌∙◌, subst}
+use Rattle.std.specs.Prelude.{IfErr, MatchResult, OnOk, Option, nat_eq}
 use Rattle.floor_machine.specs.declared.machine.Refusal.TheVariants.{Memory}
 use Rattle.floor_room.specs.declared.refusal.RoomRefusal.{RoomRefusal}
 use Rattle.floor_room.specs.declared.refusal.RoomRefusal.TheVariants.{Refused as ByMachine}
@@ -17,19 +17,21 @@ use Rattle.floor_hub.specs.steps.Serving.{LeaveFailsIn, LeavesIn}
 use Rattle.floor_hub.specs.Hub.{Hub, room_at}
 use Rattle.floor_hub.specs.Left.{LeftLeaving}
 use Rattle.floor_hub.specs.Rooms.{RoomOf, leave_event, refusal_in}
-use Rattle.floor_hub.specs.StandsFor.{StandsFor}
+use Rattle.floor_hub.specs.StandsFor.{StandsFor, Stood}
 use Rattle.floor_hub.specs.Calls.{FailsGone, Turns}
 use Rattle.floor_hub.specs.World.{IsIdle, World, turn}
 use Rattle.floor_hub.proofs.Closing.{ended, good, good_next, stood}
 use Rattle.floor_hub.proofs.Outboxes.{grows-of, keeps-outboxes, outbox-room, were-of}
 use Rattle.floor_hub.proofs.hub.Hub.leave.Goals as goal
 use Rattle.floor_hub.specs.declared.step.Answer.{Answer}
+use Rattle.floor_hub.proofs.Naming.{Named, named-left}
+use Rattle.floor_hub.specs.Concerned.{Concerns}
 
 abbrev old : goal.After-leave_at → Hub
-old c = record { rooms = c.self.inside.rooms.entries; connections = c.self.inside.connections; arrivals = c.self.inside.arrivals }
+old c = record { rooms = c.self.inside.rooms.entries; connections = c.self.inside.connections; arrivals = c.self.inside.arrivals; concerned = c.self.inside.concerned.numbers }
 
 abbrev new : goal.After-leave_at → Hub
-new c = record { rooms = c.leave_at.new.rooms.entries; connections = c.leave_at.new.connections; arrivals = c.self.inside.arrivals }
+new c = record { rooms = c.leave_at.new.rooms.entries; connections = c.leave_at.new.connections; arrivals = c.self.inside.arrivals; concerned = c.leave_at.new.concerned.numbers }
 
 abbrev Want : Answer → HubRefusal → Type 0
 Want answer r = (r ≡ ByRoom (ByMachine Memory)) × (¬ IsIdle answer)
@@ -37,7 +39,7 @@ Want answer r = (r ≡ ByRoom (ByMachine Memory)) × (¬ IsIdle answer)
 -- its connection is gone, since each live one has a room
 gone : (c : goal.After-leave_at) (x : Connection) → connection_at (old c).connections c.args.number ≡ Some x → Puts (old c).connections (new c).connections c.args.number None
 gone c x is =
-    let r = outbox-room (room_at (old c) x.conference) x.n (c.self.invariant.2 c.args.number x is) in
+    let r = outbox-room (room_at (old c) x.conference) x.n (c.self.invariant.stood.2 c.args.number x is) in
     let t = c.leave_at.ensures.connection.there x is r.0 r.1 in
     subst (Puts (old c).connections (new c).connections c.args.number) t.5.0 t.4
 
@@ -56,17 +58,35 @@ turns c w st =
 
 room : (c : goal.After-leave_at) → RoomOf None (refusal_in c.leave_at.result) leave_event (connection_at (old c).connections c.args.number) (old c) (new c)
 room c =
-    leave-room c.args.number (old c) (new c) c.self.invariant.0 c.self.invariant.1 c.leave_at.result (connection_at c.self.inside.connections c.args.number) refl c.leave_at.ensures.connection.absent refl
+    leave-room c.args.number (old c) (new c) c.self.invariant.stood.0 c.self.invariant.stood.1 c.leave_at.result (connection_at c.self.inside.connections c.args.number) refl c.leave_at.ensures.connection.absent refl
     (there c)
 
-pub invariant_of-self : goal.invariant_of-self
-invariant_of-self c =
-    let w = c.self.invariant.0 in
-    stood (new c) w (turn w (Leave c.args.number)).world (Leave c.args.number) (Want (turn w (Leave c.args.number)).answer) (λ v. Done) c.leave_at.result (turns c w c.self.invariant.1)
+still_stood : (c : goal.After-leave_at) → Stood (new c)
+still_stood c =
+    let w = c.self.invariant.stood.0 in
+    stood (new c) w (turn w (Leave c.args.number)).world (Leave c.args.number) (Want (turn w (Leave c.args.number)).answer) (λ v. Done) c.leave_at.result (turns c w c.self.invariant.stood.1)
     (keeps-outboxes (old c) (new c) (grows-of None (refusal_in c.leave_at.result) leave_event (connection_at (old c).connections c.args.number) (old c) (new c) (room c))
     (were-of (old c).connections (new c).connections c.args.number (connection_at (old c).connections c.args.number) refl (λ absent. (c.leave_at.ensures.connection.absent absent).2)
     (λ x there. (None, tt, gone c x there)))
-    c.self.invariant.2)
+    c.self.invariant.stood.2)
+
+named : (c : goal.After-leave_at) → Named c.leave_at.new.concerned (old c) (new c)
+named c =
+    named-left None (refusal_in c.leave_at.result) leave_event c.args.number c.self.inside.concerned c.leave_at.new.concerned (old c) (new c) (connection_at (old c).connections c.args.number) refl (room c)
+    c.leave_at.ensures.concerned refl (λ absent. (c.leave_at.ensures.connection.absent absent).2) (gone c) c.self.invariant.stood.2 c.self.invariant.attached
+
+pub invariant_of-self : goal.invariant_of-self
+invariant_of-self c = record { stood = still_stood c; attached = (named c).0 }
+
+pub returns-clause-concerned : goal.returns-clause-concerned
+returns-clause-concerned c = subst (λ h. Concerns h (new c)) c.self.view_is (named c).1
+
+has_gone : (c : goal.After-leave_at) (y : Option Connection) → connection_at (old c).connections c.args.number ≡ y → Puts (old c).connections (new c).connections c.args.number None
+has_gone c None is = let same = (c.leave_at.ensures.connection.absent is).2 in record { here = same c.args.number ∙ is; others = λ k ne. same k }
+has_gone c (Some x) is = gone c x is
+
+pub returns-clause-gone : goal.returns-clause-gone
+returns-clause-gone c = subst (λ h. Puts h.connections (new c).connections c.args.number None) c.self.view_is (has_gone c (connection_at (old c).connections c.args.number) refl)
 
 pub returns-clause-next : goal.returns-clause-next
 returns-clause-next c = λ w st. turns c w (subst (λ h. StandsFor h w) (sym c.self.view_is) st)
@@ -77,5 +97,5 @@ returns-clause-room c = subst (λ h. RoomOf None (refusal_in c.leave_at.result) 
 pub returns-clause-left : goal.returns-clause-left
 returns-clause-left c =
     subst (λ h. IfErr c.leave_at.result (LeftLeaving c.args.number (connection_at h.connections c.args.number) h (new c))) c.self.view_is
-    (left-leave c.args.number (old c) (new c) refl c.self.invariant.0 c.self.invariant.1 c.leave_at.result (connection_at c.self.inside.connections c.args.number) refl c.leave_at.ensures.connection.absent
+    (left-leave c.args.number (old c) (new c) refl c.self.invariant.stood.0 c.self.invariant.stood.1 c.leave_at.result (connection_at c.self.inside.connections c.args.number) refl c.leave_at.ensures.connection.absent
     (gone c) (λ x is r room. let t = there c x is r room in (t.0, t.1, t.2, t.4)))

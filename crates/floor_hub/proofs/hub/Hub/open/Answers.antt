@@ -7,7 +7,7 @@ use Rattle.floor_hub.specs.declared.step.Step.TheVariants.{Open}
 use Rattle.floor_hub.specs.declared.step.Answer.TheVariants.{Done}
 use Rattle.floor_hub.specs.Connections.{connection_at}
 use Rattle.floor_hub.specs.Hub.{Hub, room_at}
-use Rattle.floor_hub.specs.StandsFor.{StandsFor}
+use Rattle.floor_hub.specs.StandsFor.{StandsFor, Stood}
 use Rattle.floor_hub.specs.Calls.{FailsSame, Turns}
 use Rattle.floor_hub.specs.World.{IsIdle, turn, World}
 use Rattle.floor_hub.proofs.Closing.{ended, good, stood}
@@ -16,10 +16,10 @@ use Rattle.floor_hub.proofs.hub.Hub.open.Goals as goal
 use Rattle.floor_hub.specs.declared.step.Answer.{Answer}
 
 abbrev old : goal.After-open_at → Hub
-old c = record { rooms = c.self.inside.rooms.entries; connections = c.self.inside.connections; arrivals = c.self.inside.arrivals }
+old c = record { rooms = c.self.inside.rooms.entries; connections = c.self.inside.connections; arrivals = c.self.inside.arrivals; concerned = c.self.inside.concerned.numbers }
 
 abbrev new : goal.After-open_at → Hub
-new c = record { rooms = c.open_at.new.rooms.entries; connections = c.self.inside.connections; arrivals = c.self.inside.arrivals }
+new c = record { rooms = c.open_at.new.rooms.entries; connections = c.self.inside.connections; arrivals = c.self.inside.arrivals; concerned = c.self.inside.concerned.numbers }
 
 abbrev Want : Answer → HubRefusal → Type 0
 Want answer r = (r ≡ NoMemory) × (¬ IsIdle answer)
@@ -31,12 +31,15 @@ turns c w st =
     (open_result (room_at (old c)) (room_at (new c)) (connection_at c.self.inside.connections) c.self.inside.arrivals w c.args.config st.stands
     c.open_at.result c.open_at.ensures.done c.open_at.ensures.left)
 
-pub invariant_of-self : goal.invariant_of-self
-invariant_of-self c =
-    let w = c.self.invariant.0 in
-    stood (new c) w w (Open c.args.config) (Want (turn w (Open c.args.config)).answer) (λ v. Done) c.open_at.result (turns c w c.self.invariant.1)
+still_stood : (c : goal.After-open_at) → Stood (new c)
+still_stood c =
+    let w = c.self.invariant.stood.0 in
+    stood (new c) w w (Open c.args.config) (Want (turn w (Open c.args.config)).answer) (λ v. Done) c.open_at.result (turns c w c.self.invariant.stood.1)
     (keeps-outboxes (old c) (new c) (grows-opened _ c.open_at.result c.args.config (old c) (new c) c.open_at.ensures.done c.open_at.ensures.left)
-    (were-same (old c).connections (new c).connections (λ k. refl)) c.self.invariant.2)
+    (were-same (old c).connections (new c).connections (λ k. refl)) c.self.invariant.stood.2)
+
+pub invariant_of-self : goal.invariant_of-self
+invariant_of-self c = record { stood = still_stood c; attached = c.self.invariant.attached }
 
 pub returns-clause-next : goal.returns-clause-next
 returns-clause-next c = λ w st. turns c w (subst (λ h. StandsFor h w) (sym c.self.view_is) st)

@@ -5,22 +5,25 @@ use Rattle.std.proofs.Common.{◌≡◌, ℕ, List, Some, refl, sym, ◌∙◌, 
 use Rattle.std.specs.Prelude.{IfErr, MatchResult, Option}
 use Rattle.floor_hub.specs.declared.connection.Connection.{Connection}
 use Rattle.floor_hub.specs.declared.step.Step.TheVariants.{Serve}
-use Rattle.floor_hub.specs.Connections.{Puts, connection_at}
+use Rattle.floor_hub.specs.Connections.{Puts, SamePlace, StayLive, connection_at}
 use Rattle.floor_hub.specs.Hub.{Hub, room_at}
 use Rattle.floor_hub.specs.Left.{LeftServing}
 use Rattle.floor_hub.specs.Rooms.{RoomOf, by_broken, refusal_in, serve_event}
-use Rattle.floor_hub.specs.StandsFor.{StandsFor}
+use Rattle.floor_hub.specs.StandsFor.{StandsFor, Stood}
 use Rattle.floor_hub.specs.Calls.{IsWant, Fails, Turns, answer_of}
 use Rattle.floor_hub.specs.World.{turn, World}
 use Rattle.floor_hub.proofs.Closing.{ended, good, stood}
 use Rattle.floor_hub.proofs.Outboxes.{grows-of, keeps-outboxes, outbox-room, were-of}
 use Rattle.floor_hub.proofs.hub.Hub.serve.Goals as goal
+use Rattle.floor_hub.proofs.Attaching.{places-of}
+use Rattle.floor_hub.proofs.Naming.{Named, named-of-one}
+use Rattle.floor_hub.specs.Concerned.{Concerns}
 
 abbrev old : goal.After-serve_at → Hub
-old c = record { rooms = c.self.inside.rooms.entries; connections = c.self.inside.connections; arrivals = c.self.inside.arrivals }
+old c = record { rooms = c.self.inside.rooms.entries; connections = c.self.inside.connections; arrivals = c.self.inside.arrivals; concerned = c.self.inside.concerned.numbers }
 
 abbrev new : goal.After-serve_at → Hub
-new c = record { rooms = c.serve_at.new.rooms.entries; connections = c.serve_at.new.connections; arrivals = c.self.inside.arrivals }
+new c = record { rooms = c.serve_at.new.rooms.entries; connections = c.serve_at.new.connections; arrivals = c.self.inside.arrivals; concerned = c.serve_at.new.concerned.numbers }
 
 -- what stands under the number afterwards
 served : (c : goal.After-serve_at) (x : Connection) (y : Option Connection) (rest : List ℕ) → Puts (old c).connections (new c).connections c.args.number y →
@@ -38,20 +41,42 @@ turns c w st =
 
 room : (c : goal.After-serve_at) → RoomOf by_broken (refusal_in c.serve_at.result) serve_event (connection_at (old c).connections c.args.number) (old c) (new c)
 room c =
-    serve-room c.args.number (old c) (new c) c.self.invariant.0 c.self.invariant.1 c.serve_at.result (connection_at c.self.inside.connections c.args.number) refl c.serve_at.ensures.connection.absent refl
+    serve-room c.args.number (old c) (new c) c.self.invariant.stood.0 c.self.invariant.stood.1 c.serve_at.result (connection_at c.self.inside.connections c.args.number) refl c.serve_at.ensures.connection.absent refl
     (λ x is r room. let t = c.serve_at.ensures.connection.there x is r room in (t.0, t.5.0, t.2, t.3, t.5.2))
 
-pub invariant_of-self : goal.invariant_of-self
-invariant_of-self c =
-    let w = c.self.invariant.0 in
-    stood (new c) w w (Serve c.args.number) (IsWant (turn w (Serve c.args.number)).answer) (λ v. answer_of v) c.serve_at.result (turns c w c.self.invariant.1)
+still_stood : (c : goal.After-serve_at) → Stood (new c)
+still_stood c =
+    let w = c.self.invariant.stood.0 in
+    stood (new c) w w (Serve c.args.number) (IsWant (turn w (Serve c.args.number)).answer) (λ v. answer_of v) c.serve_at.result (turns c w c.self.invariant.stood.1)
     (keeps-outboxes (old c) (new c) (grows-of by_broken (refusal_in c.serve_at.result) serve_event (connection_at (old c).connections c.args.number) (old c) (new c) (room c))
     (were-of (old c).connections (new c).connections c.args.number (connection_at (old c).connections c.args.number) refl (λ none. (c.serve_at.ensures.connection.absent none).2)
     (λ x there.
-    let r = outbox-room (room_at (old c) x.conference) x.n (c.self.invariant.2 c.args.number x there) in
+    let r = outbox-room (room_at (old c) x.conference) x.n (c.self.invariant.stood.2 c.args.number x there) in
     let t = c.serve_at.ensures.connection.there x there r.0 r.1 in
     (Some (record { conference = x.conference; n = x.n; held = t.5.0 }), (refl, refl), served c x t.1 t.5.0 t.4 t.5.1)))
-    c.self.invariant.2)
+    c.self.invariant.stood.2)
+
+-- each connection stays where it is
+places : (c : goal.After-serve_at) (k : ℕ) → SamePlace (connection_at (old c).connections k) (connection_at (new c).connections k)
+places c = places-of (old c).connections (new c).connections c.args.number (connection_at (old c).connections c.args.number) refl (λ none. (c.serve_at.ensures.connection.absent none).2)
+    (λ x there.
+    let r = outbox-room (room_at (old c) x.conference) x.n (c.self.invariant.stood.2 c.args.number x there) in
+    let t = c.serve_at.ensures.connection.there x there r.0 r.1 in
+    (record { conference = x.conference; n = x.n; held = t.5.0 }, refl, refl, served c x t.1 t.5.0 t.4 t.5.1))
+
+named : (c : goal.After-serve_at) → Named c.serve_at.new.concerned (old c) (new c)
+named c =
+    named-of-one by_broken (refusal_in c.serve_at.result) serve_event c.self.inside.concerned c.serve_at.new.concerned (old c) (new c) (connection_at (old c).connections c.args.number) (room c)
+    c.serve_at.ensures.concerned refl (places c) c.self.invariant.attached
+
+pub invariant_of-self : goal.invariant_of-self
+invariant_of-self c = record { stood = still_stood c; attached = (named c).0 }
+
+pub returns-clause-concerned : goal.returns-clause-concerned
+returns-clause-concerned c = subst (λ h. Concerns h (new c)) c.self.view_is (named c).1
+
+pub returns-clause-connections : goal.returns-clause-connections
+returns-clause-connections c = subst (λ h. StayLive h.connections (new c).connections) c.self.view_is (places c)
 
 pub returns-clause-next : goal.returns-clause-next
 returns-clause-next c = λ w st. turns c w (subst (λ h. StandsFor h w) (sym c.self.view_is) st)
@@ -62,5 +87,5 @@ returns-clause-room c = subst (λ h. RoomOf by_broken (refusal_in c.serve_at.res
 pub returns-clause-left : goal.returns-clause-left
 returns-clause-left c =
     subst (λ h. IfErr c.serve_at.result (LeftServing c.args.number (connection_at h.connections c.args.number) h (new c))) c.self.view_is
-    (left-serve c.args.number (old c) (new c) refl c.self.invariant.0 c.self.invariant.1 c.serve_at.result (connection_at c.self.inside.connections c.args.number) refl c.serve_at.ensures.connection.absent
+    (left-serve c.args.number (old c) (new c) refl c.self.invariant.stood.0 c.self.invariant.stood.1 c.serve_at.result (connection_at c.self.inside.connections c.args.number) refl c.serve_at.ensures.connection.absent
     (λ x is r room. let t = c.serve_at.ensures.connection.there x is r room in (t.0, t.5.0, t.2, t.3, served c x t.1 t.5.0 t.4 t.5.1, t.5.2)))

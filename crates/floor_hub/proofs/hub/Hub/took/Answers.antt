@@ -14,11 +14,11 @@ use Rattle.floor_hub.specs.declared.refusal.HubRefusal.{HubRefusal}
 use Rattle.floor_hub.specs.declared.refusal.HubRefusal.TheVariants.{ByRoom}
 use Rattle.floor_hub.specs.declared.step.Step.TheVariants.{Took}
 use Rattle.floor_hub.specs.declared.step.Answer.TheVariants.{Done}
-use Rattle.floor_hub.specs.Connections.{connection_at}
+use Rattle.floor_hub.specs.Connections.{StayLive, connection_at}
 use Rattle.floor_hub.specs.Hub.{Hub, room_at}
 use Rattle.floor_hub.specs.Left.{LeftTaking}
 use Rattle.floor_hub.specs.Rooms.{RoomOf, by_broken, refusal_in, took_event}
-use Rattle.floor_hub.specs.StandsFor.{StandsFor}
+use Rattle.floor_hub.specs.StandsFor.{StandsFor, Stood}
 use Rattle.floor_hub.specs.Calls.{IsWant, Fails, Turns}
 use Rattle.floor_hub.specs.steps.Serving.{EventIn}
 use Rattle.floor_hub.specs.World.{turn, World}
@@ -26,12 +26,15 @@ use Rattle.floor_hub.proofs.Closing.{ended, good, stood}
 use Rattle.floor_hub.proofs.Outboxes.{grows-of, keeps-outboxes, outbox-room, were-same}
 use Rattle.floor_hub.proofs.hub.Hub.took.Goals as goal
 use Rattle.floor_room.specs.Ledger.{refusal}
+use Rattle.floor_hub.proofs.Attaching.{place-same}
+use Rattle.floor_hub.proofs.Naming.{Named, named-of-one}
+use Rattle.floor_hub.specs.Concerned.{Concerns}
 
 abbrev old : goal.After-took_at → Hub
-old c = record { rooms = c.self.inside.rooms.entries; connections = c.self.inside.connections; arrivals = c.self.inside.arrivals }
+old c = record { rooms = c.self.inside.rooms.entries; connections = c.self.inside.connections; arrivals = c.self.inside.arrivals; concerned = c.self.inside.concerned.numbers }
 
 abbrev new : goal.After-took_at → Hub
-new c = record { rooms = c.took_at.new.rooms.entries; connections = c.self.inside.connections; arrivals = c.self.inside.arrivals }
+new c = record { rooms = c.took_at.new.rooms.entries; connections = c.self.inside.connections; arrivals = c.self.inside.arrivals; concerned = c.took_at.new.concerned.numbers }
 
 there : (c : goal.After-took_at) (x : Connection) → connection_at (old c).connections c.args.number ≡ Some x → (r : Room) → room_at (old c) x.conference ≡ Some r →
     (s : Room) × (room_at (new c) x.conference ≡ Some s) × ((d : ℕ) → nat_eq x.conference d ≡ false → room_at (new c) d ≡ room_at (old c) d) × EventIn (Takes x.n c.args.k) r s c.took_at.result
@@ -47,15 +50,29 @@ turns c w st =
 
 room : (c : goal.After-took_at) → RoomOf by_broken (refusal_in c.took_at.result) (took_event c.args.k) (connection_at (old c).connections c.args.number) (old c) (new c)
 room c =
-    took-room c.args.number (old c) (new c) c.self.invariant.0 c.self.invariant.1 c.args.k c.took_at.result (connection_at c.self.inside.connections c.args.number) refl
+    took-room c.args.number (old c) (new c) c.self.invariant.stood.0 c.self.invariant.stood.1 c.args.k c.took_at.result (connection_at c.self.inside.connections c.args.number) refl
     c.took_at.ensures.connection.absent refl (there c)
 
-pub invariant_of-self : goal.invariant_of-self
-invariant_of-self c =
-    let w = c.self.invariant.0 in
-    stood (new c) w w (Took c.args.number c.args.k) (IsWant (turn w (Took c.args.number c.args.k)).answer) (λ v. Done) c.took_at.result (turns c w c.self.invariant.1)
+still_stood : (c : goal.After-took_at) → Stood (new c)
+still_stood c =
+    let w = c.self.invariant.stood.0 in
+    stood (new c) w w (Took c.args.number c.args.k) (IsWant (turn w (Took c.args.number c.args.k)).answer) (λ v. Done) c.took_at.result (turns c w c.self.invariant.stood.1)
     (keeps-outboxes (old c) (new c) (grows-of by_broken (refusal_in c.took_at.result) (took_event c.args.k) (connection_at (old c).connections c.args.number) (old c) (new c) (room c))
-    (were-same (old c).connections (new c).connections (λ k. refl)) c.self.invariant.2)
+    (were-same (old c).connections (new c).connections (λ k. refl)) c.self.invariant.stood.2)
+
+named : (c : goal.After-took_at) → Named c.took_at.new.concerned (old c) (new c)
+named c =
+    named-of-one by_broken (refusal_in c.took_at.result) (took_event c.args.k) c.self.inside.concerned c.took_at.new.concerned (old c) (new c) (connection_at (old c).connections c.args.number) (room c)
+    c.took_at.ensures.concerned refl (λ k. place-same (connection_at (old c).connections k) (connection_at (new c).connections k) refl) c.self.invariant.attached
+
+pub invariant_of-self : goal.invariant_of-self
+invariant_of-self c = record { stood = still_stood c; attached = (named c).0 }
+
+pub returns-clause-concerned : goal.returns-clause-concerned
+returns-clause-concerned c = subst (λ h. Concerns h (new c)) c.self.view_is (named c).1
+
+pub returns-clause-connections : goal.returns-clause-connections
+returns-clause-connections c = subst (λ h. StayLive h.connections (new c).connections) c.self.view_is (λ k. place-same (connection_at (old c).connections k) (connection_at (new c).connections k) refl)
 
 pub returns-clause-next : goal.returns-clause-next
 returns-clause-next c = λ w st. turns c w (subst (λ h. StandsFor h w) (sym c.self.view_is) st)
@@ -74,5 +91,5 @@ returns-clause-left c =
     subst (λ h. IfErr c.took_at.result (LeftTaking c.args.k (connection_at h.connections c.args.number) h (new c))) c.self.view_is
     (left-took c.args.number c.args.k (old c) (new c) refl c.took_at.result (connection_at c.self.inside.connections c.args.number) refl
     (λ none. let a = c.took_at.ensures.connection.absent none in (a.0, a.1))
-    (λ x is. let r = outbox-room (room_at (old c) x.conference) x.n (c.self.invariant.2 c.args.number x is) in
+    (λ x is. let r = outbox-room (room_at (old c) x.conference) x.n (c.self.invariant.stood.2 c.args.number x is) in
     let t = there c x is r.0 r.1 in (r.0, t.0, r.1, t.1, t.2, fails c x r.0 t.0 c.took_at.result t.3)) (λ k. refl))
