@@ -16,7 +16,7 @@ use Rattle.floor_message.specs.Shown.{AreShown, IsDescribed, IsNamed, IsShown, I
 use Rattle.floor_message.specs.declared.information.Info.{Info}
 use Rattle.floor_machine.specs.Shown.{Entry, info, info_of, named, described, floor_shown}
 use Rattle.floor_machine.specs.Reply.{infos_on}
-use Rattle.floor_machine.specs.steps.Telling.{AreInfos, floor_update, floors_changed, is_one_of}
+use Rattle.floor_machine.specs.steps.Telling.{AreInfos, floor_update}
 use Rattle.floor_machine.specs.steps.Fitting.{AreFloorsShown, HasNumbers, IsFit}
 
 -- what holds of all holds of the one that is found
@@ -153,11 +153,10 @@ pub infos_on_fit : (floor : ℕ) (infos : List Info) → AreShown infos → AreS
 infos_on_fit floor infos h = some_fit (λ i. list_any (λ f. f.0 == floor) i.floors) infos h
 
 -- the statuses of floors of the conference
-pub floors_changed_fit : (now : List Info) (changed : List ℕ) (floors : List Floor) → All IsFloor floors → AreShown now → AreFloorsShown (floors_changed now changed floors)
-floors_changed_fit now changed floors h shown =
-    All-map (λ u. IsShown u.tell) (floor_update now) (filter (is_one_of changed) floors)
-    (λ k d l. let own = All-filter (is_one_of changed) IsFloor floors h k d l in
-    (omega (arith, own.id), infos_on_fit (get_or (filter (is_one_of changed) floors) k d).id now shown))
+pub floors_fit : (now : List Info) (floors : List Floor) → All IsFloor floors → AreShown now → AreFloorsShown (map (floor_update now) floors)
+floors_fit now floors h shown =
+    All-map (λ u. IsShown u.tell) (floor_update now) floors
+    (λ k d l. let own = h k d l in (omega (arith, own.id), infos_on_fit (get_or floors k d).id now shown))
 
 -- what holds of all and of one more holds of all and it
 pub all_more : {A : Type 0} (P : A → Type 0) (xs : List A) (x : A) → All P xs → P x → All P (xs ++ x ∷ [])

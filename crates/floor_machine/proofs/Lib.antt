@@ -30,6 +30,8 @@ pub mod Staying
 pub mod Live
 pub mod Counting
 pub mod Sender
+pub mod Passed
+pub mod Cut
 pub mod Counted
 pub mod Reachable
 pub mod Reasoned
@@ -44,6 +46,7 @@ pub mod Moved
 pub mod Walk
 pub mod Skipped
 pub mod Marked
+pub mod Narrowed
 pub mod Courses
 pub mod Users
 pub mod Acts

@@ -1,5 +1,5 @@
 -- The state of one conference (RFC 8855, sections 3 and 4).
-use Rattle.std.specs.Prelude.{ℕ, ◌+◌, ◌==◌, ◌&&◌, Bool, true, false, List, [], ◌∷◌, find, filter, map, Option, is_some}
+use Rattle.std.specs.Prelude.{◌≡◌, ℕ, ◌+◌, ◌==◌, ◌&&◌, Bool, true, false, List, [], ◌∷◌, find, filter, map, Option, is_some}
 use Rattle.std.specs.List.{list_any}
 use Rattle.std.specs.Option.{option_map_or}
 use Rattle.floor_config.specs.Configuration.{Configuration, user_ids}
@@ -35,6 +35,10 @@ is_live s n = is_some (member_with s.members n)
 -- the numbers of the live members, in their order
 abbrev pub live_numbers : List Member → List ℕ
 live_numbers members = map (λ m. m.n) (filter (λ m. m.is_live) members)
+
+-- these are the numbers of the live members that are cut
+abbrev pub AreCut : List Member → List ℕ → Type 0
+AreCut members cut = (n : ℕ) → list_any (λ k. k == n) cut ≡ option_map_or (λ m. m.is_cut) (member_with members n) false
 
 -- the members are numbered from k on, in their order
 abbrev pub is_numbered_from : ℕ → List Member → Bool

@@ -1,9 +1,9 @@
 //! Which floor requests an event may have moved: those on the floors of its marks, where these are few.
 
-ghost use Rattle.std.specs.Prelude.{◌≡◌, ◌++◌, IfOk, IfSome, IsTrue, OnOk, map};
+ghost use Rattle.std.specs.Prelude.{◌≡◌, ◌↔◌, ◌≤◌, ◌++◌, IfOk, IfSome, IsTrue, OnOk, is_some, map};
 ghost use Rattle.std.specs.List.{flat_map};
 ghost use Rattle.floor_queue.specs.Queue.{are_ascending};
-ghost use Rattle.floor_machine.specs.steps.Renewing.{AreMoved};
+ghost use Rattle.floor_machine.specs.steps.Renewing.{AreMoved, is_narrowed, naming};
 
 use crate::course::{Course, Ended};
 use crate::marks::Mark;
@@ -21,6 +21,7 @@ pub(crate) fn few_affected(
     requests: &Requests,
     course: &Course,
 ) -> Result<Option<Numbers>, AllocError>
+    ensures few { IfOk result (λ few. is_some few ≡ is_narrowed requests.now.ongoing course.now) }
     ensures ascending { IfOk result (λ few. IfSome few (λ some. IsTrue (are_ascending some))) }
     ensures moved { IfOk result (λ few. IfSome few
         (AreMoved requests.now.ongoing course.now)) }
@@ -50,7 +51,9 @@ fn marked_floors(alloc: Global, marks: &[Mark]) -> Result<Vec<u16>, AllocError>
 }
 
 /// Whether so many requests at most name the floors, a request of two of them counted twice.
-fn are_few_on(requests: &Requests, floors: &[u16], most: usize) -> bool {
+fn are_few_on(requests: &Requests, floors: &[u16], most: usize) -> bool
+    ensures { IsTrue result ↔ (naming requests.now.ongoing floors.now ≤ most) }
+{
     let mut left = most;
     for floor in floors {
         let count = requests.count_on(*floor);

@@ -5,7 +5,7 @@ ghost use Rattle.std.specs.List.{list_any, position_or_len, slice_get};
 ghost use Rattle.std.specs.Option.{option_copied, option_map_or};
 ghost use Rattle.floor_machine.specs.Change as change;
 ghost use Rattle.floor_machine.specs.Conference.{is_numbered_from, joining, member_with};
-ghost use Rattle.floor_machine.specs.steps.Counting.{counted_at, is_told, is_told_at, taken_on};
+ghost use Rattle.floor_machine.specs.steps.Counting.{counted_at, is_told, is_told_at, taken_on, with_cut};
 
 use crate::member::Member;
 use floor_wire::Numbers;
@@ -20,16 +20,20 @@ const MAX_BACKLOG: usize = 1024;
 pub(crate) struct Joined {
     /// The members.
     pub members: Vec<Member>,
+    /// The numbers of the live ones that are cut, in no order.
+    pub cut: Vec<u32>,
     ghost numbered: { is_numbered_from 1 members.items ≡ true },
 }
 
 impl Joined {
     /// Nobody has joined. Takes no memory.
     pub(crate) fn new(alloc: Global) -> Joined
-        ensures { result.members.items ≡ [] }
+        ensures members { result.members.items ≡ [] }
+        ensures cut { result.cut.items ≡ [] }
     {
         Joined {
             members: Vec::new(alloc),
+            cut: Vec::new(alloc),
         }
     }
 
@@ -112,6 +116,7 @@ impl Joined {
         ensures next { OnOk result
             (self.new.members.items ≡ self.old.members.items ++ joining n user ∷ []) }
         ensures left { OnErr result (self.new.members.items ≡ self.old.members.items) }
+        ensures cut { self.new.cut.items ≡ self.old.cut.items }
     {
         self.members.push(Member {
             n,
@@ -126,8 +131,9 @@ impl Joined {
 
     /// The member with this number watches these floors from now on.
     pub(crate) fn watch(&mut self, n: u32, watched: Numbers)
-        ensures { self.new.members.items
+        ensures members { self.new.members.items
             ≡ map (change.watching n watched) self.old.members.items }
+        ensures cut { self.new.cut.items ≡ self.old.cut.items }
     {
         let place = self.place_of(n);
         if place < self.members.len() {
@@ -137,13 +143,38 @@ impl Joined {
 
     /// So many of the messages that were told to the member with this number are acknowledged.
     pub(crate) fn acknowledge(&mut self, n: u32, k: u32)
-        ensures { self.new.members.items
+        ensures members { self.new.members.items
             ≡ map (change.acknowledging n k) self.old.members.items }
+        ensures cut { self.new.cut.items ≡ self.old.cut.items }
     {
         let place = self.place_of(n);
         if place < self.members.len() {
             acknowledge(&mut self.members[place], k);
         }
+    }
+
+    /// Whether the member with this number is told so many messages, which are due to it.
+    fn is_told(&self, n: u32, due: usize) -> bool
+        ensures { result ≡ is_told_at due n self.now.members.items }
+    {
+        match self.find(n) {
+            Some(member) => is_told(member, due),
+            None => false,
+        }
+    }
+
+    /// Notes the member with this number where so many messages, which are due to it, cut it. After
+    /// an error nothing has changed.
+    pub(crate) fn note_cut(&mut self, n: u32, due: usize) -> Result<(), AllocError>
+        ensures members { self.new.members.items ≡ self.old.members.items }
+        ensures cut { OnOk result (self.new.cut.items
+            ≡ with_cut due n self.old.members.items self.old.cut.items) }
+        ensures left { OnErr result (self.new.cut.items ≡ self.old.cut.items) }
+    {
+        if 0 < due && !self.is_told(n, due) {
+            self.cut.push(n)?;
+        }
+        Ok(())
     }
 
     /// Whether the member with this number is told so many messages, which are due to it: then they
@@ -152,6 +183,7 @@ impl Joined {
         ensures value { result ≡ is_told_at due n self.old.members.items }
         ensures members { self.new.members.items
             ≡ map (counted_at due n) self.old.members.items }
+        ensures cut { self.new.cut.items ≡ self.old.cut.items }
     {
         let place = self.place_of(n);
         if place < self.members.len() {
@@ -163,7 +195,9 @@ impl Joined {
 
     /// The member with this number is no longer live.
     pub(crate) fn leave(&mut self, n: u32)
-        ensures { self.new.members.items ≡ map (change.leaving n) self.old.members.items }
+        ensures members { self.new.members.items
+            ≡ map (change.leaving n) self.old.members.items }
+        ensures cut { self.new.cut.items ≡ self.old.cut.items }
     {
         let place = self.place_of(n);
         if place < self.members.len() {

@@ -1,7 +1,7 @@
 //! The floor machine of one conference (RFC 8855, sections 8 to 13).
 
 ghost use Rattle.std.specs.Prelude.{◌≡◌, ◌+◌, ◌<◌, ◌≤◌, [], IfOk, IfErr, OnOk, length, count_by};
-ghost use Rattle.floor_machine.specs.Conference.{is_cut, live_numbers, opening};
+ghost use Rattle.floor_machine.specs.Conference.{AreCut, is_cut, live_numbers, opening};
 ghost use Rattle.floor_machine.specs.declared.event.Event.TheVariants.{AddUser, Join, Leave, Message, Took};
 ghost use Rattle.floor_machine.specs.Machine.{Applied, IsRefusedBy, Left, act_refusal, event_of_act, fault_refusal, is_backlog, join_refusal, leave_refusal, member_refusal, message_refusal, refusal_of, refusal_of_fault, took_refusal, unless_refused, whole};
 
@@ -105,8 +105,8 @@ impl From<AllocError> for Refusal {
 
 /// The floor machine of one conference: whole messages of its members in, parcels to them out.
 ///
-/// Readers, which take no memory: `joins`, `live_members`, `live_numbers`, `ongoing_requests`,
-/// `is_open`, `is_broken`, `is_cut`. Changes: `join`, `message`, `took`, `leave` and `admin`, each an event;
+/// Readers, which take no memory: `joins`, `live_members`, `live_numbers`, `cut_numbers`,
+/// `ongoing_requests`, `is_open`, `is_broken`, `is_cut`. Changes: `join`, `message`, `took`, `leave` and `admin`, each an event;
 /// `apply` takes any event by the one of its kind, and `run` many. A refused call changes nothing, but that `Memory`
 /// leaves the machine broken, and from then on it answers `Broken`.
 #[derive(Debug, Drop)]
@@ -171,6 +171,13 @@ impl Machine {
         ensures value { result.now ≡ live_numbers self.now.conference.members }
     {
         self.state.members.live_numbers()
+    }
+
+    /// The numbers of the live members that are cut, in no order. Takes no memory.
+    pub fn cut_numbers(&self) -> &[u32]
+        ensures value { AreCut self.now.conference.members result.now }
+    {
+        self.state.members.cut_numbers()
     }
 
     /// How many floor requests are ongoing. Takes no memory.

@@ -3,7 +3,7 @@
 ghost use Rattle.std.specs.Prelude.{◌≡◌, ◌==◌, ◌<◌, ◌+◌, ◌∷◌, ◌++◌, [], false, true, OnOk, OnErr, count_by, filter, find, length, map, not};
 ghost use Rattle.std.specs.Option.{option_copied, option_map_or};
 ghost use Rattle.floor_machine.specs.Change as change;
-ghost use Rattle.floor_machine.specs.Conference.{is_numbered_from, is_present, joining, live_numbers, member_with};
+ghost use Rattle.floor_machine.specs.Conference.{AreCut, is_numbered_from, is_present, joining, live_numbers, member_with};
 
 use crate::joined::Joined;
 use crate::member::Member;
@@ -11,8 +11,9 @@ use floor_wire::Numbers;
 use std::alloc::{AllocError, Global};
 use std::marker::Model;
 
-/// All that ever joined, in the order of joining, and the numbers of those that are live: what is
-/// done for each live member costs nothing for those that left. Contracts see the members alone.
+/// All that ever joined, in the order of joining, and the numbers of those that are live, and of those
+/// of them that are cut: what is done for each of these costs nothing for the others. Contracts see the
+/// members alone.
 #[derive(Debug, Drop)]
 pub(crate) struct Members {
     /// All that ever joined.
@@ -24,14 +25,13 @@ pub(crate) struct Members {
 impl Model for Members {
     ghost use Rattle.std.specs.Prelude.{List};
     ghost use Rattle.floor_machine.specs.declared.member.Member.{Member};
-    ghost use Rattle.std.specs.Prelude.{◌≡◌};
-    ghost use Rattle.floor_machine.specs.Conference.{live_numbers};
+    ghost use Rattle.floor_machine.specs.steps.Counting.{AreListed};
 
     ghost Value = { List Member };
 
     ghost view = { λ m. m.joined.members.items };
 
-    ghost invariant = { λ m. m.live.items ≡ live_numbers m.joined.members.items };
+    ghost invariant = { λ m. AreListed m.joined.members.items m.live.items m.joined.cut.items };
 }
 
 impl Members {
@@ -88,6 +88,13 @@ impl Members {
         self.joined.backlog(n)
     }
 
+    /// The numbers of the live ones that are cut, in no order.
+    pub(crate) fn cut_numbers(&self) -> &[u32]
+        ensures { AreCut self.now result.now }
+    {
+        self.joined.cut.as_slice()
+    }
+
     /// Whether the member with this number, live or not, is cut.
     pub(crate) fn is_cut(&self, n: u32) -> bool
         ensures { result ≡ option_map_or (λ m. m.is_cut) (find (λ m. m.n == n) self.now) false }
@@ -135,6 +142,7 @@ impl Members {
     {
         self.joined.leave(n);
         take_number(&mut self.live, n);
+        take_number(&mut self.joined.cut, n);
     }
 }
 
@@ -146,8 +154,9 @@ fn is_present(joined: &Joined, live: &[u32], user: u16) -> bool
     joined.is_of_any(live, user)
 }
 
-fn take_number(live: &mut Vec<u32>, n: u32)
-    ensures { live.new.items ≡ filter (λ k. not (k == n)) live.old.items }
+/// Takes the number of a member out of some.
+fn take_number(numbers: &mut Vec<u32>, n: u32)
+    ensures { numbers.new.items ≡ filter (λ k. not (k == n)) numbers.old.items }
 {
-    live.retain(|k| *k != n);
+    numbers.retain(|k| *k != n);
 }

@@ -1,10 +1,10 @@
 -- What is due to the members is told and counted, member by member.
-use Rattle.std.specs.Prelude.{ℕ, ◌+◌, ◌==◌, ◌&&◌, ◌||◌, nat_le, nat_lt, not, if◌then◌else◌, Bool, false, List, [], ◌∷◌, ◌++◌, find, length, map}
+use Rattle.std.specs.Prelude.{◌≡◌, ℕ, ◌+◌, ◌==◌, ◌&&◌, ◌||◌, nat_le, nat_lt, not, if◌then◌else◌, Bool, false, List, [], ◌∷◌, ◌++◌, find, length, map}
 use Rattle.std.specs.List.{flat_map}
 use Rattle.std.specs.Option.{option_map_or}
 use Rattle.floor_machine.specs.declared.member.Member.{Member}
 use Rattle.floor_machine.specs.Parcel.{Parcel}
-use Rattle.floor_machine.specs.Conference.{Conference, member_with}
+use Rattle.floor_machine.specs.Conference.{AreCut, Conference, live_numbers, member_with}
 use Rattle.floor_machine.specs.declared.event.Event.{Event}
 use Rattle.floor_machine.specs.Change.{settled}
 use Rattle.floor_machine.specs.Told.{due}
@@ -26,6 +26,19 @@ is_told_at many n members = option_map_or (is_told many) (find (λ m. m.n == n) 
 -- the member with this number, to which so many messages are due, and any other as it is
 abbrev pub counted_at : ℕ → ℕ → Member → Member
 counted_at many n m = if m.n == n then taken_on many m else m
+
+-- so many messages that are due to the member with this number cut it
+abbrev pub is_cut_by : ℕ → ℕ → List Member → Bool
+is_cut_by many n members = nat_lt 0 many && not (is_told_at many n members)
+
+-- the numbers of those that are cut, with this one where so many messages cut it
+abbrev pub with_cut : ℕ → ℕ → List Member → List ℕ → List ℕ
+with_cut many n members cut = if is_cut_by many n members then cut ++ n ∷ [] else cut
+
+-- These are the numbers of the live members, ascending, and of those of them that are cut.
+pub record AreListed (members : List Member) (numbers noted : List ℕ) : Type 0 where
+  pub live : numbers ≡ live_numbers members
+  pub cut : AreCut members noted
 
 -- what is due to the live member with this number
 abbrev pub due_at : (Member → List Parcel) → ℕ → List Member → List Parcel

@@ -1,9 +1,10 @@
 -- What is shown after an event, number by number: of some requests it is made anew, and of all others it stays.
-use Rattle.std.specs.Prelude.{◌≡◌, ℕ, ◌+◌, ◌==◌, ◌||◌, is_some, not, if◌then◌else◌, Bool, true, false, List, [], ◌∷◌, ◌++◌, drop, find, length, map, take, Option, Some, None, option_and_then, option_map}
+use Rattle.std.specs.Prelude.{◌≡◌, ℕ, ◌+◌, ◌/◌, ◌==◌, ◌&&◌, ◌||◌, nat_le, nat_lt, is_some, not, if◌then◌else◌, Bool, true, false, List, [], ◌∷◌, ◌++◌, count_by, drop, find, length, map, sum_by, take, Option, Some, None, option_and_then, option_map}
 use Rattle.std.specs.List.{flat_map, list_all, slice_get}
 use Rattle.std.specs.Option.{option_map_or}
 use Rattle.floor_config.specs.Configuration.{Configuration}
 use Rattle.floor_queue.specs.declared.request.Request.{Request}
+use Rattle.floor_queue.specs.Order.{names}
 use Rattle.floor_queue.specs.Queue.{is_one_of, request_at}
 use Rattle.floor_message.specs.declared.information.Info.{Info}
 use Rattle.floor_machine.specs.declared.course.Course.{Course}
@@ -81,6 +82,15 @@ is_still ongoing course number = option_map_or (λ r. not (is_marked course.mark
 abbrev pub AreMoved : List Request → Course → List ℕ → Type 0
 AreMoved ongoing course some =
     (number : ℕ) → is_some (entry_at course.ended.items ongoing number) ≡ true → (is_still ongoing course number || is_one_of number some) ≡ true
+
+-- how many requests name each of the floors, together: one of two of them counts twice
+abbrev pub naming : List Request → List ℕ → ℕ
+naming ongoing floors = sum_by (λ f. count_by (λ r. names r f) ongoing) floors
+
+-- An event looks at the requests on its marks' floors alone where it has more than 16 numbers and at most a quarter as many name these floors.
+abbrev pub is_narrowed : List Request → Course → Bool
+is_narrowed ongoing course =
+    nat_lt 16 (length course.numbers.items) && nat_le (naming ongoing (flat_map (λ m. m.floors) course.marks.items)) (length course.numbers.items / 4)
 
 -- of the event's numbers, each is one of these, or of a request that stays so
 abbrev pub AreSome : List Request → Course → List ℕ → Type 0

@@ -1,6 +1,6 @@
 -- What the steps of one event find, one after another, and the parcels that are made of it.
-use Rattle.std.specs.Prelude.{◌≡◌, All, ℕ, ◌==◌, ◌&&◌, ◌||◌, nat_lt, length, not, if◌then◌else◌, Bool, true, false, List, [], ◌∷◌, ◌++◌, map, filter, find, fold, max, Option, Some, None, option_map}
-use Rattle.std.specs.List.{list_all, list_any, flat_map}
+use Rattle.std.specs.Prelude.{◌≡◌, All, ℕ, ◌==◌, ◌&&◌, ◌||◌, not, if◌then◌else◌, Bool, false, List, [], ◌∷◌, ◌++◌, map, filter, find, count_by, fold, max, Option, Some, None, option_map}
+use Rattle.std.specs.List.{list_any, flat_map}
 use Rattle.std.specs.Option.{option_map_or}
 use Rattle.floor_config.specs.Configuration.{Configuration}
 use Rattle.floor_config.specs.declared.floors.Floor.{Floor}
@@ -112,10 +112,13 @@ update_of shown =
 abbrev pub is_of : ℕ → Update → Bool
 is_of user update = update.requester == user || update.beneficiary == user
 
--- the users of each of the updates are among these
+-- these numbers with one more, unless it is among them
+abbrev pub noting : ℕ → List ℕ → List ℕ
+noting user users = if list_any (λ u. u == user) users then users else users ++ user ∷ []
+
+-- the users of the updates are these, each once
 abbrev pub AreOf : List ℕ → List Update → Type 0
-AreOf users updates =
-    list_all (λ u. list_any (λ k. k == u.requester) users && list_any (λ k. k == u.beneficiary) users) updates ≡ true
+AreOf users updates = (k : ℕ) → count_by (λ u. u == k) users ≡ (if list_any (is_of k) updates then 1 else 0)
 
 -- the status of a request, if it is shown otherwise than before
 abbrev pub update_if : List Info → Shown → List Update
@@ -184,13 +187,10 @@ is_watched m update = list_any (λ floor. floor == update.floor) m.watched
 abbrev pub is_watched_by : List Member → FloorUpdate → Bool
 is_watched_by members update = list_any (λ m. m.is_live && is_watched m update) members
 
--- a live member watches the floor
-abbrev pub is_floor_watched : List Member → Floor → Bool
-is_floor_watched members f = list_any (λ m. m.is_live && list_any (λ floor. floor == f.id) m.watched) members
-
--- a live member watches some floor
-abbrev pub has_watcher : List Member → Bool
-has_watcher members = list_any (λ m. m.is_live && nat_lt 0 (length m.watched)) members
+-- the floor is one of the changed ones, and a live member watches it
+abbrev pub is_to_notice : List Member → List ℕ → Floor → Bool
+is_to_notice members changed f =
+    is_one_of changed f && list_any (λ m. m.is_live && list_any (λ floor. floor == f.id) m.watched) members
 
 -- a status of a changed request, to the member
 abbrev pub update_to : ℕ → Member → Update → Outgoing
@@ -230,6 +230,11 @@ noticed_to conference reply requests notices m =
     map (parcel m.n) (answered_to reply m.n)
     ++ map (λ u. parcel m.n (update_to conference m u)) (filter (is_due_to reply m) requests)
     ++ map (floor_notice_to m) (filter (is_noticed m) notices)
+
+-- the reply is to the member, a changed request is one of its user, or it watches a changed floor
+abbrev pub is_concerned : Option Replied → List Update → List FloorNotice → Member → Bool
+is_concerned reply requests notices m =
+    option_map_or (is_to m.n) reply false || list_any (is_noticed m) notices || list_any (is_of m.user) requests
 
 -- the parcels of the live members, in their order
 abbrev pub noticed_to_all : ℕ → Option Replied → List Update → List FloorNotice → List Member → List Parcel

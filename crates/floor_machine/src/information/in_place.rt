@@ -67,8 +67,8 @@ fn has_numbers(request: &Request)
 
 /// Whether all but the statuses is shown of the request as it is. Takes no memory.
 pub(crate) fn is_described(config: &Config, request: &Request, info: &Info) -> bool
-    ensures { IsTrue result → info.now ≡ record (info_with config.now request.now 0 [])
-        { overall = info.now.overall; floors = info.now.floors } }
+    ensures { IsTrue result ↔ (info.now ≡ record (info_with config.now request.now 0 [])
+        { overall = info.now.overall; floors = info.now.floors }) }
 {
     info.request == request.number
         && is_same_text(&info.reason, &request.reason)
@@ -87,7 +87,7 @@ fn is_priority(shown: Option<u8>, priority: u8) -> bool
 /// Whether the beneficiary is shown as it is.
 fn is_beneficiary(config: &Config, request: &Request, who: &Option<Who>) -> bool
     ensures { IsTrue result
-        → who.now ≡ Some (spec.named config.now request.now.beneficiary) }
+        ↔ (who.now ≡ Some (spec.named config.now request.now.beneficiary)) }
 {
     match who {
         Some(who) => is_named(config, request.beneficiary, who),
@@ -97,9 +97,9 @@ fn is_beneficiary(config: &Config, request: &Request, who: &Option<Who>) -> bool
 
 /// Whether the requester is shown where it isn't the beneficiary, and as it is.
 fn is_requester(config: &Config, request: &Request, who: &Option<Who>) -> bool
-    ensures { IsTrue result → who.now
+    ensures { IsTrue result ↔ (who.now
         ≡ (if request.now.requester == request.now.beneficiary
-        then None else Some (spec.named config.now request.now.requester)) }
+        then None else Some (spec.named config.now request.now.requester))) }
 {
     match who {
         None => request.requester == request.beneficiary,
@@ -111,7 +111,7 @@ fn is_requester(config: &Config, request: &Request, who: &Option<Who>) -> bool
 
 /// Whether the user is shown by the display name alone, as it is.
 fn is_named(config: &Config, id: u16, who: &Who) -> bool
-    ensures { IsTrue result → who.now ≡ spec.named config.now id }
+    ensures { IsTrue result ↔ (who.now ≡ spec.named config.now id) }
 {
     who.user == id && is_name(config, id, &who.name) && is_none(&who.uri)
 }
@@ -128,7 +128,7 @@ fn is_none(text: &Option<Octets>) -> bool
 /// Whether the display name is that of the user.
 fn is_name(config: &Config, id: u16, name: &Option<Octets>) -> bool
     ensures { IsTrue result
-        → name.now ≡ option_and_then (λ user. user.name) (user_with config.now id) }
+        ↔ (name.now ≡ option_and_then (λ user. user.name) (user_with config.now id)) }
 {
     match config.user(id) {
         Some(user) => is_text(name, &user.name),
@@ -138,7 +138,7 @@ fn is_name(config: &Config, id: u16, name: &Option<Octets>) -> bool
 
 /// Whether the octets are those of the text, or there is neither.
 fn is_text(octets: &Option<Octets>, text: &Option<Text>) -> bool
-    ensures { IsTrue result → octets.now ≡ text.now }
+    ensures { IsTrue result ↔ (octets.now ≡ text.now) }
 {
     match (octets, text) {
         (None, None) => true,

@@ -2,17 +2,18 @@
 //! 1,024 messages behind, and then it is cut.
 
 ghost use Rattle.std.specs.List.{flat_map};
-ghost use Rattle.std.specs.Prelude.{◌≡◌, ◌++◌, [], OnOk, map};
-ghost use Rattle.floor_machine.specs.Conference.{live_numbers};
+ghost use Rattle.std.specs.Option.{option_map_or};
+ghost use Rattle.std.specs.Prelude.{◌≡◌, ◌++◌, ◌&&◌, [], OnOk, false, map, not};
+ghost use Rattle.floor_machine.specs.Conference.{AreCut, live_numbers, member_with};
 ghost use Rattle.floor_machine.specs.steps.Counting.{counted_of, due_at, members_at, members_each, told_at, told_each, told_of_all};
-ghost use Rattle.floor_machine.specs.steps.Telling.{noticed_to, noticed_to_all};
+ghost use Rattle.floor_machine.specs.steps.Telling.{is_concerned, noticed_to, noticed_to_all};
 
 use crate::joined::Joined;
 use crate::members::Members;
 use crate::parcel::Parcel;
 use crate::replied::Replied;
 use crate::tell::changed::Updates;
-use crate::tell::parcels::{FloorNotice, put_member};
+use crate::tell::parcels::{FloorNotice, is_concerned, put_member};
 use std::alloc::{AllocError, Global};
 
 impl Members {
@@ -95,6 +96,8 @@ fn tell_each(
         ≡ members_each (noticed_to conference reply.now updates.now notices.now)
         live.now joined.old.members.items) }
     ensures live { live_numbers joined.new.members.items ≡ live_numbers joined.old.members.items }
+    ensures cut { AreCut joined.old.members.items joined.old.cut.items
+        → AreCut joined.new.members.items joined.new.cut.items }
 {
     for n in live {
         tell_one(alloc, out, conference, joined, *n, reply, updates, notices)?;
@@ -120,18 +123,40 @@ fn tell_one(
         ≡ members_at (noticed_to conference reply.now updates.now notices.now)
         n joined.old.members.items) }
     ensures live { live_numbers joined.new.members.items ≡ live_numbers joined.old.members.items }
+    ensures cut { AreCut joined.old.members.items joined.old.cut.items
+        → AreCut joined.new.members.items joined.new.cut.items }
 {
-    // Whoever is cut is told nothing, and costs nothing.
-    if joined.is_cut(n) {
+    // Whoever is cut, or whom the event doesn't concern, costs no more than this look.
+    if !may_be_told(joined, n, reply, updates, notices) {
         return Ok(());
     }
     let before = out.len();
     put_due(alloc, out, conference, joined, n, reply, updates, notices)?;
     let due = out.len() - before;
+    joined.note_cut(n, due)?;
     if !joined.take_on(n, due) {
         out.truncate(before);
     }
     Ok(())
+}
+
+/// Whether the member with this number is live and not cut, and the event concerns it: where the answer
+/// is no it is told nothing.
+fn may_be_told(
+    joined: &Joined,
+    n: u32,
+    reply: &Option<Replied>,
+    updates: &Updates,
+    notices: &[FloorNotice],
+) -> bool
+    ensures { result ≡ option_map_or
+        (λ m. not m.is_cut && is_concerned reply.now updates.now notices.now m)
+        (member_with joined.now.members.items n) false }
+{
+    match joined.find_live(n) {
+        Some(member) => !member.is_cut && is_concerned(member, reply, updates, notices),
+        None => false,
+    }
 }
 
 /// Puts what is due to the member with this number, if it is live.

@@ -1,7 +1,7 @@
 //! What an event changed, with the statuses that tell of it (RFC 8855, sections 10.1.2 and 12.1).
 
-ghost use Rattle.std.specs.List.{list_all, list_any};
-ghost use Rattle.std.specs.Prelude.{◌≡◌, ◌==◌, ◌++◌, ◌∷◌, ℕ, [], false, true, IfOk, OnOk, not};
+ghost use Rattle.std.specs.List.{list_any};
+ghost use Rattle.std.specs.Prelude.{◌≡◌, ◌==◌, ◌+◌, ◌<◌, ◌≤◌, ◌++◌, ◌∷◌, [], IfOk, OnOk, vec_capacity, vec_len};
 ghost use Rattle.floor_message.specs.Shown.{IsShown, IsShownInfo};
 ghost use Rattle.floor_message.specs.Written.{tell_bytes};
 ghost use Rattle.floor_message.specs.declared.tell.Tell.TheVariants.{FloorRequestStatus};
@@ -104,21 +104,24 @@ impl Updates {
           info = info;
         } ∷ []) }
     {
-        note_user(&mut self.users, request.requester)?;
-        note_user(&mut self.users, request.beneficiary)?;
+        // Room first, so that no user is noted without the status.
+        self.users.reserve(2)?;
+        self.items.reserve(1)?;
+        note_user(&mut self.users, request.requester);
+        note_user(&mut self.users, request.beneficiary);
         let update = Update {
             number: request.number,
             requester: request.requester,
             beneficiary: request.beneficiary,
             tell: SharedStatus::of(info),
         };
-        self.items.push(update)?;
+        self.items.push_reserved(update);
         Ok(())
     }
 
-    /// Whether some status may concern the user: none does where the answer is no.
+    /// Whether some status concerns the user.
     pub(crate) fn concern(&self, user: u16) -> bool
-        ensures { result ≡ false → list_all (λ u. not (telling.is_of user u)) self.now ≡ true }
+        ensures { result ≡ list_any (telling.is_of user) self.now }
     {
         has_user(&self.users, user)
     }
@@ -139,16 +142,16 @@ fn has_user(users: &[u16], user: u16) -> bool
 }
 
 /// Notes the user, unless it is noted already.
-fn note_user(users: &mut Vec<u16>, user: u16) -> Result<(), AllocError>
-    ensures noted { OnOk result (list_any (λ u. u == user) users.new.items ≡ true) }
-    ensures kept { (k : ℕ) → list_any (λ u. u == k) users.old.items ≡ true
-        → list_any (λ u. u == k) users.new.items ≡ true }
+fn note_user(users: &mut Vec<u16>, user: u16)
+    requires { vec_len users.old < vec_capacity users.old }
+    ensures value { users.new.items ≡ telling.noting user users.old.items }
+    ensures len { vec_len users.new ≤ vec_len users.old + 1 }
+    ensures capacity { vec_capacity users.new ≡ vec_capacity users.old }
 {
     let is_noted = has_user(users, user);
     if !is_noted {
-        users.push(user)?;
+        users.push_reserved(user);
     }
-    Ok(())
 }
 
 /// Whether one of the changed requests names the floor.

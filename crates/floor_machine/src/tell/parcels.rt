@@ -1,7 +1,8 @@
 //! Telling the members what an event changed (RFC 8855, sections 8 and 12.1).
 
 ghost use Rattle.std.specs.List.{list_any};
-ghost use Rattle.std.specs.Prelude.{◌≡◌, ◌++◌, ◌∷◌, [], All, IfOk, OnErr, OnOk, filter, map};
+ghost use Rattle.std.specs.Option.{option_map_or};
+ghost use Rattle.std.specs.Prelude.{◌≡◌, ◌++◌, ◌∷◌, [], All, IfOk, OnErr, OnOk, false, filter, map};
 ghost use Rattle.floor_config.specs.Configuration.{IsFloor};
 ghost use Rattle.floor_message.specs.Shown.{AreShown, IsShown};
 ghost use Rattle.floor_machine.specs.Journal.{parcel};
@@ -9,13 +10,13 @@ ghost use Rattle.floor_machine.specs.Told.{is_status_of};
 ghost use Rattle.floor_machine.specs.steps.Fitting.{AreFloorsShown};
 ghost use Rattle.floor_machine.specs.steps.Counting.{counted_all, counted_of, told_of_all};
 ghost use Rattle.floor_machine.specs.steps.Serving.{IsAtRest, conference_of};
-ghost use Rattle.floor_machine.specs.steps.Telling.{answered, answered_to, floor_notice, floor_notice_to, floor_update, floors_changed, is_answered, is_due_to, is_noticed, is_watched_by, noticed_to, parcels_to_all, update_to};
+ghost use Rattle.floor_machine.specs.steps.Telling.{answered, answered_to, floor_notice, floor_notice_to, floor_update, floors_changed, is_answered, is_concerned, is_due_to, is_noticed, is_to, is_watched_by, noticed_to, parcels_to_all, update_to};
 
 use crate::conference::State;
 use crate::member::Member;
 use crate::parcel::Parcel;
 use crate::replied::Replied;
-use crate::tell::changed::{SharedStatus, Update, Updates, is_changed};
+use crate::tell::changed::{SharedStatus, Update, Updates};
 use crate::tell::renewing::Changes;
 use crate::tell::watching::{watched_floors, watches};
 use floor_config::Floor;
@@ -65,8 +66,8 @@ impl State {
         // At most 256 requests are ongoing.
         let _ongoing = self.requests.ongoing();
         let conference = self.config.conference();
-        let floors = watched_floors(alloc, &self.config, &self.members)?;
-        let notices = floor_notices(alloc, conference, &floors, &changes.floors, &self.shown)?;
+        let floors = watched_floors(alloc, &self.config, &self.members, &changes.floors)?;
+        let notices = floor_notices(alloc, conference, &floors, &self.shown)?;
         let mut parcels = Vec::new(alloc);
         self.members.tell(
             alloc,
@@ -115,6 +116,36 @@ pub(crate) fn put_behind(out: &mut Vec<Parcel>, mut parcels: Vec<Parcel>) -> Res
         return Ok(());
     }
     out.append(&mut parcels)
+}
+
+/// Whether the event concerns the member: the reply is to it, a changed request is one of its user, or
+/// it watches a changed floor. To any other nothing is due.
+pub(crate) fn is_concerned(
+    member: &Member,
+    reply: &Option<Replied>,
+    updates: &Updates,
+    notices: &[FloorNotice],
+) -> bool
+    ensures { result ≡ is_concerned reply.now updates.now notices.now member.now }
+{
+    is_reply_to(reply, member.n) || watches_any(member, notices) || updates.concern(member.user)
+}
+
+/// Whether the reply is to the member with this number.
+fn is_reply_to(reply: &Option<Replied>, n: u32) -> bool
+    ensures { result ≡ option_map_or (is_to n) reply.now false }
+{
+    match reply {
+        Some(reply) => reply.n == n,
+        None => false,
+    }
+}
+
+/// Whether the member watches one of the changed floors.
+fn watches_any(member: &Member, notices: &[FloorNotice]) -> bool
+    ensures { result ≡ list_any (is_noticed member.now) notices.now }
+{
+    notices.iter().any(|notice| watches(member, notice.floor))
 }
 
 /// Puts all that is for the member.
@@ -229,27 +260,23 @@ fn put_floor_notice(
     Ok(())
 }
 
-/// The statuses of those of these floors that are among the changed ones, as they are written. Each
-/// is spelled once, however many watch the floor.
+/// The statuses of these floors, as they are written. Each is spelled once, however many watch the
+/// floor.
 fn floor_notices(
     alloc: Global,
     conference: u32,
     floors: &[Floor],
-    changed: &[u16],
     now: &[SharedInfo],
 ) -> Result<Vec<FloorNotice>, AllocError>
     requires floors { All IsFloor floors.now }
     requires shown { AreShown now.now }
     ensures value { IfOk result (λ notices. notices.items
-        ≡ map (floor_notice conference) (floors_changed now.now changed.now floors.now)) }
-    ensures shown { OnOk result
-        (AreFloorsShown (floors_changed now.now changed.now floors.now)) }
+        ≡ map (λ f. floor_notice conference (floor_update now.now f)) floors.now) }
+    ensures shown { OnOk result (AreFloorsShown (map (floor_update now.now) floors.now)) }
 {
     let mut notices = Vec::new(alloc);
     for floor in floors {
-        if is_changed(changed, floor.id) {
-            write_floor_notice(alloc, &mut notices, conference, floor, now)?;
-        }
+        write_floor_notice(alloc, &mut notices, conference, floor, now)?;
     }
     Ok(notices)
 }

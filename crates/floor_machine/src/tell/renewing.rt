@@ -1,7 +1,7 @@
 //! What is shown after an event: of the requests that it ended, changed or may have moved it is made
 //! anew, and of all others it stays (RFC 8855, sections 10.1.2 and 12.1).
 
-ghost use Rattle.std.specs.Prelude.{◌≡◌, ◌==◌, ◌+◌, ◌++◌, ◌∷◌, ◌≤◌, ◌<◌, ℕ, [], true, false, All, drop, find, get_or, length, nat_lt, take, IfOk, IsSomeAnd, IsTrue, OnOk, Some, None};
+ghost use Rattle.std.specs.Prelude.{◌≡◌, ◌↔◌, ◌==◌, ◌+◌, ◌++◌, ◌∷◌, ◌≤◌, ◌<◌, ℕ, [], true, false, All, drop, find, get_or, length, nat_lt, take, IfOk, IsSomeAnd, IsTrue, OnOk, Some, None};
 ghost use Rattle.std.specs.Option.{option_copied};
 ghost use Rattle.floor_queue.specs.Queue.{are_ascending, request_at};
 ghost use Rattle.floor_message.specs.Shown.{IsShownInfo};
@@ -241,7 +241,7 @@ fn show_at(
 
 /// Whether the request stands at the place, and all but its statuses is shown as it is.
 fn is_described_at(ongoing: &OngoingRequest<'_>, infos: &[SharedInfo], place: usize) -> bool
-    ensures { IsTrue result → IsSomeAnd
+    ensures { IsTrue result ↔ IsSomeAnd
         (info_here infos.now place ongoing.now.request.now.number) (λ i. i
         ≡ record (info_with ongoing.now.settled.config.now ongoing.now.request.now 0 [])
         { overall = i.overall; floors = i.floors }) }

@@ -1,14 +1,15 @@
 //! Who watches which floors (RFC 8855, section 12.1).
 
-ghost use Rattle.std.specs.Prelude.{◌≡◌, ◌==◌, ◌&&◌, All, IfOk, false, filter, length, nat_lt};
+ghost use Rattle.std.specs.Prelude.{◌≡◌, ◌==◌, ◌&&◌, All, IfOk, false, filter};
 ghost use Rattle.std.specs.List.{list_any};
 ghost use Rattle.std.specs.Option.{option_map_or};
 ghost use Rattle.floor_config.specs.Configuration.{IsFloor};
 ghost use Rattle.floor_machine.specs.Conference.{member_with};
-ghost use Rattle.floor_machine.specs.steps.Telling.{has_watcher, is_floor_watched};
+ghost use Rattle.floor_machine.specs.steps.Telling.{is_to_notice};
 
 use crate::member::Member;
 use crate::members::Members;
+use crate::tell::changed::is_changed;
 use floor_config::{Config, Floor};
 use std::alloc::{AllocError, Global};
 
@@ -51,60 +52,40 @@ pub(crate) fn is_watched(members: &Members, floor: u16) -> bool
     is_seen_by_any(members, members.live_numbers(), floor)
 }
 
-/// Whether the live member with this number watches some floor.
-fn has_watched(members: &Members, n: u32) -> bool
-    ensures { result ≡ option_map_or (λ m. nat_lt 0 (length m.watched))
-        (member_with members.now n) false }
+/// Whether the floor is one of the changed ones, and a live member watches it. Of no other floor it is
+/// asked who watches it.
+fn is_to_notice(members: &Members, changed: &[u16], floor: &Floor) -> bool
+    ensures { result ≡ is_to_notice members.now changed.now floor.now }
 {
-    match members.get(n) {
-        Some(member) => 0 < member.watched.as_slice().len(),
-        None => false,
-    }
-}
-
-/// Whether one of the live members with these numbers watches some floor.
-fn have_watched(members: &Members, numbers: &[u32]) -> bool
-    ensures { result ≡ list_any (λ n. option_map_or (λ m. nat_lt 0 (length m.watched))
-        (member_with members.now n) false) numbers.now }
-{
-    numbers.iter().any(|n| has_watched(members, *n))
-}
-
-/// Whether a live member watches some floor.
-fn has_watcher(members: &Members) -> bool
-    ensures { result ≡ has_watcher members.now }
-{
-    have_watched(members, members.live_numbers())
+    is_changed(changed, floor.id) && is_watched(members, floor.id)
 }
 
 fn pick_watched(
     alloc: Global,
     members: &Members,
+    changed: &[u16],
     floors: &[Floor],
 ) -> Result<Vec<Floor>, AllocError>
-    ensures { IfOk result (λ watched.
-        watched.items ≡ filter (is_floor_watched members.now) floors.now) }
+    ensures { IfOk result (λ watched. watched.items
+        ≡ filter (is_to_notice members.now changed.now) floors.now) }
 {
     floors
         .iter()
-        .filter(|floor| is_watched(members, floor.id))
+        .filter(|floor| is_to_notice(members, changed, floor))
         .copied()
         .collect(alloc)
 }
 
-/// The floors that a live member watches, in the order of the configuration.
+/// Those of the changed floors that a live member watches, in the order of the configuration.
 pub(crate) fn watched_floors(
     alloc: Global,
     config: &Config,
     members: &Members,
+    changed: &[u16],
 ) -> Result<Vec<Floor>, AllocError>
-    ensures value { IfOk result (λ floors.
-        floors.items ≡ filter (is_floor_watched members.now) config.now.floors) }
+    ensures value { IfOk result (λ floors. floors.items
+        ≡ filter (is_to_notice members.now changed.now) config.now.floors) }
     ensures kept { IfOk result (λ floors. All IsFloor floors.items) }
 {
-    let floors = config.floors();
-    if has_watcher(members) {
-        return pick_watched(alloc, members, floors);
-    }
-    Ok(Vec::new(alloc))
+    pick_watched(alloc, members, changed, config.floors())
 }

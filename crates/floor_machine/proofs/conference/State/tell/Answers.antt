@@ -1,12 +1,16 @@
-use Rattle.std.proofs.Common.{◌≡◌, ℕ, List, ◌++◌, ap, map, rules, ◌∙◌}
+use Rattle.std.proofs.Common.{◌≡◌, ℕ, List, ◌++◌, ap, map, rules, subst, sym, ◌∙◌}
 use Rattle.std.specs.Prelude.{filter}
+use Rattle.std.proofs.lemmas.Simd.{map-map}
+use Rattle.floor_config.specs.declared.floors.Floor.{Floor}
+use Rattle.floor_message.specs.declared.information.Info.{Info}
 use Rattle.floor_machine.specs.declared.member.Member.{Member}
+use Rattle.floor_machine.specs.steps.Fitting.{AreFloorsShown}
 use Rattle.floor_machine.specs.declared.tell.parcels.FloorNotice.{FloorNotice}
 use Rattle.floor_machine.specs.Parcel.{Parcel}
 use Rattle.floor_machine.specs.steps.Counting.{counted_of, told_of_all}
 use Rattle.floor_machine.specs.steps.Outcomes.{FloorUpdate}
 use Rattle.floor_machine.specs.steps.Serving.{conference_of}
-use Rattle.floor_machine.specs.steps.Telling.{floor_notice, floors_changed, is_floor_watched, is_watched_by, noticed_to_all}
+use Rattle.floor_machine.specs.steps.Telling.{floor_notice, floor_update, floors_changed, is_to_notice, is_watched_by, noticed_to_all}
 use Rattle.floor_machine.proofs.Asked.{on_ok, on_ok_all}
 use Rattle.floor_machine.proofs.Noticed.{noticed-all}
 use Rattle.floor_machine.proofs.Watched.{updates-watched}
@@ -18,10 +22,12 @@ returns-clause-told c =
     let reply = c.args.reply.now in
     let updates = c.args.changes.now.updates in
     let fs : List FloorUpdate = floors_changed s.shown.items c.args.changes.now.floors.items s.config.floors in
-    let watched : List FloorUpdate = floors_changed s.shown.items c.args.changes.now.floors.items (filter (is_floor_watched s.members) s.config.floors) in
+    let floors : List Floor = filter (is_to_notice s.members c.args.changes.now.floors.items) s.config.floors in
+    let watched : List FloorUpdate = map (floor_update s.shown.items) floors in
     let notices : List FloorNotice = map (floor_notice s.config.conference) (filter (is_watched_by s.members) fs) in
     let is : c.conference-conference.result ≡ s.config.conference = search rules in
-    let are : c.deref-4.result.now ≡ map (floor_notice c.conference-conference.result) watched = search rules in
+    let each : c.deref-4.result.now ≡ map (λ f. floor_notice c.conference-conference.result (floor_update s.shown.items f)) floors = search rules in
+    let are : c.deref-4.result.now ≡ map (floor_notice c.conference-conference.result) watched = each ∙ sym (map-map (floor_notice c.conference-conference.result) (floor_update s.shown.items) floors) in
     let all : c.deref-4.result.now ≡ notices =
     are
     ∙ ap (λ (n : ℕ). map (floor_notice n) watched) is
@@ -41,10 +47,12 @@ returns-clause-counted c =
     let reply = c.args.reply.now in
     let updates = c.args.changes.now.updates in
     let fs : List FloorUpdate = floors_changed s.shown.items c.args.changes.now.floors.items s.config.floors in
-    let watched : List FloorUpdate = floors_changed s.shown.items c.args.changes.now.floors.items (filter (is_floor_watched s.members) s.config.floors) in
+    let floors : List Floor = filter (is_to_notice s.members c.args.changes.now.floors.items) s.config.floors in
+    let watched : List FloorUpdate = map (floor_update s.shown.items) floors in
     let notices : List FloorNotice = map (floor_notice s.config.conference) (filter (is_watched_by s.members) fs) in
     let is : c.conference-conference.result ≡ s.config.conference = search rules in
-    let are : c.deref-4.result.now ≡ map (floor_notice c.conference-conference.result) watched = search rules in
+    let each : c.deref-4.result.now ≡ map (λ f. floor_notice c.conference-conference.result (floor_update s.shown.items f)) floors = search rules in
+    let are : c.deref-4.result.now ≡ map (floor_notice c.conference-conference.result) watched = each ∙ sym (map-map (floor_notice c.conference-conference.result) (floor_update s.shown.items) floors) in
     let all : c.deref-4.result.now ≡ notices =
     are
     ∙ ap (λ (n : ℕ). map (floor_notice n) watched) is
@@ -59,4 +67,10 @@ returns-clause-counted c =
 pub returns-clause-floors_shown : goal.returns-clause-floors_shown
 returns-clause-floors_shown c =
     let s = c.args.self.now in
-    rw (← updates-watched s.shown.items c.args.changes.now.floors.items s.members s.config.floors) (search rules)
+    let changed = c.args.changes.now.floors.items in
+    let same : map (floor_update c.deref-3.result.now) c.deref-2.result.now ≡ filter (is_watched_by s.members) (floors_changed s.shown.items changed s.config.floors) =
+    ap (λ (is : List Info). map (floor_update is) c.deref-2.result.now) c.deref-3.ensures.value
+    ∙ ap (map (floor_update s.shown.items))
+    (c.deref-2.ensures.value ∙ c.in_ok-floors.ensures.value ∙ ap (λ (ns : List ℕ). filter (is_to_notice s.members ns) s.config.floors) c.deref.ensures.value)
+    ∙ updates-watched s.shown.items changed s.members s.config.floors in
+    on_ok_all c.put_behind.result (subst AreFloorsShown same c.in_ok-notices.ensures.shown)

@@ -6,15 +6,15 @@ use Rattle.floor_machine.proofs.Live.{changed-there, none-changed, numbered-map}
 use Rattle.floor_machine.proofs.Sent.{n-acknowledging}
 use Rattle.floor_machine.proofs.joined.Joined.acknowledge.Goals as goal
 
-pub returns-then-place-len : goal.returns-then-place-len
-returns-then-place-len c =
+pub returns-then-place-len-clause-members : goal.returns-then-place-len-clause-members
+returns-then-place-len-clause-members c =
     let ms = c.args.self.now.members.items in
     let within : c.place_of-place.result < length ms = search rules in
     ap (λ (m : Member). set ms c.place_of-place.result m) c.acknowledge.ensures
     ∙ changed-there c.args.n c.place_of-place.result (λ m. record m { backlog = m.backlog - c.args.k }) ms c.index_mut.result.now c.args.self.now.numbered c.place_of-place.ensures within c.index_mut.ensures.value
 
-pub returns-else-place-len : goal.returns-else-place-len
-returns-else-place-len c =
+pub returns-else-place-len-clause-members : goal.returns-else-place-len-clause-members
+returns-else-place-len-clause-members c =
     let ms = c.args.self.now.members.items in
     sym (none-changed c.args.n (λ m. record m { backlog = m.backlog - c.args.k }) ms (search rules))
 

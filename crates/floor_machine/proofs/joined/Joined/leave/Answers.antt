@@ -4,14 +4,14 @@ use Rattle.floor_machine.proofs.Live.{changed-there, none-changed}
 use Rattle.floor_machine.proofs.Sent.{numbered-leaving}
 use Rattle.floor_machine.proofs.joined.Joined.leave.Goals as goal
 
-pub returns-then-place-len : goal.returns-then-place-len
-returns-then-place-len c =
+pub returns-then-place-len-clause-members : goal.returns-then-place-len-clause-members
+returns-then-place-len-clause-members c =
     let ms = c.args.self.now.members.items in
     let within : c.place_of-place.result < length ms = search rules in
     changed-there c.args.n c.place_of-place.result (λ m. record m { is_live = false }) ms c.index_mut.result.now c.args.self.now.numbered c.place_of-place.ensures within c.index_mut.ensures.value
 
-pub returns-else-place-len : goal.returns-else-place-len
-returns-else-place-len c =
+pub returns-else-place-len-clause-members : goal.returns-else-place-len-clause-members
+returns-else-place-len-clause-members c =
     let ms = c.args.self.now.members.items in
     sym (none-changed c.args.n (λ m. record m { is_live = false }) ms (search rules))
 

@@ -2,6 +2,7 @@ use Rattle.std.proofs.Common.{◌≡◌, ◌∙◌, ◌++◌, ◌∷◌, [], ℕ
 use Rattle.std.specs.Prelude.{is_ok}
 use Rattle.floor_machine.specs.declared.member.Member.{Member}
 use Rattle.floor_machine.specs.Conference.{joining, live_numbers}
+use Rattle.floor_machine.proofs.Cut.{cut-joining, still-cut}
 use Rattle.floor_machine.proofs.Live.{live-push}
 use Rattle.floor_machine.proofs.members.Members.join.Goals as goal
 
@@ -12,5 +13,7 @@ invariant_of-self-2 c =
     let ok : is_ok c.push-pushed.result ≡ true = c.push-pushed.ensures.succeeds (omega (arith, c.in_ok-reserve.ensures.ok)) in
     let items : c.push-pushed.new.self.items ≡ c.self.inside.live.items ++ c.args.n ∷ [] =
     c.push-pushed.ensures.items ∙ rw ok (ap (λ (ns : List ℕ). ns ++ c.args.n ∷ []) c.in_ok-reserve.ensures.items) in
-    items ∙ ap (λ (ns : List ℕ). ns ++ c.args.n ∷ []) c.self.invariant
-    ∙ sym (live-push ms m refl) ∙ ap live_numbers (sym c.in_ok-push.ensures.next)
+    record {
+      live = items ∙ ap (λ (ns : List ℕ). ns ++ c.args.n ∷ []) c.self.invariant.live ∙ sym (live-push ms m refl) ∙ ap live_numbers (sym c.in_ok-push.ensures.next);
+      cut = still-cut c.in_ok-push.ensures.next c.push.ensures.cut (cut-joining c.args.n c.args.user ms c.self.inside.joined.cut.items c.self.invariant.cut);
+    }

@@ -1,11 +1,16 @@
-use Rattle.std.proofs.Common.{ap, ◌∙◌, sym}
+use Rattle.std.proofs.Common.{ℕ, List, ap, ◌∙◌, sym}
 use Rattle.std.specs.Prelude.{◌==◌, filter, not}
 use Rattle.floor_machine.specs.Conference.{live_numbers}
 use Rattle.floor_machine.proofs.Live.{live-leaving}
+use Rattle.floor_machine.proofs.Cut.{cut-leaving, still-cut}
 use Rattle.floor_machine.proofs.members.Members.leave.Goals as goal
 
 pub invariant_of-self : goal.invariant_of-self
 invariant_of-self c =
     let ms = c.self.inside.joined.members.items in
-    c.take_number.ensures ∙ ap (filter (λ k. not (k == c.args.n))) c.self.invariant
-    ∙ sym (live-leaving c.args.n ms) ∙ ap live_numbers (sym c.leave.ensures)
+    let cut : List ℕ = c.self.inside.joined.cut.items in
+    record {
+      live = c.take_number.ensures ∙ ap (filter (λ k. not (k == c.args.n))) c.self.invariant.live ∙ sym (live-leaving c.args.n ms) ∙ ap live_numbers (sym c.leave.ensures.members);
+      cut = still-cut c.leave.ensures.members (c.take_number-2.ensures ∙ ap (filter (λ k. not (k == c.args.n))) c.leave.ensures.cut)
+          (cut-leaving c.args.n ms cut c.self.invariant.cut);
+    }

@@ -7,5 +7,5 @@ use Rattle.floor_machine.proofs.members.Members.live.Goals as goal
 pub returns : goal.returns
 returns c =
     let listed : c.len.result ≡ length c.self.inside.live.items = search rules in
-    listed ∙ ap length c.self.invariant ∙ live-count c.self.inside.joined.members.items
+    listed ∙ ap length c.self.invariant.live ∙ live-count c.self.inside.joined.members.items
     ∙ ap (count_by (λ (m : Member). m.is_live)) c.self.view_is

@@ -1,5 +1,5 @@
 use Rattle.std.proofs.Common.{◌≡◌, ◌++◌, drop}
-use Rattle.floor_machine.specs.Conference.{live_numbers}
+use Rattle.floor_machine.specs.Conference.{AreCut, live_numbers}
 use Rattle.floor_machine.specs.steps.Counting.{members_each, told_each}
 use Rattle.floor_machine.specs.steps.Telling.{noticed_to}
 use Rattle.floor_machine.proofs.tell.backlog.tell_each.Given as goal
@@ -12,4 +12,5 @@ invariant-loop-n l = record {
   members : members_each (noticed_to l.conference l.reply l.updates l.notices) (drop l.n-index l.live) l.joined.members.items
       ≡ members_each (noticed_to l.conference l.reply l.updates l.notices) l.live l.fn.joined.members.items;
   live : live_numbers l.joined.members.items ≡ live_numbers l.fn.joined.members.items;
+  cut : AreCut l.fn.joined.members.items l.fn.joined.cut.items → AreCut l.joined.members.items l.joined.cut.items;
 }

@@ -30,4 +30,4 @@ returns-then-not-concern c =
     let member = c.args.member.now in
     let made = λ (u : Update). parcel member.n (update_to c.args.conference member u) in
     sym (append-nil c.args.out.now.items)
-    ∙ ap (λ (us : List Update). c.args.out.now.items ++ map made us) (sym (none-due c.args.reply.now member c.args.updates.now (c.concern.ensures c.if-not-concern.true)))
+    ∙ ap (λ (us : List Update). c.args.out.now.items ++ map made us) (sym (none-due c.args.reply.now member c.args.updates.now (sym c.concern.ensures ∙ c.if-not-concern.true)))

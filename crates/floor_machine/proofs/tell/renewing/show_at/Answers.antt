@@ -27,7 +27,7 @@ pub index_mut-requires : goal.index_mut-requires
 index_mut-requires c =
     let r = c.args.ongoing.now.request.now in
     let infos : List Info = c.args.infos.now.items in
-    let found = stands c.args.ongoing.now.settled.config.now r c.is_described_at.result infos c.deref.result.now c.args.place c.deref.ensures.value c.if-is_described_at.true c.is_described_at.ensures in
+    let found = stands c.args.ongoing.now.settled.config.now r c.is_described_at.result infos c.deref.result.now c.args.place c.deref.ensures.value c.if-is_described_at.true c.is_described_at.ensures.0 in
     let inside : c.args.place < length infos = here_within (λ i. i.request == r.number) infos c.args.place found.value found.is in
     omega (arith, inside, ap (λ (is : List Info). length is) c.deref.ensures.value, c.deref.ensures.len)
 
@@ -36,7 +36,7 @@ update-requires c =
     let config = c.args.ongoing.now.settled.config.now in
     let r = c.args.ongoing.now.request.now in
     let infos : List Info = c.args.infos.now.items in
-    let found = stands config r c.is_described_at.result infos c.deref.result.now c.args.place c.deref.ensures.value c.if-is_described_at.true c.is_described_at.ensures in
+    let found = stands config r c.is_described_at.result infos c.deref.result.now c.args.place c.deref.ensures.value c.if-is_described_at.true c.is_described_at.ensures.0 in
     let same : found.value ≡ c.index_mut.result.now =
     sym (c.index_mut.ensures.value ∙ get_or_from_slice_get infos c.args.place found.value c.index_mut.result.now (here_there (λ i. i.request == r.number) infos c.args.place found.value found.is)) in
     subst (IsDescribed config r) same found.holds
@@ -47,7 +47,7 @@ returns-then-is_described_at-clause-infos c =
     let r = c.args.ongoing.now.request.now in
     let infos : List Info = c.args.infos.now.items in
     let now : Info = info config c.args.ongoing.now.settled.requests.now.ongoing r in
-    let found = stands config r c.is_described_at.result infos c.deref.result.now c.args.place c.deref.ensures.value c.if-is_described_at.true c.is_described_at.ensures in
+    let found = stands config r c.is_described_at.result infos c.deref.result.now c.args.place c.deref.ensures.value c.if-is_described_at.true c.is_described_at.ensures.0 in
     on_ok c.update.result (λ is. ap (λ (x : Info). set infos c.args.place x) is ∙ put-stead (λ i. i.request == r.number) infos c.args.place now found.value found.is) c.update.ensures.now
 
 pub returns-then-is_described_at-clause-changed : goal.returns-then-is_described_at-clause-changed
@@ -56,7 +56,7 @@ returns-then-is_described_at-clause-changed c =
     let r = c.args.ongoing.now.request.now in
     let infos : List Info = c.args.infos.now.items in
     let now : Info = info config c.args.ongoing.now.settled.requests.now.ongoing r in
-    let found = stands config r c.is_described_at.result infos c.deref.result.now c.args.place c.deref.ensures.value c.if-is_described_at.true c.is_described_at.ensures in
+    let found = stands config r c.is_described_at.result infos c.deref.result.now c.args.place c.deref.ensures.value c.if-is_described_at.true c.is_described_at.ensures.0 in
     let same : c.index_mut.result.now ≡ found.value =
     c.index_mut.ensures.value ∙ get_or_from_slice_get infos c.args.place found.value c.index_mut.result.now (here_there (λ i. i.request == r.number) infos c.args.place found.value found.is) in
     let old : Some c.index_mut.result.now ≡ info_here infos c.args.place r.number = ap (λ (i : Info). Some i) same ∙ sym found.is in
