@@ -82,15 +82,17 @@ phase-is false b d h = ap (phase_of false) (h refl)
 
 -- how a ledger stands, by what its machine tells
 pub stands : (l : Ledger) (m : Machine) (live ongoing members requests events : ℕ) (phase : Phase) → IsLedger l m → live ≡ count_by (λ x. x.is_live) m.conference.members → ongoing ≡ length m.conference.ongoing →
-    ongoing ≤ 256 → (live < 4294967296 → members ≡ live) → (ongoing < 4294967296 → requests ≡ ongoing) → events ≡ length l.journal → phase ≡ phase_of l.is_broken m.conference.is_open →
+    ongoing ≤ 256 → (l.is_broken ≡ false → live < 4294967296 → members ≡ live) → (l.is_broken ≡ false → ongoing < 4294967296 → requests ≡ ongoing) → (l.is_broken ≡ true → members ≡ 0) → (l.is_broken ≡ true → requests ≡ 0) → events ≡ length l.journal → phase ≡ phase_of l.is_broken m.conference.is_open →
     IsStatus l (record { members = members; ongoing = requests; events = events; phase = phase })
-stands l m live ongoing members requests events phase k is_live is_ongoing few narrow narrow_ongoing is_events is_phase =
+stands l m live ongoing members requests events phase k is_live is_ongoing few narrow narrow_ongoing none none_ongoing is_events is_phase =
     record {
       phase = is_phase ∙ phase-is l.is_broken m.conference.is_open (conference_of l).is_open (λ h. ap (λ (x : Machine). x.conference.is_open) (k.whole h));
       events = is_events;
+      no_members = none;
+      none_ongoing = none_ongoing;
       members = λ h.
           let now : live ≡ count_by (λ x. x.is_live) (conference_of l).members = is_live ∙ ap (λ (x : Machine). count_by (λ y. y.is_live) x.conference.members) (k.whole h) in
           let bound : live < 4294967296 = omega (arith, now, count_by-le-length (λ x. x.is_live) (conference_of l).members, members-after (opening l.config) l.journal, k.journal.count) in
-          narrow bound ∙ now;
-      ongoing = λ h. narrow_ongoing (omega arith) ∙ is_ongoing ∙ ap (λ (x : Machine). length x.conference.ongoing) (k.whole h);
+          narrow h bound ∙ now;
+      ongoing = λ h. narrow_ongoing h (omega arith) ∙ is_ongoing ∙ ap (λ (x : Machine). length x.conference.ongoing) (k.whole h);
     }

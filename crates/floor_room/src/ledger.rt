@@ -1,7 +1,7 @@
 //! One conference with its journal.
 
-ghost use Rattle.std.specs.Prelude.{◌≡◌, false, IfErr, IfOk};
-ghost use Rattle.floor_machine.specs.Conference.{is_cut, live_numbers};
+ghost use Rattle.std.specs.Prelude.{◌≡◌, [], true, false, IfErr, IfOk};
+ghost use Rattle.floor_machine.specs.Conference.{AreCut, is_cut, live_numbers};
 ghost use Rattle.floor_machine.specs.Journal.{IsJournal};
 ghost use Rattle.floor_room.specs.Ledger.{Added, IsRefusedBy, Unadded, broken_off, closed, conference_of, new_ledger, refusal};
 ghost use Rattle.floor_room.specs.Status.{IsStatus};
@@ -15,8 +15,9 @@ use std::marker::Model;
 
 /// One conference with its journal: it hands the parcels of each event to its caller.
 ///
-/// Readers: `journal`, `closed` (why no event is taken), `status`, `is_cut`, `live_numbers`. Changes:
-/// `add`, which changes nothing where it refuses, but that `Memory` breaks the ledger off, and `break_off`.
+/// Readers: `journal`, `closed` (why no event is taken), `status`, `is_cut`, `live_numbers`,
+/// `cut_numbers`. Changes: `add`, which changes nothing where it refuses, but that `Memory` breaks the
+/// ledger off, and `break_off`.
 #[derive(Debug, Drop)]
 pub struct Ledger {
     config: Config,
@@ -92,29 +93,50 @@ impl Ledger {
         ensures value { IsStatus self.now result }
     {
         Status {
-            members: narrowed(self.machine.live_members()),
-            ongoing: narrowed(self.machine.ongoing_requests()),
+            members: narrowed(self.is_broken, self.machine.live_members()),
+            ongoing: narrowed(self.is_broken, self.machine.ongoing_requests()),
             events: self.journal.len() as u32,
             phase: phase_of(self.is_broken, self.machine.is_open()),
         }
     }
 
     /// Whether the member with this number is cut: it came to be more than 1,024 messages behind. Of a
-    /// number that never joined it is false, and of a ledger that is broken off nothing is said.
-    /// Takes no memory.
+    /// number that never joined it is false, and so it is where the ledger is broken off. Takes no
+    /// memory.
     pub fn is_cut(&self, n: u32) -> bool
         ensures value { self.now.is_broken ≡ false → result ≡ is_cut (conference_of self.now) n }
+        ensures broken { self.now.is_broken ≡ true → result ≡ false }
     {
+        if self.is_broken {
+            return false;
+        }
         self.machine.is_cut(n)
     }
 
-    /// The numbers of the live members, ascending; of a ledger that is broken off nothing is said.
-    /// Takes no memory.
+    /// The numbers of the live members, ascending; a ledger that is broken off has none. Takes no
+    /// memory.
     pub fn live_numbers(&self) -> &[u32]
         ensures value { self.now.is_broken ≡ false
             → result.now ≡ live_numbers (conference_of self.now).members }
+        ensures broken { self.now.is_broken ≡ true → result.now ≡ [] }
     {
+        if self.is_broken {
+            return &[];
+        }
         self.machine.live_numbers()
+    }
+
+    /// The numbers of the live members that are cut, in no order; a ledger that is broken off has none.
+    /// Takes no memory.
+    pub fn cut_numbers(&self) -> &[u32]
+        ensures value { self.now.is_broken ≡ false
+            → AreCut (conference_of self.now).members result.now }
+        ensures broken { self.now.is_broken ≡ true → result.now ≡ [] }
+    {
+        if self.is_broken {
+            return &[];
+        }
+        self.machine.cut_numbers()
     }
 
     /// Adds an event, where nothing refuses it, and gives the parcels that it calls for. A message

@@ -1,6 +1,6 @@
 //! One conference with its journal and its outboxes.
 
-ghost use Rattle.std.specs.Prelude.{◌≡◌, ◌+◌, false, IfErr, IfOk, OnOk, length, option_map};
+ghost use Rattle.std.specs.Prelude.{◌≡◌, ◌+◌, true, false, IfErr, IfOk, OnOk, length, option_map};
 ghost use Rattle.floor_machine.specs.declared.event.Event.TheVariants.{Join, Leave, Message, Took};
 ghost use Rattle.floor_machine.specs.Conference.{is_cut};
 ghost use Rattle.floor_machine.specs.Machine.{event_of_act};
@@ -82,11 +82,12 @@ impl Room {
     }
 
     /// Whether the member with this number is cut: it came to be more than 1,024 messages behind, and
-    /// is told nothing more. Of a number that never joined it is false, and of a broken room nothing
-    /// is said. Takes no memory.
+    /// is told nothing more. Of a number that never joined it is false, and so it is in a broken room.
+    /// Takes no memory.
     pub fn is_cut(&self, n: u32) -> bool
         ensures value { self.now.ledger.is_broken ≡ false
             → result ≡ is_cut (conference_of self.now.ledger) n }
+        ensures broken { self.now.ledger.is_broken ≡ true → result ≡ false }
     {
         self.ledger.is_cut(n)
     }

@@ -54,7 +54,7 @@ took 1 1 > Broken
 close > Broken
 take 1 > sent 20040007 00000001 0002000a 1e1c0001 24080001 0a040300 22080001 0a040300 1c04000a 08044000
 take 1 > none
-status > 1 1 2 broken";
+status > 0 0 2 broken";
 
 /// A conference that has ended takes nothing, and keeps what waits.
 const ENDED: &str = "\

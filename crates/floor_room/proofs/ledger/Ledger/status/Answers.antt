@@ -12,5 +12,6 @@ returns c =
     record {
       value = subst (λ (x : spec.Ledger). IsStatus x s) c.self.view_is
           (stands l c.self.inside.machine c.live_members.result c.ongoing_requests.result c.narrowed.result c.narrowed-2.result c.len.result c.phase_of.result c.self.invariant
-          c.live_members.ensures.value c.ongoing_requests.ensures.value c.ongoing_requests.ensures.range c.narrowed.ensures c.narrowed-2.ensures (omega arith) (c.phase_of.ensures ∙ ap (phase_of c.self.inside.is_broken) c.is_open.ensures.value));
+          c.live_members.ensures.value c.ongoing_requests.ensures.value c.ongoing_requests.ensures.range c.narrowed.ensures.whole c.narrowed-2.ensures.whole c.narrowed.ensures.broken c.narrowed-2.ensures.broken
+          (omega arith) (c.phase_of.ensures ∙ ap (phase_of c.self.inside.is_broken) c.is_open.ensures.value));
     }
