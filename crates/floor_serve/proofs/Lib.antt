@@ -9,3 +9,4 @@ pub mod Ordered
 pub mod Counts
 pub mod Keeping
 pub mod Pieces
+pub mod Places

@@ -129,10 +129,8 @@ impl Booth {
 
     /// Sets the closed mark of each live member that is cut. Takes no memory.
     fn close_cut(&self) {
-        for n in self.ledger.live_numbers() {
-            if self.ledger.is_cut(*n) {
-                close_of(&self.senders, *n);
-            }
+        for n in self.ledger.cut_numbers() {
+            close_of(&self.senders, *n);
         }
     }
 

@@ -2,6 +2,9 @@
 
 ghost use Rattle.std.specs.Prelude.{◌≡◌, ◌∷◌, ◌++◌, [], IfOk, OnErr, length, string_bytes};
 ghost use Rattle.floor_room.specs.Status.{IsStatus};
+ghost use Rattle.std.specs.Fn.{FnOnceReturnsAtMut};
+ghost use Rattle.floor_serve.specs.Booth as spec;
+ghost use Rattle.floor_serve.specs.Booth.{IsBooth};
 ghost use Rattle.floor_serve.specs.Held.{IsFound, IsText};
 ghost use Rattle.floor_serve.specs.steps.Pieces.{IsPiece};
 
@@ -13,6 +16,9 @@ use floor_room::{Act, Frame, RoomRefusal, Status, add_end, add_lines};
 use std::alloc::{AllocError, Global};
 use std::marker::Model;
 use std::sync::{Arc, Mutex, Wait};
+
+/// No member has this number.
+const NOBODY: u32 = 0;
 
 /// One conference as threads share it. Each call but `journal_text` is one hold of the conference's
 /// lock, and wakes whom it told something once the lock is given back. Contracts see its number.
@@ -61,12 +67,7 @@ impl Desk {
         ensures sent { IfOk result (λ joined. joined.0.sent ≡ []) }
         ensures taken { IfOk result (λ joined. joined.1.taken ≡ []) }
     {
-        let mut booth = self.booth.lock(rt);
-        let joined = booth.join(rt, user);
-        let wakers = booth.wakers();
-        drop(booth);
-        wakers.wake();
-        let (n, taker) = joined?;
+        let (n, taker) = self.hold(rt, NOBODY, |booth| booth.join(rt, user))?;
         Ok((Seat::new(self.alloc, self.conference, n), taker))
     }
 
@@ -89,16 +90,16 @@ impl Desk {
     {
         // The seat's memory is taken first, so that a message that was taken is recorded.
         seat.sent.reserve(1)?;
-        let mut booth = self.booth.lock(rt);
-        let kept = booth.keep(rt, seat.n(), frame);
-        match &kept {
-            Ok(_) => gate.pass(seat.conference(), seat.n()),
-            Err(_) => {}
-        }
-        let wakers = booth.wakers();
-        drop(booth);
-        wakers.wake_first(seat.n());
-        let sent = kept?;
+        let n = seat.n();
+        let conference = self.conference;
+        let sent = self.hold(rt, n, |booth| {
+            let kept = booth.keep(rt, n, frame);
+            match &kept {
+                Ok(_) => gate.pass(conference, n),
+                Err(_) => {}
+            }
+            kept
+        })?;
         let place = sent.place;
         seat.sent.push_reserved(sent);
         Ok(Receipt { place })
@@ -107,7 +108,7 @@ impl Desk {
     /// Takes it that so many of the parcels to a member were brought to their end, as its writer says.
     /// Refused as [`Booth::took`]: `Broken`, `Ended`, `JournalFull`, `NoMember`, `BadCount`.
     pub fn took<R: Wait>(&self, rt: &R, n: u32, k: u32) -> Result<(), RoomRefusal> {
-        self.booth.lock(rt).took(rt, n, k)
+        self.hold(rt, NOBODY, |booth| booth.took(rt, n, k))
     }
 
     /// Takes it that the seat's member has left, and lets its writer end, also after a refusal.
@@ -117,22 +118,30 @@ impl Desk {
         requires { seat.old.conference ≡ self.now.conference }
         ensures kept { seat.new ≡ seat.old }
     {
-        let mut booth = self.booth.lock(rt);
-        let left = booth.part(rt, seat.n());
-        let wakers = booth.wakers();
-        drop(booth);
-        wakers.wake();
-        left
+        let n = seat.n();
+        self.hold(rt, NOBODY, |booth| booth.part(rt, n))
     }
 
     /// Does what the administrator does. A Close lets every writer end. Refused as [`Booth::admin`]:
     /// `Broken`, `Ended`, `JournalFull`, then what the act itself is refused by.
     pub fn admin<R: Wait>(&self, rt: &R, act: Act) -> Result<(), RoomRefusal> {
+        self.hold(rt, NOBODY, |booth| booth.admin(rt, act))
+    }
+
+    /// Does this with the conference, in one hold of its lock. Whom it told something is woken once the
+    /// lock is given back, the member `first` before the others.
+    fn hold<R: Wait, T, F: FnOnce(&mut Booth) -> T>(&self, rt: &R, first: u32, change: F) -> T
+        requires { F.IsAlwaysCallable change }
+        ensures { (before : spec.Booth) × (after : spec.Booth) × IsBooth before
+            × FnOnceReturnsAtMut F.FnOnce change before result after }
+    {
         let mut booth = self.booth.lock(rt);
-        let done = booth.admin(rt, act);
+        // The type hands out what holds of each booth.
+        let _journal = booth.journal();
+        let done = change(&mut booth);
         let wakers = booth.wakers();
         drop(booth);
-        wakers.wake();
+        wakers.wake_first(first);
         done
     }
 

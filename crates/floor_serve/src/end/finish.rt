@@ -17,7 +17,8 @@ use crate::end::order::{Order, block_of, order_of};
 use crate::fault::FinishFault;
 use crate::registry::Registry;
 use crate::seat::Seat;
-use crate::table::{Slot, Table, slot_of};
+use crate::table::{Slot, Table, has_number};
+use indexmap::IndexSet;
 use std::sync::Wait;
 
 /// What the end found.
@@ -63,7 +64,7 @@ impl Table {
     {
         let order = order_of(seats);
         let found = look_all(rt, &self.slots, seats, order)?;
-        let stray = first_stray(&self.slots, seats);
+        let stray = first_stray(&self.places, seats);
         let double = first_double(seats, order);
         let unfit = least(found.unfit, least(stray, double));
         match seats.get(unfit) {
@@ -190,12 +191,12 @@ fn agrees(booth: &Booth, conference: u32, seat: &Seat) -> bool
 }
 
 /// The place of the first seat whose conference isn't in the table, or the number of seats.
-fn first_stray(slots: &[Slot], seats: &[Seat]) -> usize
-    ensures { IsFirst (KnownAt (numbers slots.now) seats.now) (length seats.now) result }
+fn first_stray(places: &IndexSet<u32>, seats: &[Seat]) -> usize
+    ensures { IsFirst (KnownAt places.now.keys seats.now) (length seats.now) result }
 {
     let mut last = None;
     for (at, seat) in seats.iter().enumerate() {
-        if !is_known(slots, last, seat.conference()) {
+        if !is_known(places, last, seat.conference()) {
             return at;
         }
         last = Some(seat.conference());
@@ -205,16 +206,13 @@ fn first_stray(slots: &[Slot], seats: &[Seat]) -> usize
 
 /// Whether the conference is in the table, as the one that was looked for last is. Seats of one
 /// conference mostly stand side by side.
-fn is_known(slots: &[Slot], last: Option<u32>, conference: u32) -> bool
-    requires { IfSome last (λ c. is_opened (numbers slots.now) c ≡ true) }
-    ensures { result ≡ is_opened (numbers slots.now) conference }
+fn is_known(places: &IndexSet<u32>, last: Option<u32>, conference: u32) -> bool
+    requires { IfSome last (λ c. is_opened places.now.keys c ≡ true) }
+    ensures { result ≡ is_opened places.now.keys conference }
 {
     match last {
         Some(known) if known == conference => true,
-        Some(_) | None => match slot_of(slots, conference) {
-            Some(_) => true,
-            None => false,
-        },
+        Some(_) | None => has_number(places, conference),
     }
 }
 
