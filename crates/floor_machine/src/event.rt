@@ -8,11 +8,12 @@ ghost use Rattle.floor_machine.specs.Laws.{IsWhole};
 ghost use Rattle.floor_machine.specs.Machine.{Applied, IsRefusedBy, Left, event_of_act, event_refusal};
 
 use crate::act::Act;
+use crate::added::AddedUser;
 use crate::machine::{Machine, Refusal};
 use crate::parcel::Parcel;
-use floor_config::{Floor, User};
+use floor_config::Floor;
 use floor_wire::{Copies, Frame};
-use std::alloc::AllocError;
+use std::alloc::{AllocError, Global};
 
 /// How many events the journal of a conference has at most: our choice, so that what is kept of a
 /// conference has an end.
@@ -56,7 +57,7 @@ pub enum Event {
     /// The administrator adds a user.
     AddUser {
         /// The user, as it was handed in: its port and empty texts make no difference.
-        user: User,
+        user: AddedUser,
     },
     /// The administrator adds a floor.
     AddFloor {
@@ -73,16 +74,19 @@ pub enum Event {
 }
 
 impl Event {
-    /// The event that an act of the administrator is. Takes no memory.
-    pub fn of(act: Act) -> Event
-        ensures value { result ≡ event_of_act act }
+    /// The event that an act of the administrator is. Takes memory for a user alone.
+    pub fn of(alloc: Global, act: Act) -> Result<Event, AllocError>
+        ensures value { IfOk result (λ event. event ≡ event_of_act act) }
     {
         match act {
-            Act::Revoke(request) => Event::Revoke { request },
-            Act::Close => Event::Close,
-            Act::AddUser(user) => Event::AddUser { user },
-            Act::AddFloor(floor) => Event::AddFloor { floor },
-            Act::SetChair(floor, chair) => Event::SetChair { floor, chair },
+            Act::Revoke(request) => Ok(Event::Revoke { request }),
+            Act::Close => Ok(Event::Close),
+            Act::AddUser(user) => {
+                let user = AddedUser::new(alloc, user)?;
+                Ok(Event::AddUser { user })
+            }
+            Act::AddFloor(floor) => Ok(Event::AddFloor { floor }),
+            Act::SetChair(floor, chair) => Ok(Event::SetChair { floor, chair }),
         }
     }
 
@@ -157,7 +161,7 @@ impl Machine {
             Event::Leave { n } => self.leave(*n, out),
             Event::Revoke { request } => self.admin(Act::Revoke(*request), out),
             Event::Close => self.admin(Act::Close, out),
-            Event::AddUser { user } => self.add_user(user, out),
+            Event::AddUser { user } => self.add_user(user.as_user(), out),
             Event::AddFloor { floor } => self.admin(Act::AddFloor(*floor), out),
             Event::SetChair { floor, chair } => self.admin(Act::SetChair(*floor, *chair), out),
         }

@@ -106,7 +106,7 @@ impl From<AllocError> for Refusal {
 /// The floor machine of one conference: whole messages of its members in, parcels to them out.
 ///
 /// Readers, which take no memory: `joins`, `live_members`, `live_numbers`, `cut_numbers`,
-/// `ongoing_requests`, `is_open`, `is_broken`, `is_cut`. Changes: `join`, `message`, `took`, `leave` and `admin`, each an event;
+/// `ongoing_requests`, `is_open`, `is_broken`, `is_cut`, `act_refusal`. Changes: `join`, `message`, `took`, `leave` and `admin`, each an event;
 /// `apply` takes any event by the one of its kind, and `run` many. A refused call changes nothing, but that `Memory`
 /// leaves the machine broken, and from then on it answers `Broken`.
 #[derive(Debug, Drop)]
@@ -260,9 +260,10 @@ impl Machine {
         self.member_refusal(n, count)
     }
 
-    /// Why the administrator's act is not taken.
-    fn act_refusal(&self, act: &Act) -> Option<Refusal>
-        ensures { result ≡ act_refusal self.now act.now }
+    /// Why the administrator's act is not taken, as `admin` answers; None where it is taken, or where
+    /// memory alone may be refused. Takes no memory.
+    pub fn act_refusal(&self, act: &Act) -> Option<Refusal>
+        ensures value { result ≡ act_refusal self.now act.now }
     {
         match act {
             Act::Revoke(request) => {

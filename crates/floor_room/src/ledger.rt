@@ -3,12 +3,13 @@
 ghost use Rattle.std.specs.Prelude.{◌≡◌, [], true, false, IfErr, IfOk};
 ghost use Rattle.floor_machine.specs.Conference.{AreCut, is_cut, live_numbers};
 ghost use Rattle.floor_machine.specs.Journal.{IsJournal};
+ghost use Rattle.floor_machine.specs.Machine.{event_of_act};
 ghost use Rattle.floor_room.specs.Ledger.{Added, IsRefusedBy, Unadded, broken_off, closed, conference_of, new_ledger, refusal};
 ghost use Rattle.floor_room.specs.Status.{IsStatus};
 
 use crate::refusal::RoomRefusal;
 use crate::status::{Status, narrowed, phase_of};
-use floor_machine::{Config, Event, MAX_EVENTS, Machine, Parcel, Refusal};
+use floor_machine::{Act, Config, Event, MAX_EVENTS, Machine, Parcel, Refusal};
 use floor_wire::Copies;
 use std::alloc::{AllocError, Global};
 use std::marker::Model;
@@ -137,6 +138,21 @@ impl Ledger {
             return &[];
         }
         self.machine.cut_numbers()
+    }
+
+    /// Why the administrator's act is refused: `Broken`, `Ended`, `JournalFull`, and then what the act
+    /// itself is refused by; None where it is taken, or where memory alone may be refused. Takes no
+    /// memory.
+    pub fn act_refusal(&self, act: &Act) -> Option<RoomRefusal>
+        ensures value { result ≡ refusal self.now (event_of_act act.now) }
+    {
+        match self.closed() {
+            Some(refusal) => Some(refusal),
+            None => match self.machine.act_refusal(act) {
+                Some(refusal) => Some(RoomRefusal::Refused(refusal)),
+                None => None,
+            },
+        }
     }
 
     /// Adds an event, where nothing refuses it, and gives the parcels that it calls for. A message

@@ -184,7 +184,18 @@ impl Room {
         ensures refused { IsRefusedBy (refusal self.old.ledger (event_of_act act)) result }
         ensures left { IfErr result (Left self.old self.new (event_of_act act)) }
     {
-        self.add(Event::of(act))
+        match self.ledger.act_refusal(&act) {
+            Some(refusal) => return Err(refusal),
+            None => {}
+        }
+        let alloc = *self.outboxes.allocator();
+        match Event::of(alloc, act) {
+            Ok(event) => self.add(event),
+            Err(_) => {
+                self.break_off();
+                Err(RoomRefusal::Refused(Refusal::Memory))
+            }
+        }
     }
 
     /// How many members ever joined. Takes no memory.

@@ -274,7 +274,16 @@ impl Booth {
         ensures refused { IsRefusedBy (refusal self.old.ledger (event_of_act act)) result }
         ensures left { IfErr result (Left self.old self.new (event_of_act act)) }
     {
-        self.tell(rt, Event::of(act))?;
+        match self.ledger.act_refusal(&act) {
+            Some(refusal) => return Err(refusal),
+            None => {}
+        }
+        let alloc = *self.senders.allocator();
+        let Ok(event) = Event::of(alloc, act) else {
+            self.break_off();
+            return Err(RoomRefusal::Refused(Refusal::Memory));
+        };
+        self.tell(rt, event)?;
         if self.is_closed() {
             close_all(&self.senders);
         }
