@@ -1,4 +1,4 @@
-//! Runs of a room, as lines that act on it and lines that they answer, and a full journal.
+//! Runs of a room, as lines that act on it and lines that they answer.
 
 mod changes;
 
@@ -103,17 +103,6 @@ serve 1 20020001000000010002000a06040001 > ok 4
 journal > 1 join 10|2 message 1 200b0000000000010001000a|3 took 1 1|4 message 1 20020001000000010002000a06040001|end 4|
 replay 1 > sent 200c0009 00000001 0001000a 160f0102 03040506 0708090a 0b0c0d00 14140204 06080a0c 0e101214 16181a1c 1e202224 200d0001 00000001 0002000a 0c030700";
 
-/// A journal of two million events is full: behind the join stand a million Hellos, and between each
-/// two of them the acknowledgement of an answer.
-const FULL_JOURNAL: &str = "\
-join 10 > ok 1
-fill 2000000 > 1000000 served, 999999 acknowledged
-serve 1 200b0000000000010001000a > JournalFull
-took 1 1 > JournalFull
-leave 1 > JournalFull
-closed > JournalFull
-status > 1 0 2000000 open";
-
 /// 64 members at most are live, and one more may join where one has left.
 const FULL_ROOM: &str = "\
 joins 64 > ok 64
@@ -158,7 +147,6 @@ fn change(alloc: Global, room: &mut Room, word: &str, rest: &str) -> Result<Stri
         "joins" => join_often(alloc, room, number(rest)),
         "serve" => serve(alloc, room, rest),
         "hellos" => hellos(alloc, room, number(rest)),
-        "fill" => fill(alloc, room, number(rest)),
         "took" => took(alloc, room, rest),
         "leave" => done(alloc, room.leave(number(rest))),
         "revoke" => done(alloc, room.admin(Act::Revoke(short))),
@@ -268,17 +256,6 @@ fn hello(alloc: Global) -> Result<Option<Frame>, AllocError> {
     Frame::of(alloc, &message(alloc, 11, 1, &[])?)
 }
 
-/// Whether a Hello of the first member is served at this place, and answered.
-fn is_served_at(alloc: Global, room: &mut Room, place: u32) -> Result<bool, AllocError> {
-    match hello(alloc)? {
-        None => Ok(false),
-        Some(frame) => match room.serve(1, frame) {
-            Ok(given) if given == place => Ok(matches!(room.take(1), Ok(Some(_)))),
-            Ok(_) | Err(_) => Ok(false),
-        },
-    }
-}
-
 /// How many of so many Hellos of the first member are served.
 fn hellos(alloc: Global, room: &mut Room, times: u32) -> Result<String, AllocError> {
     let mut served = 0u32;
@@ -290,23 +267,6 @@ fn hellos(alloc: Global, room: &mut Room, times: u32) -> Result<String, AllocErr
         }
     }
     format!(in alloc; "{served}")
-}
-
-/// How many Hellos are served at the even places up to this one, and how many of their answers are
-/// acknowledged at the odd ones between.
-fn fill(alloc: Global, room: &mut Room, place: u32) -> Result<String, AllocError> {
-    let mut served = 0u32;
-    let mut acknowledged = 0u32;
-    for before in 1..place {
-        if before % 2 == 1 {
-            if is_served_at(alloc, room, before.wrapping_add(1))? {
-                served = served.wrapping_add(1);
-            }
-        } else if room.took(1, 1).is_ok() {
-            acknowledged = acknowledged.wrapping_add(1);
-        }
-    }
-    format!(in alloc; "{served} served, {acknowledged} acknowledged")
 }
 
 /// The answer to the last of so many joins of one user.
@@ -392,11 +352,6 @@ fn an_event_that_comes_too_early_has_its_place(rt: HostRuntime) {
     assert_told(&rt, replayed(rt.alloc(), &events, 1), "NotAJournal 1");
     let events = [Event::Join { user: 10 }, Event::Took { n: 1, k: 1 }];
     assert_told(&rt, replayed(rt.alloc(), &events, 1), "NotAJournal 2");
-}
-
-#[test]
-fn a_journal_is_full_at_two_million_events(rt: HostRuntime) {
-    assert_told(&rt, told_of_script(rt.alloc(), FULL_JOURNAL), "7 cases");
 }
 
 #[test]

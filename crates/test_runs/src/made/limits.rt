@@ -1,7 +1,8 @@
-//! The worked example of limits: 64 live connections, 256 ongoing requests, and 65,535 numbers.
+//! The worked example of limits: 64 live connections, and 256 ongoing requests. That of 65,535 numbers is a program
+//! of its own, test_limits.
 
 use crate::scripts::Scripts;
-use std::alloc::{AllocError, Global};
+use std::alloc::Global;
 use test_cases::{Case, Fault};
 
 /// Users 10 to 26 may each have 16 ongoing requests for floor 1, which has room for one.
@@ -85,88 +86,6 @@ fn check_256_requests(alloc: Global) -> Result<(), Fault> {
     case.check(&mut Scripts, alloc, "256 ongoing requests")
 }
 
-/// User 10 asks for floor 1, and releases the request with a number.
-const ASKED: &str = "20010001000000010001000a0404000120020001000000010002000a0604#";
-
-/// What user 10 is told of it.
-const TOLD: &str = "\
-1 20040007000000010001000a1e1c#2408#0a040300220800010a0403001c04000a08044000
-1 20040007000000010002000a1e1c#2408#0a040600220800010a0406001c04000a08044000
-";
-
-/// Appends that user 10 asks and releases so many times, 16 times in a line of the script.
-fn push_asked_and_released(alloc: Global, case: &mut Case, times: u16) -> Result<(), AllocError> {
-    for place in 0..times {
-        if place % 16 == 0 {
-            case.script.push_str("\nsend 1 ")?;
-        }
-        push_numbered(alloc, case, place.wrapping_add(1))?;
-    }
-    case.script.push('\n')
-}
-
-/// Appends that user 10 asks, and releases the request with this number.
-fn push_numbered(alloc: Global, case: &mut Case, number: u16) -> Result<(), AllocError> {
-    let request = format!(in alloc; "{number:04x}")?;
-    let asked = ASKED.replace(alloc, "#", request.as_str())?;
-    case.script.push_str(asked.as_str())?;
-    let told = TOLD.replace(alloc, "#", request.as_str())?;
-    case.printed.push_str(told.as_str())
-}
-
-const NO_NUMBER_LEFT: &str = "\
-# Both the limit of the floor and the numbers have run out, and for user 11 the numbers alone.
-> send 1 Request(0003, 000a, 0001)
-< 1 E(0003, 000a, 08)
-> send 2 Request(0003, 000b, 0001)
-< 2 E(0003, 000b, 0e)
-";
-
-/// The last 16 numbers are given, and come back from the last to the first.
-fn last_numbers(alloc: Global) -> Result<String, Fault> {
-    let mut text = String::new(alloc);
-    for before in 0..16u16 {
-        let request = before.wrapping_add(65_520);
-        let status = status_behind(alloc, before)?;
-        let lines = format!(in alloc;
-            "> send 1 Request(0001, 000a, 0001)\n\
-             < 1 R(0001, 000a, {request:04x}, {status}, 0001, 4000)\n"
-        )?;
-        text.push_str(lines.as_str())?;
-    }
-    text.push_str(NO_NUMBER_LEFT)?;
-    for after in 0..16u16 {
-        let request = 65_535u16.wrapping_sub(after);
-        let status = if after == 15 { "0600" } else { "0500" };
-        let lines = format!(in alloc;
-            "> send 1 Release(0004, 000a, {request:04x})\n\
-             < 1 R(0004, 000a, {request:04x}, {status}, 0001, 4000)\n"
-        )?;
-        text.push_str(lines.as_str())?;
-    }
-    Ok(text)
-}
-
-/// A number isn't given twice, even where no request is ongoing.
-const STILL_NO_NUMBER: &str = "
-> send 1 Request(0005, 000a, 0001)
-< 1 E(0005, 000a, 0e)
-> send 2 Request(0005, 000b, 0001)
-< 2 E(0005, 000b, 0e)
-";
-
-fn check_65535_numbers(alloc: Global) -> Result<(), Fault> {
-    let mut case = Case::new(alloc, SEVENTEEN_USERS)?;
-    case.extend(
-        alloc,
-        "> attach 1 10\n< attached 1\n> attach 1 11\n< attached 2",
-    )?;
-    push_asked_and_released(alloc, &mut case, 65_519)?;
-    case.extend(alloc, last_numbers(alloc)?.as_str())?;
-    case.extend(alloc, STILL_NO_NUMBER)?;
-    case.check(&mut Scripts, alloc, "65,535 numbers")
-}
-
 /// 64 connections of user 10 attach.
 fn full_of_connections(alloc: Global) -> Result<Case, Fault> {
     let mut case = Case::new(alloc, "")?;
@@ -199,10 +118,9 @@ fn check_64_connections(alloc: Global) -> Result<(), Fault> {
     case.check(&mut Scripts, alloc, "64 live connections")
 }
 
-/// The three limits of a conference, each reached and gone beyond.
+/// Two limits of a conference, each reached and gone beyond.
 pub fn run(alloc: Global) -> Result<usize, Fault> {
     check_256_requests(alloc)?;
-    check_65535_numbers(alloc)?;
     check_64_connections(alloc)?;
-    Ok(3)
+    Ok(2)
 }
