@@ -1,8 +1,10 @@
-//! Messages of user 10, and of user 11, in conference 1 (RFC 8855, section 5.3).
+//! Messages of user 10 in conference 1 (RFC 8855, section 5.3), and what they come to.
 
-use crate::ended::Ended;
 use floor_room::{Frame, RoomRefusal};
 use std::alloc::Global;
+
+/// The events of a full journal.
+pub const MAX_EVENTS: u32 = 2_000_000;
 
 /// A Hello.
 pub const HELLO: [u8; 12] = [0x20, 0x0b, 0, 0, 0, 0, 0, 1, 0, 1, 0, 10];
@@ -11,17 +13,17 @@ pub const HELLO: [u8; 12] = [0x20, 0x0b, 0, 0, 0, 0, 0, 1, 0, 1, 0, 10];
 pub const IGNORED: [u8; 12] = [0x20, 13, 0, 0, 0, 0, 0, 1, 0, 1, 0, 10];
 
 /// The message of these bytes.
-pub fn frame(alloc: Global, bytes: &[u8]) -> Result<Frame, Ended> {
+pub fn frame(alloc: Global, bytes: &[u8]) -> Option<Frame> {
     match Frame::of(alloc, bytes) {
-        Ok(Some(frame)) => Ok(frame),
-        Ok(None) | Err(_) => Err(Ended),
+        Ok(found) => found,
+        Err(_) => None,
     }
 }
 
-/// The name of a call's refusal, where it is refused.
-pub fn name<T>(outcome: &Result<T, RoomRefusal>) -> &'static str {
-    match outcome {
-        Ok(_) => "nothing",
-        Err(refusal) => refusal.name(),
+/// The name of a refusal.
+pub fn name(refusal: Option<RoomRefusal>) -> &'static str {
+    match refusal {
+        None => "nothing",
+        Some(refusal) => refusal.name(),
     }
 }

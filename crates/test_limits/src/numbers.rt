@@ -54,12 +54,14 @@ struct Shown {
 
 /// Gives all numbers, and prints how many answers were as they have to be, and how many weren't.
 pub fn show<W: Write>(alloc: Global, output: &mut W) -> Result<(), Ended> {
-    let mut trial = Trial::new(alloc)?;
-    trial.one_by_one()?;
+    let Some(mut trial) = Trial::new(alloc) else {
+        return Err(Ended);
+    };
+    trial.one_by_one();
     trial.print("one by one", output)?;
-    trial.together()?;
+    trial.together();
     trial.print("together", output)?;
-    trial.beyond()?;
+    trial.beyond();
     trial.print("beyond", output)
 }
 
@@ -100,11 +102,11 @@ fn error_of(user: u8, code: u8) -> [u8; 16] {
 }
 
 impl Trial {
-    fn new(alloc: Global) -> Result<Trial, Ended> {
-        let mut room = Room::new(alloc, configuration(alloc)?)?;
-        let _ten = room.join(10)?;
-        let _eleven = room.join(11)?;
-        Ok(Trial {
+    fn new(alloc: Global) -> Option<Trial> {
+        let mut room = opened(alloc)?;
+        joined(&mut room, 10)?;
+        joined(&mut room, 11)?;
+        Some(Trial {
             alloc,
             room,
             right: 0,
@@ -113,80 +115,66 @@ impl Trial {
     }
 
     /// Each of the first numbers is given to a request that is released before the next.
-    fn one_by_one(&mut self) -> Result<(), Ended> {
+    fn one_by_one(&mut self) {
         for request in 1..=ALONE {
             self.asks(Shown {
                 request,
                 status: GRANTED,
                 position: 0,
-            })?;
-            self.releases(request, RELEASED)?;
+            });
+            self.releases(request, RELEASED);
         }
-        Ok(())
     }
 
     /// The last 16 numbers are given, and come back from the last to the first.
-    fn together(&mut self) -> Result<(), Ended> {
+    fn together(&mut self) {
         for before in 0..TOGETHER {
             self.asks(Shown {
                 request: u16::from(before).wrapping_add(ALONE).wrapping_add(1),
                 status: if before == 0 { GRANTED } else { ACCEPTED },
                 position: before,
-            })?;
+            });
         }
-        self.exchange(1, &request_of(10), &error_of(10, LIMIT_REACHED))?;
-        self.exchange(2, &request_of(11), &error_of(11, NO_NUMBER))?;
+        self.exchange(1, &request_of(10), &error_of(10, LIMIT_REACHED));
+        self.exchange(2, &request_of(11), &error_of(11, NO_NUMBER));
         for before in 0..TOGETHER {
             let last = before.wrapping_add(1) == TOGETHER;
             let request = 65_535u16.wrapping_sub(u16::from(before));
-            self.releases(request, if last { RELEASED } else { CANCELLED })?;
+            self.releases(request, if last { RELEASED } else { CANCELLED });
         }
-        Ok(())
     }
 
     /// No number is left, though no request is ongoing.
-    fn beyond(&mut self) -> Result<(), Ended> {
-        self.exchange(1, &request_of(10), &error_of(10, NO_NUMBER))?;
-        self.exchange(2, &request_of(11), &error_of(11, NO_NUMBER))
+    fn beyond(&mut self) {
+        self.exchange(1, &request_of(10), &error_of(10, NO_NUMBER));
+        self.exchange(2, &request_of(11), &error_of(11, NO_NUMBER));
     }
 
     /// User 10 asks for floor 1, and is shown this.
-    fn asks(&mut self, shown: Shown) -> Result<(), Ended> {
-        self.exchange(1, &request_of(10), &status_of(shown))
+    fn asks(&mut self, shown: Shown) {
+        self.exchange(1, &request_of(10), &status_of(shown));
     }
 
     /// User 10 releases a request, and is shown it with this status.
-    fn releases(&mut self, request: u16, status: u8) -> Result<(), Ended> {
+    fn releases(&mut self, request: u16, status: u8) {
         let shown = Shown {
             request,
             status,
             position: 0,
         };
-        self.exchange(1, &release_of(request), &status_of(shown))
+        self.exchange(1, &release_of(request), &status_of(shown));
     }
 
     /// A member sends a message, and has to be answered by these bytes alone.
-    fn exchange(&mut self, n: u32, message: &[u8], answer: &[u8]) -> Result<(), Ended> {
-        let _place = self.room.serve(n, frame(self.alloc, message)?)?;
-        if self.is_answered(n, answer) {
+    fn exchange(&mut self, n: u32, message: &[u8], answer: &[u8]) {
+        let is_right = serves(self.alloc, &mut self.room, n, message)
+            && is_told(&mut self.room, n, answer)
+            && is_silent(&mut self.room, n);
+        if is_right && acknowledges(&mut self.room, n) {
             self.right = self.right.wrapping_add(1);
         } else {
             self.wrong = self.wrong.wrapping_add(1);
         }
-        self.room.took(n, 1)?;
-        Ok(())
-    }
-
-    /// Whether these bytes wait for a member, and nothing else.
-    fn is_answered(&mut self, n: u32, answer: &[u8]) -> bool {
-        let is_right = match self.room.take(n) {
-            Ok(Some(parcel)) => {
-                let (header, payload) = answer.split_at(12.min(answer.len()));
-                parcel.header() == header && parcel.payload() == payload
-            }
-            Ok(None) | Err(_) => false,
-        };
-        is_right && matches!(self.room.take(n), Ok(None))
     }
 
     fn print<W: Write>(&self, what: &str, output: &mut W) -> Result<(), Ended> {
@@ -199,10 +187,47 @@ impl Trial {
     }
 }
 
+fn opened(alloc: Global) -> Option<Room> {
+    Room::new(alloc, configuration(alloc)?).ok()
+}
+
 /// The conference that the configuration has.
-fn configuration(alloc: Global) -> Result<Config, Ended> {
-    match read_configs(alloc, CONFIGURATION)?.pop() {
-        Some(config) => Ok(config),
-        None => Err(Ended),
+fn configuration(alloc: Global) -> Option<Config> {
+    match read_configs(alloc, CONFIGURATION) {
+        Ok(mut configs) => configs.pop(),
+        Err(_) => None,
     }
+}
+
+fn joined(room: &mut Room, user: u16) -> Option<u32> {
+    room.join(user).ok()
+}
+
+/// Whether the message of a member is taken.
+fn serves(alloc: Global, room: &mut Room, n: u32, message: &[u8]) -> bool {
+    match frame(alloc, message) {
+        Some(message) => room.serve(n, message).is_ok(),
+        None => false,
+    }
+}
+
+/// Whether these bytes wait for a member first.
+fn is_told(room: &mut Room, n: u32, answer: &[u8]) -> bool {
+    match room.take(n) {
+        Ok(Some(parcel)) => {
+            let (header, payload) = answer.split_at(12.min(answer.len()));
+            parcel.header() == header && parcel.payload() == payload
+        }
+        Ok(None) | Err(_) => false,
+    }
+}
+
+/// Whether nothing waits for a member.
+fn is_silent(room: &mut Room, n: u32) -> bool {
+    matches!(room.take(n), Ok(None))
+}
+
+/// Whether the acknowledgement of one answer is taken.
+fn acknowledges(room: &mut Room, n: u32) -> bool {
+    room.took(n, 1).is_ok()
 }
