@@ -1,6 +1,6 @@
 -- The lists of live connections through the calls of a hub.
 use Rattle.std.proofs.Common.{◌≡◌, ◌≢◌, ◌⊎◌, ◌<◌, ◌≤◌, ◌+◌, ◌++◌, ℕ, zero, suc, List, [], ◌∷◌, Bool, true, false, arith, map, length, refl, sym, ◌∙◌, ap, subst, inl, inr, Some, None, length-append, add-one}
-use Rattle.std.specs.Prelude.{Option, filter, nat_eq, not, ◌==◌, slice_get}
+use Rattle.std.specs.Prelude.{Option, nat_eq, not, ◌==◌, slice_get}
 use Rattle.std.proofs.lemmas.Bool.{eqb-true, ne_eqb}
 use Rattle.std.proofs.lemmas.Bool.Decides.{eqb_tells}
 use Rattle.std.proofs.lemmas.Option.{none-some}

@@ -1,20 +1,17 @@
 -- Whom a call concerned: those that are named, by what the room told and whom it has cut.
-use Rattle.std.proofs.Common.{◌≡◌, ◌⊎◌, ◌<◌, ◌≤◌, ◌+◌, ◌++◌, ◌&&◌, ◌||◌, ℕ, zero, suc, List, [], ◌∷◌, Bool, true, false, arith, map, length, refl, sym, ◌∙◌, ap, subst, inl, inr, Some, None, length-append, append-nil}
+use Rattle.std.proofs.Common.{◌≡◌, ◌≤◌, ◌++◌, ◌&&◌, ◌||◌, ℕ, zero, suc, List, [], ◌∷◌, Bool, true, false, arith, map, length, refl, sym, ◌∙◌, ap, subst, inl, inr, Some, None, length-append, append-nil}
 use Rattle.std.specs.Prelude.{Option, filter, nat_eq, not, slice_get, ◌==◌}
 use Rattle.std.specs.Option.{option_map_or}
 use Rattle.std.specs.List.{Contains, list_any}
 use Rattle.std.proofs.lemmas.Bool.{eqb-true, ltb-true, ltb-false}
-use Rattle.std.proofs.lemmas.Bool.Decides.{eqb_tells}
-use Rattle.std.proofs.lemmas.Option.{none-some}
 use Rattle.floor_machine.specs.Conference.{AreCut, is_live}
 use Rattle.floor_machine.specs.Parcel.{Parcel}
 use Rattle.floor_room.specs.Ledger.{conference_of}
 use Rattle.floor_room.specs.Outbox.{Outbox}
 use Rattle.floor_room.specs.Room.{Room}
-use Rattle.floor_room.specs.Taking.{outbox_of}
 use Rattle.floor_hub.specs.declared.attached.Live.{Live}
 use Rattle.floor_hub.specs.declared.connection.Connection.{Connection}
-use Rattle.floor_hub.specs.Connections.{Connections, connection_at}
+use Rattle.floor_hub.specs.Connections.{connection_at}
 use Rattle.floor_hub.specs.Concerned.{AscendFrom, Concerns, IsConcerned, IsLeftAlone, IsNamed, is_cut, is_shut, waiting}
 use Rattle.floor_hub.specs.Hub.{Hub, room_at}
 use Rattle.floor_hub.specs.Rooms.{QueuesMore}

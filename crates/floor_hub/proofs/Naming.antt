@@ -1,9 +1,8 @@
 -- Each call of a hub keeps the lists of live connections, and names those that it concerned.
-use Rattle.std.proofs.Common.{◌≡◌, ◌≢◌, ◌⊎◌, ◌<◌, ◌+◌, ◌++◌, ◌&&◌, ◌||◌, ℕ, List, [], ◌∷◌, Bool, true, false, arith, map, length, refl, sym, ◌∙◌, ap, subst, inl, inr, Some, None}
+use Rattle.std.proofs.Common.{◌≡◌, ◌≢◌, ◌⊎◌, ◌+◌, ◌++◌, ◌&&◌, ◌||◌, ℕ, List, [], ◌∷◌, Bool, true, false, length, refl, sym, ◌∙◌, ap, subst, inl, inr, Some, None}
 use Rattle.std.specs.Prelude.{MatchResult, OnErr, Option, Result, Ok, Err, nat_eq, not, ◌==◌}
 use Rattle.std.proofs.lemmas.Bool.{eqb-true}
 use Rattle.std.proofs.lemmas.Bool.Decides.{eqb_tells}
-use Rattle.std.proofs.lemmas.Option.{none-some}
 use Rattle.floor_config.specs.Configuration.{Configuration}
 use Rattle.floor_machine.specs.Conference.{is_cut, is_live}
 use Rattle.floor_machine.specs.Parcel.{Parcel}
@@ -13,13 +12,13 @@ use Rattle.floor_room.specs.Room.{Room, new_room}
 use Rattle.floor_hub.specs.declared.attached.Live.{Live}
 use Rattle.floor_hub.specs.declared.connection.Connection.{Connection}
 use Rattle.floor_hub.specs.declared.refusal.HubRefusal.{HubRefusal}
-use Rattle.floor_hub.specs.Connections.{Connections, Puts, SameConnections, SamePlace, connection_at}
+use Rattle.floor_hub.specs.Connections.{Puts, SameConnections, SamePlace, connection_at}
 use Rattle.floor_hub.specs.Concerned.{Concerns, is_shut}
 use Rattle.floor_hub.specs.Hub.{Hub, room_at}
 use Rattle.floor_hub.specs.Rooms.{OneRoom, QueuesMore, RoomAfterIn, RoomOf, TakenOf}
 use Rattle.floor_hub.specs.StandsFor.{HasOutbox, HaveOutboxes, Stood, StandsFor}
 use Rattle.floor_hub.specs.World.{World}
-use Rattle.floor_hub.specs.steps.Attached.{AreAttached, AreKnown, Concerned, ConcernedBy, ConcernedOf, EachOf, IsKnown, NamedIn, PutsLive, SameLive, Stands, Tells, always, attached_to, joined_as, live_in, marked, without}
+use Rattle.floor_hub.specs.steps.Attached.{AreAttached, AreKnown, Concerned, ConcernedBy, ConcernedOf, EachOf, IsKnown, NamedIn, SameLive, Stands, Tells, always, attached_to, joined_as, live_in, marked, without}
 use Rattle.floor_hub.proofs.Attaching.{attached-changed, attached-joined, attached-left, attached-same, next-is-free, place-same}
 use Rattle.floor_hub.proofs.Concerning.{IsFound, StaysAs, concerns-in, concerns-nobody, keeps-marked, known-all}
 use Rattle.floor_hub.proofs.Known.{Went, connected-live, joined-known}

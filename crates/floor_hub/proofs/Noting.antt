@@ -1,6 +1,6 @@
 -- Which connections of a conference a call names.
-use Rattle.std.proofs.Common.{◌≡◌, ◌&&◌, ◌||◌, ℕ, List, [], ◌∷◌, Bool, true, false, arith, length, map, refl, sym, ◌∙◌, ap, subst}
-use Rattle.std.specs.Prelude.{filter, ◌==◌}
+use Rattle.std.proofs.Common.{◌≡◌, ℕ, List, [], ◌∷◌, Bool, true, false, arith, length, map, refl, sym, ◌∙◌, ap, subst}
+use Rattle.std.specs.Prelude.{◌==◌}
 use Rattle.std.proofs.lemmas.Bool.{eqb-true}
 use Rattle.floor_machine.specs.Conference.{AreCut}
 use Rattle.floor_room.specs.Ledger.{conference_of}

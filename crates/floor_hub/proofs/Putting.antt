@@ -1,11 +1,11 @@
 -- A number is put among those that are named, which ascend.
-use Rattle.std.proofs.Common.{◌≡◌, ◌≢◌, ◌⊎◌, ◌<◌, ◌≤◌, ◌+◌, ◌++◌, ◌&&◌, ◌||◌, ℕ, zero, suc, List, [], ◌∷◌, Bool, true, false, cond, arith, map, length, get_or, take, drop, refl, sym, ◌∙◌, ap, subst, inl, inr, Some}
+use Rattle.std.proofs.Common.{◌≡◌, ◌⊎◌, ◌<◌, ◌≤◌, ◌++◌, ◌&&◌, ◌||◌, ℕ, zero, suc, List, [], ◌∷◌, Bool, true, false, cond, arith, map, length, get_or, refl, sym, ◌∙◌, ap, subst, inl, inr, Some}
 use Rattle.std.specs.Prelude.{Option, filter, not, option_to_list, ◌==◌}
 use Rattle.std.specs.List.{insert, list_any}
 use Rattle.std.proofs.lemmas.List.Folds.{list_any-append}
 use Rattle.floor_hub.specs.declared.attached.Live.{Live}
 use Rattle.floor_hub.specs.Concerned.{AscendFrom}
-use Rattle.floor_hub.specs.steps.Attached.{AddsNames, AreListed, IsIn, IsNaming, Names, cut_at, is_named, is_noted, marked, members_of, numbers_of}
+use Rattle.floor_hub.specs.steps.Attached.{AddsNames, AreListed, IsIn, IsNaming, Names, cut_at, is_noted, marked, numbers_of}
 use Rattle.floor_hub.proofs.Listing.{above, fewer, keys-map, length-changed, length-keys}
 
 -- numbers that ascend rise

@@ -5,7 +5,6 @@ use Rattle.std.specs.List.{list_any}
 use Rattle.std.proofs.lemmas.Bool.{le-ltb}
 use Rattle.floor_room.specs.Room.{Room}
 use Rattle.floor_room.specs.Told.{waiting_in}
-use Rattle.floor_hub.specs.Concerned.{is_shut}
 use Rattle.floor_hub.specs.steps.Attached.{Tells}
 
 -- a room that is as it was has told nobody anything

@@ -1,4 +1,4 @@
-use Rattle.std.proofs.Common.{◌≡◌, ◌≢◌, ◌<◌, ℕ, true, false, arith, get_or, length, rules}
+use Rattle.std.proofs.Common.{◌≡◌, ℕ, true, false, arith, rules}
 use Rattle.std.specs.Prelude.{nat_lt}
 use Rattle.std.specs.List.Sorted.{IsPartitionPoint}
 use Rattle.std.proofs.lemmas.List.Sorted.{IsPartitionPoint-from_clause}

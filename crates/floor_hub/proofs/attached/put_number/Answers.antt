@@ -1,5 +1,5 @@
-use Rattle.std.proofs.Common.{◌≡◌, ◌<◌, ◌≤◌, ◌∙◌, ℕ, true, false, List, ap, arith, get_or, length, subst, sym}
-use Rattle.std.specs.Prelude.{Err, IsOk, MatchResult, Ok, Result, if◌then◌else◌, is_ok}
+use Rattle.std.proofs.Common.{◌≡◌, ◌<◌, ◌≤◌, ℕ, true, false, List, get_or, length, subst, sym}
+use Rattle.std.specs.Prelude.{Err, IsOk, Ok, Result, if◌then◌else◌, is_ok}
 use Rattle.std.specs.List.{insert}
 use Rattle.std.specs.List.Sorted.{IsBinarySearchResult}
 use Rattle.std.specs.Ordering.{nat_cmp}
@@ -11,8 +11,8 @@ use Rattle.floor_hub.proofs.attached.put_number.Goals as goal
 pub returns-in-Ok-clause-put : goal.returns-in-Ok-clause-put
 returns-in-Ok-clause-put c =
     let at = searched c.args.numbers.now.items c.args.number (Ok c.in-Ok.field-0)
-        (subst (λ (z : List ℕ). IsBinarySearchResult (λ y. nat_cmp y c.args.number) z (Ok c.in-Ok.field-0)) c.deref.ensures.value c.in-Ok.ensures.position)
-        (λ i j l m. rises 0 c.args.numbers.now.items c.requires.ascending i j l m) in
+    (subst (λ (z : List ℕ). IsBinarySearchResult (λ y. nat_cmp y c.args.number) z (Ok c.in-Ok.field-0)) c.deref.ensures.value c.in-Ok.ensures.position)
+    (λ i j l m. rises 0 c.args.numbers.now.items c.requires.ascending i j l m) in
     adds-there c.in-Ok.field-0 c.args.number c.args.numbers.now.items at.0 at.1
 
 -- where it goes

@@ -1,4 +1,4 @@
-use Rattle.std.proofs.Common.{◌≡◌, refl, sym, ◌∙◌, subst}
+use Rattle.std.proofs.Common.{refl, sym, ◌∙◌, subst}
 use Rattle.floor_hub.specs.steps.Attached.{Concerned, NamedIn, live_in}
 use Rattle.floor_hub.proofs.Known.{unshut}
 use Rattle.floor_hub.proofs.Noting.{all-named, empty-none, nobody-noted, none-named, noted-named}

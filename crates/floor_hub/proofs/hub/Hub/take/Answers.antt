@@ -7,7 +7,7 @@ use Rattle.floor_hub.specs.declared.connection.Connection.{Connection}
 use Rattle.floor_hub.specs.Rooms.{KeptOf, TakenOf}
 use Rattle.floor_hub.specs.Connections.{connection_at}
 use Rattle.floor_hub.specs.Hub.{Hub, room_at}
-use Rattle.floor_hub.specs.StandsFor.{HaveOutboxes, StandsFor, Stood}
+use Rattle.floor_hub.specs.StandsFor.{HaveOutboxes, StandsFor}
 use Rattle.floor_hub.specs.World.{World}
 use Rattle.floor_hub.proofs.Closing.{good, stands_good}
 use Rattle.floor_hub.proofs.Given.{take_stands}
