@@ -1,6 +1,6 @@
 -- The lists of live connections through the calls of a hub.
 use Rattle.std.proofs.Common.{◌≡◌, ◌≢◌, ◌⊎◌, ◌<◌, ◌≤◌, ◌+◌, ◌++◌, ℕ, zero, suc, List, [], ◌∷◌, Bool, true, false, arith, map, length, refl, sym, ◌∙◌, ap, subst, inl, inr, Some, None, length-append, add-one}
-use Rattle.std.specs.Prelude.{Option, filter, nat_eq, not, ◌==◌, slice_get}
+use Rattle.std.specs.Prelude.{Option, nat_eq, not, ◌==◌, slice_get}
 use Rattle.std.proofs.lemmas.Bool.{eqb-true, ne_eqb}
 use Rattle.std.proofs.lemmas.Bool.Decides.{eqb_tells}
 use Rattle.std.proofs.lemmas.Option.{none-some}
@@ -15,32 +15,23 @@ use Rattle.floor_room.specs.Room.{Room}
 use Rattle.floor_hub.specs.declared.attached.Live.{Live}
 use Rattle.floor_hub.specs.declared.connection.Connection.{Connection}
 use Rattle.floor_hub.specs.Connections.{Connections, Puts, SameConnections, SamePlace, connection_at}
-use Rattle.floor_hub.specs.Concerned.{AscendFrom}
 use Rattle.floor_hub.specs.Hub.{Hub, room_at}
 use Rattle.floor_hub.specs.Rooms.{taken_of}
-use Rattle.floor_hub.specs.StandsFor.{NumberStands, StandsFor}
+use Rattle.floor_hub.specs.StandsFor.{HasOutbox, HaveOutboxes, NumberStands, StandsFor}
 use Rattle.floor_hub.specs.World.{Place, World, place}
-use Rattle.floor_hub.specs.steps.Attached.{AreAttached, Concerned, PutsLive, SameLive, Stands, live_in, looked, without}
-use Rattle.floor_hub.proofs.Listing.{IsIn, Keeps, ascend-filter, ascend-push, filter-stands, in-stands, map-stands, numbers-map, numbers-push, push-stands, stands-filter, stands-last, stands-map, stands-push}
+use Rattle.floor_hub.specs.steps.Attached.{AreAttached, AreWithin, Concerned, IsIn, PutsLive, SameLive, Stands, live_in, without}
+use Rattle.floor_hub.proofs.Listing.{Keeps, filter-stands, in-stands, map-stands, member-stands, push-stands, stands-filter, stands-last, stands-map, stands-push}
 
--- the same connections stand in both lists, in ascending order in both
+-- the same connections stand in both lists
 record Alike (a b : List Live) : Type 0 where
   to : (number n : ℕ) → Stands a number n → Stands b number n
   from : (number n : ℕ) → Stands b number n → Stands a number n
-  ascending : AscendFrom 0 (map (λ l. l.number) a) → AscendFrom 0 (map (λ l. l.number) b)
 
 alike-same : (a b : List Live) → b ≡ a → Alike a b
-alike-same a b e = subst (Alike a) (sym e) (record { to = λ number n h. h; from = λ number n h. h; ascending = λ h. h })
+alike-same a b e = subst (Alike a) (sym e) (record { to = λ number n h. h; from = λ number n h. h })
 
-keeps-looked : (r : Room) → Keeps (looked r)
-keeps-looked r l = (refl, refl)
-
-alike-looked : (r : Room) (a : List Live) → Alike a (map (looked r) a)
-alike-looked r a = record {
-  to = λ number n h. stands-map (looked r) a number n (keeps-looked r) h;
-  from = λ number n h. map-stands (looked r) a number n (keeps-looked r) h;
-  ascending = λ h. subst (AscendFrom 0) (sym (numbers-map (looked r) a (keeps-looked r))) h;
-}
+alike-changed : (f : Live → Live) → Keeps f → (a : List Live) → Alike a (map f a)
+alike-changed f keeps a = record { to = λ number n h. stands-map f a number n keeps h; from = λ number n h. map-stands f a number n keeps h }
 
 -- who is live now was, at the same place
 was-there : (x y : Option Connection) (z : Connection) → SamePlace x y → y ≡ Some z → (w : Connection) × (x ≡ Some w) × (z.conference ≡ w.conference) × (z.n ≡ w.n)
@@ -67,19 +58,18 @@ attached-alike old new xs ys alike places a = record {
   live = λ conference number n h.
       let t = a.live conference number n ((alike conference).from number n h) in
       let z = is-there (xs number) (ys number) t.0 (places number) t.1 in (z.0, z.1, z.2 ∙ t.2, z.3 ∙ t.3);
-  ascending = λ conference. (alike conference).ascending (a.ascending conference);
 }
 
--- where nothing was attached and nothing has left, and one conference was looked at
-pub attached-looked : (old new : Concerned) (c : ℕ) (r : Room) (xs ys : ℕ → Option Connection) → PutsLive old new c (map (looked r) (live_in old c)) → ((k : ℕ) → SamePlace (xs k) (ys k)) →
+-- where nothing was attached and nothing has left, and what is known of one conference has changed
+pub attached-changed : (f : Live → Live) → Keeps f → (old new : Concerned) (c : ℕ) (xs ys : ℕ → Option Connection) → PutsLive old new c (map f (live_in old c)) → ((k : ℕ) → SamePlace (xs k) (ys k)) →
     AreAttached (live_in old) xs → AreAttached (live_in new) ys
-attached-looked old new c r xs ys puts places a = attached-alike (live_in old) (live_in new) xs ys (λ d. by d (nat_eq c d) refl) places a
+attached-changed f keeps old new c xs ys puts places a = attached-alike (live_in old) (live_in new) xs ys (λ d. by d (nat_eq c d) refl) places a
   where
     by : (d : ℕ) (b : Bool) → nat_eq c d ≡ b → Alike (live_in old d) (live_in new d)
     by d false e = alike-same (live_in old d) (live_in new d) (puts.others d e)
     by d true e =
         subst (λ (k : ℕ). Alike (live_in old k) (live_in new k)) (eqb-true c d e)
-        (subst (λ (z : List Live). Alike (live_in old c) z) (sym puts.here) (alike-looked r (live_in old c)))
+        (subst (λ (z : List Live). Alike (live_in old c) z) (sym puts.here) (alike-changed f keeps (live_in old c)))
 
 -- where no list has changed
 pub attached-same : (old new : Concerned) (xs ys : ℕ → Option Connection) → SameLive old new → ((k : ℕ) → SamePlace (xs k) (ys k)) → AreAttached (live_in old) xs → AreAttached (live_in new) ys
@@ -106,13 +96,12 @@ places-put old new number x y was puts c n k = by (nat_eq number k) refl
 some_same : (x y : Connection) → ◌≡◌ {A = Option Connection} (Some x) (Some y) → x ≡ y
 some_same x y e = cc
 
--- where one connection has left, and its conference was looked at
-pub attached-left : (lists now : Concerned) (old new : Connections) (r : Room) (number : ℕ) (x : Connection) → connection_at old number ≡ Some x → Puts old new number None →
-    PutsLive lists now x.conference (map (looked r) (without number (live_in lists x.conference))) → AreAttached (live_in lists) (connection_at old) → AreAttached (live_in now) (connection_at new)
-attached-left lists now old new r number x was gone puts a = record {
+-- where one connection has left
+pub attached-left : (f : Live → Live) → Keeps f → (lists now : Concerned) (old new : Connections) (number : ℕ) (x : Connection) → connection_at old number ≡ Some x → Puts old new number None →
+    PutsLive lists now x.conference (map f (without number (live_in lists x.conference))) → AreAttached (live_in lists) (connection_at old) → AreAttached (live_in now) (connection_at new)
+attached-left f keeps lists now old new number x was gone puts a = record {
   found = λ k y is. found k y is (eqb_tells number k);
   live = λ d k n h. live d k n h (eqb_tells x.conference d);
-  ascending = λ d. ascending d (eqb_tells x.conference d);
 }
   where
     stays : Live → Bool
@@ -128,7 +117,7 @@ attached-left lists now old new r number x was gone puts a = record {
         let here : Stands (live_in lists x.conference) k y.n = subst (λ (c : ℕ). Stands (live_in lists c) k y.n) (sym t.1) h in
         subst (λ (c : ℕ). Stands (live_in now c) k y.n) t.1
         (subst (λ (z : List Live). Stands z k y.n) (sym puts.here)
-        (stands-map (looked r) (without number (live_in lists x.conference)) k y.n (keeps-looked r) (stands-filter stays (live_in lists x.conference) k y.n (passes k ne) here)))
+        (stands-map f (without number (live_in lists x.conference)) k y.n keeps (stands-filter stays (live_in lists x.conference) k y.n (passes k ne) here)))
 
     found : (k : ℕ) (y : Connection) → connection_at new k ≡ Some y → (((nat_eq number k ≡ true) × (number ≡ k)) ⊎ ((nat_eq number k ≡ false) × (number ≢ k))) → Stands (live_in now y.conference) k y.n
     found k y is (inl t) = absurd (none-some y (sym gone.here ∙ ap (connection_at new) t.1 ∙ is))
@@ -159,25 +148,16 @@ attached-left lists now old new r number x was gone puts a = record {
         was_x : connection_at old number ≡ Some x
         was_x = was
     live d k n h (inl t) =
-        let here : Stands (map (looked r) (without number (live_in lists x.conference))) k n = subst (λ (z : List Live). Stands z k n) (ap (live_in now) (sym t.1) ∙ puts.here) h in
-        let f = filter-stands stays (live_in lists x.conference) k n (map-stands (looked r) (without number (live_in lists x.conference)) k n (keeps-looked r) here) in
+        let here : Stands (map f (without number (live_in lists x.conference))) k n = subst (λ (z : List Live). Stands z k n) (ap (live_in now) (sym t.1) ∙ puts.here) h in
+        let f = filter-stands stays (live_in lists x.conference) k n (map-stands f (without number (live_in lists x.conference)) k n keeps here) in
         still d k n (differs k f.1) (subst (λ (c : ℕ). Stands (live_in lists c) k n) t.1 f.0)
 
-    ascending : (d : ℕ) → (((nat_eq x.conference d ≡ true) × (x.conference ≡ d)) ⊎ ((nat_eq x.conference d ≡ false) × (x.conference ≢ d))) → AscendFrom 0 (map (λ l. l.number) (live_in now d))
-    ascending d (inr t) = subst (λ (z : List Live). AscendFrom 0 (map (λ l. l.number) z)) (sym (puts.others d t.0)) (a.ascending d)
-    ascending d (inl t) =
-        subst (λ (c : ℕ). AscendFrom 0 (map (λ l. l.number) (live_in now c))) t.1
-        (subst (λ (z : List Live). AscendFrom 0 (map (λ l. l.number) z)) (sym puts.here)
-        (subst (AscendFrom 0) (sym (numbers-map (looked r) (without number (live_in lists x.conference)) (keeps-looked r))) (ascend-filter stays 0 (live_in lists x.conference) (a.ascending x.conference))))
-
--- where one connection has come, with a number above all
-pub attached-joined : (lists now : Concerned) (old new : Connections) (r : Room) (number : ℕ) (y : Connection) (l : Live) → connection_at old number ≡ None → Puts old new number (Some y) →
-    l.number ≡ number → l.n ≡ y.n → 0 < number → ((k : ℕ) → IsIn (map (λ o. o.number) (live_in lists y.conference)) k → k < number) →
-    PutsLive lists now y.conference (map (looked r) (live_in lists y.conference) ++ l ∷ []) → AreAttached (live_in lists) (connection_at old) → AreAttached (live_in now) (connection_at new)
-attached-joined lists now old new r number y l fresh came is_number is_n first above puts a = record {
+-- where one connection has come
+pub attached-joined : (f : Live → Live) → Keeps f → (lists now : Concerned) (old new : Connections) (number : ℕ) (y : Connection) (l : Live) → connection_at old number ≡ None → Puts old new number (Some y) →
+    l.number ≡ number → l.n ≡ y.n → PutsLive lists now y.conference (map f (live_in lists y.conference ++ l ∷ [])) → AreAttached (live_in lists) (connection_at old) → AreAttached (live_in now) (connection_at new)
+attached-joined f keeps lists now old new number y l fresh came is_number is_n puts a = record {
   found = λ k z is. found k z is (eqb_tells number k);
   live = λ d k n h. live d k n h (eqb_tells y.conference d);
-  ascending = λ d. ascending d (eqb_tells y.conference d);
 }
   where
     before : List Live
@@ -189,7 +169,7 @@ attached-joined lists now old new r number y l fresh came is_number is_n first a
     standing k z h (inl t) =
         let here : Stands (live_in lists y.conference) k z.n = subst (λ (c : ℕ). Stands (live_in lists c) k z.n) (sym t.1) h in
         subst (λ (c : ℕ). Stands (live_in now c) k z.n) t.1
-        (subst (λ (i : List Live). Stands i k z.n) (sym puts.here) (stands-push (map (looked r) (live_in lists y.conference)) l k z.n (stands-map (looked r) (live_in lists y.conference) k z.n (keeps-looked r) here)))
+        (subst (λ (i : List Live). Stands i k z.n) (sym puts.here) (stands-map f (live_in lists y.conference ++ l ∷ []) k z.n keeps (stands-push (live_in lists y.conference) l k z.n here)))
 
     found : (k : ℕ) (z : Connection) → connection_at new k ≡ Some z → (((nat_eq number k ≡ true) × (number ≡ k)) ⊎ ((nat_eq number k ≡ false) × (number ≢ k))) → Stands (live_in now z.conference) k z.n
     found k z is (inr t) = standing k z (a.found k z (sym (came.others k t.0) ∙ is)) (eqb_tells y.conference z.conference)
@@ -197,8 +177,9 @@ attached-joined lists now old new r number y l fresh came is_number is_n first a
         let same : y ≡ z = some_same y z (sym came.here ∙ ap (connection_at new) t.1 ∙ is) in
         subst (λ (i : Connection). Stands (live_in now i.conference) k i.n) same
         (subst (λ (i : List Live). Stands i k y.n) (sym puts.here)
-        (subst (λ (i : ℕ). Stands (map (looked r) (live_in lists y.conference) ++ l ∷ []) k i) is_n
-        (subst (λ (i : ℕ). Stands (map (looked r) (live_in lists y.conference) ++ l ∷ []) i l.n) (is_number ∙ t.1) (stands-last (map (looked r) (live_in lists y.conference)) l))))
+        (stands-map f (live_in lists y.conference ++ l ∷ []) k y.n keeps
+        (subst (λ (i : ℕ). Stands (live_in lists y.conference ++ l ∷ []) k i) is_n
+        (subst (λ (i : ℕ). Stands (live_in lists y.conference ++ l ∷ []) i l.n) (is_number ∙ t.1) (stands-last (live_in lists y.conference) l)))))
 
     Found : ℕ → ℕ → ℕ → Type 0
     Found d k n = (z : Connection) × (connection_at new k ≡ Some z) × (z.conference ≡ d) × (z.n ≡ n)
@@ -208,26 +189,15 @@ attached-joined lists now old new r number y l fresh came is_number is_n first a
         let t = a.live d k n h in
         (t.0, came.others k (ne_eqb number k (λ e. none-some t.0 (sym fresh ∙ ap (connection_at old) e ∙ t.1))) ∙ t.1, t.2, t.3)
 
-    either : (d k n : ℕ) → y.conference ≡ d → (Stands (map (looked r) (live_in lists y.conference)) k n ⊎ ((l.number ≡ k) × (l.n ≡ n))) → Found d k n
-    either d k n e (inl h) = still d k n (subst (λ (c : ℕ). Stands (live_in lists c) k n) e (map-stands (looked r) (live_in lists y.conference) k n (keeps-looked r) h))
+    either : (d k n : ℕ) → y.conference ≡ d → (Stands (live_in lists y.conference) k n ⊎ ((l.number ≡ k) × (l.n ≡ n))) → Found d k n
+    either d k n e (inl h) = still d k n (subst (λ (c : ℕ). Stands (live_in lists c) k n) e h)
     either d k n e (inr h) = (y, ap (connection_at new) (sym h.0 ∙ is_number) ∙ came.here, e, sym is_n ∙ h.1)
 
     live : (d k n : ℕ) → Stands (live_in now d) k n → (((nat_eq y.conference d ≡ true) × (y.conference ≡ d)) ⊎ ((nat_eq y.conference d ≡ false) × (y.conference ≢ d))) → Found d k n
     live d k n h (inr t) = still d k n (subst (λ (i : List Live). Stands i k n) (puts.others d t.0) h)
     live d k n h (inl t) =
-        either d k n t.1 (push-stands (map (looked r) (live_in lists y.conference)) l k n (subst (λ (i : List Live). Stands i k n) (ap (live_in now) (sym t.1) ∙ puts.here) h))
-
-    below : (k : ℕ) → IsIn (map (λ o. o.number) (map (looked r) (live_in lists y.conference))) k → k < l.number
-    below k h = omega (arith, is_number, above k (subst (λ (i : List ℕ). IsIn i k) (numbers-map (looked r) (live_in lists y.conference) (keeps-looked r)) h))
-
-    ascending : (d : ℕ) → (((nat_eq y.conference d ≡ true) × (y.conference ≡ d)) ⊎ ((nat_eq y.conference d ≡ false) × (y.conference ≢ d))) → AscendFrom 0 (map (λ o. o.number) (live_in now d))
-    ascending d (inr t) = subst (λ (z : List Live). AscendFrom 0 (map (λ o. o.number) z)) (sym (puts.others d t.0)) (a.ascending d)
-    ascending d (inl t) =
-        subst (λ (c : ℕ). AscendFrom 0 (map (λ o. o.number) (live_in now c))) t.1
-        (subst (λ (z : List Live). AscendFrom 0 (map (λ o. o.number) z)) (sym puts.here)
-        (subst (AscendFrom 0) (sym (numbers-push (map (looked r) (live_in lists y.conference)) l))
-        (ascend-push 0 l.number (map (λ o. o.number) (map (looked r) (live_in lists y.conference))) (omega (arith, is_number, first)) below
-        (subst (AscendFrom 0) (sym (numbers-map (looked r) (live_in lists y.conference) (keeps-looked r))) (a.ascending y.conference)))))
+        either d k n t.1 (push-stands (live_in lists y.conference) l k n
+        (map-stands f (live_in lists y.conference ++ l ∷ []) k n keeps (subst (λ (i : List Live). Stands i k n) (ap (live_in now) (sym t.1) ∙ puts.here) h)))
 
 place-below : (ps : List Place) (k : ℕ) (p : Place) → place ps k ≡ Some p → k ≤ length ps
 place-below ps zero p e = omega arith
@@ -260,6 +230,22 @@ listed-below h w lists st a c k i =
     let s = in-stands (lists c) k i in
     let t = a.live c k s.0 s.1 in
     omega (arith, live-below h w st k t.0 t.1)
+
+-- the next number is above those of a conference's live connections, and these have outboxes in its room
+pub within : (h : Hub) (w : World) (lists : ℕ → List Live) → StandsFor h w → HaveOutboxes h → AreAttached lists (connection_at h.connections) → (c : ℕ) (r : Room) → room_at h c ≡ Some r →
+    AreWithin (lists c) (h.arrivals + 1) (length r.outboxes)
+within h w lists st outboxes a c r is = record {
+  first = omega arith;
+  numbers = λ k i. listed-below h w lists st a c k i;
+  members = λ k i. below k i;
+}
+  where
+    below : (k : ℕ) → IsIn (map (λ l. l.n) (lists c)) k → k ≤ length r.outboxes
+    below k i =
+        let s = member-stands (lists c) k i in
+        let t = a.live c s.0 k s.1 in
+        let has : HasOutbox (Some r) t.0.n = subst (λ (y : Option Room). HasOutbox y t.0.n) (ap (room_at h) t.2 ∙ is) (outboxes s.0 t.0 t.1) in
+        omega (arith, t.3, has.1)
 
 -- where a call was for one connection, which stays
 pub places-of : (old new : Connections) (number : ℕ) (y : Option Connection) → connection_at old number ≡ y → (y ≡ None → SameConnections old new) →

@@ -1,22 +1,23 @@
--- Whom a call concerned: those that are named, by how each connection stood before the call and stands now.
-use Rattle.std.proofs.Common.{◌≡◌, ◌⊎◌, ◌<◌, ◌≤◌, ◌+◌, ◌++◌, ◌&&◌, ◌||◌, ℕ, zero, suc, List, [], ◌∷◌, Bool, true, false, arith, map, length, refl, sym, ◌∙◌, ap, subst, inl, inr, Some, None, length-append, append-nil}
-use Rattle.std.specs.Prelude.{Option, filter, nat_eq, nat_lt, not, slice_get}
+-- Whom a call concerned: those that are named, by what the room told and whom it has cut.
+use Rattle.std.proofs.Common.{◌≡◌, ◌≤◌, ◌++◌, ◌&&◌, ◌||◌, ℕ, zero, suc, List, [], ◌∷◌, Bool, true, false, arith, map, length, refl, sym, ◌∙◌, ap, subst, inl, inr, Some, None, length-append, append-nil}
+use Rattle.std.specs.Prelude.{Option, filter, nat_eq, not, slice_get, ◌==◌}
 use Rattle.std.specs.Option.{option_map_or}
-use Rattle.std.specs.List.{Contains}
+use Rattle.std.specs.List.{Contains, list_any}
 use Rattle.std.proofs.lemmas.Bool.{eqb-true, ltb-true, ltb-false}
-use Rattle.std.proofs.lemmas.Option.{none-some}
+use Rattle.floor_machine.specs.Conference.{AreCut, is_live}
 use Rattle.floor_machine.specs.Parcel.{Parcel}
+use Rattle.floor_room.specs.Ledger.{conference_of}
 use Rattle.floor_room.specs.Outbox.{Outbox}
 use Rattle.floor_room.specs.Room.{Room}
-use Rattle.floor_room.specs.Taking.{outbox_of}
 use Rattle.floor_hub.specs.declared.attached.Live.{Live}
 use Rattle.floor_hub.specs.declared.connection.Connection.{Connection}
-use Rattle.floor_hub.specs.Connections.{Connections, connection_at}
+use Rattle.floor_hub.specs.Connections.{connection_at}
 use Rattle.floor_hub.specs.Concerned.{AscendFrom, Concerns, IsConcerned, IsLeftAlone, IsNamed, is_cut, is_shut, waiting}
 use Rattle.floor_hub.specs.Hub.{Hub, room_at}
 use Rattle.floor_hub.specs.Rooms.{QueuesMore}
-use Rattle.floor_hub.specs.steps.Attached.{AreAttached, Concerned, Stands, concerned_of, is_concerned, live_in}
-use Rattle.floor_hub.proofs.Listing.{EachOf, IsIn, ascend-filter, contains-in, in-contains, named-of, unnamed-of}
+use Rattle.floor_hub.specs.steps.Attached.{AreAttached, Concerned, EachOf, IsIn, IsKnown, NamedIn, Stands, Tells, is_named, is_noted, live_in, marked}
+use Rattle.floor_hub.proofs.Known.{Went, listed-cut, shut-same, stays-cut}
+use Rattle.floor_hub.proofs.Listing.{Keeps, contains-in, in-contains, map-stands, named-of, stands-map, unnamed-of}
 
 -- what an outbox holds, and nothing without one
 abbrev pub held_by : Option Outbox → List Parcel
@@ -39,50 +40,6 @@ not-longer : (xs ys more : List Parcel) → ys ≡ xs ++ more → length ys ≤ 
 not-longer xs ys [] e l = e ∙ append-nil xs
 not-longer xs ys (p ∷ more) e l = absurd (omega (arith, ap length e, length-append xs (p ∷ more)))
 
-or-false : (a b c : Bool) → (a || b || c) ≡ false → (a ≡ false) × (b ≡ false) × (c ≡ false)
-or-false true b c e = absurd (by e)
-  where
-    by : true ≡ false → ⊥
-    by w = cc
-or-false false true c e = absurd (by e)
-  where
-    by : true ≡ false → ⊥
-    by w = cc
-or-false false false c e = (refl, refl, e)
-
-or-true : (a b c : Bool) → (a || b || c) ≡ true → (a ≡ true) ⊎ ((b ≡ true) ⊎ (c ≡ true))
-or-true true b c e = inl refl
-or-true false true c e = inr (inl refl)
-or-true false false c e = inr (inr e)
-
-and-not : (a b : Bool) → (a && not b) ≡ false → a ≡ true → b ≡ true
-and-not true true e h = refl
-and-not true false e h = absurd (by e)
-  where
-    by : true ≡ false → ⊥
-    by w = cc
-and-not false b e h = absurd (by h)
-  where
-    by : false ≡ true → ⊥
-    by w = cc
-
-and-not-true : (a b : Bool) → (a && not b) ≡ true → (b ≡ false) × (a ≡ true)
-and-not-true true false e = (refl, refl)
-and-not-true true true e = absurd (by e)
-  where
-    by : false ≡ true → ⊥
-    by w = cc
-and-not-true false b e = absurd (by e)
-  where
-    by : false ≡ true → ⊥
-    by w = cc
-
--- how an entry stands: it was looked at before the call; or its connection is new, and it was looked at behind it
-abbrev pub IsLooked : Hub → Room → Room → Live → Type 0
-IsLooked old r s l =
-    ((l.waits ≡ length (waiting r l.n)) × (l.is_cut ≡ is_cut r l.n))
-    ⊎ ((connection_at old.connections l.number ≡ None) × (l.waits ≡ length (waiting s l.n)) × (l.is_cut ≡ is_cut s l.n))
-
 -- the connection, where there was one and is one, is the same one
 abbrev pub StaysAs : Option Connection → Option Connection → Type 0
 StaysAs None y = Unit {0}
@@ -95,53 +52,101 @@ left-alone r s n e = subst (λ (z : Room). IsLeftAlone r z n) (sym e) (record { 
 some_is : {A : Type 0} (x y : A) → ◌≡◌ {A = Option A} (Some x) (Some y) → x ≡ y
 some_is x y e = cc
 
--- who passes the test is concerned
-concerned-by : (old : Hub) (r s : Room) (l : Live) → IsLooked old r s l → is_concerned (is_shut s && not (is_shut r)) s l ≡ true → IsConcerned r s l.n
-concerned-by old r s l looked e = by (or-true (is_shut s && not (is_shut r)) (nat_lt l.waits (length (waiting s l.n))) (is_cut s l.n && not l.is_cut) e) looked
-  where
-    by : (((is_shut s && not (is_shut r)) ≡ true) ⊎ ((nat_lt l.waits (length (waiting s l.n)) ≡ true) ⊎ ((is_cut s l.n && not l.is_cut) ≡ true))) → IsLooked old r s l → IsConcerned r s l.n
-    by (inl h) looked = inr (inr (and-not-true (is_shut s) (is_shut r) h))
-    by (inr (inl h)) (inl k) = inl (omega (arith, ltb-true l.waits (length (waiting s l.n)) h, k.0))
-    by (inr (inl h)) (inr k) = absurd (omega (arith, ltb-true l.waits (length (waiting s l.n)) h, k.1))
-    by (inr (inr h)) (inl k) = let t = and-not-true (is_cut s l.n) l.is_cut h in inr (inl (sym k.1 ∙ t.0, t.1))
-    by (inr (inr h)) (inr k) = let t = and-not-true (is_cut s l.n) l.is_cut h in absurd (both (sym t.0 ∙ k.2 ∙ t.1))
-      where
-        both : false ≡ true → ⊥
-        both w = cc
+false_true : false ≡ true → ⊥
+false_true e = cc
 
--- who doesn't, and was live, is left alone
-alone-by : (old : Hub) (r s : Room) (l : Live) (x : Connection) → connection_at old.connections l.number ≡ Some x → QueuesMore r.outboxes s.outboxes → IsLooked old r s l →
-    is_concerned (is_shut s && not (is_shut r)) s l ≡ false → IsLeftAlone r s l.n
-alone-by old r s l x was more (inr k) e = absurd (none-some x (sym k.0 ∙ was))
-alone-by old r s l x was more (inl k) e =
-    let t = or-false (is_shut s && not (is_shut r)) (nat_lt l.waits (length (waiting s l.n))) (is_cut s l.n && not l.is_cut) e in
-    let w = waits-more r s l.n more in
-    let short : length (waiting s l.n) ≤ length (waiting r l.n) = omega (arith, ltb-false l.waits (length (waiting s l.n)) t.1, k.0) in
-    record {
-      waiting = not-longer (waiting r l.n) (waiting s l.n) w.0 w.1 short;
-      cut = λ h. sym k.1 ∙ and-not (is_cut s l.n) l.is_cut t.2 h;
-      shut = and-not (is_shut s) (is_shut r) t.0;
-    }
+-- whether the member of a connection was cut is known, and it is live while its conference is open
+abbrev pub IsFound : Room → Room → Live → Type 0
+IsFound r s l = IsKnown r l × (is_shut s ≡ false → is_live (conference_of s.ledger) l.n ≡ true)
 
--- a call was for the room of the conference c, which went from r to s, and these are its live connections
-pub concerns-in : (old new : Hub) (cs : Concerned) (c : ℕ) (r s : Room) (live : List Live) →
-    room_at old c ≡ Some r → room_at new c ≡ Some s → ((d : ℕ) → nat_eq c d ≡ false → room_at new d ≡ room_at old d) → QueuesMore r.outboxes s.outboxes →
-    live_in cs c ≡ live → AreAttached (live_in cs) (connection_at new.connections) → EachOf (IsLooked old r s) live →
-    new.concerned ≡ concerned_of (is_shut s && not (is_shut r)) s live →
+pub keeps-marked : (cut : List ℕ) → Keeps (marked cut)
+keeps-marked cut l = (refl, refl)
+
+-- a room went from r to s, told these, and these are cut now
+module _ (r s : Room) (told cut : List ℕ) (went : Went r s) (tells : Tells r s told) (are_cut : is_shut r ≡ false → is_shut s ≡ false → AreCut (conference_of s.ledger).members cut) where
+  -- who is named is concerned
+  concerned-by : (l : Live) → IsFound r s l → is_named (is_shut r) (is_shut s) told cut l ≡ true → IsConcerned r s l.n
+  concerned-by l known h = by (is_shut r) (is_shut s) refl refl h
+    where
+      noted : (t c k : Bool) → is_shut r ≡ false → is_shut s ≡ false → list_any (λ n. n == l.n) told ≡ t → list_any (λ n. n == l.n) cut ≡ c → l.is_cut ≡ k → (t || c && not k) ≡ true → IsConcerned r s l.n
+      noted true c k ra sb et ec ek e = inl (ltb-true (length (waiting r l.n)) (length (waiting s l.n)) (sym (tells sb l.n) ∙ et))
+      noted false true false ra sb et ec ek e = inr (inl (sym (known.0 ra) ∙ ek, sym (listed-cut s cut l.n sb (are_cut ra sb) (known.1 sb)) ∙ ec))
+      noted false true true ra sb et ec ek e = absurd (false_true e)
+      noted false false k ra sb et ec ek e = absurd (false_true e)
+
+      by : (a b : Bool) → is_shut r ≡ a → is_shut s ≡ b → (not a && (b || is_noted told cut l)) ≡ true → IsConcerned r s l.n
+      by true b ra sb e = absurd (false_true e)
+      by false true ra sb e = inr (inr (ra, sb))
+      by false false ra sb e = noted (list_any (λ n. n == l.n) told) (list_any (λ n. n == l.n) cut) l.is_cut ra sb refl refl refl e
+
+  -- who isn't is left alone
+  alone-by : QueuesMore r.outboxes s.outboxes → (l : Live) → IsFound r s l → is_named (is_shut r) (is_shut s) told cut l ≡ false → IsLeftAlone r s l.n
+  alone-by more l known h = by (is_shut r) (is_shut s) refl refl h
+    where
+      noted : (t c k : Bool) → is_shut r ≡ false → is_shut s ≡ false → list_any (λ n. n == l.n) told ≡ t → list_any (λ n. n == l.n) cut ≡ c → l.is_cut ≡ k → (t || c && not k) ≡ false → IsLeftAlone r s l.n
+      noted true c k ra sb et ec ek e = absurd (false_true (sym e))
+      noted false true false ra sb et ec ek e = absurd (false_true (sym e))
+      noted false c k ra sb et ec ek e =
+          let w = waits-more r s l.n more in
+          let short : length (waiting s l.n) ≤ length (waiting r l.n) = ltb-false (length (waiting r l.n)) (length (waiting s l.n)) (sym (tells sb l.n) ∙ et) in
+          record {
+            waiting = not-longer (waiting r l.n) (waiting s l.n) w.0 w.1 short;
+            cut = λ now. sym (known.0 ra) ∙ ek ∙ was c k (sym ec ∙ listed-cut s cut l.n sb (are_cut ra sb) (known.1 sb) ∙ now) e;
+            shut = λ now. absurd (false_true (sym sb ∙ now));
+          }
+        where
+          was : (c k : Bool) → c ≡ true → (c && not k) ≡ false → k ≡ true
+          was true true i j = refl
+          was true false i j = absurd (false_true (sym j))
+          was false k i j = absurd (false_true i)
+
+      by : (a b : Bool) → is_shut r ≡ a → is_shut s ≡ b → (not a && (b || is_noted told cut l)) ≡ false → IsLeftAlone r s l.n
+      by true b ra sb e = left-alone r s l.n (shut-same r s ra went)
+      by false true ra sb e = absurd (false_true (sym e))
+      by false false ra sb e = noted (list_any (λ n. n == l.n) told) (list_any (λ n. n == l.n) cut) l.is_cut ra sb refl refl refl e
+
+  -- it is known now whether its member is cut
+  known-by : (l : Live) → IsFound r s l → IsKnown s (marked cut l)
+  known-by l known sb = by (is_shut r) refl
+    where
+      either : (a b : Bool) → (a ≡ true → b ≡ true) → (a || b) ≡ b
+      either true b h = sym (h refl)
+      either false b h = refl
+
+      by : (a : Bool) → is_shut r ≡ a → (l.is_cut || list_any (λ n. n == l.n) cut) ≡ is_cut s l.n
+      by true ra = absurd (false_true (sym sb ∙ ap is_shut (shut-same r s ra went) ∙ ra))
+      by false ra =
+          let now : list_any (λ n. n == l.n) cut ≡ is_cut s l.n = listed-cut s cut l.n sb (are_cut ra sb) (known.1 sb) in
+          ap (λ (b : Bool). l.is_cut || b) now ∙ either l.is_cut (is_cut s l.n) (λ e. stays-cut r s l.n went sb (sym (known.0 ra) ∙ e))
+
+  pub known-all : (live : List Live) → EachOf (IsFound r s) live → EachOf (IsKnown s) (map (marked cut) live)
+  known-all [] each = tt
+  known-all (l ∷ live) each = (known-by l each.0, known-all live each.1)
+
+-- A call was for the room of the conference c, which went from r to s. Of the connections that are live now some are named.
+pub concerns-in : (old new : Hub) (cs : Concerned) (c : ℕ) (r s : Room) (told : List ℕ) (live : List Live) (i : NamedIn (is_shut r) s told live (live_in cs c) new.concerned) →
+    room_at old c ≡ Some r → room_at new c ≡ Some s → ((d : ℕ) → nat_eq c d ≡ false → room_at new d ≡ room_at old d) → QueuesMore r.outboxes s.outboxes → Went r s → Tells r s told →
+    AreAttached (live_in cs) (connection_at new.connections) → EachOf (IsFound r s) live →
     ((k : ℕ) → StaysAs (connection_at old.connections k) (connection_at new.connections k)) → Concerns old new
-concerns-in old new cs c r s live was now others more here attached each numbers stays = record {
-  ascending = subst (AscendFrom 0) (sym numbers) (ascend-filter test 0 live (subst (λ (z : List Live). AscendFrom 0 (map (λ l. l.number) z)) here (attached.ascending c)));
-  named = λ number h. named number (contains-in (map (λ l. l.number) (filter test live)) number (subst (λ (z : List ℕ). Contains z number) numbers h));
+concerns-in old new cs c r s told live i was now others more went tells attached each stays = record {
+  ascending = i.names.ascending;
+  named = λ number h. named number (i.names.named number (contains-in new.concerned number h));
   others = λ number x y wx wy none a b ra sb. other number x y wx wy none a b ra sb (nat_eq c x.conference) refl;
 }
   where
     test : Live → Bool
-    test l = is_concerned (is_shut s && not (is_shut r)) s l
+    test l = is_named (is_shut r) (is_shut s) told i.cut l
+
+    to_now : (number n : ℕ) → Stands live number n → Stands (live_in cs c) number n
+    to_now number n h = subst (λ (z : List Live). Stands z number n) (sym i.marked) (stands-map (marked i.cut) live number n (keeps-marked i.cut) h)
+
+    from_now : (number n : ℕ) → Stands (live_in cs c) number n → Stands live number n
+    from_now number n h = map-stands (marked i.cut) live number n (keeps-marked i.cut) (subst (λ (z : List Live). Stands z number n) i.marked h)
 
     named : (number : ℕ) → IsIn (map (λ l. l.number) (filter test live)) number → IsNamed old new number
-    named number i =
-        let t = named-of test (IsLooked old r s) live number each i in
-        let a = attached.live c number t.0.n (subst (λ (z : List Live). Stands z number t.0.n) (sym here) t.2) in
+    named number k =
+        let t = named-of test (IsFound r s) live number each k in
+        let a = attached.live c number t.0.n (to_now number t.0.n t.2) in
         record {
           connection = a.0;
           before = r;
@@ -149,7 +154,7 @@ concerns-in old new cs c r s live was now others more here attached each numbers
           live = a.1;
           was = ap (room_at old) a.2 ∙ was;
           now = ap (room_at new) a.2 ∙ now;
-          concerned = subst (IsConcerned r s) (sym a.3) (concerned-by old r s t.0 t.3 t.1);
+          concerned = subst (IsConcerned r s) (sym a.3) (concerned-by r s told i.cut went tells i.are_cut t.0 t.3 t.1);
         }
 
     other : (number : ℕ) (x y : Connection) → connection_at old.connections number ≡ Some x → connection_at new.connections number ≡ Some y →
@@ -161,10 +166,9 @@ concerns-in old new cs c r s live was now others more here attached each numbers
         let same : c ≡ x.conference = eqb-true c x.conference e in
         let p = subst (λ (z : Option Connection). StaysAs (Some x) z) wy (subst (λ (z : Option Connection). StaysAs z (connection_at new.connections number)) wx (stays number)) in
         let standing : Stands live number y.n =
-        subst (λ (z : List Live). Stands z number y.n) (ap (live_in cs) (p.0 ∙ sym same) ∙ here) (attached.found number y wy) in
-        let t = unnamed-of test (IsLooked old r s) live number y.n each standing
-        (λ i. none (subst (λ (z : List ℕ). Contains z number) (sym numbers) (in-contains (map (λ l. l.number) (filter test live)) number i))) in
-        let alone : IsLeftAlone r s t.0.n = alone-by old r s t.0 x (ap (connection_at old.connections) t.1 ∙ wx) more t.4 t.3 in
+        from_now number y.n (subst (λ (d : ℕ). Stands (live_in cs d) number y.n) (p.0 ∙ sym same) (attached.found number y wy)) in
+        let t = unnamed-of test (IsFound r s) live number y.n each standing (λ k. none (in-contains new.concerned number (i.names.all number k))) in
+        let alone : IsLeftAlone r s t.0.n = alone-by r s told i.cut went tells i.are_cut more t.0 t.4 t.3 in
         let ar : r ≡ a = some_is r a (sym was ∙ ap (room_at old) same ∙ ra) in
         let bs : s ≡ b = some_is s b (sym now ∙ ap (room_at new) same ∙ sb) in
         subst (λ (z : ℕ). IsLeftAlone a b z) (t.2 ∙ p.1) (subst (λ (z : Room). IsLeftAlone a z t.0.n) bs (subst (λ (z : Room). IsLeftAlone z s t.0.n) ar alone))

@@ -31,6 +31,12 @@ pub mod Entries
 pub mod Advancing
 pub mod GoesOn
 pub mod Listing
+pub mod Searching
+pub mod Putting
+pub mod Noting
+pub mod Telling
+pub mod Known
+pub mod Moving
 pub mod Concerning
 pub mod Attaching
 pub mod Naming

@@ -1,17 +1,10 @@
 -- Lists of live connections, and of their numbers.
-use Rattle.std.proofs.Common.{◌≡◌, ◌⊎◌, ◌<◌, ◌≤◌, ◌+◌, ◌++◌, ◌&&◌, ℕ, zero, suc, List, [], ◌∷◌, Bool, true, false, arith, map, length, get_or, take, refl, sym, ◌∙◌, ap, subst, inl, inr, append_assoc}
-use Rattle.std.specs.Prelude.{filter, not, ◌==◌, nat_eq}
+use Rattle.std.proofs.Common.{◌≡◌, ◌⊎◌, ◌<◌, ◌≤◌, ◌+◌, ◌++◌, ℕ, zero, suc, List, [], ◌∷◌, Bool, true, false, cond, arith, map, length, refl, sym, ◌∙◌, ap, subst, inl, inr}
+use Rattle.std.specs.Prelude.{filter, not, ◌==◌}
 use Rattle.std.specs.List.{Contains, slice_index_or}
-use Rattle.std.proofs.lemmas.List.{take_more}
-use Rattle.floor_room.specs.Room.{Room}
 use Rattle.floor_hub.specs.declared.attached.Live.{Live}
 use Rattle.floor_hub.specs.Concerned.{AscendFrom}
-use Rattle.floor_hub.specs.steps.Attached.{Stands, concerned_of, is_concerned, without}
-
--- a number stands in a list
-abbrev pub IsIn : List ℕ → ℕ → Type 0
-IsIn [] number = ⊥
-IsIn (k ∷ numbers) number = (k ≡ number) ⊎ IsIn numbers number
+use Rattle.floor_hub.specs.steps.Attached.{AreListed, AreWithin, EachOf, IsBehind, IsIn, Stands, without}
 
 pub in-contains : (numbers : List ℕ) (number : ℕ) → IsIn numbers number → Contains numbers number
 in-contains [] number h = absurd h
@@ -32,31 +25,69 @@ ascend-from j k [] l h = tt
 ascend-from j k (number ∷ numbers) l h = (omega (arith, h.0), h.1)
 
 -- some of those that ascend ascend
-pub ascend-filter : (p : Live → Bool) (k : ℕ) (live : List Live) → AscendFrom k (map (λ l. l.number) live) → AscendFrom k (map (λ l. l.number) (filter p live))
-ascend-filter p k [] h = tt
-ascend-filter p k (l ∷ live) h = by (p l) refl (ascend-filter p l.number live h.1)
+pub ascend-filter : (key : Live → ℕ) (p : Live → Bool) (k : ℕ) (live : List Live) → AscendFrom k (map key live) → AscendFrom k (map key (filter p live))
+ascend-filter key p k [] h = tt
+ascend-filter key p k (l ∷ live) h = by (p l) refl (ascend-filter key p (key l) live h.1)
   where
-    by : (b : Bool) → p l ≡ b → AscendFrom l.number (map (λ l. l.number) (filter p live)) → AscendFrom k (map (λ l. l.number) (filter p (l ∷ live)))
+    by : (b : Bool) → p l ≡ b → AscendFrom (key l) (map key (filter p live)) → AscendFrom k (map key (filter p (l ∷ live)))
     by true e rest = rw e (h.0, rest)
-    by false e rest = rw e (ascend-from k l.number _ (omega (arith, h.0)) rest)
+    by false e rest = rw e (ascend-from k (key l) _ (omega (arith, h.0)) rest)
 
 -- one more, above all
 pub ascend-push : (k number : ℕ) (numbers : List ℕ) → k < number → ((i : ℕ) → IsIn numbers i → i < number) → AscendFrom k numbers → AscendFrom k (numbers ++ number ∷ [])
 ascend-push k number [] l below h = (l, tt)
 ascend-push k number (x ∷ xs) l below h = (h.0, ascend-push x number xs (below x (inl refl)) (λ i j. below i (inr j)) h.1)
 
--- the fact holds of each connection
-abbrev pub EachOf : (Live → Type 0) → List Live → Type 0
-EachOf P [] = Unit {0}
-EachOf P (l ∷ live) = P l × EachOf P live
+-- all that ascend from here on are above
+pub above : (k i : ℕ) (numbers : List ℕ) → AscendFrom k numbers → IsIn numbers i → k < i
+above k i [] h e = absurd e
+above k i (x ∷ xs) h (inl e) = omega (arith, e, h.0)
+above k i (x ∷ xs) h (inr e) = omega (arith, h.0, above x i xs h.1 e)
 
-pub each-map : (P : Live → Type 0) (f : Live → Live) (live : List Live) → ((l : Live) → P (f l)) → EachOf P (map f live)
-each-map P f [] h = tt
-each-map P f (l ∷ live) h = (h l, each-map P f live h)
+-- whatever is above the first stands behind it
+behind : (y i : ℕ) (ys : List ℕ) → y < i → (y ≡ i) ⊎ IsIn ys i → IsIn ys i
+behind y i ys l (inl e) = absurd (omega (arith, e, l))
+behind y i ys l (inr e) = e
+
+higher : (x y i : ℕ) (xs : List ℕ) → y < x → AscendFrom x xs → IsIn (x ∷ xs) i → y < i
+higher x y i xs l up (inl e) = omega (arith, e, l)
+higher x y i xs l up (inr e) = omega (arith, l, above x i xs up e)
+
+-- numbers that ascend, of which each is one of others that ascend, are no more than these
+pub no-more : (j k : ℕ) (xs ys : List ℕ) → AscendFrom j xs → AscendFrom k ys → ((i : ℕ) → IsIn xs i → IsIn ys i) → length xs ≤ length ys
+no-more j k [] ys up ups within = omega arith
+no-more j k (x ∷ xs) [] up ups within = absurd (within x (inl refl))
+no-more j k (x ∷ xs) (y ∷ ys) up ups within = by (within x (inl refl)) (λ h. no-more x y xs ys up.1 ups.1 h) (λ h. no-more j y (x ∷ xs) ys up ups.1 h)
+  where
+    by : (y ≡ x) ⊎ IsIn ys x → (((i : ℕ) → IsIn xs i → IsIn ys i) → length xs ≤ length ys) → (((i : ℕ) → IsIn (x ∷ xs) i → IsIn ys i) → length (x ∷ xs) ≤ length ys) → length (x ∷ xs) ≤ length (y ∷ ys)
+    by (inl e) same later = omega (arith, same (λ i h. behind y i ys (omega (arith, e, above x i xs up.1 h)) (within i (inr h))))
+    by (inr e) same later = omega (arith, later (λ i h. behind y i ys (higher x y i xs (above y x ys ups.1 e) up.1 h) (within i h)))
+
+-- and fewer where one of these isn't among them
+pub fewer : (j k n : ℕ) (xs ys : List ℕ) → AscendFrom j xs → AscendFrom k ys → ((i : ℕ) → IsIn xs i → IsIn ys i) → IsIn ys n → ¬ IsIn xs n → length xs < length ys
+fewer j k n xs [] up ups within there none = absurd there
+fewer j k n [] (y ∷ ys) up ups within there none = omega arith
+fewer j k n (x ∷ xs) (y ∷ ys) up ups within there none = by (within x (inl refl)) (λ h i. fewer x y n xs ys up.1 ups.1 h i (λ w. none (inr w)))
+  where
+    other : y ≡ x → (y ≡ n) ⊎ IsIn ys n → IsIn ys n
+    other e (inl h) = absurd (none (inl (sym e ∙ h)))
+    other e (inr h) = h
+
+    by : (y ≡ x) ⊎ IsIn ys x → (((i : ℕ) → IsIn xs i → IsIn ys i) → IsIn ys n → length xs < length ys) → length (x ∷ xs) < length (y ∷ ys)
+    by (inl e) same = omega (arith, same (λ i h. behind y i ys (omega (arith, e, above x i xs up.1 h)) (within i (inr h))) (other e there))
+    by (inr e) same = omega (arith, no-more j y (x ∷ xs) ys up ups.1 (λ i h. behind y i ys (higher x y i xs (above y x ys ups.1 e) up.1 h) (within i h)))
 
 pub each-push : (P : Live → Type 0) (live : List Live) (l : Live) → EachOf P live → P l → EachOf P (live ++ l ∷ [])
 each-push P [] l h p = (p, tt)
 each-push P (x ∷ live) l h p = (h.0, each-push P live l h.1 p)
+
+pub each-filter : (P : Live → Type 0) (p : Live → Bool) (live : List Live) → EachOf P live → EachOf P (filter p live)
+each-filter P p [] h = tt
+each-filter P p (l ∷ live) h = by (p l) (each-filter P p live h.1)
+  where
+    by : (b : Bool) → EachOf P (filter p live) → EachOf P (cond b (l ∷ filter p live) (filter p live))
+    by true rest = (h.0, rest)
+    by false rest = rest
 
 -- a number among those of the connections that pass a test is that of one of them
 pub named-of : (p : Live → Bool) (P : Live → Type 0) (live : List Live) (number : ℕ) → EachOf P live → IsIn (map (λ l. l.number) (filter p live)) number →
@@ -113,9 +144,10 @@ map-stands f [] number n k h = absurd h
 map-stands f (l ∷ live) number n k (inl i) = inl (sym (k l).0 ∙ i.0, sym (k l).1 ∙ i.1)
 map-stands f (l ∷ live) number n k (inr i) = inr (map-stands f live number n k i)
 
-pub numbers-map : (f : Live → Live) (live : List Live) → Keeps f → map (λ l. l.number) (map f live) ≡ map (λ l. l.number) live
-numbers-map f [] k = refl
-numbers-map f (l ∷ live) k = ap (λ i. i ∷ map (λ l. l.number) (map f live)) (k l).0 ∙ ap (λ i. l.number ∷ i) (numbers-map f live k)
+-- a change that leaves a key leaves the keys
+pub keys-map : (key : Live → ℕ) (f : Live → Live) (live : List Live) → ((l : Live) → key (f l) ≡ key l) → map key (map f live) ≡ map key live
+keys-map key f [] k = refl
+keys-map key f (l ∷ live) k = ap (λ i. i ∷ map key (map f live)) (k l) ∙ ap (λ i. key l ∷ i) (keys-map key f live k)
 
 pub stands-push : (live : List Live) (l : Live) (number n : ℕ) → Stands live number n → Stands (live ++ l ∷ []) number n
 stands-push [] l number n h = absurd h
@@ -132,15 +164,25 @@ push-stands [] l number n (inr i) = absurd i
 push-stands (x ∷ live) l number n (inl i) = inl (inl i)
 push-stands (x ∷ live) l number n (inr i) = elim (push-stands live l number n i) [ inl j ↦ inl (inr j) | inr j ↦ inr j ]
 
-pub numbers-push : (live : List Live) (l : Live) → map (λ l. l.number) (live ++ l ∷ []) ≡ map (λ l. l.number) live ++ l.number ∷ []
-numbers-push [] l = refl
-numbers-push (x ∷ live) l = ap (λ i. x.number ∷ i) (numbers-push live l)
+pub keys-push : (key : Live → ℕ) (live : List Live) (l : Live) → map key (live ++ l ∷ []) ≡ map key live ++ key l ∷ []
+keys-push key [] l = refl
+keys-push key (x ∷ live) l = ap (λ i. key x ∷ i) (keys-push key live l)
 
--- a number of the list stands there, as some n
+-- a number of the list stands there, as some n, and an n under some number
 pub in-stands : (live : List Live) (number : ℕ) → IsIn (map (λ l. l.number) live) number → (n : ℕ) × Stands live number n
 in-stands [] number h = absurd h
 in-stands (l ∷ live) number (inl i) = (l.n, inl (i, refl))
 in-stands (l ∷ live) number (inr i) = let t = in-stands live number i in (t.0, inr t.1)
+
+pub member-stands : (live : List Live) (n : ℕ) → IsIn (map (λ l. l.n) live) n → (number : ℕ) × Stands live number n
+member-stands [] n h = absurd h
+member-stands (l ∷ live) n (inl i) = (l.number, inl (refl, i))
+member-stands (l ∷ live) n (inr i) = let t = member-stands live n i in (t.0, inr t.1)
+
+pub stands-in : (live : List Live) (number n : ℕ) → Stands live number n → IsIn (map (λ l. l.number) live) number
+stands-in [] number n h = absurd h
+stands-in (l ∷ live) number n (inl i) = inl i.0
+stands-in (l ∷ live) number n (inr i) = inr (stands-in live number n i)
 
 -- those that pass a test which the number alone decides
 pub stands-filter : (p : Live → Bool) (live : List Live) (number n : ℕ) → ((l : Live) → l.number ≡ number → p l ≡ true) → Stands live number n → Stands (filter p live) number n
@@ -178,31 +220,40 @@ length-filter p (l ∷ live) = by (p l) refl (length-filter p live)
 pub length_without : (number : ℕ) (live : List Live) → length (without number live) ≤ length live
 length_without number live = length-filter (λ l. not (l.number == number)) live
 
-length-numbers : (live : List Live) → length (map (λ l. l.number) live) ≡ length live
-length-numbers [] = refl
-length-numbers (l ∷ live) = omega (arith, length-numbers live)
+pub length-keys : (key : Live → ℕ) (live : List Live) → length (map key live) ≡ length live
+length-keys key [] = refl
+length-keys key (l ∷ live) = omega (arith, length-keys key live)
 
--- no more are concerned than are live
-pub length_concerned : (shut : Bool) (r : Room) (live : List Live) → length (concerned_of shut r live) ≤ length live
-length_concerned shut r live = omega (arith, length-numbers (filter (is_concerned shut r) live), length-filter (is_concerned shut r) live)
+pub length-changed : (f : Live → Live) (live : List Live) → length (map f live) ≡ length live
+length-changed f [] = refl
+length-changed f (l ∷ live) = omega (arith, length-changed f live)
 
-filter-push : (p : Live → Bool) (live : List Live) (l : Live) → map (λ l. l.number) (filter p (live ++ l ∷ [])) ≡ map (λ l. l.number) (filter p live) ++ map (λ l. l.number) (filter p (l ∷ []))
-filter-push p [] l = refl
-filter-push p (x ∷ live) l = by (p x) refl (filter-push p live l)
-  where
-    by : (b : Bool) → p x ≡ b → map (λ l. l.number) (filter p (live ++ l ∷ [])) ≡ map (λ l. l.number) (filter p live) ++ map (λ l. l.number) (filter p (l ∷ [])) →
-        map (λ l. l.number) (filter p (x ∷ (live ++ l ∷ []))) ≡ map (λ l. l.number) (filter p (x ∷ live)) ++ map (λ l. l.number) (filter p (l ∷ []))
-    by true e h = rw e (ap (λ (z : List ℕ). x.number ∷ z) h)
-    by false e h = rw e h
+-- one more connection comes behind the others
+pub listed-more : (live : List Live) (l : Live) → AreListed live → IsBehind live l.number l.n → AreListed (live ++ l ∷ [])
+listed-more live l h behind = (
+  subst (AscendFrom 0) (sym (keys-push (λ o. o.number) live l)) (ascend-push 0 l.number (map (λ o. o.number) live) behind.first behind.numbers h.0),
+  subst (AscendFrom 0) (sym (keys-push (λ o. o.n) live l)) (ascend-push 0 l.n (map (λ o. o.n) live) behind.first_n behind.members h.1),
+)
 
--- one more of those that are live
-pub concerned-more : (shut : Bool) (r : Room) (live : List Live) (i : ℕ) (l d : Live) → i < length live → l ≡ get_or live i d →
-    concerned_of shut r (take (i + 1) live) ≡ concerned_of shut r (take i live) ++ concerned_of shut r (l ∷ [])
-concerned-more shut r live i l d within is =
-    ap (concerned_of shut r) (take_more live i d within ∙ ap (λ (z : Live). take i live ++ z ∷ []) (sym is)) ∙ filter-push (is_concerned shut r) (take i live) l
+-- and so do those that are left
+pub listed-without : (number : ℕ) (live : List Live) → AreListed live → AreListed (without number live)
+listed-without number live h = (
+  ascend-filter (λ o. o.number) (λ l. not (l.number == number)) 0 live h.0,
+  ascend-filter (λ o. o.n) (λ l. not (l.number == number)) 0 live h.1,
+)
 
-pub named-more : (shut : Bool) (r : Room) (live : List Live) (i : ℕ) (d : Live) (first now new : List ℕ) → i < length live → now ≡ first ++ concerned_of shut r (take i live) →
-    new ≡ now ++ concerned_of shut r (get_or live i d ∷ []) → new ≡ first ++ concerned_of shut r (take (i + 1) live)
-named-more shut r live i d first now new within before is =
-    is ∙ ap (λ (z : List ℕ). z ++ concerned_of shut r (get_or live i d ∷ [])) before ∙ append_assoc first (concerned_of shut r (take i live)) (concerned_of shut r (get_or live i d ∷ []))
-    ∙ ap (λ (z : List ℕ). first ++ z) (sym (concerned-more shut r live i (get_or live i d) d within refl))
+-- a change that leaves the numbers leaves the order
+pub listed-changed : (f : Live → Live) (live after : List Live) → Keeps f → after ≡ map f live → AreListed live → AreListed after
+listed-changed f live after keeps is h = subst AreListed (sym is) (
+  subst (AscendFrom 0) (sym (keys-map (λ o. o.number) f live (λ l. (keeps l).0))) h.0,
+  subst (AscendFrom 0) (sym (keys-map (λ o. o.n) f live (λ l. (keeps l).1))) h.1,
+)
+
+-- who stands behind so many connections, each of which has an outbox, has a further one
+pub behind-all : (live : List Live) (number n outboxes members : ℕ) → AreWithin live number outboxes → outboxes ≡ members → n ≡ members + 1 → IsBehind live number n
+behind-all live number n outboxes members h same is = record {
+  first = h.first;
+  first_n = omega (arith, is);
+  numbers = h.numbers;
+  members = λ k i. omega (arith, is, same, h.members k i);
+}

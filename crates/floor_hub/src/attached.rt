@@ -1,26 +1,27 @@
-//! The live connections of one conference, and how each of them stands before a call.
+//! The live connections of one conference, and which of them a call names.
 
-ghost use Rattle.std.specs.Prelude.{◌≡◌, ◌≤◌, ◌<◌, ◌+◌, ◌++◌, ◌∷◌, [], OnErr, OnOk, length, map, vec_capacity, vec_len};
-ghost use Rattle.floor_hub.specs.Concerned.{is_cut, is_shut, waiting};
-ghost use Rattle.floor_hub.specs.steps.Attached.{concerned_of, is_concerned, looked, without};
+ghost use Rattle.std.specs.Prelude.{◌≡◌, ◌≤◌, ◌<◌, ◌++◌, ◌∷◌, ◌==◌, ◌&&◌, [], not, filter, IfNone, IfSome, OnErr, OnOk, length, map, option_to_list, vec_capacity, vec_len};
+ghost use Rattle.std.specs.List.{list_any, slice_index_or};
+ghost use Rattle.floor_hub.specs.Concerned.{AscendFrom, is_shut};
+ghost use Rattle.floor_hub.specs.declared.attached.Live.{Live as Listed};
+ghost use Rattle.floor_hub.specs.steps.Attached.{AddsNames, AreListed, IsBehind, IsIn, IsNaming, Names, cut_at, is_noted, marked, members_of, numbers_of, without};
 
 use crate::connection::ConnNo;
 use floor_room::{Refusal, Room, RoomRefusal};
 use std::alloc::{AllocError, Global};
 use std::marker::Model;
 
-/// A live connection, and how it stood before a call.
+/// A live connection.
 #[derive(Clone, Copy, Debug)]
 pub(crate) struct Live {
     pub number: ConnNo,
     pub n: u32,
-    /// How many parcels waited for it.
-    pub waits: usize,
-    /// Whether its member was cut.
+    /// Whether its member is cut, as far as any call has seen.
     pub is_cut: bool,
 }
 
-/// The live connections of one conference, by ascending number.
+/// The live connections of one conference in the order in which they came, and so by ascending number
+/// and by ascending n.
 #[derive(Drop)]
 pub(crate) struct Attached {
     live: Vec<Live>,
@@ -29,10 +30,13 @@ pub(crate) struct Attached {
 impl Model for Attached {
     ghost use Rattle.std.specs.Prelude.{List};
     ghost use Rattle.floor_hub.specs.declared.attached.Live.{Live};
+    ghost use Rattle.floor_hub.specs.steps.Attached.{AreListed};
 
     ghost Value = { List Live };
 
     ghost view = { λ a. a.live.items };
+
+    ghost invariant = { λ a. AreListed a.live.items };
 }
 
 impl Attached {
@@ -52,8 +56,9 @@ impl Attached {
         self.live.len()
     }
 
-    /// Adds a connection. After an error nothing has changed.
+    /// Adds a connection behind the others. After an error nothing has changed.
     pub(crate) fn add(&mut self, live: Live) -> Result<(), AllocError>
+        requires { IsBehind self.old live.number live.n }
         ensures next { OnOk result (self.new ≡ self.old ++ live ∷ []) }
         ensures left { OnErr result (self.new ≡ self.old) }
     {
@@ -68,105 +73,166 @@ impl Attached {
         self.live.retain(|live| live.number != number);
     }
 
-    /// Keeps how each connection stands in its room.
-    pub(crate) fn look(&mut self, room: &Room)
-        ensures next { self.new ≡ map (looked room.now) self.old }
+    /// Names all connections.
+    pub(crate) fn name_all(&self, numbers: &mut Vec<ConnNo>)
+        requires none { numbers.old.items ≡ [] }
+        requires room { length self.now ≤ vec_capacity numbers.old }
+        ensures named { numbers.new.items ≡ numbers_of self.now }
+        ensures ascending { AscendFrom 0 numbers.new.items }
+        ensures capacity { vec_capacity numbers.old ≤ vec_capacity numbers.new }
     {
-        look_all(&mut self.live, room);
+        name_each(self.live.as_slice(), numbers);
     }
 
-    /// Puts the numbers of those that a call concerned behind these. The call has shut the room or it
-    /// hasn't.
-    pub(crate) fn name(&self, room: &Room, shut: bool, numbers: &mut Vec<ConnNo>)
-        requires { length numbers.old.items + length self.now ≤ vec_capacity numbers.old }
-        ensures out { numbers.new.items
-            ≡ numbers.old.items ++ concerned_of shut room.now self.now }
-        ensures capacity { vec_capacity numbers.new ≡ vec_capacity numbers.old }
+    /// Names those whose member was told something, and those whose member is cut and wasn't known to
+    /// be, by the numbers of these members. Nothing is done for any other connection.
+    pub(crate) fn name_noted(&mut self, told: &[u32], cut: &[u32], numbers: &mut Vec<ConnNo>)
+        requires none { numbers.old.items ≡ [] }
+        requires room { length self.old ≤ vec_capacity numbers.old }
+        ensures marked { self.new ≡ map (marked cut.now) self.old }
+        ensures named { Names numbers.new.items (is_noted told.now cut.now) self.old }
+        ensures capacity { vec_capacity numbers.old ≤ vec_capacity numbers.new }
     {
-        name_all(self.live.as_slice(), room, shut, numbers);
+        name_told(self.live.as_slice(), told, numbers);
+        name_cut(&mut self.live, cut, numbers);
     }
 }
 
-fn name_all(live: &[Live], room: &Room, shut: bool, numbers: &mut Vec<ConnNo>)
-    requires { length numbers.old.items + length live.now ≤ vec_capacity numbers.old }
-    ensures out { numbers.new.items
-        ≡ numbers.old.items ++ concerned_of shut room.now live.now }
-    ensures capacity { vec_capacity numbers.new ≡ vec_capacity numbers.old }
+fn name_each(live: &[Live], numbers: &mut Vec<ConnNo>)
+    requires none { numbers.old.items ≡ [] }
+    requires room { length live.now ≤ vec_capacity numbers.old }
+    ensures named { numbers.new.items ≡ numbers_of live.now }
+    ensures capacity { vec_capacity numbers.old ≤ vec_capacity numbers.new }
 {
     for one in live {
-        name_one(one, room, shut, numbers);
+        numbers.push_reserved(one.number);
     }
 }
 
-/// Puts the number of a connection behind these, if a call concerned it.
-fn name_one(live: &Live, room: &Room, shut: bool, numbers: &mut Vec<ConnNo>)
-    requires { vec_len numbers.old < vec_capacity numbers.old }
-    ensures out { numbers.new.items
-        ≡ numbers.old.items ++ concerned_of shut room.now (live.now ∷ []) }
-    ensures capacity { vec_capacity numbers.new ≡ vec_capacity numbers.old }
+/// Names the connections of members that were told something.
+fn name_told(live: &[Live], told: &[u32], numbers: &mut Vec<ConnNo>)
+    requires { IsNaming live.now numbers.old.items (vec_capacity numbers.old) }
+    ensures naming { IsNaming live.now numbers.new.items (vec_capacity numbers.new) }
+    ensures named { AddsNames numbers.old.items numbers.new.items
+        (numbers_of (filter (λ l. list_any (λ k. k == l.n) told.now) live.now)) }
+    ensures capacity { vec_capacity numbers.old ≤ vec_capacity numbers.new }
 {
-    if is_concerned(room, shut, live) {
-        numbers.push_reserved(live.number);
+    for n in told {
+        name_one(live, *n, numbers);
     }
 }
 
-fn look_all(live: &mut Vec<Live>, room: &Room)
-    ensures { live.new.items ≡ map (looked room.now) live.old.items }
+fn name_one(live: &[Live], n: u32, numbers: &mut Vec<ConnNo>)
+    requires { IsNaming live.now numbers.old.items (vec_capacity numbers.old) }
+    ensures naming { IsNaming live.now numbers.new.items (vec_capacity numbers.new) }
+    ensures named { AddsNames numbers.old.items numbers.new.items
+        (numbers_of (filter (λ l. n == l.n) live.now)) }
+    ensures capacity { vec_capacity numbers.old ≤ vec_capacity numbers.new }
 {
-    for one in live.iter_mut() {
-        look_at(one, room);
+    match number_of(live, n) {
+        Some(number) => put_number(numbers, number),
+        None => {}
     }
 }
 
-/// Keeps how a connection stands in its room.
-fn look_at(live: &mut Live, room: &Room)
-    ensures { live.new ≡ looked room.now live.old }
+/// Names the connections of members that are cut, where that is new.
+fn name_cut(live: &mut Vec<Live>, cut: &[u32], numbers: &mut Vec<ConnNo>)
+    requires { IsNaming live.old.items numbers.old.items (vec_capacity numbers.old) }
+    ensures naming { IsNaming live.new.items numbers.new.items (vec_capacity numbers.new) }
+    ensures marked { live.new.items ≡ map (marked cut.now) live.old.items }
+    ensures named { AddsNames numbers.old.items numbers.new.items
+        (numbers_of (filter (λ l. list_any (λ k. k == l.n) cut.now && not l.is_cut) live.old.items)) }
+    ensures capacity { vec_capacity numbers.old ≤ vec_capacity numbers.new }
 {
-    live.waits = waits(room, live.n);
-    live.is_cut = is_cut(room, live.n);
-}
-
-/// The connection of a member that has just joined.
-pub(crate) fn joined(room: &Room, number: ConnNo, n: u32) -> Live
-    ensures { result ≡ record {
-      number = number;
-      n = n;
-      waits = length (waiting room.now n);
-      is_cut = is_cut room.now n;
-    } }
-{
-    Live {
-        number,
-        n,
-        waits: waits(room, n),
-        is_cut: is_cut(room, n),
+    for n in cut {
+        name_cut_one(live, *n, numbers);
     }
 }
 
-/// Whether a call concerned a connection, by how it stands in the room now.
-fn is_concerned(room: &Room, shut: bool, live: &Live) -> bool
-    ensures { result ≡ is_concerned shut room.now live.now }
+fn name_cut_one(live: &mut Vec<Live>, n: u32, numbers: &mut Vec<ConnNo>)
+    requires { IsNaming live.old.items numbers.old.items (vec_capacity numbers.old) }
+    ensures naming { IsNaming live.new.items numbers.new.items (vec_capacity numbers.new) }
+    ensures marked { live.new.items ≡ map (cut_at n) live.old.items }
+    ensures named { AddsNames numbers.old.items numbers.new.items
+        (numbers_of (filter (λ l. n == l.n && not l.is_cut) live.old.items)) }
+    ensures capacity { vec_capacity numbers.old ≤ vec_capacity numbers.new }
 {
-    shut || live.waits < waits(room, live.n) || is_cut(room, live.n) && !live.is_cut
-}
-
-/// How many parcels wait for a member.
-fn waits(room: &Room, n: u32) -> usize
-    ensures { result ≡ length (waiting room.now n) }
-{
-    match room.held(n) {
-        Some(held) => held.len(),
-        None => 0,
+    match mark(live, n) {
+        Some(number) => put_number(numbers, number),
+        None => {}
     }
 }
 
-/// Whether a member is cut, in a room that isn't broken off.
-fn is_cut(room: &Room, n: u32) -> bool
-    ensures { result ≡ is_cut room.now n }
+/// Keeps that a member is cut, and gives the number of its connection where that is new.
+fn mark(live: &mut Vec<Live>, n: u32) -> Option<ConnNo>
+    requires { AreListed live.old.items }
+    ensures next { live.new.items ≡ map (cut_at n) live.old.items }
+    ensures value { option_to_list result
+        ≡ numbers_of (filter (λ l. n == l.n && not l.is_cut) live.old.items) }
 {
-    match room.closed() {
-        Some(RoomRefusal::Refused(Refusal::Broken)) => false,
-        _ => room.is_cut(n),
+    match place_of(live, n) {
+        None => None,
+        Some(place) => match live.get_mut(place) {
+            None => None,
+            Some(one) => mark_one(one),
+        },
+    }
+}
+
+/// Keeps that the member of a connection is cut, and gives its number where that is new.
+fn mark_one(live: &mut Live) -> Option<ConnNo>
+    ensures next { live.new ≡ cut_at live.old.n live.old }
+    ensures value { option_to_list result
+        ≡ numbers_of (filter (λ l. not l.is_cut) (live.old ∷ [])) }
+{
+    if live.is_cut {
+        return None;
+    }
+    live.is_cut = true;
+    Some(live.number)
+}
+
+/// The number of the connection of a member.
+fn number_of(live: &[Live], n: u32) -> Option<ConnNo>
+    requires { AreListed live.now }
+    ensures value { option_to_list result ≡ numbers_of (filter (λ l. n == l.n) live.now) }
+{
+    match place_of(live, n) {
+        None => None,
+        Some(place) => Some(live[place].number),
+    }
+}
+
+/// Where the connection of a member stands.
+fn place_of(live: &[Live], n: u32) -> Option<usize>
+    requires { AreListed live.now }
+    ensures found { IfSome result (λ place. (place < length live.now)
+        × ((d : Listed) → (slice_index_or live.now place d).n ≡ n)) }
+    ensures none { IfNone result (filter (λ l. n == l.n) live.now ≡ []) }
+{
+    let place = live.partition_point(|l| l.n < n);
+    if place < live.len() && live[place].n == n {
+        return Some(place);
+    }
+    None
+}
+
+/// Puts a number among those that are named, unless it is one of them.
+fn put_number(numbers: &mut Vec<ConnNo>, number: ConnNo)
+    requires ascending { AscendFrom 0 numbers.old.items }
+    requires first { 0 < number }
+    requires room { ¬ IsIn numbers.old.items number
+        → vec_len numbers.old < vec_capacity numbers.old }
+    ensures ascending { AscendFrom 0 numbers.new.items }
+    ensures put { AddsNames numbers.old.items numbers.new.items (number ∷ []) }
+    ensures capacity { vec_capacity numbers.old ≤ vec_capacity numbers.new }
+{
+    match numbers.binary_search(&number) {
+        Ok(_) => {}
+        Err(place) => {
+            // There is room for it, so it is put in.
+            let _room = numbers.insert(place, number);
+        }
     }
 }
 

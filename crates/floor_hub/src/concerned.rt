@@ -1,9 +1,9 @@
 //! The live connections of each conference, and which of them a call concerned: those to which it
 //! queued something, those whose member it cut, and all where it closed the conference or broke it off.
 
-ghost use Rattle.std.specs.Prelude.{◌≡◌, ◌++◌, ◌∷◌, ℕ, [], OnErr, OnOk, map, not, ◌&&◌};
-ghost use Rattle.floor_hub.specs.Concerned.{is_shut};
-ghost use Rattle.floor_hub.specs.steps.Attached.{PutsLive, SameLive, concerned_of, live_in, looked, without};
+ghost use Rattle.std.specs.Prelude.{◌≡◌, ◌++◌, ◌∷◌, ℕ, [], false, map, nat_eq, OnErr, OnOk};
+ghost use Rattle.floor_hub.specs.Concerned.{AscendFrom};
+ghost use Rattle.floor_hub.specs.steps.Attached.{IsBehind, NamedIn, Names, PutsLive, SameLive, is_noted, live_in, marked, numbers_of, without};
 
 use crate::attached::{Attached, Live, is_shut};
 use crate::connection::ConnNo;
@@ -59,8 +59,9 @@ impl Concerned {
         self.numbers.clear();
     }
 
-    /// Adds a live connection of a conference. After an error nothing has changed.
+    /// Adds a live connection of a conference behind the others. After an error nothing has changed.
     pub(crate) fn add(&mut self, conference: u32, live: Live) -> Result<(), AllocError>
+        requires { IsBehind (live_in self.old conference) live.number live.n }
         ensures next { OnOk result
             (PutsLive self.old self.new conference (live_in self.old conference ++ live ∷ [])) }
         ensures left { OnErr result (SameLive self.old self.new) }
@@ -94,32 +95,52 @@ impl Concerned {
         }
     }
 
-    /// Keeps how the connections of a conference stand before a call, and gives whether its room is
-    /// shut.
-    pub(crate) fn look(&mut self, conference: u32, room: &Room) -> bool
-        ensures next { PutsLive self.old self.new conference
-            (map (looked room.now) (live_in self.old conference)) }
-        ensures value { result ≡ is_shut room.now }
-    {
-        match self.attached.get_mut(&conference) {
-            Some(attached) => attached.look(room),
-            None => {}
-        }
-        is_shut(room)
-    }
-
-    /// Names those connections of a conference that a call concerned. The room was shut before, or
-    /// it wasn't.
-    pub(crate) fn name(&mut self, conference: u32, room: &Room, was_shut: bool)
-        ensures live { SameLive self.old self.new }
-        ensures numbers { self.new.numbers ≡ concerned_of (is_shut room.now && not was_shut)
-            room.now (live_in self.old conference) }
+    /// Names those connections of a conference that a call concerned: none where the room was shut
+    /// before, all where it is shut now, and else those of the members that were told something or are
+    /// newly cut.
+    pub(crate) fn name(&mut self, conference: u32, room: &Room, was_shut: bool, told: &[u32])
+        ensures named { NamedIn was_shut room.now told.now (live_in self.old conference)
+            (live_in self.new conference) self.new.numbers }
+        ensures others { (other : ℕ) → nat_eq conference other ≡ false
+            → live_in self.new other ≡ live_in self.old other }
     {
         self.numbers.clear();
+        if was_shut {
+            return;
+        }
+        if is_shut(room) {
+            return self.name_all(conference);
+        }
+        let cut = room.cut_numbers();
+        if told.is_empty() && cut.is_empty() {
+            return;
+        }
+        self.name_noted(conference, told, cut);
+    }
+
+    /// Names all connections of a conference.
+    fn name_all(&mut self, conference: u32)
+        requires { self.old.numbers ≡ [] }
+        ensures same { SameLive self.old self.new }
+        ensures named { self.new.numbers ≡ numbers_of (live_in self.old conference) }
+        ensures ascending { AscendFrom 0 self.new.numbers }
+    {
         match self.attached.get(&conference) {
-            Some(attached) => {
-                attached.name(room, is_shut(room) && !was_shut, &mut self.numbers);
-            }
+            Some(attached) => attached.name_all(&mut self.numbers),
+            None => {}
+        }
+    }
+
+    /// Names those of the members that were told something or are newly cut.
+    fn name_noted(&mut self, conference: u32, told: &[u32], cut: &[u32])
+        requires { self.old.numbers ≡ [] }
+        ensures live { PutsLive self.old self.new conference
+            (map (marked cut.now) (live_in self.old conference)) }
+        ensures named { Names self.new.numbers (is_noted told.now cut.now)
+            (live_in self.old conference) }
+    {
+        match self.attached.get_mut(&conference) {
+            Some(attached) => attached.name_noted(told, cut, &mut self.numbers),
             None => {}
         }
     }

@@ -1,6 +1,6 @@
 //! All conferences at once: their rooms and their connections.
 
-ghost use Rattle.std.specs.Prelude.{◌≡◌, ◌++◌, ◌∷◌, [], false, ℕ, Err, nat_eq, IfErr, IfNone, IfOk, IfSome, MatchResult, None, OnErr, OnOk, Some};
+ghost use Rattle.std.specs.Prelude.{◌≡◌, ◌++◌, ◌∷◌, [], false, length, ℕ, Err, nat_eq, IfErr, IfNone, IfOk, IfSome, MatchResult, None, OnErr, OnOk, Some};
 ghost use Rattle.indexmap.specs.IndexMap.{get};
 ghost use Rattle.floor_machine.specs.Conference.{is_cut};
 ghost use Rattle.floor_room.specs.Ledger.{conference_of};
@@ -16,12 +16,12 @@ ghost use Rattle.floor_hub.specs.StandsFor.{StandsFor};
 ghost use Rattle.floor_hub.specs.World.{World, nothing};
 ghost use Rattle.floor_hub.specs.declared.step.Answer.TheVariants.{Attached, Done};
 ghost use Rattle.floor_hub.specs.declared.step.Step.TheVariants.{Admin, Attach, Leave, Open, Piece, Serve, Took};
-ghost use Rattle.floor_hub.specs.steps.Attached.{ConcernedBy, ConcernedOf, PutsLive, SameLive, as_before, attached_to, joined_as, live_in, without};
+ghost use Rattle.floor_hub.specs.steps.Attached.{AreWithin, ConcernedBy, ConcernedOf, PutsLive, SameLive, Tells, attached_to, joined_as, live_in, without};
 ghost use Rattle.floor_hub.specs.steps.Found.{AtConnection, AtRoom};
 ghost use Rattle.floor_hub.specs.steps.Running.{QueuedIn, first_bytes};
 ghost use Rattle.floor_hub.specs.steps.Serving.{AttachIn, LeaveOf, ServeOf, TakeOf, TookOf};
 
-use crate::attached::joined;
+use crate::attached::{Live, is_shut};
 use crate::concerned::Concerned;
 use crate::connection::{ConnNo, Connection, Place};
 use crate::connections::Connections;
@@ -54,6 +54,8 @@ pub struct Hub {
     connections: Connections,
     arrivals: u64,
     concerned: Concerned,
+    // Whom the last event told something, as its room says.
+    told: Vec<u32>,
 }
 
 impl Model for Hub {
@@ -90,6 +92,7 @@ impl Hub {
             connections: Connections::new(alloc),
             arrivals: 0,
             concerned: Concerned::new(alloc),
+            told: Vec::new(alloc),
         }
     }
 
@@ -135,6 +138,7 @@ impl Hub {
             &mut self.rooms,
             &mut self.connections,
             &mut self.concerned,
+            &mut self.told,
             number,
             conference,
             user,
@@ -180,6 +184,7 @@ impl Hub {
             &mut self.rooms,
             &mut self.connections,
             &mut self.concerned,
+            &mut self.told,
             number,
         )
     }
@@ -203,6 +208,7 @@ impl Hub {
             &mut self.rooms,
             &self.connections,
             &mut self.concerned,
+            &mut self.told,
             number,
             k,
         )
@@ -226,6 +232,7 @@ impl Hub {
             &mut self.rooms,
             &mut self.connections,
             &mut self.concerned,
+            &mut self.told,
             number,
         )
     }
@@ -244,7 +251,13 @@ impl Hub {
         ensures left { IfErr result (LeftAt (admin_event act) conference self.old self.new) }
         ensures concerned { Concerns self.old self.new }
     {
-        admin_at(&mut self.rooms, &mut self.concerned, conference, act)
+        admin_at(
+            &mut self.rooms,
+            &mut self.concerned,
+            &mut self.told,
+            conference,
+            act,
+        )
     }
 
     /// How the room of a conference stands. Refused by `NoConference`. Takes no memory.
@@ -390,31 +403,35 @@ fn attach_at(
     rooms: &mut IndexMap<u32, Room>,
     connections: &mut Connections,
     concerned: &mut Concerned,
+    told: &mut Vec<u32>,
     number: ConnNo,
     conference: u32,
     user: u16,
 ) -> Result<(), HubRefusal>
-    requires { connection_at connections.old number ≡ None }
+    requires fresh { connection_at connections.old number ≡ None }
+    requires within { (r : Kept) → get nat_eq rooms.old conference ≡ Some r
+        → AreWithin (live_in concerned.old conference) number (length r.outboxes) }
     ensures room { AtRoom (AttachIn conference user number connections.old connections.new)
         (get nat_eq rooms.old) (get nat_eq rooms.new) conference result }
     ensures left { OnErr result (SameConnections connections.old connections.new) }
     ensures concerned { ConcernedBy
-        (attached_to (live_in concerned.old conference) number result)
+        (attached_to (live_in concerned.old conference) number result) told.new.items
         (get nat_eq rooms.old) (get nat_eq rooms.new) conference concerned.old concerned.new }
 {
     match rooms.get_mut(&conference) {
         Some(room) => {
-            let was_shut = concerned.look(conference, room);
+            let was_shut = is_shut(room);
             let done = attach_in(
                 alloc,
                 room,
                 connections,
                 concerned,
+                told,
                 number,
                 conference,
                 user,
             );
-            concerned.name(conference, room, was_shut);
+            concerned.name(conference, room, was_shut, told.as_slice());
             done
         }
         None => {
@@ -430,19 +447,25 @@ fn attach_in(
     room: &mut Room,
     connections: &mut Connections,
     concerned: &mut Concerned,
+    told: &mut Vec<u32>,
     number: ConnNo,
     conference: u32,
     user: u16,
 ) -> Result<(), HubRefusal>
-    requires { connection_at connections.old number ≡ None }
+    requires fresh { connection_at connections.old number ≡ None }
+    requires within { AreWithin (live_in concerned.old conference) number
+        (length room.old.outboxes) }
     ensures room { AttachIn conference user number connections.old connections.new
         room.old room.new result }
+    ensures told { Tells room.old room.new told.new.items }
     ensures left { OnErr result (SameConnections connections.old connections.new) }
     ensures live { OnOk result (PutsLive concerned.old concerned.new conference
-        (live_in concerned.old conference ++ joined_as room.old room.new number ∷ [])) }
+        (live_in concerned.old conference ++ joined_as room.old number ∷ [])) }
     ensures same { OnErr result (SameLive concerned.old concerned.new) }
 {
-    match room.join(user) {
+    // There are as many outboxes as members.
+    let _journal = room.journal();
+    match room.join(user, told) {
         Err(why) => Err(HubRefusal::ByRoom(why)),
         Ok(n) => {
             let connection = Connection {
@@ -450,8 +473,13 @@ fn attach_in(
                 n,
                 held: Framer::new(alloc),
             };
+            let live = Live {
+                number,
+                n,
+                is_cut: false,
+            };
             match connections.insert(number, connection) {
-                Ok(_) => match concerned.add(conference, joined(room, number, n)) {
+                Ok(_) => match concerned.add(conference, live) {
                     Ok(()) => Ok(()),
                     Err(_) => {
                         let _taken = connections.remove(number);
@@ -493,16 +521,17 @@ fn serve_at(
     rooms: &mut IndexMap<u32, Room>,
     connections: &mut Connections,
     concerned: &mut Concerned,
+    told: &mut Vec<u32>,
     number: ConnNo,
 ) -> Result<Served, HubRefusal>
     ensures connection { AtConnection ServeOf (get nat_eq rooms.old) (get nat_eq rooms.new)
         connections.old connections.new number result }
-    ensures concerned { ConcernedOf (λ x. as_before (live_in concerned.old x.conference))
+    ensures concerned { ConcernedOf (λ x. live_in concerned.old x.conference) told.new.items
         (connection_at connections.old number) (get nat_eq rooms.old) (get nat_eq rooms.new)
         concerned.old concerned.new }
 {
     match connections.get_mut(number) {
-        Some(connection) => serve_room(rooms, concerned, connection),
+        Some(connection) => serve_room(rooms, concerned, told, connection),
         None => {
             concerned.nobody();
             Err(HubRefusal::NoConnection)
@@ -515,17 +544,18 @@ fn took_at(
     rooms: &mut IndexMap<u32, Room>,
     connections: &Connections,
     concerned: &mut Concerned,
+    told: &mut Vec<u32>,
     number: ConnNo,
     k: u32,
 ) -> Result<(), HubRefusal>
     ensures connection { AtConnection (TookOf k) (get nat_eq rooms.old) (get nat_eq rooms.new)
         connections.now connections.now number result }
-    ensures concerned { ConcernedOf (λ x. as_before (live_in concerned.old x.conference))
+    ensures concerned { ConcernedOf (λ x. live_in concerned.old x.conference) told.new.items
         (connection_at connections.now number) (get nat_eq rooms.old) (get nat_eq rooms.new)
         concerned.old concerned.new }
 {
     match connections.get(number) {
-        Some(connection) => took_room(rooms, concerned, connection, k),
+        Some(connection) => took_room(rooms, concerned, told, connection, k),
         None => {
             concerned.nobody();
             Err(HubRefusal::NoConnection)
@@ -555,17 +585,18 @@ fn leave_at(
     rooms: &mut IndexMap<u32, Room>,
     connections: &mut Connections,
     concerned: &mut Concerned,
+    told: &mut Vec<u32>,
     number: ConnNo,
 ) -> Result<(), HubRefusal>
     ensures connection { AtConnection LeaveOf (get nat_eq rooms.old) (get nat_eq rooms.new)
         connections.old connections.new number result }
     ensures concerned { ConcernedOf
-        (λ x. as_before (without number (live_in concerned.old x.conference)))
+        (λ x. without number (live_in concerned.old x.conference)) told.new.items
         (connection_at connections.old number) (get nat_eq rooms.old) (get nat_eq rooms.new)
         concerned.old concerned.new }
 {
     match connections.remove(number) {
-        Some(connection) => leave_room(rooms, concerned, number, &connection),
+        Some(connection) => leave_room(rooms, concerned, told, number, &connection),
         None => {
             concerned.nobody();
             Err(HubRefusal::NoConnection)

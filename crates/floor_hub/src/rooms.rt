@@ -9,10 +9,11 @@ ghost use Rattle.floor_room.specs.Room.{IsRoom, Room as Kept, new_room};
 ghost use Rattle.floor_room.specs.Taking.{Gave};
 ghost use Rattle.floor_room.specs.declared.outbox.NoMember.{NoMember};
 ghost use Rattle.floor_room.specs.declared.refusal.RoomRefusal.{RoomRefusal};
-ghost use Rattle.floor_hub.specs.steps.Attached.{ConcernedBy, as_before, live_in, without};
+ghost use Rattle.floor_hub.specs.steps.Attached.{ConcernedBy, Tells, always, live_in, without};
 ghost use Rattle.floor_hub.specs.steps.Found.{AtRoom};
 ghost use Rattle.floor_hub.specs.steps.Serving.{EventIn, IsServable, LeaveFailsIn, LeavesIn, ServedIn};
 
+use crate::attached::is_shut;
 use crate::concerned::Concerned;
 use crate::connection::{ConnNo, Connection};
 use crate::refusal::HubRefusal;
@@ -56,19 +57,20 @@ pub(crate) fn open_at(
 pub(crate) fn admin_at(
     rooms: &mut IndexMap<u32, Room>,
     concerned: &mut Concerned,
+    told: &mut Vec<u32>,
     conference: u32,
     act: Act,
 ) -> Result<(), HubRefusal>
     ensures room { AtRoom (EventIn (event_of_act act))
         (get nat_eq rooms.old) (get nat_eq rooms.new) conference result }
-    ensures concerned { ConcernedBy (as_before (live_in concerned.old conference))
+    ensures concerned { ConcernedBy (always (live_in concerned.old conference)) told.new.items
         (get nat_eq rooms.old) (get nat_eq rooms.new) conference concerned.old concerned.new }
 {
     match rooms.get_mut(&conference) {
         Some(room) => {
-            let was_shut = concerned.look(conference, room);
-            let done = admin_in(room, act);
-            concerned.name(conference, room, was_shut);
+            let was_shut = is_shut(room);
+            let done = admin_in(room, act, told);
+            concerned.name(conference, room, was_shut, told.as_slice());
             done
         }
         None => {
@@ -78,10 +80,11 @@ pub(crate) fn admin_at(
     }
 }
 
-fn admin_in(room: &mut Room, act: Act) -> Result<(), HubRefusal>
-    ensures { EventIn (event_of_act act) room.old room.new result }
+fn admin_in(room: &mut Room, act: Act, told: &mut Vec<u32>) -> Result<(), HubRefusal>
+    ensures event { EventIn (event_of_act act) room.old room.new result }
+    ensures told { Tells room.old room.new told.new.items }
 {
-    match room.admin(act) {
+    match room.admin(act, told) {
         Ok(()) => Ok(()),
         Err(why) => Err(HubRefusal::ByRoom(why)),
     }
@@ -100,9 +103,16 @@ fn shut(closed: Option<RoomRefusal>) -> Option<RoomRefusal>
 }
 
 /// Serves the next message of a connection in its room.
-fn serve_in(room: &mut Room, n: u32, held: &mut Framer) -> Result<Served, HubRefusal>
+fn serve_in(
+    room: &mut Room,
+    n: u32,
+    held: &mut Framer,
+    told: &mut Vec<u32>,
+) -> Result<Served, HubRefusal>
     ensures served { ServedIn room.old room.new n held.old held.new result }
+    ensures told { Tells room.old room.new told.new.items }
 {
+    told.clear();
     let closed = room.closed();
     match shut(closed) {
         None => {}
@@ -125,7 +135,7 @@ fn serve_in(room: &mut Room, n: u32, held: &mut Framer) -> Result<Served, HubRef
             Err(HubRefusal::ByRoom(RoomRefusal::Refused(Refusal::Memory)))
         }
         Ok(None) => Ok(Served::Nothing),
-        Ok(Some(frame)) => match room.serve(n, frame) {
+        Ok(Some(frame)) => match room.serve(n, frame, told) {
             Ok(_) => Ok(Served::Message),
             Err(why) => Err(HubRefusal::ByRoom(why)),
         },
@@ -133,14 +143,16 @@ fn serve_in(room: &mut Room, n: u32, held: &mut Framer) -> Result<Served, HubRef
 }
 
 /// Tells a room that n has left, unless it takes no event.
-fn leave_in(room: &mut Room, n: u32) -> Result<(), HubRefusal>
+fn leave_in(room: &mut Room, n: u32, told: &mut Vec<u32>) -> Result<(), HubRefusal>
     ensures done { OnOk result (LeavesIn room.old room.new n) }
     ensures failed { IfErr result (λ r. (why : RoomRefusal) × (r ≡ HubRefusal.ByRoom why)
         × LeaveFailsIn room.old room.new n why) }
+    ensures told { Tells room.old room.new told.new.items }
 {
+    told.clear();
     match room.closed() {
         Some(_) => Ok(()),
-        None => match room.leave(n) {
+        None => match room.leave(n, told) {
             Ok(()) => Ok(()),
             Err(why) => Err(HubRefusal::ByRoom(why)),
         },
@@ -151,6 +163,7 @@ fn leave_in(room: &mut Room, n: u32) -> Result<(), HubRefusal>
 pub(crate) fn leave_room(
     rooms: &mut IndexMap<u32, Room>,
     concerned: &mut Concerned,
+    told: &mut Vec<u32>,
     number: ConnNo,
     connection: &Connection,
 ) -> Result<(), HubRefusal>
@@ -160,17 +173,17 @@ pub(crate) fn leave_room(
         × IfErr result (λ r. (why : RoomRefusal) × (r ≡ HubRefusal.ByRoom why)
         × LeaveFailsIn room new connection.now.n why) }
     ensures concerned { ConcernedBy
-        (as_before (without number (live_in concerned.old connection.now.conference)))
-        (get nat_eq rooms.old) (get nat_eq rooms.new) connection.now.conference
+        (always (without number (live_in concerned.old connection.now.conference)))
+        told.new.items (get nat_eq rooms.old) (get nat_eq rooms.new) connection.now.conference
         concerned.old concerned.new }
 {
     let conference = connection.conference;
     match rooms.get_mut(&conference) {
         Some(room) => {
             concerned.remove(conference, number);
-            let was_shut = concerned.look(conference, room);
-            let left = leave_in(room, connection.n);
-            concerned.name(conference, room, was_shut);
+            let was_shut = is_shut(room);
+            let left = leave_in(room, connection.n, told);
+            concerned.name(conference, room, was_shut, told.as_slice());
             left
         }
         None => {
@@ -184,6 +197,7 @@ pub(crate) fn leave_room(
 pub(crate) fn serve_room(
     rooms: &mut IndexMap<u32, Room>,
     concerned: &mut Concerned,
+    told: &mut Vec<u32>,
     connection: &mut Connection,
 ) -> Result<Served, HubRefusal>
     ensures room { (room : Kept) → get nat_eq rooms.old connection.old.conference ≡ Some room
@@ -191,16 +205,16 @@ pub(crate) fn serve_room(
         × ServedIn room new connection.old.n connection.old.held connection.new.held result }
     ensures place { (connection.new.conference ≡ connection.old.conference)
         × (connection.new.n ≡ connection.old.n) }
-    ensures concerned { ConcernedBy (as_before (live_in concerned.old connection.old.conference))
-        (get nat_eq rooms.old) (get nat_eq rooms.new) connection.old.conference
+    ensures concerned { ConcernedBy (always (live_in concerned.old connection.old.conference))
+        told.new.items (get nat_eq rooms.old) (get nat_eq rooms.new) connection.old.conference
         concerned.old concerned.new }
 {
     let conference = connection.conference;
     match rooms.get_mut(&conference) {
         Some(room) => {
-            let was_shut = concerned.look(conference, room);
-            let served = serve_in(room, connection.n, &mut connection.held);
-            concerned.name(conference, room, was_shut);
+            let was_shut = is_shut(room);
+            let served = serve_in(room, connection.n, &mut connection.held, told);
+            concerned.name(conference, room, was_shut, told.as_slice());
             served
         }
         None => {
@@ -214,22 +228,23 @@ pub(crate) fn serve_room(
 pub(crate) fn took_room(
     rooms: &mut IndexMap<u32, Room>,
     concerned: &mut Concerned,
+    told: &mut Vec<u32>,
     connection: &Connection,
     k: u32,
 ) -> Result<(), HubRefusal>
     ensures room { (room : Kept) → get nat_eq rooms.old connection.now.conference ≡ Some room
         → (new : Kept) × Updates nat_eq rooms.old rooms.new connection.now.conference (Some new)
         × EventIn (Took connection.now.n k) room new result }
-    ensures concerned { ConcernedBy (as_before (live_in concerned.old connection.now.conference))
-        (get nat_eq rooms.old) (get nat_eq rooms.new) connection.now.conference
+    ensures concerned { ConcernedBy (always (live_in concerned.old connection.now.conference))
+        told.new.items (get nat_eq rooms.old) (get nat_eq rooms.new) connection.now.conference
         concerned.old concerned.new }
 {
     let conference = connection.conference;
     match rooms.get_mut(&conference) {
         Some(room) => {
-            let was_shut = concerned.look(conference, room);
-            let taken = took_in(room, connection.n, k);
-            concerned.name(conference, room, was_shut);
+            let was_shut = is_shut(room);
+            let taken = took_in(room, connection.n, k, told);
+            concerned.name(conference, room, was_shut, told.as_slice());
             taken
         }
         None => {
@@ -239,10 +254,11 @@ pub(crate) fn took_room(
     }
 }
 
-fn took_in(room: &mut Room, n: u32, k: u32) -> Result<(), HubRefusal>
-    ensures { EventIn (Took n k) room.old room.new result }
+fn took_in(room: &mut Room, n: u32, k: u32, told: &mut Vec<u32>) -> Result<(), HubRefusal>
+    ensures event { EventIn (Took n k) room.old room.new result }
+    ensures told { Tells room.old room.new told.new.items }
 {
-    match room.took(n, k) {
+    match room.took(n, k, told) {
         Ok(()) => Ok(()),
         Err(why) => Err(HubRefusal::ByRoom(why)),
     }

@@ -496,7 +496,7 @@ cut-settled s (AddUser user) n = said-settled cut_of false cut-steady s (AddUser
 cut-settled s (AddFloor floor) n = said-settled cut_of false cut-steady s (AddFloor floor) n refl
 cut-settled s (SetChair floor chair) n = said-settled cut_of false cut-steady s (SetChair floor chair) n refl
 
-cut-next : (s : Conference) (e : Event) (n : ℕ) → is_cut s n ≡ true → is_cut (next s e) n ≡ true
+pub cut-next : (s : Conference) (e : Event) (n : ℕ) → is_cut s n ≡ true → is_cut (next s e) n ≡ true
 unfolding next
 cut-next s e n h = cut-counted s e n (settled s e).members (cut-settled s e n ∙ h)
 

@@ -109,3 +109,7 @@ Counted = (config : Configuration) (es : List Event) (n : ℕ) → IsJournal con
 abbrev pub Silent : Type 0
 Silent = (config : Configuration) (es fs : List Event) (n : ℕ) → IsJournal config (es ++ fs) → is_cut (after config es) n ≡ true →
     parcels config (es ++ fs) n ≡ parcels config es n
+
+-- whoever is cut stays so, whatever happens
+abbrev pub StaysCut : Type 0
+StaysCut = (s : Conference) (e : Event) (n : ℕ) → is_cut s n ≡ true → is_cut (next s e) n ≡ true

@@ -3,7 +3,7 @@
 ghost use Rattle.floor_machine.specs.Amount.{CalledForIsFew, MessageIsShort, ToldIsFew};
 ghost use Rattle.floor_machine.specs.Laws.{InfosSameIsEqual, SameIsEqual, SentIsTold, TakenIsLawful};
 ghost use Rattle.floor_machine.specs.Membership.{AfterBoth, BothLawful, JoinsAdd, JoinsLive, ParcelsOfBoth, SentToMembers, SettlesAsQueue, StaysLive, ToldByBoth, ToldOnceJoined, WasLive};
-ghost use Rattle.floor_machine.specs.Reachable.{Counted, Grown, Kept, Quiet, Sent, Silent};
+ghost use Rattle.floor_machine.specs.Reachable.{Counted, Grown, Kept, Quiet, Sent, Silent, StaysCut};
 
 use floor_message::what_is_asked_fits;
 use floor_queue::{positions_fit, settles_once};
@@ -68,9 +68,10 @@ pub fn backlogs_are_counted()
     ensures { Counted }
 {}
 
-/// Whoever is cut is told nothing more, whatever happens.
+/// Whoever is cut stays so, and is told nothing more, whatever happens.
 pub fn cut_stays_silent()
-    ensures { Silent }
+    ensures stays { StaysCut }
+    ensures told { Silent }
 {}
 
 /// Who joins is live until it leaves, nobody else comes, and each parcel is to one of the members

@@ -1,5 +1,6 @@
 pub mod Ledgers
 pub mod Delivering
+pub mod Noted
 pub mod Joining
 pub mod Adding
 pub mod Taking

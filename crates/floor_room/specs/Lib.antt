@@ -5,6 +5,7 @@ pub mod Room
 pub mod Calls
 pub mod Status
 pub mod Taking
+pub mod Told
 pub mod Replay
 pub mod Text
 pub mod Names

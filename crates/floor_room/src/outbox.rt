@@ -1,11 +1,13 @@
 //! What waits for the members.
 
-ghost use Rattle.std.specs.Prelude.{◌≡◌, ◌+◌, ◌++◌, ◌<◌, ◌∷◌, [], OnOk, OnErr, length, option_map, option_to_list, vec_capacity, vec_len};
+ghost use Rattle.std.specs.Prelude.{◌≡◌, ◌+◌, ◌++◌, ◌<◌, ◌∷◌, ◌==◌, ◌||◌, ◌&&◌, ℕ, false, [], OnOk, OnErr, is_some, length, option_map, option_to_list, slice_get, vec_capacity, vec_len, ◌-◌};
 ghost use Rattle.floor_room.specs.steps.Kept.{AreCounted};
 ghost use Rattle.floor_room.specs.Room.{joined};
-ghost use Rattle.std.specs.Option.{option_copied};
-ghost use Rattle.floor_room.specs.Taking.{Gives, held_of};
+ghost use Rattle.std.specs.List.{list_any};
+ghost use Rattle.std.specs.Option.{option_copied, option_map_or};
+ghost use Rattle.floor_room.specs.Taking.{Gives, held_of, outbox_of};
 ghost use Rattle.floor_room.specs.Outbox.{GaveHeld, IsInPart, delivered, empty_outbox, with_held};
+ghost use Rattle.floor_room.specs.Told.{AreTold};
 
 use floor_machine::{Event, Parcel};
 use std::alloc::{AllocError, Global};
@@ -93,23 +95,66 @@ fn put(outboxes: &mut Vec<Outbox>, parcel: Parcel) -> Result<(), AllocError>
     }
 }
 
-/// Puts each of these parcels, in order, into the outbox of its member. After an error some first
-/// of them were put.
-fn deliver(outboxes: &mut Vec<Outbox>, out: Vec<Parcel>) -> Result<(), AllocError>
+/// Whether a number is the last of these.
+fn is_last(told: &[u32], n: u32) -> bool
+    ensures { result ≡ option_map_or (λ k. k == n) (slice_get told.now (length told.now - 1)) false }
+{
+    match told.last() {
+        Some(last) => *last == n,
+        None => false,
+    }
+}
+
+/// Whether anybody has joined under the number.
+fn has_outbox(outboxes: &[Outbox], n: u32) -> bool
+    ensures { result ≡ is_some (outbox_of outboxes.now n) }
+{
+    match held_of(outboxes, n) {
+        Some(_) => true,
+        None => false,
+    }
+}
+
+/// Notes a member that has an outbox. The parcels of one member stand together, so that it is the last
+/// one if it was noted. After an error nothing has changed.
+fn note(told: &mut Vec<u32>, outboxes: &[Outbox], n: u32) -> Result<(), AllocError>
+    ensures next { OnOk result ((k : ℕ) → list_any (λ j. j == k) told.new.items
+        ≡ (list_any (λ j. j == k) told.old.items || is_some (outbox_of outboxes.now n) && n == k)) }
+{
+    if is_last(told, n) {
+        return Ok(());
+    }
+    if !has_outbox(outboxes, n) {
+        return Ok(());
+    }
+    told.push(n)?;
+    Ok(())
+}
+
+/// Puts each of these parcels, in order, into the outbox of its member, and notes whom they are for.
+/// After an error some first of them were put.
+fn deliver(
+    outboxes: &mut Vec<Outbox>,
+    out: Vec<Parcel>,
+    told: &mut Vec<u32>,
+) -> Result<(), AllocError>
     ensures next { OnOk result (outboxes.new.items ≡ delivered out.items 1 outboxes.old.items) }
+    ensures told { OnOk result (AreTold outboxes.old.items outboxes.new.items told.new.items) }
     ensures left { OnErr result (IsInPart out.items outboxes.old.items outboxes.new.items) }
     ensures count { length out.items < 18446744073709551616 }
 {
     let _count = out.len();
+    told.clear();
     for parcel in out {
+        note(told, outboxes, parcel.n())?;
         put(outboxes, parcel)?;
     }
     Ok(())
 }
 
-/// Adds the outbox of a member that joins, and puts each of these parcels, in order, into the
-/// outbox of its member. After an error some first of them were put; else there is room for the
-/// outbox of one more member.
+/// Adds the outbox of a member that joins, puts each of these parcels, in order, into the outbox of its
+/// member, and notes whom they are for. After an error some first of them were put; else there is room
+/// for the outbox of one more member.
 ///
 /// That room is there before an event is taken, so that each member of the journal has its outbox
 /// also where memory is refused.
@@ -117,10 +162,13 @@ pub(crate) fn queue(
     outboxes: &mut Vec<Outbox>,
     outbox: Option<Outbox>,
     out: Vec<Parcel>,
+    told: &mut Vec<u32>,
 ) -> Result<(), AllocError>
     requires { vec_len outboxes.old < vec_capacity outboxes.old }
     ensures next { OnOk result (outboxes.new.items
         ≡ delivered out.items 1 (outboxes.old.items ++ option_to_list outbox)) }
+    ensures told { OnOk result (AreTold (outboxes.old.items ++ option_to_list outbox)
+        outboxes.new.items told.new.items) }
     ensures spare { OnOk result (vec_len outboxes.new < vec_capacity outboxes.new) }
     ensures left { OnErr result (IsInPart out.items
         (outboxes.old.items ++ option_to_list outbox) outboxes.new.items) }
@@ -130,7 +178,7 @@ pub(crate) fn queue(
         Some(outbox) => outboxes.push_reserved(outbox),
         None => {}
     }
-    deliver(outboxes, out)?;
+    deliver(outboxes, out, told)?;
     outboxes.reserve(1)?;
     Ok(())
 }

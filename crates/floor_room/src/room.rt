@@ -1,14 +1,15 @@
 //! One conference with its journal and its outboxes.
 
-ghost use Rattle.std.specs.Prelude.{◌≡◌, ◌+◌, true, false, IfErr, IfOk, OnOk, length, option_map};
+ghost use Rattle.std.specs.Prelude.{◌≡◌, ◌+◌, [], true, false, IfErr, IfOk, OnErr, OnOk, length, option_map};
 ghost use Rattle.floor_machine.specs.declared.event.Event.TheVariants.{Join, Leave, Message, Took};
-ghost use Rattle.floor_machine.specs.Conference.{is_cut};
+ghost use Rattle.floor_machine.specs.Conference.{AreCut, is_cut};
 ghost use Rattle.floor_machine.specs.Machine.{event_of_act};
 ghost use Rattle.floor_room.specs.Calls.{Applied, Left};
 ghost use Rattle.floor_room.specs.Ledger.{IsRefusedBy, closed, conference_of, refusal};
 ghost use Rattle.floor_room.specs.Room.{IsRoom, broken_room, new_room};
 ghost use Rattle.floor_room.specs.Status.{IsStatus};
 ghost use Rattle.floor_room.specs.Taking.{Gave, held_of};
+ghost use Rattle.floor_room.specs.Told.{AreTold};
 ghost use Rattle.std.specs.Option.{option_copied};
 
 use crate::journal::Place;
@@ -24,10 +25,12 @@ use std::marker::Model;
 /// One conference with its journal and its outboxes: whole messages of its members in, and what
 /// waits for each member out.
 ///
-/// Readers: `journal`, `closed` (why no event is taken), `status`, `held`, `is_cut`. Events: `join`,
-/// `serve`, `took`, `leave` and `admin`, each of which changes nothing where it refuses, but that `Memory` breaks
-/// the room off. `take` gives what waits, also in a room that takes no event. `break_off` is for a
-/// caller that meets want of memory itself.
+/// Readers: `journal`, `closed` (why no event is taken), `status`, `held`, `is_cut`, `cut_numbers`.
+/// Events: `join`, `serve`, `took`, `leave` and `admin`, each of which changes nothing where it refuses,
+/// but that `Memory` breaks the room off. Each puts into its last argument, in place of what stood there,
+/// the numbers of the members to whom it queued something, and none where it refuses. `take` gives what
+/// waits, also in a room that takes no event. `break_off` is for a caller that meets want of memory
+/// itself.
 #[derive(Debug, Drop)]
 pub struct Room {
     ledger: Ledger,
@@ -92,6 +95,16 @@ impl Room {
         self.ledger.is_cut(n)
     }
 
+    /// The numbers of the live members that are cut, in no order; a room that is broken off has none.
+    /// Takes no memory.
+    pub fn cut_numbers(&self) -> &[u32]
+        ensures value { self.now.ledger.is_broken ≡ false
+            → AreCut (conference_of self.now.ledger).members result.now }
+        ensures broken { self.now.ledger.is_broken ≡ true → result.now ≡ [] }
+    {
+        self.ledger.cut_numbers()
+    }
+
     /// What waits for a member, from the front on, or None where nobody has joined under the
     /// number. Takes no memory.
     pub fn held(&self, n: u32) -> Option<&VecDeque<Parcel>>
@@ -101,18 +114,23 @@ impl Room {
         held_of(self.outboxes.as_slice(), n)
     }
 
-    /// Adds an event, where nothing refuses it, and queues what it tells.
-    fn add(&mut self, event: Event) -> Result<(), RoomRefusal>
+    /// Adds an event, where nothing refuses it, queues what it tells, and says whom.
+    fn add(&mut self, event: Event, told: &mut Vec<u32>) -> Result<(), RoomRefusal>
         ensures took { OnOk result (Applied self.old self.new event) }
+        ensures told { OnOk result
+            (AreTold self.old.outboxes self.new.outboxes told.new.items) }
+        ensures untold { OnErr result (told.new.items ≡ []) }
         ensures refused { IsRefusedBy (refusal self.old.ledger event) result }
         ensures left { IfErr result (Left self.old self.new event) }
     {
+        told.clear();
         let outbox = outbox_for(*self.outboxes.allocator(), &event);
         match self.ledger.add(event) {
             Err(refusal) => Err(refusal),
-            Ok(out) => match queue(&mut self.outboxes, outbox, out) {
+            Ok(out) => match queue(&mut self.outboxes, outbox, out, told) {
                 Ok(()) => Ok(()),
                 Err(_) => {
+                    told.clear();
                     self.ledger.break_off();
                     Err(RoomRefusal::Refused(Refusal::Memory))
                 }
@@ -123,17 +141,20 @@ impl Room {
     /// Takes a connection of the user as a member, and gives its number: 1 for the first that ever
     /// joined. Refused are, in this order, `Broken`, `Ended`, `JournalFull`, `NoUser` and `Full`, and
     /// nothing has changed; after a `Memory` the room is broken off.
-    pub fn join(&mut self, user: u16) -> Result<u32, RoomRefusal>
+    pub fn join(&mut self, user: u16, told: &mut Vec<u32>) -> Result<u32, RoomRefusal>
         ensures number { IfOk result (λ n. n
             ≡ length (conference_of self.old.ledger).members + 1) }
         ensures outbox { IfOk result (λ n. n ≡ length self.new.outboxes) }
         ensures took { OnOk result (Applied self.old self.new (Join user)) }
+        ensures told { OnOk result
+            (AreTold self.old.outboxes self.new.outboxes told.new.items) }
+        ensures untold { OnErr result (told.new.items ≡ []) }
         ensures refused { IsRefusedBy (refusal self.old.ledger (Join user)) result }
         ensures left { IfErr result (Left self.old self.new (Join user)) }
     {
         // The outboxes are as many as the members.
         let _journal = self.journal();
-        self.add(Event::Join { user })?;
+        self.add(Event::Join { user }, told)?;
         Ok(self.members())
     }
 
@@ -141,13 +162,21 @@ impl Room {
     /// grows by what the message tells them. Refused are, in this order, `Broken`, `Ended`,
     /// `JournalFull`, `NoMember` and `Cut`, and nothing has changed; after a `Memory` the room is broken
     /// off.
-    pub fn serve(&mut self, n: u32, frame: Frame) -> Result<Place, RoomRefusal>
+    pub fn serve(
+        &mut self,
+        n: u32,
+        frame: Frame,
+        told: &mut Vec<u32>,
+    ) -> Result<Place, RoomRefusal>
         ensures place { IfOk result (λ place. place ≡ length self.new.ledger.journal) }
         ensures took { OnOk result (Applied self.old self.new (Message n frame)) }
+        ensures told { OnOk result
+            (AreTold self.old.outboxes self.new.outboxes told.new.items) }
+        ensures untold { OnErr result (told.new.items ≡ []) }
         ensures refused { IsRefusedBy (refusal self.old.ledger (Message n frame)) result }
         ensures left { IfErr result (Left self.old self.new (Message n frame)) }
     {
-        self.add(Event::Message { n, frame })?;
+        self.add(Event::Message { n, frame }, told)?;
         Ok(self.status().events)
     }
 
@@ -156,35 +185,44 @@ impl Room {
     /// backlog alone. Nobody is told. Refused are, in this order, `Broken`, `Ended`, `JournalFull`,
     /// `NoMember`, and `BadCount` where that is none or more than the backlog, and nothing has changed;
     /// after a `Memory` the room is broken off.
-    pub fn took(&mut self, n: u32, k: u32) -> Result<(), RoomRefusal>
+    pub fn took(&mut self, n: u32, k: u32, told: &mut Vec<u32>) -> Result<(), RoomRefusal>
         ensures took { OnOk result (Applied self.old self.new (Took n k)) }
+        ensures told { OnOk result
+            (AreTold self.old.outboxes self.new.outboxes told.new.items) }
+        ensures untold { OnErr result (told.new.items ≡ []) }
         ensures refused { IsRefusedBy (refusal self.old.ledger (Took n k)) result }
         ensures left { IfErr result (Left self.old self.new (Took n k)) }
     {
-        self.add(Event::Took { n, k })
+        self.add(Event::Took { n, k }, told)
     }
 
     /// Takes it that a member has left. What waits for it stays until it is taken. Refused are, in this
     /// order, `Broken`, `Ended`, `JournalFull` and `NoMember`, and nothing has changed; after a `Memory`
     /// the room is broken off.
-    pub fn leave(&mut self, n: u32) -> Result<(), RoomRefusal>
+    pub fn leave(&mut self, n: u32, told: &mut Vec<u32>) -> Result<(), RoomRefusal>
         ensures took { OnOk result (Applied self.old self.new (Leave n)) }
+        ensures told { OnOk result
+            (AreTold self.old.outboxes self.new.outboxes told.new.items) }
+        ensures untold { OnErr result (told.new.items ≡ []) }
         ensures refused { IsRefusedBy (refusal self.old.ledger (Leave n)) result }
         ensures left { IfErr result (Left self.old self.new (Leave n)) }
     {
-        self.add(Event::Leave { n })
+        self.add(Event::Leave { n }, told)
     }
 
     /// Does what the administrator does. What waits for the members stays, also after a Close. Refused
     /// are, in this order, `Broken`, `Ended`, `JournalFull`, then for a Revoke `NoRequest`, for a new user
     /// `OutOfRange`, `DoubleUser`, for a new floor `OutOfRange`, `DoubleFloor`, `UnknownChair`, for a chair
     /// `NoFloor`, `UnknownChair`, and nothing has changed; after a `Memory` the room is broken off.
-    pub fn admin(&mut self, act: Act) -> Result<(), RoomRefusal>
+    pub fn admin(&mut self, act: Act, told: &mut Vec<u32>) -> Result<(), RoomRefusal>
         ensures took { OnOk result (Applied self.old self.new (event_of_act act)) }
+        ensures told { OnOk result
+            (AreTold self.old.outboxes self.new.outboxes told.new.items) }
+        ensures untold { OnErr result (told.new.items ≡ []) }
         ensures refused { IsRefusedBy (refusal self.old.ledger (event_of_act act)) result }
         ensures left { IfErr result (Left self.old self.new (event_of_act act)) }
     {
-        self.add(Event::of(act))
+        self.add(Event::of(act), told)
     }
 
     /// How many members ever joined. Takes no memory.

@@ -143,14 +143,14 @@ fn answer(alloc: Global, room: &mut Room, line: &str) -> Result<String, AllocErr
 fn change(alloc: Global, room: &mut Room, word: &str, rest: &str) -> Result<String, AllocError> {
     let short = read_u16(rest).unwrap_or(0);
     match word {
-        "join" => numbered(alloc, room.join(short)),
+        "join" => numbered(alloc, room.join(short, &mut Vec::new(alloc))),
         "joins" => join_often(alloc, room, number(rest)),
         "serve" => serve(alloc, room, rest),
         "hellos" => hellos(alloc, room, number(rest)),
         "took" => took(alloc, room, rest),
-        "leave" => done(alloc, room.leave(number(rest))),
-        "revoke" => done(alloc, room.admin(Act::Revoke(short))),
-        "close" => done(alloc, room.admin(Act::Close)),
+        "leave" => done(alloc, room.leave(number(rest), &mut Vec::new(alloc))),
+        "revoke" => done(alloc, room.admin(Act::Revoke(short), &mut Vec::new(alloc))),
+        "close" => done(alloc, room.admin(Act::Close, &mut Vec::new(alloc))),
         "take" => take(alloc, room, number(rest)),
         _ => {
             room.break_off();
@@ -181,13 +181,13 @@ fn serve(alloc: Global, room: &mut Room, words: &str) -> Result<String, AllocErr
     let (n, message) = words.split_once(' ').unwrap_or((words, ""));
     match frame(alloc, message)? {
         None => String::from_str(alloc, "no message"),
-        Some(frame) => numbered(alloc, room.serve(number(n), frame)),
+        Some(frame) => numbered(alloc, room.serve(number(n), frame, &mut Vec::new(alloc))),
     }
 }
 
 fn took(alloc: Global, room: &mut Room, words: &str) -> Result<String, AllocError> {
     let (n, k) = words.split_once(' ').unwrap_or((words, ""));
-    done(alloc, room.took(number(n), number(k)))
+    done(alloc, room.took(number(n), number(k), &mut Vec::new(alloc)))
 }
 
 fn take(alloc: Global, room: &mut Room, n: u32) -> Result<String, AllocError> {
@@ -261,7 +261,7 @@ fn hellos(alloc: Global, room: &mut Room, times: u32) -> Result<String, AllocErr
     let mut served = 0u32;
     for _ in 0..times {
         if let Some(frame) = hello(alloc)? {
-            if room.serve(1, frame).is_ok() {
+            if room.serve(1, frame, &mut Vec::new(alloc)).is_ok() {
                 served = served.wrapping_add(1);
             }
         }
@@ -273,7 +273,7 @@ fn hellos(alloc: Global, room: &mut Room, times: u32) -> Result<String, AllocErr
 fn join_often(alloc: Global, room: &mut Room, joins: u32) -> Result<String, AllocError> {
     let mut answered = String::new(alloc);
     for _ in 0..joins {
-        answered = numbered(alloc, room.join(12))?;
+        answered = numbered(alloc, room.join(12, &mut Vec::new(alloc)))?;
     }
     Ok(answered)
 }
@@ -405,14 +405,14 @@ fn messages_of_every_length_are_kept_as_they_came(rt: HostRuntime) {
 
 fn told_of_lengths(alloc: Global) -> Result<String, AllocError> {
     let mut room = Room::new(alloc, Config::demonstration(alloc)?)?;
-    let _joined = room.join(10);
+    let _joined = room.join(10, &mut Vec::new(alloc));
     serve_lengths(alloc, &mut room)
 }
 
 fn serve_lengths(alloc: Global, room: &mut Room) -> Result<String, AllocError> {
     for units in 0..200u8 {
         if let Some(frame) = Frame::of(alloc, &longer_hello(alloc, units)?)? {
-            let _served = room.serve(1, frame);
+            let _served = room.serve(1, frame, &mut Vec::new(alloc));
         }
     }
     count_kept(alloc, room.journal())
@@ -428,4 +428,53 @@ fn count_kept(alloc: Global, events: &[Event]) -> Result<String, AllocError> {
         }
     }
     format!(in alloc; "{kept} kept")
+}
+
+#[test]
+fn a_room_says_whom_an_event_told(rt: HostRuntime) {
+    assert_told(&rt, told_by_events(rt.alloc()), "1; 2; 1 2; ; ; 1 2; ");
+}
+
+/// Whom some events of a room told: user 10 asks for floor 1, user 11 watches it and then asks, for what it
+/// and user 10 are told, acknowledges, sends as nobody, and the first request is revoked; and the last is
+/// no event.
+fn told_by_events(alloc: Global) -> Result<String, AllocError> {
+    let mut room = Room::new(alloc, Config::demonstration(alloc)?)?;
+    let mut told = Vec::new(alloc);
+    let _first = room.join(10, &mut told);
+    let _second = room.join(11, &mut told);
+    let mut text = String::new(alloc);
+    for (n, words) in [
+        (1, "20010001000000010002000a04040001"),
+        (2, "20070001000000010001000b04040001"),
+        (1, "20020001000000010003000a06040001"),
+    ] {
+        if let Some(frame) = frame(alloc, words)? {
+            let _place = room.serve(n, frame, &mut told);
+        }
+        add_numbers(&mut text, alloc, &told)?;
+    }
+    let _taken = room.took(2, 1, &mut told);
+    add_numbers(&mut text, alloc, &told)?;
+    let _refused = room.took(3, 1, &mut told);
+    add_numbers(&mut text, alloc, &told)?;
+    if let Some(frame) = frame(alloc, "20010001000000010004000a04040001")? {
+        let _place = room.serve(1, frame, &mut told);
+    }
+    add_numbers(&mut text, alloc, &told)?;
+    let _refused = room.admin(Act::Revoke(9), &mut told);
+    add_numbers(&mut text, alloc, &told)?;
+    Ok(text)
+}
+
+fn add_numbers(text: &mut String, alloc: Global, told: &[u32]) -> Result<(), AllocError> {
+    if !text.is_empty() {
+        text.push_str("; ")?;
+    }
+    for (at, n) in told.iter().enumerate() {
+        let space = if at == 0 { "" } else { " " };
+        let word = format!(in alloc; "{space}{n}")?;
+        text.push_str(word.as_str())?;
+    }
+    Ok(())
 }

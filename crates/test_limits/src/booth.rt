@@ -2,13 +2,19 @@
 //! no event any more.
 
 use crate::ended::Ended;
-use crate::messages::{IGNORED, MAX_EVENTS, frame, name};
+use crate::messages::frame;
 use floor_config::Config;
-use floor_room::Frame;
+use floor_room::{Frame, RoomRefusal};
 use floor_serve::{Booth, Taken, Taker};
 use std::alloc::Global;
 use std::io::Write;
 use std::sync::Wait;
+
+/// The events of a full journal.
+const MAX_EVENTS: u32 = 2_000_000;
+
+/// An Error of user 10 in conference 1, which no client sends: it is an event, of which nobody is told.
+const IGNORED: [u8; 12] = [0x20, 13, 0, 0, 0, 0, 0, 1, 0, 1, 0, 10];
 
 /// What was done and found.
 #[derive(Clone, Copy, Debug)]
@@ -81,8 +87,16 @@ fn events(booth: &Booth) -> u32 {
     booth.status().events
 }
 
+/// What the leave of a member is refused by.
 fn left<R: Wait>(rt: &R, booth: &mut Booth, n: u32) -> &'static str {
     name(booth.part(rt, n).err())
+}
+
+fn name(refusal: Option<RoomRefusal>) -> &'static str {
+    match refusal {
+        None => "nothing",
+        Some(refusal) => refusal.name(),
+    }
 }
 
 /// What a taker finds.

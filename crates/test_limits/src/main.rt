@@ -1,5 +1,5 @@
-//! Limits that take long to reach, each reached and gone beyond: the two million events of a room's journal and of
-//! that of a conference behind its lock, and the 65,535 numbers of a conference's floor requests.
+//! Limits that take long to reach, each reached and gone beyond: the two million events of the journal of a conference
+//! behind its lock, and the 65,535 numbers of a conference's floor requests.
 //!
 //! A line for each says what was done and what is refused then. It is a program of its own, which the gate proves
 //! and builds as a server is built: under a sanitizer it takes a quarter of an hour.
@@ -9,7 +9,6 @@ mod booth;
 mod ended;
 mod messages;
 mod numbers;
-mod room;
 
 use ended::Ended;
 use std::alloc::Global;
@@ -26,7 +25,6 @@ fn main(rt: HostRuntime) -> ExitCode {
 
 /// Shows one limit after another.
 fn show<R: Wait, W: Write>(rt: &R, alloc: Global, output: &mut W) -> Result<(), Ended> {
-    room::show(alloc, output)?;
     booth::show(rt, alloc, output)?;
     numbers::show(alloc, output)
 }

@@ -3,7 +3,7 @@
 use crate::ended::Ended;
 use crate::messages::frame;
 use floor_config::{Config, read_configs};
-use floor_room::Room;
+use floor_room::{Event, Ledger, Parcel};
 use std::alloc::Global;
 use std::io::Write;
 
@@ -39,7 +39,7 @@ const TOGETHER: u8 = 16;
 #[derive(Drop)]
 struct Trial {
     alloc: Global,
-    room: Room,
+    ledger: Ledger,
     right: u32,
     wrong: u32,
 }
@@ -103,12 +103,12 @@ fn error_of(user: u8, code: u8) -> [u8; 16] {
 
 impl Trial {
     fn new(alloc: Global) -> Option<Trial> {
-        let mut room = opened(alloc)?;
-        joined(&mut room, 10)?;
-        joined(&mut room, 11)?;
+        let mut ledger = opened(alloc)?;
+        join(&mut ledger, 10);
+        join(&mut ledger, 11);
         Some(Trial {
             alloc,
-            room,
+            ledger,
             right: 0,
             wrong: 0,
         })
@@ -167,14 +167,12 @@ impl Trial {
 
     /// A member sends a message, and has to be answered by these bytes alone.
     fn exchange(&mut self, n: u32, message: &[u8], answer: &[u8]) {
-        let is_right = serves(self.alloc, &mut self.room, n, message)
-            && is_told(&mut self.room, n, answer)
-            && is_silent(&mut self.room, n);
-        if is_right && acknowledges(&mut self.room, n) {
+        if is_answered(self.alloc, &mut self.ledger, n, message, answer) {
             self.right = self.right.wrapping_add(1);
         } else {
             self.wrong = self.wrong.wrapping_add(1);
         }
+        acknowledge(&mut self.ledger, n);
     }
 
     fn print<W: Write>(&self, what: &str, output: &mut W) -> Result<(), Ended> {
@@ -187,8 +185,8 @@ impl Trial {
     }
 }
 
-fn opened(alloc: Global) -> Option<Room> {
-    Room::new(alloc, configuration(alloc)?).ok()
+fn opened(alloc: Global) -> Option<Ledger> {
+    Ledger::new(alloc, configuration(alloc)?).ok()
 }
 
 /// The conference that the configuration has.
@@ -199,35 +197,31 @@ fn configuration(alloc: Global) -> Option<Config> {
     }
 }
 
-fn joined(room: &mut Room, user: u16) -> Option<u32> {
-    room.join(user).ok()
+fn join(ledger: &mut Ledger, user: u16) {
+    let _told = ledger.add(Event::Join { user });
 }
 
-/// Whether the message of a member is taken.
-fn serves(alloc: Global, room: &mut Room, n: u32, message: &[u8]) -> bool {
-    match frame(alloc, message) {
-        Some(message) => room.serve(n, message).is_ok(),
-        None => false,
+/// Whether the message of a member is answered by these bytes, and by nothing else.
+fn is_answered(alloc: Global, ledger: &mut Ledger, n: u32, message: &[u8], answer: &[u8]) -> bool {
+    let Some(frame) = frame(alloc, message) else {
+        return false;
+    };
+    match ledger.add(Event::Message { n, frame }) {
+        Ok(told) => match told.as_slice() {
+            [parcel] => is_spelled(parcel, answer),
+            _ => false,
+        },
+        Err(_) => false,
     }
 }
 
-/// Whether these bytes wait for a member first.
-fn is_told(room: &mut Room, n: u32, answer: &[u8]) -> bool {
-    match room.take(n) {
-        Ok(Some(parcel)) => {
-            let (header, payload) = answer.split_at(12.min(answer.len()));
-            parcel.header() == header && parcel.payload() == payload
-        }
-        Ok(None) | Err(_) => false,
-    }
+/// Whether a parcel is these bytes.
+fn is_spelled(parcel: &Parcel, answer: &[u8]) -> bool {
+    let (header, payload) = answer.split_at(12.min(answer.len()));
+    parcel.header() == header && parcel.payload() == payload
 }
 
-/// Whether nothing waits for a member.
-fn is_silent(room: &mut Room, n: u32) -> bool {
-    matches!(room.take(n), Ok(None))
-}
-
-/// Whether the acknowledgement of one answer is taken.
-fn acknowledges(room: &mut Room, n: u32) -> bool {
-    room.took(n, 1).is_ok()
+/// Takes it that a member has taken its answer, so that it is never far behind.
+fn acknowledge(ledger: &mut Ledger, n: u32) {
+    let _taken = ledger.add(Event::Took { n, k: 1 });
 }

@@ -96,7 +96,7 @@ impl OneRoom {
         if conference != 1 {
             return Err(BoardRefusal::NoConference);
         }
-        match self.room.admin(act) {
+        match self.room.admin(act, &mut Vec::new(self.alloc)) {
             Ok(()) => Ok(()),
             Err(refusal) => Err(BoardRefusal::ByRoom(refusal)),
         }
@@ -111,8 +111,8 @@ fn board(alloc: Global) -> Result<OneRoom, AllocError> {
 }
 
 fn serve_three(alloc: Global, room: &mut Room) -> Result<(), AllocError> {
-    let _first = room.join(10);
-    let _second = room.join(11);
+    let _first = room.join(10, &mut Vec::new(alloc));
+    let _second = room.join(11, &mut Vec::new(alloc));
     serve(alloc, room, 1, "20010001 00000001 0002000a 04040001")?;
     serve(alloc, room, 2, "20010001 00000001 0001000b 04040001")?;
     serve(alloc, room, 1, "20020001 00000001 0003000a 06040001")
@@ -120,7 +120,7 @@ fn serve_three(alloc: Global, room: &mut Room) -> Result<(), AllocError> {
 
 fn serve(alloc: Global, room: &mut Room, n: u32, message: &str) -> Result<(), AllocError> {
     if let Some(frame) = frame(alloc, message)? {
-        let _place = room.serve(n, frame);
+        let _place = room.serve(n, frame, &mut Vec::new(alloc));
     }
     Ok(())
 }

@@ -3,7 +3,7 @@ use Rattle.std.specs.Prelude.{Option, nat_eq}
 use Rattle.std.proofs.lemmas.Option.{none-some}
 use Rattle.indexmap.specs.IndexMap.{get}
 use Rattle.floor_hub.specs.declared.connection.Connection.{Connection}
-use Rattle.floor_hub.specs.steps.Attached.{ConcernedOf, as_before, live_in}
+use Rattle.floor_hub.specs.steps.Attached.{ConcernedOf, live_in}
 use Rattle.floor_hub.specs.steps.Serving.{ServedIn}
 use Rattle.floor_hub.proofs.hub.serve_at.Goals as goal
 
@@ -33,6 +33,6 @@ returns-in-Some c =
               ),
             );
       };
-      concerned = subst (λ (z : Option Connection). ConcernedOf (λ x. as_before (live_in c.args.concerned.now x.conference)) z (get nat_eq c.args.rooms.now) (get nat_eq c.serve_room.new.rooms) c.args.concerned.now c.serve_room.new.concerned)
+      concerned = subst (λ (z : Option Connection). ConcernedOf (λ x. live_in c.args.concerned.now x.conference) c.serve_room.new.told.items z (get nat_eq c.args.rooms.now) (get nat_eq c.serve_room.new.rooms) c.args.concerned.now c.serve_room.new.concerned)
           c.in-Some.ensures.found c.serve_room.ensures.concerned;
     }

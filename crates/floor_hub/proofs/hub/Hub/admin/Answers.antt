@@ -25,7 +25,8 @@ use Rattle.floor_hub.proofs.Closing.{ended, good, stood}
 use Rattle.floor_hub.proofs.Outboxes.{grows-one, keeps-outboxes, were-same}
 use Rattle.floor_hub.proofs.hub.Hub.admin.Goals as goal
 use Rattle.floor_hub.proofs.Attaching.{place-same}
-use Rattle.floor_hub.proofs.Naming.{Named, named-at}
+use Rattle.floor_hub.proofs.Naming.{Named, moves-by, named-at}
+use Rattle.floor_hub.proofs.Moving.{event-went}
 use Rattle.floor_hub.specs.Concerned.{Concerns}
 
 abbrev old : goal.After-admin_at → Hub
@@ -57,14 +58,16 @@ still_stood c =
 
 named : (c : goal.After-admin_at) → Named c.admin_at.new.concerned (old c) (new c)
 named c =
-    named-at by_broken (refusal_in c.admin_at.result) (admin_event c.args.act) c.args.conference c.self.inside.concerned c.admin_at.new.concerned (old c) (new c) (room c)
-    c.admin_at.ensures.concerned refl (λ k. place-same (connection_at (old c).connections k) (connection_at (new c).connections k) refl) c.self.invariant.attached
+    named-at by_broken (refusal_in c.admin_at.result) (admin_event c.args.act) c.args.conference c.admin_at.new.told.items c.self.inside.concerned c.admin_at.new.concerned (old c) (new c) (room c)
+    c.admin_at.ensures.concerned refl (λ k. place-same (connection_at (old c).connections k) (connection_at (new c).connections k) refl)
+    (moves-by c.args.conference (old c) (new c) (λ r is. let t = c.admin_at.ensures.room.there r is in (t.0, t.1, event-went (event_of_act c.args.act) r t.0 c.admin_at.result t.3)))
+    (still_stood c) c.self.invariant.attached c.self.invariant.known
 
 pub invariant_of-self : goal.invariant_of-self
-invariant_of-self c = record { stood = still_stood c; attached = (named c).0 }
+invariant_of-self c = record { stood = still_stood c; attached = (named c).attached; known = (named c).known }
 
 pub returns-clause-concerned : goal.returns-clause-concerned
-returns-clause-concerned c = subst (λ h. Concerns h (new c)) c.self.view_is (named c).1
+returns-clause-concerned c = subst (λ h. Concerns h (new c)) c.self.view_is (named c).concerns
 
 pub returns-clause-connections : goal.returns-clause-connections
 returns-clause-connections c = subst (λ h. StayLive h.connections (new c).connections) c.self.view_is (λ k. place-same (connection_at (old c).connections k) (connection_at (new c).connections k) refl)

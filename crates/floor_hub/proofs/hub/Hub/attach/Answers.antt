@@ -21,8 +21,10 @@ use Rattle.floor_room.specs.Ledger.{conference_of}
 use Rattle.floor_room.specs.Room.{Room}
 use Rattle.floor_hub.proofs.Outboxes.{grows-one, has-joined, keeps-outboxes, were-same}
 use Rattle.floor_hub.proofs.hub.Hub.attach.Goals as goal
-use Rattle.floor_hub.proofs.Attaching.{last-untaken, next-is-free, place-same}
-use Rattle.floor_hub.proofs.Naming.{Named, named-at, named-attached}
+use Rattle.floor_hub.proofs.Attaching.{last-untaken, next-is-free, place-same, within}
+use Rattle.floor_hub.specs.steps.Attached.{live_in}
+use Rattle.floor_hub.proofs.Naming.{Named, moves-by, named-at, named-attached}
+use Rattle.floor_hub.proofs.Moving.{attach-went, joined-went}
 use Rattle.floor_hub.specs.Concerned.{Concerns}
 
 pub overflow_add-number : goal.overflow_add-number
@@ -33,8 +35,11 @@ overflow_add-number c =
 
 pub attach_at-joined-requires : goal.attach_at-joined-requires
 attach_at-joined-requires c =
-    next-is-free (record { rooms = c.self.inside.rooms.entries; connections = c.self.inside.connections; arrivals = c.self.inside.arrivals; concerned = c.self.inside.concerned.numbers }) c.self.invariant.stood.0
-    c.self.invariant.stood.1
+    let h : Hub = record { rooms = c.self.inside.rooms.entries; connections = c.self.inside.connections; arrivals = c.self.inside.arrivals; concerned = c.self.inside.concerned.numbers } in
+    record {
+      fresh = next-is-free h c.self.invariant.stood.0 c.self.invariant.stood.1;
+      within = λ r is. within h c.self.invariant.stood.0 (live_in c.self.inside.concerned) c.self.invariant.stood.1 c.self.invariant.stood.2 c.self.invariant.attached c.args.conference r is;
+    }
 
 abbrev old_ok : goal.After-self-1 → Hub
 old_ok c = record { rooms = c.self.inside.rooms.entries; connections = c.self.inside.connections; arrivals = c.self.inside.arrivals; concerned = c.self.inside.concerned.numbers }
@@ -80,14 +85,16 @@ there c none = ok_err (c.in-Ok.ensures.room.absent none).0
 
 named_ok : (c : goal.After-self-1) → Named c.attach_at-joined.new.concerned (old_ok c) (new_ok c)
 named_ok c =
-    named-attached by_broken (attach_event c.args.user) c.self.invariant.stood.0 c.args.conference c.self.inside.concerned c.attach_at-joined.new.concerned (old_ok c) (new_ok c) c.self.invariant.stood.1 (room_ok c)
-    c.in-Ok.ensures.concerned refl (λ r is. (c.in-Ok.ensures.room.there r is).3.0.1) (there c) c.self.invariant.attached
+    named-attached by_broken (attach_event c.args.user) c.self.invariant.stood.0 c.args.conference c.attach_at-joined.new.told.items c.self.inside.concerned c.attach_at-joined.new.concerned (old_ok c) (new_ok c) c.self.invariant.stood.1 (room_ok c)
+    c.in-Ok.ensures.concerned refl (λ r is. (c.in-Ok.ensures.room.there r is).3.0.1) (there c)
+    (moves-by c.args.conference (old_ok c) (new_ok c) (λ r is. let t = c.in-Ok.ensures.room.there r is in (t.0, t.1, joined-went r t.0 c.args.user t.3.0.0)))
+    (still_stood_ok c) c.self.invariant.attached c.self.invariant.known
 
 pub invariant_of-self : goal.invariant_of-self
-invariant_of-self c = record { stood = still_stood_ok c; attached = (named_ok c).0 }
+invariant_of-self c = record { stood = still_stood_ok c; attached = (named_ok c).attached; known = (named_ok c).known }
 
 pub returns-in-Ok-clause-concerned : goal.returns-in-Ok-clause-concerned
-returns-in-Ok-clause-concerned c = subst (λ h. Concerns h (new_ok c)) c.self.view_is (named_ok c).1
+returns-in-Ok-clause-concerned c = subst (λ h. Concerns h (new_ok c)) c.self.view_is (named_ok c).concerns
 
 joins : (c : goal.After-self-1) (y : Option Room) → room_at (old_ok c) c.args.conference ≡ y → Joins c.args.conference (c.self.inside.arrivals + 1) (old_ok c) (new_ok c)
 joins c None is = absurd (there c is)
@@ -153,14 +160,16 @@ still_stood_err c =
 
 named_err : (c : goal.In-Err) → Named c.attach_at-joined.new.concerned (old_err c) (new_err c)
 named_err c =
-    named-at by_broken (Some c.in-Err.refusal) (attach_event c.args.user) c.args.conference c.self.inside.concerned c.attach_at-joined.new.concerned (old_err c) (new_err c) (room_err c)
-    c.in-Err.ensures.concerned refl (λ k. place-same (connection_at (old_err c).connections k) (connection_at (new_err c).connections k) (c.in-Err.ensures.left k)) c.self.invariant.attached
+    named-at by_broken (Some c.in-Err.refusal) (attach_event c.args.user) c.args.conference c.attach_at-joined.new.told.items c.self.inside.concerned c.attach_at-joined.new.concerned (old_err c) (new_err c) (room_err c)
+    c.in-Err.ensures.concerned refl (λ k. place-same (connection_at (old_err c).connections k) (connection_at (new_err c).connections k) (c.in-Err.ensures.left k))
+    (moves-by c.args.conference (old_err c) (new_err c) (λ r is. let t = c.in-Err.ensures.room.there r is in (t.0, t.1, attach-went r t.0 c.args.user t.3.1.0 t.3.1.2)))
+    (still_stood_err c) c.self.invariant.attached c.self.invariant.known
 
 pub invariant_of-self-in-Err : goal.invariant_of-self-in-Err
-invariant_of-self-in-Err c = record { stood = still_stood_err c; attached = (named_err c).0 }
+invariant_of-self-in-Err c = record { stood = still_stood_err c; attached = (named_err c).attached; known = (named_err c).known }
 
 pub returns-in-Err-clause-concerned : goal.returns-in-Err-clause-concerned
-returns-in-Err-clause-concerned c = subst (λ h. Concerns h (new_err c)) c.self.view_is (named_err c).1
+returns-in-Err-clause-concerned c = subst (λ h. Concerns h (new_err c)) c.self.view_is (named_err c).concerns
 
 pub returns-in-Err-clause-next : goal.returns-in-Err-clause-next
 returns-in-Err-clause-next c = λ w st. turns_err c w (subst (λ h. StandsFor h w) (sym c.self.view_is) st)

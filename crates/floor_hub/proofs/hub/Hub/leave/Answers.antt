@@ -24,7 +24,8 @@ use Rattle.floor_hub.proofs.Closing.{ended, good, good_next, stood}
 use Rattle.floor_hub.proofs.Outboxes.{grows-of, keeps-outboxes, outbox-room, were-of}
 use Rattle.floor_hub.proofs.hub.Hub.leave.Goals as goal
 use Rattle.floor_hub.specs.declared.step.Answer.{Answer}
-use Rattle.floor_hub.proofs.Naming.{Named, named-left}
+use Rattle.floor_hub.proofs.Naming.{Named, moves-by, named-left}
+use Rattle.floor_hub.proofs.Moving.{leave-went}
 use Rattle.floor_hub.specs.Concerned.{Concerns}
 
 abbrev old : goal.After-leave_at → Hub
@@ -72,14 +73,16 @@ still_stood c =
 
 named : (c : goal.After-leave_at) → Named c.leave_at.new.concerned (old c) (new c)
 named c =
-    named-left None (refusal_in c.leave_at.result) leave_event c.args.number c.self.inside.concerned c.leave_at.new.concerned (old c) (new c) (connection_at (old c).connections c.args.number) refl (room c)
-    c.leave_at.ensures.concerned refl (λ absent. (c.leave_at.ensures.connection.absent absent).2) (gone c) c.self.invariant.stood.2 c.self.invariant.attached
+    named-left None (refusal_in c.leave_at.result) leave_event c.args.number c.leave_at.new.told.items c.self.inside.concerned c.leave_at.new.concerned (old c) (new c) (connection_at (old c).connections c.args.number) refl (room c)
+    c.leave_at.ensures.concerned refl (λ absent. (c.leave_at.ensures.connection.absent absent).2) (gone c)
+    (λ x is. moves-by x.conference (old c) (new c) (λ r room. let t = there c x is r room in (t.0, t.1, leave-went r t.0 x.n c.leave_at.result t.3 t.4)))
+    (still_stood c) c.self.invariant.stood.2 c.self.invariant.attached c.self.invariant.known
 
 pub invariant_of-self : goal.invariant_of-self
-invariant_of-self c = record { stood = still_stood c; attached = (named c).0 }
+invariant_of-self c = record { stood = still_stood c; attached = (named c).attached; known = (named c).known }
 
 pub returns-clause-concerned : goal.returns-clause-concerned
-returns-clause-concerned c = subst (λ h. Concerns h (new c)) c.self.view_is (named c).1
+returns-clause-concerned c = subst (λ h. Concerns h (new c)) c.self.view_is (named c).concerns
 
 has_gone : (c : goal.After-leave_at) (y : Option Connection) → connection_at (old c).connections c.args.number ≡ y → Puts (old c).connections (new c).connections c.args.number None
 has_gone c None is = let same = (c.leave_at.ensures.connection.absent is).2 in record { here = same c.args.number ∙ is; others = λ k ne. same k }

@@ -13,6 +13,8 @@ use Rattle.floor_hub.specs.World.{IsIdle, turn, World}
 use Rattle.floor_hub.proofs.Closing.{ended, good, stood}
 use Rattle.floor_hub.proofs.Outboxes.{grows-opened, keeps-outboxes, were-same}
 use Rattle.floor_hub.proofs.hub.Hub.open.Goals as goal
+use Rattle.floor_hub.specs.steps.Attached.{AreKnown, live_in}
+use Rattle.floor_hub.proofs.Naming.{known-opened}
 use Rattle.floor_hub.specs.declared.step.Answer.{Answer}
 
 abbrev old : goal.After-open_at → Hub
@@ -38,8 +40,11 @@ still_stood c =
     (keeps-outboxes (old c) (new c) (grows-opened _ c.open_at.result c.args.config (old c) (new c) c.open_at.ensures.done c.open_at.ensures.left)
     (were-same (old c).connections (new c).connections (λ k. refl)) c.self.invariant.stood.2)
 
+known : (c : goal.After-open_at) → AreKnown (room_at (new c)) (live_in c.self.inside.concerned)
+known c = known-opened _ c.open_at.result c.args.config (old c) (new c) c.self.inside.concerned c.open_at.ensures.done c.open_at.ensures.left c.self.invariant.stood.2 c.self.invariant.attached c.self.invariant.known
+
 pub invariant_of-self : goal.invariant_of-self
-invariant_of-self c = record { stood = still_stood c; attached = c.self.invariant.attached }
+invariant_of-self c = record { stood = still_stood c; attached = c.self.invariant.attached; known = known c }
 
 pub returns-clause-next : goal.returns-clause-next
 returns-clause-next c = λ w st. turns c w (subst (λ h. StandsFor h w) (sym c.self.view_is) st)

@@ -71,6 +71,7 @@ pub invariant_of-self : goal.invariant_of-self
 invariant_of-self c = record {
   stood = still_stood c;
   attached = attached-same c.self.inside.concerned c.self.inside.concerned (connection_at (old c).connections) (connection_at (new c).connections) (λ d. refl) (places c c.push_at.result refl) c.self.invariant.attached;
+  known = c.self.invariant.known;
 }
 
 pub returns-clause-connections : goal.returns-clause-connections

@@ -16,7 +16,8 @@ use Rattle.floor_hub.proofs.Closing.{ended, good, stood}
 use Rattle.floor_hub.proofs.Outboxes.{grows-of, keeps-outboxes, outbox-room, were-of}
 use Rattle.floor_hub.proofs.hub.Hub.serve.Goals as goal
 use Rattle.floor_hub.proofs.Attaching.{places-of}
-use Rattle.floor_hub.proofs.Naming.{Named, named-of-one}
+use Rattle.floor_hub.proofs.Naming.{Named, moves-by, named-of-one}
+use Rattle.floor_hub.proofs.Moving.{served-went}
 use Rattle.floor_hub.specs.Concerned.{Concerns}
 
 abbrev old : goal.After-serve_at → Hub
@@ -66,14 +67,16 @@ places c = places-of (old c).connections (new c).connections c.args.number (conn
 
 named : (c : goal.After-serve_at) → Named c.serve_at.new.concerned (old c) (new c)
 named c =
-    named-of-one by_broken (refusal_in c.serve_at.result) serve_event c.self.inside.concerned c.serve_at.new.concerned (old c) (new c) (connection_at (old c).connections c.args.number) (room c)
-    c.serve_at.ensures.concerned refl (places c) c.self.invariant.attached
+    named-of-one by_broken (refusal_in c.serve_at.result) serve_event c.serve_at.new.told.items c.self.inside.concerned c.serve_at.new.concerned (old c) (new c) (connection_at (old c).connections c.args.number) (room c)
+    c.serve_at.ensures.concerned refl (places c)
+    (λ x there. moves-by x.conference (old c) (new c) (λ r room. let t = c.serve_at.ensures.connection.there x there r room in (t.0, t.2, served-went r t.0 x.n x.held t.5.0 c.serve_at.result t.5.2)))
+    (still_stood c) c.self.invariant.attached c.self.invariant.known
 
 pub invariant_of-self : goal.invariant_of-self
-invariant_of-self c = record { stood = still_stood c; attached = (named c).0 }
+invariant_of-self c = record { stood = still_stood c; attached = (named c).attached; known = (named c).known }
 
 pub returns-clause-concerned : goal.returns-clause-concerned
-returns-clause-concerned c = subst (λ h. Concerns h (new c)) c.self.view_is (named c).1
+returns-clause-concerned c = subst (λ h. Concerns h (new c)) c.self.view_is (named c).concerns
 
 pub returns-clause-connections : goal.returns-clause-connections
 returns-clause-connections c = subst (λ h. StayLive h.connections (new c).connections) c.self.view_is (places c)

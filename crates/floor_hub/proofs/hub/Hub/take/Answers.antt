@@ -7,12 +7,13 @@ use Rattle.floor_hub.specs.declared.connection.Connection.{Connection}
 use Rattle.floor_hub.specs.Rooms.{KeptOf, TakenOf}
 use Rattle.floor_hub.specs.Connections.{connection_at}
 use Rattle.floor_hub.specs.Hub.{Hub, room_at}
-use Rattle.floor_hub.specs.StandsFor.{HaveOutboxes, StandsFor, Stood}
+use Rattle.floor_hub.specs.StandsFor.{HaveOutboxes, StandsFor}
 use Rattle.floor_hub.specs.World.{World}
 use Rattle.floor_hub.proofs.Closing.{good, stands_good}
 use Rattle.floor_hub.proofs.Given.{take_stands}
 use Rattle.floor_hub.proofs.Outboxes.{given-ok, grows-taken, keeps-outboxes, outbox-room, were-same}
 use Rattle.floor_hub.proofs.hub.Hub.take.Goals as goal
+use Rattle.floor_hub.proofs.Naming.{known-taken}
 
 abbrev old : goal.After-take_at → Hub
 old c = record { rooms = c.self.inside.rooms.entries; connections = c.self.inside.connections; arrivals = c.self.inside.arrivals; concerned = c.self.inside.concerned.numbers }
@@ -55,6 +56,7 @@ pub invariant_of-self : goal.invariant_of-self
 invariant_of-self c = record {
   stood = (c.self.invariant.stood.0, still c c.self.invariant.stood.0 c.self.invariant.stood.1, queued c);
   attached = c.self.invariant.attached;
+  known = known-taken (connection_at (old c).connections c.args.number) c.take_at.result (old c) (new c) c.self.inside.concerned (taken c (connection_at (old c).connections c.args.number) refl) c.self.invariant.known;
 }
 
 pub returns-clause-stands : goal.returns-clause-stands

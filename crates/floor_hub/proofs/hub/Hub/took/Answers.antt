@@ -27,7 +27,8 @@ use Rattle.floor_hub.proofs.Outboxes.{grows-of, keeps-outboxes, outbox-room, wer
 use Rattle.floor_hub.proofs.hub.Hub.took.Goals as goal
 use Rattle.floor_room.specs.Ledger.{refusal}
 use Rattle.floor_hub.proofs.Attaching.{place-same}
-use Rattle.floor_hub.proofs.Naming.{Named, named-of-one}
+use Rattle.floor_hub.proofs.Naming.{Named, moves-by, named-of-one}
+use Rattle.floor_hub.proofs.Moving.{event-went}
 use Rattle.floor_hub.specs.Concerned.{Concerns}
 
 abbrev old : goal.After-took_at → Hub
@@ -62,14 +63,16 @@ still_stood c =
 
 named : (c : goal.After-took_at) → Named c.took_at.new.concerned (old c) (new c)
 named c =
-    named-of-one by_broken (refusal_in c.took_at.result) (took_event c.args.k) c.self.inside.concerned c.took_at.new.concerned (old c) (new c) (connection_at (old c).connections c.args.number) (room c)
-    c.took_at.ensures.concerned refl (λ k. place-same (connection_at (old c).connections k) (connection_at (new c).connections k) refl) c.self.invariant.attached
+    named-of-one by_broken (refusal_in c.took_at.result) (took_event c.args.k) c.took_at.new.told.items c.self.inside.concerned c.took_at.new.concerned (old c) (new c) (connection_at (old c).connections c.args.number) (room c)
+    c.took_at.ensures.concerned refl (λ k. place-same (connection_at (old c).connections k) (connection_at (new c).connections k) refl)
+    (λ x is. moves-by x.conference (old c) (new c) (λ r room. let t = there c x is r room in (t.0, t.1, event-went (Takes x.n c.args.k) r t.0 c.took_at.result t.3)))
+    (still_stood c) c.self.invariant.attached c.self.invariant.known
 
 pub invariant_of-self : goal.invariant_of-self
-invariant_of-self c = record { stood = still_stood c; attached = (named c).0 }
+invariant_of-self c = record { stood = still_stood c; attached = (named c).attached; known = (named c).known }
 
 pub returns-clause-concerned : goal.returns-clause-concerned
-returns-clause-concerned c = subst (λ h. Concerns h (new c)) c.self.view_is (named c).1
+returns-clause-concerned c = subst (λ h. Concerns h (new c)) c.self.view_is (named c).concerns
 
 pub returns-clause-connections : goal.returns-clause-connections
 returns-clause-connections c = subst (λ h. StayLive h.connections (new c).connections) c.self.view_is (λ k. place-same (connection_at (old c).connections k) (connection_at (new c).connections k) refl)
