@@ -284,16 +284,25 @@ fn changed(
 ) -> Result<String, AllocError> {
     let (word, rest) = line.split_once(' ').unwrap_or((line, ""));
     match word {
-        "user" => done(alloc, room.admin(Act::AddUser(user(alloc, rest)?), &mut Vec::new(alloc))),
+        "user" => done(
+            alloc,
+            room.admin(Act::AddUser(user(alloc, rest)?), &mut Vec::new(alloc)),
+        ),
         "floor" => match floor(rest) {
-            Some(floor) => done(alloc, room.admin(Act::AddFloor(floor), &mut Vec::new(alloc))),
+            Some(floor) => done(
+                alloc,
+                room.admin(Act::AddFloor(floor), &mut Vec::new(alloc)),
+            ),
             None => String::from_str(alloc, "no floor"),
         },
         "chair" => {
             let (floor, chair) = rest.split_once(' ').unwrap_or((rest, "-"));
             done(
                 alloc,
-                room.admin(Act::SetChair(short(floor), read_u16(chair)), &mut Vec::new(alloc)),
+                room.admin(
+                    Act::SetChair(short(floor), read_u16(chair)),
+                    &mut Vec::new(alloc),
+                ),
             )
         }
         "rest" => left(alloc, room),
