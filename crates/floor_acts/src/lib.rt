@@ -15,5 +15,5 @@ mod user;
 
 pub use act::{ActLine, read_act};
 pub use fault::ActFault;
-pub use floor_machine::{Act, Floor, User};
+pub use floor_machine::{Act, AddedUser, Floor, User};
 pub use laws::acts_are_read_back;

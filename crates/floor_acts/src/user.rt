@@ -10,7 +10,7 @@ use crate::act::ActLine;
 use crate::fault::ActFault;
 use crate::number::{conference_of, number_of, port_where};
 use floor_config::Text;
-use floor_machine::{Act, User};
+use floor_machine::{Act, AddedUser, User};
 use floor_words::{cut_word, from_first_word};
 use std::alloc::{AllocError, Global};
 use std::marker::Model;
@@ -113,9 +113,10 @@ pub fn user_act(alloc: Global, words: UserWords) -> Result<ActLine, ActFault>
         proxy: words.proxy,
         port,
     };
+    let added = AddedUser::new(alloc, user)?;
     Ok(ActLine {
         conference,
-        act: Act::AddUser(user),
+        act: Act::AddUser(added),
     })
 }
 

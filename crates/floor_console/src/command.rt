@@ -137,7 +137,10 @@ fn of_act(line: ActLine) -> Command
             conference,
             request,
         },
-        Act::AddUser(user) => Command::AddUser { conference, user },
+        Act::AddUser(user) => Command::AddUser {
+            conference,
+            user: user.into_user(),
+        },
         Act::AddFloor(floor) => Command::AddFloor { conference, floor },
         Act::SetChair(floor, chair) => Command::SetChair {
             conference,

@@ -19,7 +19,7 @@ mod transcript;
 
 pub use connection::ConnNo;
 pub use floor_room::{
-    Act, Config, Event, Floor, Frame, Parcel, Refusal, RoomRefusal, Status, User,
+    Act, AddedUser, Config, Event, Floor, Frame, Parcel, Refusal, RoomRefusal, Status, User,
 };
 pub use floor_wire::Octets;
 pub use hub::Hub;

@@ -2,7 +2,8 @@
 
 ghost use Rattle.std.specs.Prelude.{◌≡◌, IfOk};
 
-use floor_config::{Floor, User};
+use crate::added::AddedUser;
+use floor_config::Floor;
 use std::alloc::{AllocError, Global};
 
 /// What the administrator of a conference does. An act is handed over, since one bears a user.
@@ -14,7 +15,7 @@ pub enum Act {
     /// Ends the conference.
     Close,
     /// Adds a user behind the others, without a port; an empty name or URI counts as absent.
-    AddUser(User),
+    AddUser(AddedUser),
     /// Adds a floor behind the others.
     AddFloor(Floor),
     /// Gives the floor with this id this chair, or none (RFC 8855, section 4.2).

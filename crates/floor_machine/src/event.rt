@@ -8,9 +8,10 @@ ghost use Rattle.floor_machine.specs.Laws.{IsWhole};
 ghost use Rattle.floor_machine.specs.Machine.{Applied, IsRefusedBy, Left, event_of_act, event_refusal};
 
 use crate::act::Act;
+use crate::added::AddedUser;
 use crate::machine::{Machine, Refusal};
 use crate::parcel::Parcel;
-use floor_config::{Floor, User};
+use floor_config::Floor;
 use floor_wire::{Copies, Frame};
 use std::alloc::AllocError;
 
@@ -56,7 +57,7 @@ pub enum Event {
     /// The administrator adds a user.
     AddUser {
         /// The user, as it was handed in: its port and empty texts make no difference.
-        user: User,
+        user: AddedUser,
     },
     /// The administrator adds a floor.
     AddFloor {

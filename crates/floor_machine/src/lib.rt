@@ -3,6 +3,7 @@
 #![tactic(auto)]
 
 mod act;
+mod added;
 mod affected;
 mod applying;
 mod change;
@@ -24,6 +25,7 @@ mod running;
 mod tell;
 
 pub use act::Act;
+pub use added::AddedUser;
 pub use event::{Event, MAX_EVENTS};
 pub use floor_config::{Config, Floor, User};
 pub use floor_message::{Ask, Head, Info, RequestStatus, Tell};

@@ -6,6 +6,7 @@ ghost use Rattle.floor_machine.specs.declared.event.Event.TheVariants.{AddUser, 
 ghost use Rattle.floor_machine.specs.Machine.{Applied, IsRefusedBy, Left, act_refusal, event_of_act, fault_refusal, is_backlog, join_refusal, leave_refusal, member_refusal, message_refusal, refusal_of, refusal_of_fault, took_refusal, unless_refused, whole};
 
 use crate::act::Act;
+use crate::added::AddedUser;
 use crate::conference::State;
 use crate::parcel::Parcel;
 use floor_config::{Config, ConfigFault, User};
@@ -274,7 +275,7 @@ impl Machine {
                 self.refusal_of(request)
             }
             Act::Close => self.refusal_of(None),
-            Act::AddUser(user) => self.user_refusal(user),
+            Act::AddUser(user) => self.user_refusal(user.as_user()),
             Act::AddFloor(floor) => self.fault_refusal(self.state.config.floor_fault(floor)),
             Act::SetChair(floor, chair) => {
                 self.fault_refusal(self.state.config.chair_fault(*floor, *chair))
@@ -429,14 +430,18 @@ impl Machine {
 
     /// Adds a user as an event bears it, which keeps its own: refused as an act is, and by `Memory`
     /// also where its texts can't be copied.
-    pub(crate) fn add_user(&mut self, user: &User, out: &mut Vec<Parcel>) -> Result<(), Refusal>
+    pub(crate) fn add_user(
+        &mut self,
+        user: &AddedUser,
+        out: &mut Vec<Parcel>,
+    ) -> Result<(), Refusal>
         ensures took { OnOk result
             (Applied self.old (AddUser user.now) self.new out.old.items out.new.items) }
         ensures refused { IsRefusedBy (act_refusal self.old (Act.AddUser user.now)) result }
         ensures left { IfErr result
             (Left self.old (AddUser user.now) self.new out.old.items out.new.items) }
     {
-        match self.user_refusal(user) {
+        match self.user_refusal(user.as_user()) {
             Some(refusal) => return Err(refusal),
             None => {}
         }

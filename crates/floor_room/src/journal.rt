@@ -92,7 +92,7 @@ fn line(alloc: Global, place: usize, event: &Event) -> Result<String, AllocError
         Event::Leave { n } => format!(in alloc; "{place} leave {n}\n"),
         Event::Revoke { request } => format!(in alloc; "{place} revoke {request}\n"),
         Event::Close => format!(in alloc; "{place} close\n"),
-        Event::AddUser { user } => user_line(alloc, place, user),
+        Event::AddUser { user } => user_line(alloc, place, user.as_user()),
         Event::AddFloor { floor } => {
             let id = floor.id;
             let room = floor.room;

@@ -3,7 +3,7 @@
 ghost use Rattle.std.specs.Prelude.{◌≡◌, ◌^◌, map};
 ghost use Rattle.floor_script.specs.Line.{bytes_of, command_of, number_of, of_act, of_words, three_words_or_more, two_words, without_port, Reads};
 
-use floor_acts::{ActFault, ActLine, User, read_act};
+use floor_acts::{ActFault, ActLine, read_act};
 use floor_hub::{Act, Octets};
 use floor_words::{HexadecimalFault, read_hexadecimal, read_u16, read_u32, read_u64, words};
 use std::alloc::{AllocError, Global};
@@ -131,7 +131,7 @@ fn without_port(act: Act) -> Act
     ensures { result ≡ without_port act }
 {
     match act {
-        Act::AddUser(user) => Act::AddUser(User { port: None, ..user }),
+        Act::AddUser(user) => Act::AddUser(user.without_port()),
         act => act,
     }
 }

@@ -13,7 +13,7 @@ use floor_console::{
 };
 use floor_listen::{Chosen, Ports};
 use floor_room::{Phase, Status};
-use floor_serve::{Act, Desk, DeskRefusal, Gate, OpenRefusal};
+use floor_serve::{Act, AddedUser, Desk, DeskRefusal, Gate, OpenRefusal};
 use std::alloc::Global;
 use std::net::{Net, TcpListener, TcpStream};
 use std::rt::Files;
@@ -239,6 +239,12 @@ impl<G: Drop, R: Clock + Threads + Wait + Drop> Server<G, R> {
         }
     }
 
+    /// Adds a user. The port is this server's, and no part of the conference.
+    fn add(&mut self, conference: u32, user: User) -> Result<(), BoardRefusal> {
+        let user = AddedUser::new(self.alloc, User { port: None, ..user })?;
+        self.act(conference, Act::AddUser(user))
+    }
+
     /// Tells the log of a conference that is broken off.
     fn tell_if_broken(&self, desk: &Desk) {
         match (&self.shared.log, desk.status(&self.rt).phase) {
@@ -299,9 +305,7 @@ impl<G: Drop, R: Clock + Threads + Wait + Drop> Board for Server<G, R> {
             Prepared::User(outcome) => outcome?,
             Prepared::Open(_) | Prepared::Nothing => Listens::Nowhere,
         };
-        // The port is this server's, and no part of the conference.
-        let user = User { port: None, ..user };
-        let outcome = self.act(conference, Act::AddUser(user));
+        let outcome = self.add(conference, user);
         match listens {
             Listens::OnAPort => self.give_back_refused(&outcome),
             Listens::Nowhere => {}

@@ -37,7 +37,7 @@ impl State {
                 self.close();
                 Ok(())
             }
-            Act::AddUser(user) => self.add_user(user, out),
+            Act::AddUser(user) => self.add_user(user.into_user(), out),
             Act::AddFloor(floor) => self.add_floor(floor, out),
             Act::SetChair(floor, chair) => self.set_chair(floor, chair, out),
         }

@@ -6,7 +6,7 @@ use floor_config::Config;
 use floor_console::{
     Board, BoardRefusal, Floor, Status, StopRefusal, Stopped, Text, User, run_line,
 };
-use floor_room::{Act, Room, journal_text};
+use floor_room::{Act, AddedUser, Room, journal_text};
 use std::alloc::{AllocError, Global};
 
 /// The conference 1, which is all that there is.
@@ -49,6 +49,7 @@ impl Board for OneRoom {
 
     fn add_user(&mut self, conference: u32, user: User) -> Result<(), BoardRefusal> {
         // Nobody listens here: the room drops the port.
+        let user = AddedUser::new(self.alloc, user)?;
         self.act(conference, Act::AddUser(user))
     }
 

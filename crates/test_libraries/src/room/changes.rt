@@ -3,7 +3,7 @@
 use super::{answer, done, number, replayed_from, text_of};
 use crate::cases::{assert_told, differing};
 use floor_config::Text;
-use floor_room::{Act, Config, Event, Floor, Room, User};
+use floor_room::{Act, AddedUser, Config, Event, Floor, Room, User};
 use floor_words::read_u16;
 use std::alloc::{AllocError, Global};
 
@@ -286,7 +286,10 @@ fn changed(
     match word {
         "user" => done(
             alloc,
-            room.admin(Act::AddUser(user(alloc, rest)?), &mut Vec::new(alloc)),
+            room.admin(
+                Act::AddUser(AddedUser::new(alloc, user(alloc, rest)?)?),
+                &mut Vec::new(alloc),
+            ),
         ),
         "floor" => match floor(rest) {
             Some(floor) => done(
@@ -363,7 +366,7 @@ fn now(alloc: Global, config: &Config, events: &[Event]) -> Result<Config, Alloc
     for event in events {
         match event {
             Event::AddUser { user } => {
-                let _added = now.add_user(user.copy(alloc)?);
+                let _added = now.add_user(user.as_user().copy(alloc)?);
             }
             Event::AddFloor { floor } => {
                 let _added = now.add_floor(*floor);
@@ -403,7 +406,9 @@ fn lines_of_acts(alloc: Global) -> Result<String, AllocError> {
         chair: None,
     };
     let events = [
-        Event::AddUser { user },
+        Event::AddUser {
+            user: AddedUser::new(alloc, user)?,
+        },
         Event::Took { n: 2, k: 64 },
         Event::AddFloor { floor },
     ];
