@@ -16,7 +16,7 @@ const MAX_EVENTS: u32 = 2_000_000;
 const IGNORED: [u8; 12] = [0x20, 13, 0, 0, 0, 0, 0, 1, 0, 1, 0, 10];
 
 /// Whether the taker finds the answer to a Hello.
-fn is_answered<R: Wait>(rt: &R, taker: &mut Taker) -> bool {
+fn is_answered<R: Wait>(rt: &R, taker: &mut MemberTaker) -> bool {
     match taker.take(rt) {
         Taken::Parcel(parcel) => {
             parcel.header() == &HELLO_ACK[..12] && parcel.payload() == &HELLO_ACK[12..]
