@@ -5,13 +5,13 @@ ghost use Rattle.floor_room.specs.Status.{IsStatus};
 ghost use Rattle.std.specs.Fn.{FnOnceReturnsAtMut};
 ghost use Rattle.floor_serve.specs.Booth as spec;
 ghost use Rattle.floor_serve.specs.Booth.{IsBooth};
-ghost use Rattle.floor_serve.specs.Held.{IsFound, IsText};
+ghost use Rattle.floor_serve.specs.Held.{IsFound, IsJoined, IsText};
 ghost use Rattle.floor_serve.specs.steps.Pieces.{IsPiece};
 
 use crate::booth::Booth;
 use crate::gate::Gate;
+use crate::member_taker::MemberTaker;
 use crate::seat::{Receipt, Seat};
-use floor_outbox::Taker;
 use floor_room::{Act, Frame, RoomRefusal, Status, add_end, add_lines};
 use std::alloc::{AllocError, Global};
 use std::marker::Model;
@@ -23,7 +23,7 @@ const NOBODY: u32 = 0;
 /// One conference as threads share it. Each call but `journal_text` is one hold of the conference's
 /// lock, and wakes whom it told something once the lock is given back. Contracts see its number.
 ///
-/// Changes: `join`, `submit`, `took` and `leave` of a member, `admin` of the administrator. Readers:
+/// Changes: `join`, `submit` and `leave` of a member, `admin` of the administrator. Readers:
 /// `conference`, `status`, `journal_text`. What the calls do to the conference stands in the
 /// contracts of [`Booth`].
 #[derive(Drop)]
@@ -60,15 +60,30 @@ impl Desk {
         self.conference
     }
 
-    /// Takes a connection of the user as a member, and gives its seat and what takes its parcels.
-    /// Refused as [`Booth::join`]: `Broken`, `Ended`, `JournalFull`, `NoUser`, `Full`.
-    pub fn join<R: Wait>(&self, rt: &R, user: u16) -> Result<(Seat, Taker), RoomRefusal>
+    /// Another desk of the conference. Takes no memory.
+    fn share(&self) -> Result<Desk, AllocError>
+        ensures { IfOk result (λ desk. desk ≡ self.now) }
+    {
+        let booth = Arc::try_clone(&self.booth)?;
+        Ok(Desk::new(self.alloc, self.conference, booth))
+    }
+
+    /// Takes a connection of the user as a member, and gives its seat and what takes its parcels, which
+    /// has a desk of its own. Refused as [`Booth::join`]: `Broken`, `Ended`, `JournalFull`, `NoUser`,
+    /// `Full`.
+    pub fn join<R: Wait>(&self, rt: &R, user: u16) -> Result<(Seat, MemberTaker), RoomRefusal>
         ensures seat { IfOk result (λ joined. joined.0.conference ≡ self.now.conference) }
         ensures sent { IfOk result (λ joined. joined.0.sent ≡ []) }
-        ensures taken { IfOk result (λ joined. joined.1.taken ≡ []) }
+        ensures conference { IfOk result (λ joined. joined.1.conference ≡ self.now.conference) }
+        ensures number { IfOk result (λ joined. joined.1.n ≡ joined.0.n) }
+        ensures taken { IfOk result (λ joined. joined.1.taker.taken ≡ []) }
+        ensures joined { IfOk result (λ joined.
+            IsJoined user joined.1.n joined.1.taker.pair) }
     {
+        let desk = self.share()?;
         let (n, taker) = self.hold(rt, NOBODY, |booth| booth.join(rt, user))?;
-        Ok((Seat::new(self.alloc, self.conference, n), taker))
+        let seat = Seat::new(self.alloc, self.conference, n);
+        Ok((seat, MemberTaker { desk, n, taker }))
     }
 
     /// Submits a message of the seat's member, which keeps it with its place in the journal, in the
@@ -107,7 +122,7 @@ impl Desk {
 
     /// Takes it that so many of the parcels to a member were brought to their end, as its writer says.
     /// Refused as [`Booth::took`]: `Broken`, `Ended`, `JournalFull`, `NoMember`, `BadCount`.
-    pub fn took<R: Wait>(&self, rt: &R, n: u32, k: u32) -> Result<(), RoomRefusal> {
+    pub(crate) fn took<R: Wait>(&self, rt: &R, n: u32, k: u32) -> Result<(), RoomRefusal> {
         self.hold(rt, NOBODY, |booth| booth.took(rt, n, k))
     }
 

@@ -14,6 +14,7 @@ mod end;
 mod fault;
 mod gate;
 mod marked;
+mod member_taker;
 mod reading;
 mod registry;
 mod seat;
@@ -35,6 +36,7 @@ pub use floor_room::{
 pub use floor_wire::Octets;
 pub use gate::{FreePass, Gate};
 pub use marked::{Marked, Sink, Source};
+pub use member_taker::MemberTaker;
 pub use reading::{MAX_TURNS, ReadEnd, read_loop, read_turns};
 pub use registry::Registry;
 pub use seat::{Receipt, Seat, Sent};

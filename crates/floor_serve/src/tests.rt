@@ -76,7 +76,7 @@ fn opens<R: Wait>(rt: &R, alloc: Global, registry: &Registry, conference: u32) -
 }
 
 /// The seat of a user that joins, and what takes its parcels.
-fn joined<R: Wait>(rt: &R, desk: &Desk, user: u16) -> Result<(Seat, Taker), Fail>
+fn joined<R: Wait>(rt: &R, desk: &Desk, user: u16) -> Result<(Seat, MemberTaker), Fail>
     ensures { IfOk result (λ joined. joined.0.conference ≡ desk.now.conference) }
 {
     match desk.join(rt, user) {
@@ -125,7 +125,7 @@ fn leaves<R: Wait>(rt: &R, desk: &Desk, seat: &mut Seat) -> bool {
 
 /// The desk of a conference whose member 1, user 10, has sent so many Hellos, its seat and what takes
 /// its parcels.
-fn greeted<R: Wait>(rt: &R, alloc: Global, count: u32) -> Result<(Desk, Seat, Taker), Fail> {
+fn greeted<R: Wait>(rt: &R, alloc: Global, count: u32) -> Result<(Desk, Seat, MemberTaker), Fail> {
     let (_registry, desk) = opened(rt, alloc)?;
     let (mut seat, taker) = joined(rt, &desk, 10)?;
     let hello = frame(alloc, &HELLO)?;
@@ -155,7 +155,7 @@ fn a_member_is_served_from_joining_to_the_end(rt: HostRuntime) -> Result<(), Fai
     assert_eq!(rt; desk.leave(&rt, &mut seat), Ok(()));
     let mut sink = Marked::new(Vec::new(alloc));
     assert_eq!(rt;
-        write_loop(&rt, alloc, &mut sink, &desk, seat.n(), &mut taker),
+        write_loop(&rt, alloc, &mut sink, &mut taker),
         Ok(Written {
             parcels: 1,
             bytes: 48

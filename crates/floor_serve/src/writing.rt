@@ -7,6 +7,7 @@ ghost use Rattle.floor_serve.specs.Written.{Failed, Moved, Stopped, Wrote, cappe
 use crate::desk::Desk;
 use crate::fault::WriteFault;
 use crate::marked::Sink;
+use crate::member_taker::MemberTaker;
 use floor_outbox::{Parcel, Taken, Taker};
 use std::alloc::Global;
 use std::sync::Wait;
@@ -27,14 +28,35 @@ pub struct Written {
     pub bytes: u64,
 }
 
-/// Writes the parcels to the member n of the desk's conference in order as they come, until the queue
-/// is empty after its sender was closed.
+/// Writes the parcels to a member in order as they come, until the queue is empty after its sender was
+/// closed.
 ///
 /// What waits goes into one write, as far as 64 KiB hold it, and at most 64 parcels. Where memory for
 /// that is refused, each parcel is written by itself, its header and then its payload. After each 64
 /// parcels, and whenever nothing waits, those that were written since are acknowledged; where that is
 /// refused, as after the member has left, nothing more is done.
 pub fn write_loop<S: Sink, R: Wait>(
+    rt: &R,
+    alloc: Global,
+    sink: &mut S,
+    member: &mut MemberTaker,
+) -> Result<Written, WriteFault>
+    requires { S.marked sink.old ≡ false }
+    ensures member { member.new ≡ record member.old
+        { taker = record member.old.taker { taken = member.new.taker.taken } } }
+    ensures wrote { IfOk result (λ w. Wrote member.old.taker.taken member.new.taker.taken
+        (S.contents sink.old) (S.contents sink.new) w.parcels w.bytes) }
+    ensures unmarked { OnOk result (S.marked sink.new ≡ false) }
+
+    ensures stopped { IfErr result (λ f. Stopped member.old.taker.taken member.new.taker.taken
+        (S.contents sink.old) (S.contents sink.new) f.bytes) }
+    ensures marked { IfErr result (λ f. S.marked sink.new ≡ true) }
+{
+    write_taken(rt, alloc, sink, &member.desk, member.n, &mut member.taker)
+}
+
+/// Writes what the taker of the desk's member n takes.
+fn write_taken<S: Sink, R: Wait>(
     rt: &R,
     alloc: Global,
     sink: &mut S,

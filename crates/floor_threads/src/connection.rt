@@ -8,7 +8,7 @@ use crate::entry::{Entry, Peer};
 use crate::socket::{Outgoing, Socket};
 use floor_listen::{Begun, Gone, Member, Unserved};
 use floor_serve::{
-    ClosedMark, Desk, Gate, Marked, ReadEnd, ReadFault, Seat, Taker, read_loop, write_loop,
+    ClosedMark, Desk, Gate, Marked, MemberTaker, ReadEnd, ReadFault, Seat, read_loop, write_loop,
 };
 use std::alloc::{AllocError, Global};
 use std::net::TcpStream;
@@ -180,14 +180,14 @@ fn refuse<G, R: Clock + Wait>(
     begun.refused()
 }
 
-/// Serves a member until the stream ends, and takes it that the member has left. Without a desk or a
-/// thread for its writer it isn't served.
+/// Serves a member until the stream ends, and takes it that the member has left. Without a thread for
+/// its writer it isn't served.
 fn attend<G, R>(
     rt: R,
     alloc: Global,
     desk: &Desk,
     seat: &mut Seat,
-    taker: Taker,
+    taker: MemberTaker,
     binding: &Binding<G>,
     socket: &Socket,
     member: Member,
@@ -196,20 +196,14 @@ fn attend<G, R>(
 where
     G: Gate,
     R: Clock + Threads + Wait + Copy + Drop + Send + 'static,
-    requires { seat.old.conference ≡ desk.now.conference }
-    ensures { result.has_joined ≡ true }
+    requires seat { seat.old.conference ≡ desk.now.conference }
+    requires taker { (taker.conference ≡ seat.old.conference) × (taker.n ≡ seat.old.n) }
+    ensures joined { result.has_joined ≡ true }
 {
     let n = seat.n();
     let mark = taker.mark().ok();
-    if let (Ok(source), Ok(sink), Ok(theirs)) = (
-        socket.share(),
-        outgoing(socket, &taker),
-        binding.desk(&rt),
-    ) {
-        if let Ok(writer) = thread::spawn(
-            &rt,
-            move || write_all(&rt, alloc, sink, &theirs, n, taker),
-        ) {
+    if let (Ok(source), Ok(sink)) = (socket.share(), outgoing(socket, &taker)) {
+        if let Ok(writer) = thread::spawn(&rt, move || write_all(&rt, alloc, sink, taker)) {
             let mut source = Marked::new(source);
             let end = read_loop(&rt, &mut source, desk, seat, binding.gate());
             tell_left(&rt, desk, binding, peer, n, mark, end);
@@ -261,25 +255,18 @@ fn leave<R: Wait>(rt: &R, desk: &Desk, seat: &mut Seat, member: Member) -> Gone
 }
 
 /// The sending side of a member's connection.
-fn outgoing(socket: &Socket, taker: &Taker) -> Result<Outgoing, AllocError> {
+fn outgoing(socket: &Socket, taker: &MemberTaker) -> Result<Outgoing, AllocError> {
     Ok(Outgoing {
         socket: socket.share()?,
         mark: taker.mark()?,
     })
 }
 
-/// Writes what the member n is sent, and acknowledges it at the desk. At the end it shuts the socket
-/// down, so that the reader of a member that was cut ends too: also where the peer takes nothing any
-/// more of what waits behind the closed mark.
-fn write_all<R: Wait>(
-    rt: &R,
-    alloc: Global,
-    outgoing: Outgoing,
-    desk: &Desk,
-    n: u32,
-    mut taker: Taker,
-) {
+/// Writes what the member is sent, and acknowledges it. At the end it shuts the socket down, so that the
+/// reader of a member that was cut ends too: also where the peer takes nothing any more of what waits
+/// behind the closed mark.
+fn write_all<R: Wait>(rt: &R, alloc: Global, outgoing: Outgoing, mut taker: MemberTaker) {
     let mut sink = Marked::new(outgoing);
-    let _written = write_loop(rt, alloc, &mut sink, desk, n, &mut taker);
+    let _written = write_loop(rt, alloc, &mut sink, &mut taker);
     sink.into_inner().socket.shut_down();
 }

@@ -5,7 +5,7 @@ use crate::run::{Ended, TRIES, allocate, print_bytes};
 use crate::step::{CONFERENCES, CONFIGURATION, STEPS, Step, StepRefusal, message_in};
 use floor_config::read_configs;
 use floor_serve::{
-    Act, Config, FinishFault, FreePass, Marked, Registry, Report, Seat, Taken, Taker, finish,
+    Act, Config, FinishFault, FreePass, Marked, MemberTaker, Registry, Report, Seat, Taken, finish,
     read_loop,
 };
 use std::alloc::Global;
@@ -25,7 +25,7 @@ struct Server {
     configs: Vec<Config>,
     registry: Registry,
     seats: Vec<Seat>,
-    takers: Vec<Taker>,
+    takers: Vec<MemberTaker>,
 }
 
 /// Makes so many allocations, does each step in each conference, and prints behind it how the conference
@@ -112,10 +112,10 @@ impl Server {
                 Some(seat) => leave(rt, &self.registry, seat),
                 None => Ok(()),
             },
-            Step::Took(n, parcels) => {
-                let desk = self.registry.desk(rt, conference)?;
-                Ok(desk.took(rt, n, parcels)?)
-            }
+            Step::Took(n, parcels) => match taker_of(&self.takers, conference, n) {
+                Some(taker) => Ok(taker.acknowledge(rt, parcels)?),
+                None => Ok(()),
+            },
             Step::Revoke(request) => self.admin(rt, conference, Act::Revoke(request)),
             Step::Close => self.admin(rt, conference, Act::Close),
         }
@@ -208,6 +208,13 @@ fn seat_of(seats: &mut Vec<Seat>, conference: u32, n: u32) -> Option<&mut Seat> 
     None
 }
 
+/// What takes the parcels of a member, if it has joined.
+fn taker_of(takers: &[MemberTaker], conference: u32, n: u32) -> Option<&MemberTaker> {
+    takers
+        .iter()
+        .find(|taker| taker.conference() == conference && taker.n() == n)
+}
+
 /// Has a member send a message, which its reader reads and submits.
 fn send<R: Wait>(
     rt: &R,
@@ -227,7 +234,11 @@ fn leave<R: Wait>(rt: &R, registry: &Registry, seat: &mut Seat) -> Result<(), St
 }
 
 /// Prints what waits for a member, and whether more may come.
-fn print_taken<R: Wait, W: Write>(rt: &R, taker: &mut Taker, output: &mut W) -> Result<(), Ended> {
+fn print_taken<R: Wait, W: Write>(
+    rt: &R,
+    taker: &mut MemberTaker,
+    output: &mut W,
+) -> Result<(), Ended> {
     for _ in 0..MAX_PARCELS {
         match taker.take(rt) {
             Taken::Parcel(parcel) => {

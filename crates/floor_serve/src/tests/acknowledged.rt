@@ -63,7 +63,7 @@ fn of_a_write_that_fails_nothing_is_acknowledged(rt: HostRuntime) -> Result<(), 
         room: HELLO_ACK_LEN,
         failed: false,
     };
-    let written = write_loop(&rt, alloc, &mut short, &desk, 1, &mut taker);
+    let written = write_loop(&rt, alloc, &mut short, &mut taker);
     assert!(rt; written.is_err());
     assert!(rt; acknowledged_in(&desk.journal_text(&rt)?) <= 1);
     Ok(())
@@ -87,7 +87,7 @@ fn took_counts(rt: HostRuntime) -> Result<(), Fail> {
         failed: false,
     };
     assert_eq!(rt;
-        write_loop(&rt, alloc, &mut short, &desk, 1, &mut taker),
+        write_loop(&rt, alloc, &mut short, &mut taker),
         Err(WriteFault { bytes: 53 })
     );
     assert!(rt; acknowledged_in(&desk.journal_text(&rt)?) <= 1);
@@ -98,7 +98,7 @@ fn took_counts(rt: HostRuntime) -> Result<(), Fail> {
     );
     let mut sink = Marked::new(Vec::new(alloc));
     assert_eq!(rt;
-        write_loop(&rt, alloc, &mut sink, &desk, 1, &mut taker),
+        write_loop(&rt, alloc, &mut sink, &mut taker),
         Ok(Written {
             parcels: 1024,
             bytes: 49_152
@@ -121,7 +121,12 @@ fn took_counts(rt: HostRuntime) -> Result<(), Fail> {
 const REQUEST: [u8; 16] = [0x20, 1, 0, 1, 0, 0, 0, 1, 0, 1, 0, 10, 4, 4, 0, 1];
 
 /// A seat of a user who watches floor 1 and is 1,024 parcels behind, and what takes them.
-fn behind<R: Wait>(rt: &R, alloc: Global, desk: &Desk, user: u8) -> Result<(Seat, Taker), Fail> {
+fn behind<R: Wait>(
+    rt: &R,
+    alloc: Global,
+    desk: &Desk,
+    user: u8,
+) -> Result<(Seat, MemberTaker), Fail> {
     let (mut seat, taker) = joined(rt, desk, u16::from(user))?;
     let query = [0x20, 7, 0, 1, 0, 0, 0, 1, 0, 1, 0, user, 4, 4, 0, 1];
     let mut taken = submits(rt, desk, &mut seat, frame(alloc, &query)?);
@@ -138,7 +143,7 @@ fn behind<R: Wait>(rt: &R, alloc: Global, desk: &Desk, user: u8) -> Result<(Seat
 
 /// A desk at which user 10 has floor 1, its seat, and what takes the parcels of users 11 and 12, who
 /// watch the floor and are 1,024 parcels behind.
-fn watched<R: Wait>(rt: &R, alloc: Global) -> Result<(Desk, Seat, [Taker; 2]), Fail> {
+fn watched<R: Wait>(rt: &R, alloc: Global) -> Result<(Desk, Seat, [MemberTaker; 2]), Fail> {
     let (_registry, desk) = opened(rt, alloc)?;
     let (mut ten, _first) = joined(rt, &desk, 10)?;
     if !submits(rt, &desk, &mut ten, frame(alloc, &REQUEST)?) {
@@ -150,7 +155,7 @@ fn watched<R: Wait>(rt: &R, alloc: Global) -> Result<(Desk, Seat, [Taker; 2]), F
 }
 
 /// How many of two takers are closed.
-fn closed(takers: &[Taker; 2]) -> Result<u32, Fail> {
+fn closed(takers: &[MemberTaker; 2]) -> Result<u32, Fail> {
     let mut count = 0u32;
     for taker in takers {
         if taker.mark()?.is_set() {
@@ -178,7 +183,7 @@ fn a_revoke_closes_each_whom_it_cuts(rt: HostRuntime) -> Result<(), Fail> {
 }
 
 /// A registry, a desk of its conference, and what takes the parcels of its two members.
-fn with_two<R: Wait>(rt: &R, alloc: Global) -> Result<(Registry, Desk, [Taker; 2]), Fail> {
+fn with_two<R: Wait>(rt: &R, alloc: Global) -> Result<(Registry, Desk, [MemberTaker; 2]), Fail> {
     let (registry, desk) = opened(rt, alloc)?;
     let (_ten, first) = joined(rt, &desk, 10)?;
     let (_eleven, second) = joined(rt, &desk, 11)?;

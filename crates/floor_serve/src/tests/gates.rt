@@ -61,7 +61,7 @@ fn is_answered<R: Wait>(
     rt: &R,
     desk: &Desk,
     seat: &mut Seat,
-    taker: &mut Taker,
+    taker: &mut MemberTaker,
     hello: Frame,
     gate: &Held,
 ) -> bool {

@@ -25,10 +25,10 @@ fn placed(alloc: Global, text: &str) -> Result<u32, AllocError> {
 #[test]
 fn a_long_journal_is_one_text(rt: HostRuntime) -> Result<(), Fail> {
     let alloc = rt.alloc();
-    let (desk, mut seat, _taker) = greeted(&rt, alloc, 1)?;
+    let (desk, mut seat, taker) = greeted(&rt, alloc, 1)?;
     let hello = frame(alloc, &HELLO)?;
     for _ in 0..PIECE {
-        let taken = desk.took(&rt, 1, 1).is_ok();
+        let taken = taker.acknowledge(&rt, 1).is_ok();
         assert!(rt; taken && submits(&rt, &desk, &mut seat, hello.share()?));
     }
     let text = desk.journal_text(&rt)?;

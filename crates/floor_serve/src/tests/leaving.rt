@@ -10,7 +10,7 @@ use std::test::*;
 const MEMBERS: u32 = 1_001;
 
 /// Whether the taker finds the answer to a Hello.
-fn is_answered<R: Wait>(rt: &R, taker: &mut Taker) -> bool {
+fn is_answered<R: Wait>(rt: &R, taker: &mut MemberTaker) -> bool {
     match taker.take(rt) {
         Taken::Parcel(parcel) => {
             parcel.header() == &HELLO_ACK[..12] && parcel.payload() == &HELLO_ACK[12..]

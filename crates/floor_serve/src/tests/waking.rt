@@ -16,7 +16,7 @@ const REQUEST: [u8; 16] = [0x20, 1, 0, 1, 0, 0, 0, 1, 0, 2, 0, 10, 4, 4, 0, 1];
 
 /// The primitive of the parcel that waits, once its taker is woken: a taker that nobody wakes waits
 /// for ever.
-fn heard<R: Wait>(rt: &R, taker: &mut Taker) -> Option<u8> {
+fn heard<R: Wait>(rt: &R, taker: &mut MemberTaker) -> Option<u8> {
     taker.wait(rt);
     match taker.take(rt) {
         Taken::Parcel(parcel) => parcel.header().get(1).copied(),
@@ -25,7 +25,12 @@ fn heard<R: Wait>(rt: &R, taker: &mut Taker) -> Option<u8> {
 }
 
 /// A user who joins and watches floor 1, and has heard so.
-fn watching<R: Wait>(rt: &R, alloc: Global, desk: &Desk, user: u8) -> Result<(Seat, Taker), Fail> {
+fn watching<R: Wait>(
+    rt: &R,
+    alloc: Global,
+    desk: &Desk,
+    user: u8,
+) -> Result<(Seat, MemberTaker), Fail> {
     let (mut seat, mut taker) = joined(rt, desk, u16::from(user))?;
     if !submits(rt, desk, &mut seat, frame(alloc, &query(user))?) {
         return Err(Fail::from("the query is refused"));

@@ -50,16 +50,14 @@ fn writes<R: Wait>(
     rt: &R,
     alloc: Global,
     bytes: &Mutex<Vec<u8>>,
-    desk: &Desk,
-    n: u32,
-    taker: &mut Taker,
+    taker: &mut MemberTaker,
 ) -> Result<Written, WriteFault> {
     let mut sink = Kept {
         rt,
         bytes,
         failed: false,
     };
-    write_loop(rt, alloc, &mut sink, desk, n, taker)
+    write_loop(rt, alloc, &mut sink, taker)
 }
 
 /// What was written so far.
@@ -155,8 +153,8 @@ fn taken_is_replay(rt: HostRuntime) -> Result<(), Fail> {
         || {
             thread::join(
                 &rt,
-                || writes(&rt, alloc, &wrote[0], &desk, 1, &mut first),
-                || writes(&rt, alloc, &wrote[1], &desk, 2, &mut second),
+                || writes(&rt, alloc, &wrote[0], &mut first),
+                || writes(&rt, alloc, &wrote[1], &mut second),
             )
         },
         || {

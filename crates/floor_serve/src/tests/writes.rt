@@ -96,7 +96,7 @@ fn write_by<R: Wait>(
     let Ok(()) = desk.admin(rt, Act::Close) else {
         return Err(Fail::from("the conference doesn't close"));
     };
-    let outcome = write_loop(rt, alloc, &mut sink, &desk, seat.n(), &mut taker);
+    let outcome = write_loop(rt, alloc, &mut sink, &mut taker);
     Ok((outcome, sink))
 }
 
@@ -106,7 +106,7 @@ fn an_answer_is_written_byte_by_byte(rt: HostRuntime) -> Result<(), Fail> {
     let (desk, _seat, mut taker) = greeted(&rt, alloc, 1)?;
     let mut sink = Narrow::new(alloc, 1, 5);
     assert_eq!(rt;
-        write_loop(&rt, alloc, &mut sink, &desk, 1, &mut taker),
+        write_loop(&rt, alloc, &mut sink, &mut taker),
         Err(WriteFault { bytes: 5 })
     );
     assert_eq!(rt;
@@ -117,7 +117,7 @@ fn an_answer_is_written_byte_by_byte(rt: HostRuntime) -> Result<(), Fail> {
     assert!(rt; leaves(&rt, &desk, &mut seat));
     let mut sink = Narrow::new(alloc, 1, 48);
     assert_eq!(rt;
-        write_loop(&rt, alloc, &mut sink, &desk, 1, &mut taker),
+        write_loop(&rt, alloc, &mut sink, &mut taker),
         Ok(Written {
             parcels: 1,
             bytes: 48
@@ -189,7 +189,7 @@ fn write_long<R: Wait>(
     alloc: Global,
     writes: usize,
 ) -> Result<(Result<Written, WriteFault>, Narrow), Fail> {
-    let (mut sender, mut taker) = pair(alloc)?;
+    let (mut sender, taker) = pair(alloc)?;
     for (words, word) in WORDS.into_iter().zip(1u32..) {
         let Ok(()) = sender.put(rt, Parcel::new(1, long(alloc, words, word)?)) else {
             return Err(Fail::from("a parcel comes back"));
@@ -197,9 +197,10 @@ fn write_long<R: Wait>(
     }
     sender.close();
     let (desk, _seat, _waiting) = greeted(rt, alloc, 4)?;
+    let mut member = MemberTaker { desk, n: 1, taker };
     let mut sink = Narrow::new(alloc, usize::MAX, writes);
-    let outcome = write_loop(rt, alloc, &mut sink, &desk, 1, &mut taker);
-    if desk.journal_text(rt)?.contains(" took ") == outcome.is_err() {
+    let outcome = write_loop(rt, alloc, &mut sink, &mut member);
+    if member.desk.journal_text(rt)?.contains(" took ") == outcome.is_err() {
         return Err(Fail::from("acknowledged, and not written"));
     }
     Ok((outcome, sink))

@@ -3,7 +3,7 @@ use Rattle.floor_machine.specs.Parcel.{Parcel}
 use Rattle.floor_outbox.specs.Ends.{Taker}
 use Rattle.floor_serve.specs.Written.{Gathered}
 use Rattle.floor_serve.proofs.Growing.{gathered-start, gathered-more, gathered-flushed, stopped-gathering, stopped-flushing}
-use Rattle.floor_serve.proofs.writing.write_loop.Goals as goal
+use Rattle.floor_serve.proofs.writing.write_taken.Goals as goal
 
 pub loop-init : goal.loop-init
 loop-init g c = record { unmarked = c.requires; pair = refl; gathered = gathered-start _ _ _ c.gathering-buffer.ensures }
