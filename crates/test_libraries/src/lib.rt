@@ -17,6 +17,8 @@ pub mod framed;
 #[cfg(test)]
 mod hexadecimal;
 #[cfg(test)]
+mod loops;
+#[cfg(test)]
 mod machine;
 #[cfg(test)]
 mod message;

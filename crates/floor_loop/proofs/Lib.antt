@@ -1,0 +1,13 @@
+pub mod Front
+pub mod Moving
+pub mod Taking
+pub mod Stepping
+pub mod Altering
+pub mod Listing
+pub mod Calls
+pub mod Marking
+pub mod Writing
+pub mod Waking
+pub mod Due
+pub mod Attaching
+pub mod Calling

@@ -1,0 +1,39 @@
+use Rattle.std.proofs.Common.{ap, subst}
+use Rattle.floor_hub.specs.declared.step.Step.TheVariants.{Admin}
+use Rattle.floor_loop.specs.Done.{AtMost, Steps}
+use Rattle.floor_loop.specs.Loop.{Attended, Loop, outgoing_in}
+use Rattle.floor_loop.specs.Written.{TookNothing, Wakes}
+use Rattle.floor_loop.specs.steps.Moved.{KeepsAll, Moved, loop_of}
+use Rattle.floor_loop.proofs.Calls.{moved-admin}
+use Rattle.floor_loop.proofs.Moving.{loop-moves}
+use Rattle.floor_loop.proofs.Stepping.{keeps-both, keeps-passed, stays-kept, wakes-on}
+use Rattle.floor_loop.proofs.serving.Loop.admin.Goals as goal
+
+abbrev old : goal.After-wake → Loop
+old c = loop_of c.self.inside.hub c.self.inside.attended
+
+abbrev new : goal.After-wake → Loop
+new c = loop_of c.admin-done.new.self c.wake.new.attended
+
+keeps : (c : goal.After-wake) → KeepsAll (outgoing_in c.self.inside.attended) (outgoing_in c.wake.new.attended)
+keeps c =
+    keeps-both (outgoing_in c.self.inside.attended) (outgoing_in c.pass.new.self) (outgoing_in c.wake.new.attended)
+    (keeps-passed c.self.inside.attended c.pass.new.self (ap (λ (z : Attended). z.outgoing) c.pass.ensures.next)) c.wake.ensures.kept
+
+moved : (c : goal.After-wake) → Moved (AtMost 1 (Admin c.args.conference c.args.act)) (old c) (new c)
+moved c = moved-admin c.args.conference c.args.act (old c) (new c) c.admin-done.result c.admin-done.ensures.next c.admin-done.ensures.room c.admin-done.ensures.connections c.admin-done.ensures.concerned (keeps c) c.wake.ensures.woken
+
+woke : (c : goal.After-wake) → Wakes (old c) (new c)
+woke c = wakes-on (old c) (new c) c.admin-done.ensures.concerned (stays-kept (outgoing_in c.self.inside.attended) (outgoing_in c.wake.new.attended) (keeps c)) c.wake.ensures.woken
+
+pub invariant_of-self : goal.invariant_of-self
+invariant_of-self c = loop-moves (AtMost 1 (Admin c.args.conference c.args.act)) (old c) (new c) (moved c) c.self.invariant
+
+pub returns-clause-steps : goal.returns-clause-steps
+returns-clause-steps c = subst (λ (l : Loop). Steps (AtMost 1 (Admin c.args.conference c.args.act)) l.hub (new c).hub) c.self.view_is (moved c).steps
+
+pub returns-clause-took : goal.returns-clause-took
+returns-clause-took c = subst (λ (l : Loop). TookNothing l (new c)) c.self.view_is ((moved c).took c.self.invariant)
+
+pub returns-clause-woke : goal.returns-clause-woke
+returns-clause-woke c = subst (λ (l : Loop). Wakes l (new c)) c.self.view_is (woke c)

@@ -1,0 +1,31 @@
+use Rattle.std.proofs.Common.{ap, subst}
+use Rattle.floor_hub.specs.declared.step.Step.TheVariants.{Open}
+use Rattle.floor_loop.specs.Done.{AtMost, Steps}
+use Rattle.floor_loop.specs.Loop.{Loop, outgoing_in}
+use Rattle.floor_loop.specs.Written.{TookNothing}
+use Rattle.floor_loop.specs.steps.Moved.{Moved, loop_of}
+use Rattle.floor_loop.proofs.Calls.{moved-open}
+use Rattle.floor_loop.proofs.Moving.{loop-moves}
+use Rattle.floor_loop.proofs.Stepping.{keeps-refl}
+use Rattle.floor_loop.proofs.serving.Loop.open.Goals as goal
+
+abbrev old : goal.After-open → Loop
+old c = loop_of c.self.inside.hub c.self.inside.attended
+
+abbrev new : goal.After-open → Loop
+new c = loop_of c.open.new.self c.self.inside.attended
+
+moved : (c : goal.After-open) → Moved (AtMost 1 (Open c.args.config)) (old c) (new c)
+moved c = moved-open c.args.config (old c) (new c) c.open.result c.open.ensures.next c.open.ensures.took c.open.ensures.connections c.open.ensures.left (keeps-refl (outgoing_in c.self.inside.attended))
+
+pub invariant_of-self : goal.invariant_of-self
+invariant_of-self c = loop-moves (AtMost 1 (Open c.args.config)) (old c) (new c) (moved c) c.self.invariant
+
+pub returns-clause-steps : goal.returns-clause-steps
+returns-clause-steps c = subst (λ (l : Loop). Steps (AtMost 1 (Open c.args.config)) l.hub (new c).hub) c.self.view_is (moved c).steps
+
+pub returns-clause-took : goal.returns-clause-took
+returns-clause-took c = subst (λ (l : Loop). TookNothing l (new c)) c.self.view_is ((moved c).took c.self.invariant)
+
+pub returns-clause-attended : goal.returns-clause-attended
+returns-clause-attended c = ap (λ (l : Loop). l.attended) c.self.view_is

@@ -1,0 +1,63 @@
+use Rattle.std.proofs.Common.{◌≡◌, [], ap, drop, subst, sym, ◌∙◌}
+use Rattle.std.specs.Prelude.{take}
+use Rattle.floor_hub.specs.declared.step.Step.TheVariants.{Took as Takes}
+use Rattle.floor_loop.specs.Done.{AtMost}
+use Rattle.floor_loop.specs.Loop.{Attended, Loop, outgoing_in, rest_at}
+use Rattle.floor_loop.specs.Written.{Took}
+use Rattle.floor_loop.specs.steps.Changed.{changed, wrote_of}
+use Rattle.floor_loop.specs.steps.Moved.{loop_of}
+use Rattle.floor_loop.proofs.Moving.{loop-moves, took-then}
+use Rattle.floor_loop.proofs.Taking.{acked_at}
+use Rattle.floor_loop.proofs.Writing.{Wrote, all-written, whole-of, wrote}
+use Rattle.floor_loop.proofs.serving.Loop.wrote.Goals as goal
+
+abbrev old : goal.After-acknowledge → Loop
+old c = loop_of c.self.inside.hub c.self.inside.attended
+
+abbrev mid : goal.After-acknowledge → Loop
+mid c = loop_of c.self.inside.hub c.advance.new.self
+
+abbrev new : goal.After-acknowledge → Loop
+new c = loop_of c.acknowledge.new.hub c.acknowledge.new.attended
+
+did : (c : goal.After-acknowledge) → Wrote (old c) (mid c) c.args.number c.args.count
+did c =
+    wrote c.self.inside.hub c.self.inside.attended c.advance.new.self c.args.number c.args.count
+    (ap (λ (z : Attended). z.outgoing) c.advance.ensures.next ∙ ap (λ (z : Attended). changed (wrote_of c.args.count) c.args.number z.outgoing) c.pass.ensures.next) c.self.invariant
+
+pub invariant_of-self : goal.invariant_of-self
+invariant_of-self c = loop-moves (AtMost 1 (Takes c.args.number c.in-Some.parcels)) (mid c) (new c) c.acknowledge.ensures (did c).loop
+
+pub returns-in-Some-clause-took : goal.returns-in-Some-clause-took
+returns-in-Some-clause-took c =
+    subst (λ (l : Loop). Took l (new c) c.args.number (take c.args.count (rest_at l c.args.number)) (acked_at l c.args.number c.args.count)) c.self.view_is
+    (took-then (AtMost 1 (Takes c.args.number c.in-Some.parcels)) (old c) (mid c) (new c) c.args.number (take c.args.count (rest_at (old c) c.args.number)) (acked_at (old c) c.args.number c.args.count) (did c).took (did c).loop c.acknowledge.ensures)
+
+pub returns-in-Some-clause-others : goal.returns-in-Some-clause-others
+returns-in-Some-clause-others c = λ k ne.
+    subst (λ (l : Loop). Took l (new c) k [] 0) c.self.view_is (took-then (AtMost 1 (Takes c.args.number c.in-Some.parcels)) (old c) (mid c) (new c) k [] 0 ((did c).others k ne) (did c).loop c.acknowledge.ensures)
+
+pub returns-in-Some-clause-whole : goal.returns-in-Some-clause-whole
+returns-in-Some-clause-whole c = λ less.
+    let all = whole-of (outgoing_in c.pass.new.self c.args.number) c.args.count c.in-Some.parcels (sym c.in-Some.is ∙ c.advance.ensures.value) in
+    let left : drop c.args.count (rest_at c.args.self.now c.args.number) ≡ [] =
+    ap (λ (l : Loop). drop c.args.count (rest_at l c.args.number)) (sym c.self.view_is)
+    ∙ ap (λ (a : Attended). drop c.args.count (rest_at (loop_of c.self.inside.hub a) c.args.number)) (sym c.pass.ensures.next) ∙ all.0 in
+    absurd (all-written (rest_at c.args.self.now c.args.number) c.args.count left less)
+
+-- without parcels to acknowledge
+
+same : (c : goal.In-None) → Wrote (loop_of c.self.inside.hub c.self.inside.attended) (loop_of c.self.inside.hub c.advance.new.self) c.args.number c.args.count
+same c =
+    wrote c.self.inside.hub c.self.inside.attended c.advance.new.self c.args.number c.args.count
+    (ap (λ (z : Attended). z.outgoing) c.advance.ensures.next ∙ ap (λ (z : Attended). changed (wrote_of c.args.count) c.args.number z.outgoing) c.pass.ensures.next) c.self.invariant
+
+pub invariant_of-self-in-None : goal.invariant_of-self-in-None
+invariant_of-self-in-None c = (same c).loop
+
+pub returns-in-None-clause-took : goal.returns-in-None-clause-took
+returns-in-None-clause-took c =
+    subst (λ (l : Loop). Took l (loop_of c.self.inside.hub c.advance.new.self) c.args.number (take c.args.count (rest_at l c.args.number)) (acked_at l c.args.number c.args.count)) c.self.view_is (same c).took
+
+pub returns-in-None-clause-others : goal.returns-in-None-clause-others
+returns-in-None-clause-others c = λ k ne. subst (λ (l : Loop). Took l (loop_of c.self.inside.hub c.advance.new.self) k [] 0) c.self.view_is ((same c).others k ne)

@@ -1,0 +1,18 @@
+use Rattle.std.proofs.Common.{ap}
+use Rattle.floor_loop.specs.declared.outgoing.Mark.TheVariants.{Ready, Fails}
+use Rattle.floor_loop.specs.Loop.{Attended, outgoing_in}
+use Rattle.floor_loop.proofs.Marking.{failed-by, keeps-marked}
+use Rattle.floor_loop.proofs.Stepping.{keeps-both}
+use Rattle.floor_loop.proofs.turn.fail.Goals as goal
+
+pub returns : goal.returns
+returns c =
+    let old = c.args.attended.now in
+    let mid = c.fail.new.self in
+    let new = c.wake.new.self in
+    let first = ap (λ (z : Attended). z.outgoing) c.fail.ensures.next in
+    let next = ap (λ (z : Attended). z.outgoing) c.wake.ensures.next in
+    record {
+      kept = keeps-both (outgoing_in old) (outgoing_in mid) (outgoing_in new) (keeps-marked Fails old.time c.args.number old mid first) (keeps-marked Ready mid.time c.args.number mid new next);
+      failed = failed-by mid.time c.args.number mid new next (ap (λ (z : Attended). z.time) c.wake.ensures.next) c.fail.ensures.past;
+    }

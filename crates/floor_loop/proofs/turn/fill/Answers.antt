@@ -1,0 +1,46 @@
+use Rattle.std.proofs.Common.{ap, refl, ◌∙◌}
+use Rattle.floor_loop.specs.declared.outgoing.Mark.TheVariants.{Fails}
+use Rattle.floor_loop.specs.Done.{NoSteps}
+use Rattle.floor_loop.specs.Loop.{Attended, outgoing_in}
+use Rattle.floor_loop.specs.steps.Changed.{carrying, marked}
+use Rattle.floor_loop.specs.steps.Moved.{loop_of}
+use Rattle.floor_loop.proofs.Calls.{moved-kept, moved-taken}
+use Rattle.floor_loop.proofs.Marking.{keeps-marked, ready-changed}
+use Rattle.floor_loop.proofs.Moving.{moved-before}
+use Rattle.floor_loop.proofs.Stepping.{keeps-refl}
+use Rattle.floor_loop.proofs.turn.fill.Goals as goal
+
+pub loop-turn-init : goal.loop-turn-init
+loop-turn-init c = (moved-kept (loop_of c.args.hub.now c.args.attended.now) (loop_of c.args.hub.now c.args.attended.now) refl (keeps-refl (outgoing_in c.args.attended.now)), λ k. refl)
+
+pub loop-turn-preserved : goal.loop-turn-preserved
+loop-turn-preserved c =
+    let t = c.take_one.ensures.next in (
+      moved-before NoSteps (loop_of c.args.hub.now c.args.attended.now) (loop_of c.loop-turn.hub c.loop-turn.attended) (loop_of c.take_one.new.hub c.take_one.new.self) c.loop-turn.invariant.0
+          (moved-taken c.args.number c.loop-turn.attended c.take_one.new.self c.loop-turn.hub c.take_one.new.hub c.take_one.ensures.stands t),
+      λ k. ready-changed (carrying t.rest t.parcels) c.args.number c.loop-turn.attended c.take_one.new.self t.next (λ o. refl) k ∙ c.loop-turn.invariant.1 k,
+    )
+
+pub returns-in-Ok-false : goal.returns-in-Ok-false
+returns-in-Ok-false c =
+    let t = c.take_one.ensures.next in
+    record {
+      moved = moved-before NoSteps (loop_of c.args.hub.now c.args.attended.now) (loop_of c.loop-turn.hub c.loop-turn.attended) (loop_of c.take_one.new.hub c.take_one.new.self) c.loop-turn.invariant.0
+          (moved-taken c.args.number c.loop-turn.attended c.take_one.new.self c.loop-turn.hub c.take_one.new.hub c.take_one.ensures.stands t);
+      ready = λ k. ready-changed (carrying t.rest t.parcels) c.args.number c.loop-turn.attended c.take_one.new.self t.next (λ o. refl) k ∙ c.loop-turn.invariant.1 k;
+    }
+
+pub returns-in-Err : goal.returns-in-Err
+returns-in-Err c =
+    let t = c.take_one.ensures.next in
+    let old = loop_of c.args.hub.now c.args.attended.now in
+    let mid = loop_of c.take_one.new.hub c.take_one.new.self in
+    let failed = ap (λ (z : Attended). z.outgoing) c.fail.ensures.next in
+    record {
+      moved = moved-before NoSteps old mid (loop_of c.take_one.new.hub c.fail.new.self)
+          (moved-before NoSteps old (loop_of c.loop-turn.hub c.loop-turn.attended) mid c.loop-turn.invariant.0 (moved-taken c.args.number c.loop-turn.attended c.take_one.new.self c.loop-turn.hub c.take_one.new.hub c.take_one.ensures.stands t))
+          (moved-kept mid (loop_of c.take_one.new.hub c.fail.new.self) refl (keeps-marked Fails c.take_one.new.self.time c.args.number c.take_one.new.self c.fail.new.self failed));
+      ready = λ k.
+          ready-changed (marked Fails c.take_one.new.self.time) c.args.number c.take_one.new.self c.fail.new.self failed (λ o. refl) k
+          ∙ ready-changed (carrying t.rest t.parcels) c.args.number c.loop-turn.attended c.take_one.new.self t.next (λ o. refl) k ∙ c.loop-turn.invariant.1 k;
+    }

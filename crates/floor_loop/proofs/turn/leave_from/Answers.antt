@@ -1,0 +1,20 @@
+use Rattle.floor_loop.specs.Loop.{outgoing_in}
+use Rattle.floor_loop.specs.steps.Moved.{loop_of}
+use Rattle.floor_loop.proofs.Calls.{moved-leave}
+use Rattle.floor_loop.proofs.Stepping.{gone-stays, live-gone, stays-gone, wakes-on}
+use Rattle.floor_loop.proofs.turn.leave_from.Goals as goal
+
+pub returns : goal.returns
+returns c =
+    let old = loop_of c.args.hub.now c.args.attended.now in
+    let new = loop_of c.leave-left.new.self c.wake.new.attended in
+    let f = outgoing_in c.args.attended.now in
+    let g = outgoing_in c.remove.new.self in
+    let h = outgoing_in c.wake.new.attended in
+    record {
+      moved =
+          moved-leave c.args.number old new c.leave-left.result c.leave-left.ensures.next c.leave-left.ensures.room c.leave-left.ensures.gone c.leave-left.ensures.concerned
+          (live-gone c.leave-left.new.self f g h c.args.number c.leave-left.ensures.gone.here c.remove.ensures.others c.wake.ensures.kept) c.wake.ensures.woken;
+      woke = λ l. wakes-on old new c.leave-left.ensures.concerned (stays-gone f g h c.args.number c.remove.ensures.gone c.remove.ensures.others c.wake.ensures.kept) c.wake.ensures.woken;
+      gone = gone-stays g h c.args.number c.wake.ensures.kept c.remove.ensures.gone;
+    }

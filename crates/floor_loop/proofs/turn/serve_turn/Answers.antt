@@ -1,0 +1,69 @@
+use Rattle.std.proofs.Common.{refl, arith, ◌+◌, ◌≤◌, ℕ}
+use Rattle.floor_hub.specs.declared.step.Step.TheVariants.{Serve}
+use Rattle.floor_loop.specs.Done.{AtMost, NoSteps, Then}
+use Rattle.floor_loop.specs.Loop.{Loop, outgoing_in}
+use Rattle.floor_loop.specs.Written.{Wakes}
+use Rattle.floor_loop.specs.steps.Moved.{IsLoop, Moved, loop_of}
+use Rattle.floor_loop.proofs.Calls.{moved-kept}
+use Rattle.floor_loop.proofs.Moving.{at-most-both, at-most-more, loop-moves, moved-both, moved-of, none-at-most}
+use Rattle.floor_loop.proofs.Stepping.{keeps-refl, stays-kept, wakes-both, wakes-same}
+use Rattle.floor_loop.proofs.turn.serve_turn.Goals as goal
+
+-- so many messages, and one more
+more : (number j : ℕ) (a b c : Loop) → Moved (AtMost j (Serve number)) a b → Moved (AtMost 1 (Serve number)) b c → Moved (AtMost (j + 1) (Serve number)) a c
+more number j a b c f g = moved-of (Then (AtMost j (Serve number)) (AtMost 1 (Serve number))) (AtMost (j + 1) (Serve number)) a c (at-most-both j 1 (Serve number)) (moved-both (AtMost j (Serve number)) (AtMost 1 (Serve number)) a b c f g)
+
+within : (number j k : ℕ) (a b : Loop) → j ≤ k → Moved (AtMost j (Serve number)) a b → Moved (AtMost k (Serve number)) a b
+within number j k a b le = moved-of (AtMost j (Serve number)) (AtMost k (Serve number)) a b (λ steps. at-most-more j k (Serve number) steps le)
+
+woken : (number j : ℕ) (a b c : Loop) → Moved (AtMost j (Serve number)) a b → Moved (AtMost 1 (Serve number)) b c → (IsLoop a → Wakes a b) → (IsLoop b → Wakes b c) → IsLoop a → Wakes a c
+woken number j a b c f g wf wg l =
+    let m = loop-moves (AtMost j (Serve number)) a b f l in
+    wakes-both (AtMost j (Serve number)) (AtMost 1 (Serve number)) a b c f g m.serving (wf l) (wg m)
+
+pub loop-turn-init : goal.loop-turn-init
+loop-turn-init c =
+    let old = loop_of c.args.hub.now c.args.attended.now in
+    let keeps = keeps-refl (outgoing_in c.args.attended.now) in (
+      moved-of NoSteps (AtMost 0 (Serve c.args.number)) old old (none-at-most 0 (Serve c.args.number)) (moved-kept old old refl keeps),
+      λ l. wakes-same old old (λ d. refl) (stays-kept (outgoing_in c.args.attended.now) (outgoing_in c.args.attended.now) keeps),
+    )
+
+pub loop-turn-preserved : goal.loop-turn-preserved
+loop-turn-preserved c =
+    let old = loop_of c.args.hub.now c.args.attended.now in
+    let mid = loop_of c.loop-turn.hub c.loop-turn.attended in
+    let new = loop_of c.serve_one.new.hub c.serve_one.new.attended in (
+      more c.args.number c.loop-turn._turn old mid new c.loop-turn.invariant.0 c.serve_one.ensures.moved,
+      woken c.args.number c.loop-turn._turn old mid new c.loop-turn.invariant.0 c.serve_one.ensures.moved c.loop-turn.invariant.1 c.serve_one.ensures.woke,
+    )
+
+pub returns-in-Ok-Nothing : goal.returns-in-Ok-Nothing
+returns-in-Ok-Nothing c =
+    let old = loop_of c.args.hub.now c.args.attended.now in
+    let mid = loop_of c.loop-turn.hub c.loop-turn.attended in
+    let new = loop_of c.serve_one.new.hub c.serve_one.new.attended in
+    record {
+      moved = within c.args.number (c.loop-turn._turn + 1) c.args.turns old new (omega arith) (more c.args.number c.loop-turn._turn old mid new c.loop-turn.invariant.0 c.serve_one.ensures.moved);
+      woke = woken c.args.number c.loop-turn._turn old mid new c.loop-turn.invariant.0 c.serve_one.ensures.moved c.loop-turn.invariant.1 c.serve_one.ensures.woke;
+      refused = tt;
+    }
+
+pub returns-in-Err : goal.returns-in-Err
+returns-in-Err c =
+    let old = loop_of c.args.hub.now c.args.attended.now in
+    let mid = loop_of c.loop-turn.hub c.loop-turn.attended in
+    let new = loop_of c.serve_one.new.hub c.serve_one.new.attended in
+    record {
+      moved = within c.args.number (c.loop-turn._turn + 1) c.args.turns old new (omega arith) (more c.args.number c.loop-turn._turn old mid new c.loop-turn.invariant.0 c.serve_one.ensures.moved);
+      woke = woken c.args.number c.loop-turn._turn old mid new c.loop-turn.invariant.0 c.serve_one.ensures.moved c.loop-turn.invariant.1 c.serve_one.ensures.woke;
+      refused = c.in-Err.ensures.refused;
+    }
+
+pub returns : goal.returns
+returns c =
+    record {
+      moved = within c.args.number c.loop-turn._turn c.args.turns (loop_of c.args.hub.now c.args.attended.now) (loop_of c.loop-turn.hub c.loop-turn.attended) (omega arith) c.loop-turn.invariant.0;
+      woke = c.loop-turn.invariant.1;
+      refused = tt;
+    }

@@ -1,0 +1,43 @@
+-- What a call of a loop has done: steps of its hub.
+use Rattle.std.specs.Prelude.{◌≡◌, ◌≤◌, ℕ, List, [], ◌∷◌, ◌++◌, length}
+use Rattle.floor_hub.specs.declared.step.Step.{Step}
+use Rattle.floor_hub.specs.declared.step.Step.TheVariants.{Piece, Serve}
+use Rattle.floor_hub.specs.Hub.{Hub}
+use Rattle.floor_hub.specs.Runs.{run}
+use Rattle.floor_hub.specs.StandsFor.{StandsFor}
+use Rattle.floor_hub.specs.World.{World}
+
+-- Such steps lead from this world to one that the hub stands for now.
+pub record Goes (Are : List Step → Type 0) (new : Hub) (w : World) : Type 0 where
+  pub steps : List Step
+  pub are : Are steps
+  pub stands : StandsFor new (run w steps)
+
+-- so from each world that it stood for
+abbrev pub Steps : (List Step → Type 0) → Hub → Hub → Type 0
+Steps Are old new = (w : World) → StandsFor old w → Goes Are new w
+
+-- each is this one
+abbrev pub Each : Step → List Step → Type 0
+Each s [] = Unit {0}
+Each s (t ∷ ts) = (t ≡ s) × Each s ts
+
+-- so many at most, each of them this one
+abbrev pub AtMost : ℕ → Step → List Step → Type 0
+AtMost most s steps = (length steps ≤ most) × Each s steps
+
+-- such, and such behind them
+pub record Then (First Next : List Step → Type 0) (steps : List Step) : Type 0 where
+  pub first : List Step
+  pub next : List Step
+  pub all : steps ≡ first ++ next
+  pub are : First first
+  pub follow : Next next
+
+-- these bytes come from the connection, and so many of its messages at most are served
+abbrev pub Reads : ℕ → List ℕ → ℕ → List Step → Type 0
+Reads number bytes most = Then (AtMost 1 (Piece number bytes)) (AtMost most (Serve number))
+
+-- none
+abbrev pub NoSteps : List Step → Type 0
+NoSteps steps = steps ≡ []

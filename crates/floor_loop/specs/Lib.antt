@@ -1,0 +1,7 @@
+-- What a reader has to believe, in the order of reading.
+pub mod Loop
+pub mod Written
+pub mod Done
+pub mod Laws
+-- the steps of the proofs
+pub mod steps

@@ -1,0 +1,70 @@
+-- A loop, as contracts see it: a hub, and what is on its way to each of its connections.
+use Rattle.std.specs.Prelude.{◌≡◌, ◌≤◌, ℕ, List, [], nat_eq, min, Option, Some, None, IsSome, option_and_then}
+use Rattle.std.specs.Map.{lookup}
+use Rattle.std.specs.Option.{option_map_or}
+use Rattle.floor_hub.specs.Hub.{Hub}
+
+-- One connection: its conference; the bytes that were taken from the hub for it and that its socket has yet to take; how many parcels they
+-- are the end of; since when it has something to write or is to be shut down, where it wasn't given since; by when it is to be shut
+-- down, where it is to be; and when its socket failed, where it did.
+pub record Outgoing : Type 0 where
+  pub conference : ℕ
+  pub rest : List ℕ
+  pub parcels : ℕ
+  pub ready : Option ℕ
+  pub ends : Option ℕ
+  pub fails : Option ℕ
+
+-- the connections by number, and how late it was at last
+pub record Attended : Type 0 where
+  pub outgoing : List (ℕ × Outgoing)
+  pub time : ℕ
+
+-- the hub, and its live connections
+pub record Loop : Type 0 where
+  pub hub : Hub
+  pub attended : Attended
+
+-- what is on its way to the connection with this number
+abbrev pub outgoing_in : Attended → ℕ → Option Outgoing
+outgoing_in a number = lookup (nat_eq number) a.outgoing
+
+abbrev pub outgoing_at : Loop → ℕ → Option Outgoing
+outgoing_at l number = outgoing_in l.attended number
+
+-- the earlier of these times, where there are two
+abbrev pub earlier : Option ℕ → Option ℕ → Option ℕ
+earlier None other = other
+earlier (Some time) None = Some time
+earlier (Some time) (Some other) = Some (min time other)
+
+-- by when the connection is to be shut down, where it is to be
+abbrev pub until_of : Outgoing → Option ℕ
+until_of o = earlier o.fails o.ends
+
+abbrev pub until_in : Attended → ℕ → Option ℕ
+until_in a number = option_and_then until_of (outgoing_in a number)
+
+-- the bytes that are to be written to the connection with this number, and none without one
+abbrev pub rest_at : Loop → ℕ → List ℕ
+rest_at l number = option_map_or (λ o. o.rest) (outgoing_at l number) []
+
+-- how many parcels those bytes are the end of
+abbrev pub parcels_at : Loop → ℕ → ℕ
+parcels_at l number = option_map_or (λ o. o.parcels) (outgoing_at l number) 0
+
+-- since when the connection with this number has something to write or is to be shut down, where it wasn't given since
+abbrev pub ready_at : Loop → ℕ → Option ℕ
+ready_at l number = option_and_then (λ o. o.ready) (outgoing_at l number)
+
+-- by when the connection with this number is to be shut down, where it is
+abbrev pub until_at : Loop → ℕ → Option ℕ
+until_at l number = until_in l.attended number
+
+-- the connection with this number, if there is one, is ready, and is to be shut down
+abbrev pub IsEnded : Attended → ℕ → Type 0
+IsEnded a number = (o : Outgoing) → outgoing_in a number ≡ Some o → IsSome o.ready × IsSome o.ends
+
+-- the connection with this number, if there is one, is ready, and is to be shut down by now, since its socket failed
+abbrev pub HasFailed : Attended → ℕ → Type 0
+HasFailed a number = (o : Outgoing) → outgoing_in a number ≡ Some o → IsSome o.ready × ((until : ℕ) × (o.fails ≡ Some until) × (until ≤ a.time))

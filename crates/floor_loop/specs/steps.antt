@@ -1,0 +1,6 @@
+-- The steps of the proofs. Nobody has to believe them: no public clause rests on them.
+pub mod Changed
+pub mod Listed
+pub mod Taken
+pub mod Joined
+pub mod Moved

@@ -1,0 +1,21 @@
+//! What a server of a hub decides: what comes from a connection is served in turns, what is queued to it is
+//! handed out to be written, what was written whole is acknowledged, and who is to be shut down is
+//! named, with the time until when.
+//!
+//! It stands on floor_hub, does no input or output, and waits for nothing. Whoever calls it has the
+//! sockets and the clock.
+#![tactic(auto)]
+
+mod attended;
+mod changing;
+mod laws;
+mod line;
+mod outgoing;
+mod serving;
+mod turn;
+
+pub use floor_hub::{
+    Act, Config, ConnNo, Event, Floor, HubRefusal, Refusal, RoomRefusal, Status, User,
+};
+pub use laws::written_is_called_for;
+pub use serving::Loop;

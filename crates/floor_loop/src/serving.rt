@@ -1,0 +1,273 @@
+//! A loop: a hub, and what is on its way to each of its connections.
+
+ghost use Rattle.std.specs.Prelude.{◌≡◌, ◌≤◌, ◌<◌, ℕ, [], Err, IfNone, IfOk, IfSome, IsSome, MatchResult, None, OnErr, Some, drop, false, length, max, nat_eq, take};
+ghost use Rattle.floor_hub.specs.Connections.{connection_at};
+ghost use Rattle.floor_hub.specs.Hub.{room_at};
+ghost use Rattle.floor_hub.specs.declared.connection.Connection.{Connection};
+ghost use Rattle.floor_hub.specs.declared.step.Step.TheVariants.{Admin, Attach, Leave, Open, Serve, Took as Takes};
+ghost use Rattle.floor_room.specs.Room.{Room};
+ghost use Rattle.floor_room.specs.Status.{IsStatus};
+ghost use Rattle.floor_loop.specs.Loop.{HasFailed, IsEnded, outgoing_at, parcels_at, ready_at, rest_at, until_at};
+ghost use Rattle.floor_loop.specs.Done.{AtMost, Each, NoSteps, Reads, Steps};
+ghost use Rattle.floor_loop.specs.Written.{Follow, IsOver, Took, TookNothing, Wakes, acknowledged_by};
+ghost use Rattle.floor_loop.specs.steps.Moved.{IsLoop, loop_of};
+
+use crate::attended::Attended;
+use crate::changing::MAX_WRITE;
+use crate::turn::{acknowledge, attach, end, fail, fill, leave_from, read_turn, serve_turn, wake};
+use floor_hub::{Act, Config, ConnNo, Hub, HubRefusal, Status};
+use std::alloc::Global;
+use std::marker::Model;
+
+/// How many messages of a connection are served in a turn: our choice, so that nobody starves.
+const MAX_TURN: u32 = 64;
+
+/// How many messages a connection may have left when its peer ends its stream: more than memory holds.
+const MAX_LEFT: u32 = 4_294_967_295;
+
+/// A hub, and what is on its way to each of its connections. Times are milliseconds; one that is earlier
+/// than the last counts as the last.
+///
+/// - Conferences: `open`, `admin`, `status`.
+/// - Connections: `attach`; `read` as bytes come, and again without bytes while it says that more
+///   wait; `ended` and `failed` at the end of the stream and of the socket; `leave` once the
+///   connection is shut down.
+/// - Writing: `ready` names a connection that has something to write or is to be shut down; `writing`
+///   lends what is to be written, and `wrote` takes it that the socket took so much of it.
+/// - Shutting down: a connection that has an `until` is to be shut down once nothing is to be written
+///   to it, and by that time; `due` names one whose time is over, and `next_due` the earliest.
+#[derive(Drop)]
+pub struct Loop {
+    hub: Hub,
+    attended: Attended,
+}
+
+impl Model for Loop {
+    ghost use Rattle.floor_loop.specs.Loop.{Loop};
+    ghost use Rattle.floor_loop.specs.steps.Moved.{IsLoop};
+
+    ghost Value = { Loop };
+
+    ghost view = { λ l. record { hub = l.hub; attended = l.attended } };
+
+    ghost invariant = { λ l. IsLoop record { hub = l.hub; attended = l.attended } };
+}
+
+impl Loop {
+    ghost use Rattle.floor_hub.specs.StandsFor.{StandsFor};
+    ghost use Rattle.floor_hub.specs.World.{nothing};
+
+    /// No conference, and no connection. Takes no memory.
+    pub fn new(alloc: Global) -> Loop
+        ensures value { StandsFor result.hub nothing }
+        ensures none { result.attended.outgoing ≡ [] }
+    {
+        Loop {
+            hub: Hub::new(alloc),
+            attended: Attended::new(alloc),
+        }
+    }
+
+    /// Opens a conference, as the hub does.
+    pub fn open(&mut self, alloc: Global, config: Config) -> Result<(), HubRefusal>
+        ensures steps { Steps (AtMost 1 (Open config)) self.old.hub self.new.hub }
+        ensures took { TookNothing self.old self.new }
+        ensures attended { self.new.attended ≡ self.old.attended }
+    {
+        self.hub.open(alloc, config)
+    }
+
+    /// Attaches a connection of a user to a conference, and gives its number, as the hub does. It is ready at
+    /// once. After a `Memory` of the loop's own nothing has changed.
+    pub fn attach(
+        &mut self,
+        alloc: Global,
+        conference: u32,
+        user: u16,
+        now: u64,
+    ) -> Result<ConnNo, HubRefusal>
+        ensures steps { Steps (AtMost 1 (Attach conference user)) self.old.hub self.new.hub }
+        ensures took { TookNothing self.old self.new }
+        ensures woke { Wakes self.old self.new }
+        ensures found { IfOk result (λ number. (x : Connection)
+            × (connection_at self.new.hub.connections number ≡ Some x)
+            × (x.conference ≡ conference)) }
+        ensures ready { IfOk result (λ number. IsSome (ready_at self.new number)) }
+    {
+        self.attended.pass(now);
+        attach(&mut self.hub, &mut self.attended, alloc, conference, user)
+    }
+
+    /// How the room of a conference stands, as the hub tells it. Refused by `NoConference`.
+    pub fn status(&self, conference: u32) -> Result<Status, HubRefusal>
+        ensures no_conference { room_at self.now.hub conference ≡ None
+            → result ≡ Err HubRefusal.NoConference }
+        ensures found { (r : Room) → room_at self.now.hub conference ≡ Some r
+            → MatchResult result (IsStatus r.ledger) (λ _. ⊥) }
+    {
+        self.hub.status(conference)
+    }
+
+    /// Takes bytes that came from a connection, serves its whole messages, 64 at most, and says whether
+    /// more may wait. Refused as the hub refuses the bytes or a message; where it refuses a message the
+    /// connection is to be shut down.
+    pub fn read(&mut self, number: ConnNo, bytes: &[u8], now: u64) -> Result<bool, HubRefusal>
+        ensures steps { Steps (Reads number bytes.now 64) self.old.hub self.new.hub }
+        ensures took { TookNothing self.old self.new }
+        ensures woke { Wakes self.old self.new }
+        ensures refused { OnErr result (IsEnded self.new.attended number) }
+    {
+        self.attended.pass(now);
+        read_turn(&mut self.hub, &mut self.attended, number, bytes, MAX_TURN)
+    }
+
+    /// Does what the administrator of a conference does, as the hub does.
+    pub fn admin(&mut self, conference: u32, act: Act, now: u64) -> Result<(), HubRefusal>
+        ensures steps { Steps (AtMost 1 (Admin conference act)) self.old.hub self.new.hub }
+        ensures took { TookNothing self.old self.new }
+        ensures woke { Wakes self.old self.new }
+    {
+        self.attended.pass(now);
+        let done = self.hub.admin(conference, act);
+        wake(&self.hub, &mut self.attended);
+        done
+    }
+
+    /// What is to be written to a connection next, 64 KiB at most: nothing where no live connection has the
+    /// number.
+    pub fn writing(&self, number: ConnNo) -> &[u8]
+        ensures value { result.now ≡ take 65536 (rest_at self.now number) }
+        ensures called { (x : Connection) (r : Room)
+            → connection_at self.now.hub.connections number ≡ Some x
+            → room_at self.now.hub x.conference ≡ Some r
+            → Follow r x.n (rest_at self.now number) result.now }
+    {
+        match self.attended.get(number) {
+            Some(one) => {
+                let rest = one.rest();
+                &rest[..rest.len().min(MAX_WRITE)]
+            }
+            None => &[],
+        }
+    }
+
+    /// The connection that has something to write or is to be shut down since longest, and wasn't given since: each
+    /// once.
+    pub fn ready(&mut self) -> Option<ConnNo>
+        ensures steps { Steps NoSteps self.old.hub self.new.hub }
+        ensures took { TookNothing self.old self.new }
+        ensures found { IfSome result (λ number. IsSome (ready_at self.old number)) }
+        ensures none { IfNone result ((number : ℕ) → ready_at self.old number ≡ None) }
+        ensures given { IfSome result (λ number. ready_at self.new number ≡ None) }
+        ensures others { IfSome result (λ number. (k : ℕ) → nat_eq number k ≡ false
+            → ready_at self.new k ≡ ready_at self.old k) }
+    {
+        match self.attended.next_ready() {
+            Some(number) => {
+                fill(&mut self.hub, &mut self.attended, number);
+                Some(number)
+            }
+            None => None,
+        }
+    }
+
+    /// Takes it that the socket of a connection took so many of the bytes that were to be written next. Where
+    /// it took all that was on its way, the parcels are acknowledged, and the next ones are taken from
+    /// the hub; where the hub refuses the acknowledgement it isn't tried again.
+    pub fn wrote(&mut self, number: ConnNo, count: usize, now: u64)
+        requires { count ≤ length (rest_at self.old number) }
+        ensures steps { Steps (AtMost 1 (Takes number (parcels_at self.old number)))
+            self.old.hub self.new.hub }
+        ensures took { Took self.old self.new number (take count (rest_at self.old number))
+            (acknowledged_by (drop count (rest_at self.old number)) (parcels_at self.old number)) }
+        ensures others { (k : ℕ) → nat_eq number k ≡ false → Took self.old self.new k [] 0 }
+        ensures whole { count < length (rest_at self.old number)
+            → self.new.hub ≡ self.old.hub }
+    {
+        self.attended.pass(now);
+        match self.attended.advance(number, count) {
+            Some(parcels) => acknowledge(&mut self.hub, &mut self.attended, number, parcels),
+            None => {}
+        }
+    }
+
+    /// The peer of a connection ended its stream: what it sent is served to its end, and the connection is
+    /// to be shut down, at latest after 10 seconds.
+    pub fn ended(&mut self, number: ConnNo, now: u64)
+        ensures steps { Steps (Each (Serve number)) self.old.hub self.new.hub }
+        ensures took { TookNothing self.old self.new }
+        ensures woke { Wakes self.old self.new }
+        ensures ended { IsEnded self.new.attended number }
+    {
+        self.attended.pass(now);
+        let _served = serve_turn(&mut self.hub, &mut self.attended, number, MAX_LEFT);
+        end(&mut self.attended, number);
+    }
+
+    /// The socket of a connection failed: what came from it is served to its end, and the connection is to
+    /// be shut down at once.
+    pub fn failed(&mut self, number: ConnNo, now: u64)
+        ensures steps { Steps (Each (Serve number)) self.old.hub self.new.hub }
+        ensures took { TookNothing self.old self.new }
+        ensures woke { Wakes self.old self.new }
+        ensures failed { HasFailed self.new.attended number }
+    {
+        self.attended.pass(now);
+        let _served = serve_turn(&mut self.hub, &mut self.attended, number, MAX_LEFT);
+        fail(&mut self.attended, number);
+    }
+
+    /// A connection was shut down: its member leaves. Refused as the hub refuses it.
+    pub fn leave(&mut self, number: ConnNo, now: u64) -> Result<(), HubRefusal>
+        ensures steps { Steps (AtMost 1 (Leave number)) self.old.hub self.new.hub }
+        ensures took { TookNothing self.old self.new }
+        ensures woke { Wakes self.old self.new }
+        ensures gone { outgoing_at self.new number ≡ None }
+    {
+        self.attended.pass(now);
+        leave_from(&mut self.hub, &mut self.attended, number)
+    }
+
+    /// By when a connection is to be shut down, where it is to be. It is so before where nothing is left
+    /// to write.
+    pub fn until(&self, number: ConnNo) -> Option<u64>
+        ensures value { result ≡ until_at self.now number }
+        ensures over { (x : Connection) (r : Room)
+            → connection_at self.now.hub.connections number ≡ Some x
+            → room_at self.now.hub x.conference ≡ Some r → IsOver r x.n → IsSome result }
+    {
+        match self.attended.get(number) {
+            Some(one) => one.until(),
+            None => None,
+        }
+    }
+
+    /// A connection that is to be shut down by now, whatever is left to write to it.
+    pub fn due(&mut self, now: u64) -> Option<ConnNo>
+        ensures hub { self.new.hub ≡ self.old.hub }
+        ensures attended { self.new.attended ≡ record self.old.attended {
+          time = max self.old.attended.time now;
+        } }
+        ensures found { IfSome result (λ number. (until : ℕ)
+            × (until_at self.old number ≡ Some until)
+            × (until ≤ max self.old.attended.time now)) }
+        ensures none { IfNone result ((number until : ℕ)
+            → until_at self.old number ≡ Some until
+            → max self.old.attended.time now < until) }
+    {
+        self.attended.pass(now);
+        self.attended.due()
+    }
+
+    /// The earliest time by which a connection is to be shut down.
+    pub fn next_due(&mut self) -> Option<u64>
+        ensures next { self.new ≡ self.old }
+        ensures found { IfSome result (λ until. (number : ℕ)
+            × (until_at self.old number ≡ Some until)) }
+        ensures first { IfSome result (λ first. (number until : ℕ)
+            → until_at self.old number ≡ Some until → first ≤ until) }
+        ensures none { IfNone result ((number : ℕ) → until_at self.old number ≡ None) }
+    {
+        self.attended.next_due()
+    }
+}

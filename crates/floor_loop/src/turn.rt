@@ -1,0 +1,246 @@
+//! A turn of a connection: some of its messages are served, and whoever is concerned is woken.
+
+ghost use Rattle.std.specs.Prelude.{◌≡◌, ◌↔◌, ℕ, IfOk, IsSome, None, OnErr, OnOk, Some, false, nat_eq, option_and_then, true};
+ghost use Rattle.floor_room.specs.Room.{Room};
+ghost use Rattle.floor_hub.specs.Concerned.{is_shut};
+ghost use Rattle.floor_hub.specs.Connections.{connection_at};
+ghost use Rattle.floor_hub.specs.Hub.{room_at};
+ghost use Rattle.floor_hub.specs.declared.connection.Connection.{Connection};
+ghost use Rattle.floor_hub.specs.declared.step.Step.TheVariants.{Attach, Leave, Serve, Took};
+ghost use Rattle.floor_loop.specs.Loop.{HasFailed, IsEnded, Outgoing as Way, outgoing_in};
+ghost use Rattle.floor_loop.specs.Done.{AtMost, NoSteps, Reads, Steps};
+ghost use Rattle.floor_loop.specs.Written.{IsOver, IsServing, IsTimed, TookNothing, Wakes};
+ghost use Rattle.floor_loop.specs.steps.Moved.{AreWoken, IsLoop, IsSpared, IsWoken, KeepsAll, Moved, loop_of};
+
+use crate::attended::Attended;
+use crate::changing::MAX_PARCELS;
+use floor_hub::{ConnNo, Hub, HubRefusal, Served};
+use floor_room::Phase;
+use std::alloc::Global;
+
+/// Attaches a connection of a user to a conference. After a `Memory` of the loop's own nothing has changed.
+pub(crate) fn attach(
+    hub: &mut Hub,
+    attended: &mut Attended,
+    alloc: Global,
+    conference: u32,
+    user: u16,
+) -> Result<ConnNo, HubRefusal>
+    ensures steps { Steps (AtMost 1 (Attach conference user)) hub.old hub.new }
+    ensures moved { IsLoop (loop_of hub.old attended.old)
+        → IsServing (loop_of hub.new attended.new) × IsTimed (loop_of hub.new attended.new)
+        × TookNothing (loop_of hub.old attended.old) (loop_of hub.new attended.new) }
+    ensures woke { IsLoop (loop_of hub.old attended.old)
+        → Wakes (loop_of hub.old attended.old) (loop_of hub.new attended.new) }
+    ensures found { IfOk result (λ number. (x : Connection)
+        × (connection_at hub.new.connections number ≡ Some x)
+        × (x.conference ≡ conference)) }
+    ensures ready { IfOk result (λ number. (o : Way)
+        × (outgoing_in attended.new number ≡ Some o) × IsSome o.ready) }
+{
+    let joined = match attended.attach(hub, alloc, conference, user) {
+        Ok(joined) => joined,
+        Err(_) => return Err(HubRefusal::Memory),
+    };
+    wake(hub, attended);
+    match joined {
+        Ok(number) => {
+            wake_one(hub, attended, number);
+            Ok(number)
+        }
+        Err(refusal) => Err(refusal),
+    }
+}
+
+/// Hands in bytes that came from a connection, serves so many of its messages, if so many are whole, and
+/// says whether more wait.
+pub(crate) fn read_turn(
+    hub: &mut Hub,
+    attended: &mut Attended,
+    number: ConnNo,
+    bytes: &[u8],
+    turns: u32,
+) -> Result<bool, HubRefusal>
+    ensures moved { Moved (Reads number bytes.now turns) (loop_of hub.old attended.old)
+        (loop_of hub.new attended.new) }
+    ensures woke { IsLoop (loop_of hub.old attended.old)
+        → Wakes (loop_of hub.old attended.old) (loop_of hub.new attended.new) }
+    ensures refused { OnErr result (IsEnded attended.new number) }
+{
+    match hub.piece(number, bytes) {
+        Ok(()) => {}
+        Err(refusal) => {
+            end(attended, number);
+            return Err(refusal);
+        }
+    }
+    serve_turn(hub, attended, number, turns)
+}
+
+/// Serves so many messages of a connection, if so many are whole, and says whether more may wait.
+pub(crate) fn serve_turn(
+    hub: &mut Hub,
+    attended: &mut Attended,
+    number: ConnNo,
+    turns: u32,
+) -> Result<bool, HubRefusal>
+    ensures moved { Moved (AtMost turns (Serve number)) (loop_of hub.old attended.old)
+        (loop_of hub.new attended.new) }
+    ensures woke { IsLoop (loop_of hub.old attended.old)
+        → Wakes (loop_of hub.old attended.old) (loop_of hub.new attended.new) }
+    ensures refused { OnErr result (IsEnded attended.new number) }
+{
+    for _turn in 0..turns {
+        match serve_one(hub, attended, number) {
+            Ok(Served::Message) => {}
+            Ok(Served::Nothing) => return Ok(false),
+            Err(refusal) => return Err(refusal),
+        }
+    }
+    Ok(true)
+}
+
+/// Serves the next message of a connection. One that is refused ends the serving: the connection is
+/// to be shut down.
+fn serve_one(hub: &mut Hub, attended: &mut Attended, number: ConnNo) -> Result<Served, HubRefusal>
+    ensures moved { Moved (AtMost 1 (Serve number)) (loop_of hub.old attended.old)
+        (loop_of hub.new attended.new) }
+    ensures woke { IsLoop (loop_of hub.old attended.old)
+        → Wakes (loop_of hub.old attended.old) (loop_of hub.new attended.new) }
+    ensures refused { OnErr result (IsEnded attended.new number) }
+    ensures spared { OnOk result ((k : ℕ) → IsSpared hub.new attended.old attended.new k) }
+{
+    let served = hub.serve(number);
+    wake(hub, attended);
+    match served {
+        Ok(found) => Ok(found),
+        Err(refusal) => {
+            end(attended, number);
+            Err(refusal)
+        }
+    }
+}
+
+/// Wakes whom the hub's last call concerned.
+pub(crate) fn wake(hub: &Hub, attended: &mut Attended)
+    ensures kept { KeepsAll (outgoing_in attended.old) (outgoing_in attended.new) }
+    ensures woken { AreWoken hub.now attended.new }
+    ensures spared { (k : ℕ) → IsSpared hub.now attended.old attended.new k }
+{
+    for number in hub.concerned() {
+        wake_one(hub, attended, *number);
+    }
+}
+
+/// Wakes a connection; one to which nothing more is told is to be shut down.
+pub(crate) fn wake_one(hub: &Hub, attended: &mut Attended, number: ConnNo)
+    ensures kept { KeepsAll (outgoing_in attended.old) (outgoing_in attended.new) }
+    ensures woken { IsWoken hub.now attended.new number }
+    ensures spared { (k : ℕ) → IsSpared hub.now attended.old attended.new k }
+{
+    if is_over(hub, attended, number) {
+        end(attended, number);
+        return;
+    }
+    attended.wake(number);
+}
+
+/// Whether nothing more is told to a connection: its member is cut, or its conference is ended or broken
+/// off.
+fn is_over(hub: &Hub, attended: &Attended, number: ConnNo) -> bool
+    ensures { (x : Connection) (r : Room) (o : Way)
+        → connection_at hub.now.connections number ≡ Some x
+        → room_at hub.now x.conference ≡ Some r → outgoing_in attended.now number ≡ Some o
+        → o.conference ≡ x.conference → ((result ≡ true) ↔ IsOver r x.n) }
+{
+    match attended.get(number) {
+        Some(one) => {
+            if is_shut(hub, one.conference()) {
+                return true;
+            }
+            hub.is_cut(number)
+        }
+        None => false,
+    }
+}
+
+/// Whether a conference is ended or broken off.
+fn is_shut(hub: &Hub, conference: u32) -> bool
+    ensures { (r : Room) → room_at hub.now conference ≡ Some r → result ≡ is_shut r }
+{
+    match hub.status(conference) {
+        Ok(status) => match status.phase {
+            Phase::Running => false,
+            Phase::Ended => true,
+            Phase::Broken => true,
+        },
+        Err(_) => false,
+    }
+}
+
+/// Acknowledges so many parcels to a connection, and takes the next ones from the hub.
+pub(crate) fn acknowledge(hub: &mut Hub, attended: &mut Attended, number: ConnNo, parcels: u32)
+    ensures { Moved (AtMost 1 (Took number parcels)) (loop_of hub.old attended.old)
+        (loop_of hub.new attended.new) }
+{
+    let _acknowledged = hub.took(number, parcels);
+    wake(hub, attended);
+    fill(hub, attended, number);
+}
+
+/// A connection is to be shut down.
+pub(crate) fn end(attended: &mut Attended, number: ConnNo)
+    ensures kept { KeepsAll (outgoing_in attended.old) (outgoing_in attended.new) }
+    ensures ended { IsEnded attended.new number }
+    ensures others { (k : ℕ) → nat_eq number k ≡ false
+        → outgoing_in attended.new k ≡ outgoing_in attended.old k }
+{
+    attended.end(number);
+    attended.wake(number);
+}
+
+/// A connection is to be shut down at once.
+pub(crate) fn fail(attended: &mut Attended, number: ConnNo)
+    ensures kept { KeepsAll (outgoing_in attended.old) (outgoing_in attended.new) }
+    ensures failed { HasFailed attended.new number }
+{
+    attended.fail(number);
+    attended.wake(number);
+}
+
+/// A connection leaves the hub, and nothing is on its way to it any more.
+pub(crate) fn leave_from(
+    hub: &mut Hub,
+    attended: &mut Attended,
+    number: ConnNo,
+) -> Result<(), HubRefusal>
+    ensures moved { Moved (AtMost 1 (Leave number)) (loop_of hub.old attended.old)
+        (loop_of hub.new attended.new) }
+    ensures woke { IsLoop (loop_of hub.old attended.old)
+        → Wakes (loop_of hub.old attended.old) (loop_of hub.new attended.new) }
+    ensures gone { outgoing_in attended.new number ≡ None }
+{
+    let left = hub.leave(number);
+    attended.remove(number);
+    wake(hub, attended);
+    left
+}
+
+/// Takes what waits for a connection from the hub: 64 parcels or 64 KiB, whichever comes first. Where
+/// memory is refused for it, the connection is to be shut down at once.
+pub(crate) fn fill(hub: &mut Hub, attended: &mut Attended, number: ConnNo)
+    ensures moved { Moved NoSteps (loop_of hub.old attended.old) (loop_of hub.new attended.new) }
+    ensures ready { (k : ℕ) → option_and_then (λ o. o.ready) (outgoing_in attended.new k)
+        ≡ option_and_then (λ o. o.ready) (outgoing_in attended.old k) }
+{
+    for _turn in 0..MAX_PARCELS {
+        match attended.take_one(hub, number) {
+            Ok(true) => {}
+            Ok(false) => return,
+            Err(_) => {
+                attended.fail(number);
+                return;
+            }
+        }
+    }
+}
