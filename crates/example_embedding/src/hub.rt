@@ -2,7 +2,7 @@
 
 use crate::fault::Fault;
 use floor_config::Config;
-use floor_hub::{ConnNo, Hub, HubRefusal, Served};
+use floor_hub::{ConnNo, Hub, Served};
 use std::alloc::Global;
 use std::io::Write;
 
@@ -26,73 +26,56 @@ pub fn serve_two<W: Write>(alloc: Global, output: &mut W) -> Result<(), Fault> {
     hub.open(alloc, Config::demonstration(alloc)?)?;
     let first = hub.attach(alloc, 1, 10)?;
     let second = hub.attach(alloc, 1, 11)?;
-    receive(alloc, &mut hub, first, &REQUEST, output)?;
-    receive(alloc, &mut hub, second, &ANOTHER[..5], output)?;
-    receive(alloc, &mut hub, second, &ANOTHER[5..], output)?;
-    receive(alloc, &mut hub, first, &RELEASE, output)?;
+    receive(&mut hub, first, &REQUEST)?;
+    receive(&mut hub, second, &ANOTHER[..5])?;
+    receive(&mut hub, second, &ANOTHER[5..])?;
+    receive(&mut hub, first, &RELEASE)?;
+    tell(alloc, &mut hub, first, output)?;
+    tell(alloc, &mut hub, second, output)?;
     hub.leave(second)?;
-    tell(alloc, &mut hub, output)
+    Ok(())
 }
 
 /// Hands in the bytes that a connection gave, and serves each message that is whole with them. What
-/// each tells is sent before the next is served.
-fn receive<W: Write>(
-    alloc: Global,
-    hub: &mut Hub,
-    connection: ConnNo,
-    bytes: &[u8],
-    output: &mut W,
-) -> Result<(), Fault> {
+/// that tells may wait for every connection of the conference: all of them are sent to next.
+fn receive(hub: &mut Hub, connection: ConnNo, bytes: &[u8]) -> Result<(), Fault> {
     hub.piece(connection, bytes)?;
     for _ in 0..=bytes.len() / HEADER_LEN {
         if hub.serve(connection)? == Served::Nothing {
             break;
         }
-        tell(alloc, hub, output)?;
     }
     Ok(())
 }
 
-/// Sends what waits for those that the last call concerned: nobody else has anything new. The list is
-/// copied, since each acknowledgement is a call, too.
-fn tell<W: Write>(alloc: Global, hub: &mut Hub, output: &mut W) -> Result<(), Fault> {
-    let concerned = Vec::from_slice(alloc, hub.concerned())?;
-    for connection in &concerned {
-        print(alloc, hub, *connection, output)?;
+/// Sends all that waits for a connection, and acknowledges it: whoever is more than 1,024 messages
+/// behind is cut. What waits when it leaves can't be had any more.
+fn send<W: Write>(hub: &mut Hub, connection: ConnNo, socket: &mut W) -> Result<(), Fault> {
+    let mut sent = 0u32;
+    for _ in 0..u64::MAX {
+        let Some(parcel) = hub.take(connection)? else {
+            break;
+        };
+        socket.write_all(parcel.header())?;
+        socket.write_all(parcel.payload())?;
+        sent = sent.saturating_add(1);
+    }
+    if 0 < sent {
+        hub.took(connection, sent)?;
     }
     Ok(())
 }
 
-/// Prints what a connection is sent, where a bridge has a socket. A member that is cut is told nothing more:
-/// a bridge shuts its connection down once this is sent, and the `leave` that follows is a call as any other.
-fn print<W: Write>(
+/// Prints what a connection is sent.
+fn tell<W: Write>(
     alloc: Global,
     hub: &mut Hub,
     connection: ConnNo,
     output: &mut W,
 ) -> Result<(), Fault> {
-    let bytes = send(alloc, hub, connection)?;
-    let bytes = hex::encode(alloc, bytes.as_slice())?;
-    writeln!(output, "{connection} {}", bytes.as_str())?;
-    if hub.is_cut(connection) {
-        writeln!(output, "{connection} is cut")?;
-    }
+    let mut sent = Vec::new(alloc);
+    send(hub, connection, &mut sent)?;
+    let sent = hex::encode(alloc, sent.as_slice())?;
+    writeln!(output, "{connection} {}", sent.as_str())?;
     Ok(())
-}
-
-/// Takes all that waits for a connection, and acknowledges it: whoever is more than 1,024 messages behind
-/// is cut. What waits when it leaves can't be had any more.
-fn send(alloc: Global, hub: &mut Hub, connection: ConnNo) -> Result<Vec<u8>, HubRefusal> {
-    let mut bytes = Vec::new(alloc);
-    let mut parcels = 0u32;
-    for _ in 0..u64::MAX {
-        if !hub.take_into(connection, &mut bytes)? {
-            break;
-        }
-        parcels = parcels.saturating_add(1);
-    }
-    if 0 < parcels {
-        hub.took(connection, parcels)?;
-    }
-    Ok(bytes)
 }
