@@ -3,11 +3,10 @@
 ghost use Rattle.std.specs.Prelude.{◌≡◌, is_some};
 
 use crate::connections::Connections;
-use crate::entry::{Entry, UserPort};
-use crate::log::Log;
 use crate::socket::Socket;
 use floor_listen::{Begun, Gone, Unserved};
 use floor_serve::{Desk, DeskRefusal, Gate, Registry, Seat};
+use floor_server::{Entry, Log, UserPort};
 use std::alloc::Global;
 use std::sync::atomic::{AtomicBool, Ordering};
 use std::sync::{Arc, Wait};

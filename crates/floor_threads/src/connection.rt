@@ -3,13 +3,13 @@
 ghost use Rattle.std.specs.Prelude.{◌≡◌, false, is_some, true};
 
 use crate::binding::Binding;
-use crate::departure::{Departure, Refused, departure_of};
-use crate::entry::{Entry, Peer};
+use crate::departure::{departure_of, refused_by_desk};
 use crate::socket::{Outgoing, Socket};
 use floor_listen::{Begun, Gone, Member, Unserved};
 use floor_serve::{
     ClosedMark, Desk, Gate, Marked, MemberTaker, ReadEnd, ReadFault, Seat, read_loop, write_loop,
 };
+use floor_server::{Departure, Entry, Peer, Refused};
 use std::alloc::{AllocError, Global};
 use std::net::TcpStream;
 use std::sync::{Arc, Wait};
@@ -146,7 +146,7 @@ where
     let desk = match binding.desk(&rt) {
         Ok(desk) => desk,
         Err(refusal) => {
-            let cause = Refused::by_desk(refusal);
+            let cause = refused_by_desk(refusal);
             return (refuse(&rt, binding, begun, peer, cause), None);
         }
     };

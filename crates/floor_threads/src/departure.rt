@@ -1,86 +1,19 @@
-//! Why a connection isn't served, or isn't any more, as the log tells.
+//! Why a connection isn't served, or isn't any more, by what its thread found.
 
 ghost use Rattle.std.specs.Prelude.{◌≡◌};
-ghost use Rattle.floor_threads.specs.Departures.{departure_of, departure_of_read, name_of_departure, name_of_refused, refused_by_desk, refused_by_table};
+ghost use Rattle.floor_threads.specs.Departures.{departure_of, departure_of_read, refused_by_desk};
 
-use floor_listen::Unserved;
-use floor_serve::{DeskRefusal, Phase, ReadEnd, ReadFault, RoomRefusal};
+use floor_serve::{DeskRefusal, Phase, ReadEnd, ReadFault};
+use floor_server::{Departure, Refused};
 
-/// Why a connection doesn't join its conference.
-#[derive(Clone, Copy, Debug, PartialEq, Eq)]
-pub enum Refused {
-    /// The conference has 128 connections.
-    Connections,
-    /// The conference isn't open yet.
-    NoConference,
-    /// The conference refuses it.
-    ByRoom(RoomRefusal),
-    /// No thread can be had.
-    NoThread,
-    /// Memory was refused.
-    Memory,
-}
-
-impl Refused {
-    /// What a table of connections refuses one by.
-    pub fn by_table(unserved: Unserved) -> Refused
-        ensures value { result ≡ refused_by_table unserved }
-    {
-        match unserved {
-            Unserved::Full => Refused::Connections,
-            Unserved::Memory => Refused::Memory,
-        }
+/// What is the matter where there is no desk.
+pub fn refused_by_desk(refusal: DeskRefusal) -> Refused
+    ensures value { result ≡ refused_by_desk refusal }
+{
+    match refusal {
+        DeskRefusal::NoConference => Refused::NoConference,
+        DeskRefusal::Memory => Refused::Memory,
     }
-
-    /// What is the matter where there is no desk.
-    pub fn by_desk(refusal: DeskRefusal) -> Refused
-        ensures value { result ≡ refused_by_desk refusal }
-    {
-        match refusal {
-            DeskRefusal::NoConference => Refused::NoConference,
-            DeskRefusal::Memory => Refused::Memory,
-        }
-    }
-
-    /// What a person is told. Takes no memory.
-    pub fn name(&self) -> &'static str
-        ensures value { result.now ≡ name_of_refused self.now }
-    {
-        match self {
-            Refused::Connections => "Connections",
-            Refused::NoConference => "NoConference",
-            Refused::ByRoom(refusal) => refusal.name(),
-            Refused::NoThread => "NoThread",
-            Refused::Memory => "Memory",
-        }
-    }
-}
-
-/// Why a member has left.
-#[derive(Clone, Copy, Debug, PartialEq, Eq)]
-pub enum Departure {
-    /// Its stream ended behind a whole message, or before the first.
-    EndOfStream,
-    /// Its stream ended inside a message.
-    InsideMessage,
-    /// A read failed, as where the peer resets the connection.
-    Reset,
-    /// The conference refused a message.
-    Message(RoomRefusal),
-    /// It was cut, since it had more than 1,024 messages not acknowledged.
-    Slow,
-    /// The conference was closed.
-    Closed,
-    /// The conference was broken off.
-    BrokenOff,
-    /// Its port ends, as where the server stops.
-    Stopped,
-    /// It was read from as often as a connection is at most.
-    TurnLimit,
-    /// No thread can be had for its writer.
-    NoThread,
-    /// Memory was refused.
-    Memory,
 }
 
 /// Why a member has left whose reading ended so, whose outbox was closed before it left or wasn't, whose
@@ -113,26 +46,5 @@ fn read_departure(end: Result<ReadEnd, ReadFault>) -> Departure
         Err(ReadFault::TurnLimit) => Departure::TurnLimit,
         Err(ReadFault::Refused(refusal)) => Departure::Message(refusal),
         Err(ReadFault::Memory) => Departure::Memory,
-    }
-}
-
-impl Departure {
-    /// What a person is told. Takes no memory.
-    pub fn name(&self) -> &'static str
-        ensures value { result.now ≡ name_of_departure self.now }
-    {
-        match self {
-            Departure::EndOfStream => "EndOfStream",
-            Departure::InsideMessage => "InsideMessage",
-            Departure::Reset => "Reset",
-            Departure::Message(refusal) => refusal.name(),
-            Departure::Slow => "Slow",
-            Departure::Closed => "Closed",
-            Departure::BrokenOff => "BrokenOff",
-            Departure::Stopped => "Stopped",
-            Departure::TurnLimit => "TurnLimit",
-            Departure::NoThread => "NoThread",
-            Departure::Memory => "Memory",
-        }
     }
 }

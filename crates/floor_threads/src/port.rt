@@ -4,10 +4,9 @@ ghost use Rattle.std.specs.Iterator.{IsFinite};
 
 use crate::binding::Binding;
 use crate::connection;
-use crate::entry::Entry;
-use crate::reason::PortFault;
 use floor_listen::{Accepting, after_accept, listening_address};
 use floor_serve::Gate;
+use floor_server::{Entry, PortFault};
 use std::alloc::Global;
 use std::net::{Net, Shutdown, TcpListener, TcpStream};
 use std::os::fd::OwnedFd;

@@ -4,16 +4,15 @@ ghost use Rattle.std.specs.Prelude.{◌≡◌};
 ghost use Rattle.floor_listen.specs.Ending.{status_of};
 
 use crate::binding::Shared;
-use crate::check::check;
-use crate::fault::{fault_of_opening, fault_of_stop};
-use crate::lines;
-use crate::lines::{answer_lines, print};
-use crate::log::Log;
+use crate::lines::answer_lines;
 use crate::server::Server;
-use crate::words::{Task, Words, WordsFault, read_words};
 use floor_console::Board;
-use floor_listen::{Ending, ServerFault, after_help, ended};
+use floor_listen::{Ending, ServerFault, ended};
 use floor_serve::{FreePass, Gate};
+use floor_server::{
+    Program, Task, Words, check_configuration, ending_of_words, fault_of_opening, fault_of_stop,
+    log_of, print, read_words, tell_ending,
+};
 use std::alloc::Global;
 use std::io::{Read, Write};
 use std::net::{Net, TcpListener, TcpStream};
@@ -21,6 +20,13 @@ use std::rt::Files;
 use std::sync::{Arc, Wait};
 use std::thread::Threads;
 use std::time::Clock;
+
+/// The program.
+const FLOORD: Program = Program {
+    name: "floord",
+    about: "Serves the floors of conferences (BFCP, RFC 8855), and reads an administrator's lines.",
+    has_loops: false,
+};
 
 /// Does what the words ask for: serves a configuration until `input` says `stop` or ends, or checks one.
 /// A log that the words ask for goes to the sink. Prints to `errors` the name of a fault, and above it what
@@ -82,41 +88,24 @@ pub fn run_with<
 where
     G: Gate + Send + Sync + Drop + 'static,
 {
-    let ending = match read_words(alloc, words) {
+    let ending = match read_words(alloc, words, &FLOORD) {
         Ok(
             Words {
                 task,
                 path,
                 has_log,
+                loops: _,
             },
         ) => match task {
             Task::Serve => {
                 let shared = Shared::new(alloc, gate, log_of(rt, alloc, has_log, sink));
                 serve(rt, alloc, path.as_str(), input, output, errors, shared)
             }
-            Task::Check => check(&rt, alloc, path.as_str(), output),
+            Task::Check => check_configuration(&rt, alloc, path.as_str(), output),
         },
-        Err(WordsFault::Help(text)) => after_help(print(output, text.as_str())),
-        Err(WordsFault::Refused(text)) => {
-            let _outcome = print(errors, text.as_str());
-            Ending::Refused
-        }
-        Err(WordsFault::Memory) => Ending::Fault(ServerFault::Memory),
+        Err(fault) => ending_of_words(fault, output, errors),
     };
     tell(errors, ending)
-}
-
-/// The log, where one is asked for and there are memory and a thread for it.
-fn log_of<R, L>(rt: R, alloc: Global, has_log: bool, sink: L) -> Option<Log>
-where
-    R: Threads + Wait + Copy + Drop + Send + 'static,
-    L: Write + Send + Drop + 'static,
-{
-    if has_log {
-        Log::start(rt, alloc, sink)
-    } else {
-        None
-    }
 }
 
 /// Serves the configuration of a file until `input` says `stop` or ends, by ports that share this.
@@ -193,7 +182,7 @@ where
     G: Gate + Send + Sync + Drop + 'static,
 {
     let opened = server.open_file(path);
-    lines::tell(errors, server.take_told());
+    floor_server::tell(errors, server.take_told());
     match opened {
         Ok(_) => {}
         Err(refusal) => return Err(fault_of_opening(refusal)),
@@ -207,11 +196,5 @@ where
 pub fn tell<E: Write>(errors: &mut E, ending: Ending) -> u8
     ensures status { result ≡ status_of ending }
 {
-    match ending.name() {
-        None => {}
-        Some(name) => {
-            let _written = writeln!(errors, "floord: {name}");
-        }
-    }
-    ending.status()
+    tell_ending(errors, FLOORD.name, ending)
 }

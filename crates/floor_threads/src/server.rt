@@ -3,10 +3,8 @@
 ghost use Rattle.std.specs.Prelude.{◌≡◌};
 
 use crate::binding::{Binding, Shared};
-use crate::entry::Entry;
 use crate::fault::stopped;
 use crate::port::Port;
-use crate::reason::{Reason, configurations, read_text};
 use floor_config::Config;
 use floor_console::{
     Board, BoardRefusal, Command, ConsoleFault, Floor, StopRefusal, Stopped, Text, User,
@@ -14,6 +12,7 @@ use floor_console::{
 use floor_listen::{Chosen, Ports};
 use floor_room::{Phase, Status};
 use floor_serve::{Act, AddedUser, Desk, DeskRefusal, Gate, OpenRefusal};
+use floor_server::{Entry, Reason, configurations, read_text};
 use std::alloc::Global;
 use std::net::{Net, TcpListener, TcpStream};
 use std::rt::Files;

@@ -1,10 +1,11 @@
-//! The words that the program is called with.
+//! The words that a program is called with.
 
+use clap::builder::ValueParser;
 use clap::error::ErrorKind;
 use clap::{Arg, ArgAction, Command, Error};
 use std::alloc::Global;
 
-/// The version, and the logic that the program is proved with.
+/// The version, and the logic that the programs are proved with.
 const VERSION: &str = "0.1.0 (logic dac8208d650f15bf)";
 
 /// What the administrator's lines are, below the help of the words.
@@ -37,6 +38,20 @@ Exit status:
   1  after a fault, whose name is the last line of standard error
   2  where the words are refused";
 
+/// How many event loops a program has at most: more than machines have processors for them.
+pub const MAX_LOOPS: u8 = 64;
+
+/// A program whose words are read.
+#[derive(Clone, Copy, Debug)]
+pub struct Program {
+    /// Its name.
+    pub name: &'static str,
+    /// What it does, a sentence of its help.
+    pub about: &'static str,
+    /// Whether `--loops <n>` is one of its words.
+    pub has_loops: bool,
+}
+
 /// What the program is to do with a configuration.
 #[derive(Clone, Copy, Debug, PartialEq, Eq)]
 pub enum Task {
@@ -54,6 +69,9 @@ pub struct Words {
     pub path: String,
     /// Whether a log is asked for.
     pub has_log: bool,
+    /// How many event loops are asked for, 1 to 64; `None` where nothing is said of them, or the program has
+    /// no such word.
+    pub loops: Option<u8>,
 }
 
 /// Why the words ask for nothing.
@@ -67,15 +85,27 @@ pub enum WordsFault {
     Memory,
 }
 
-/// What the words say; the first of them is the program's own name.
-pub fn read_words(alloc: Global, words: &[String]) -> Result<Words, WordsFault> {
-    match parsed(alloc, words) {
+/// What the words of a program say; the first of them is its own name.
+pub fn read_words(alloc: Global, words: &[String], program: &Program) -> Result<Words, WordsFault> {
+    match parsed(alloc, words, program) {
         Ok(found) => Ok(found),
         Err(error) => Err(fault_of(alloc, error)),
     }
 }
 
-fn parsed(alloc: Global, words: &[String]) -> Result<Words, Error> {
+fn parsed(alloc: Global, words: &[String], program: &Program) -> Result<Words, Error> {
+    let matches = command(alloc, program)?.try_get_matches_from(words)?;
+    let path = matches.get_str("config").unwrap_or("");
+    Ok(Words {
+        task: task_of(matches.get_flag("check")),
+        path: String::from_str(alloc, path)?,
+        has_log: matches.get_flag("log"),
+        loops: matches.get_one::<u8>("loops"),
+    })
+}
+
+/// The words that a program has.
+fn command<'a>(alloc: Global, program: &Program) -> Result<Command<'a>, Error> {
     let config = Arg::new(alloc, "config")
         .required(true)
         .action(ArgAction::Set)
@@ -88,22 +118,28 @@ fn parsed(alloc: Global, words: &[String]) -> Result<Words, Error> {
         .long("log")
         .action(ArgAction::SetTrue)
         .help("Tells standard error what becomes of connections, conferences and ports");
-    let command = Command::new(alloc, "floord")
-        .about(
-            "Serves the floors of conferences (BFCP, RFC 8855), and reads an administrator's lines.",
-        )
+    let command = Command::new(alloc, program.name)
+        .about(program.about)
         .version(VERSION)
         .after_help(LINES)
         .arg(check)?
-        .arg(log)?
-        .arg(config)?;
-    let matches = command.try_get_matches_from(words)?;
-    let path = matches.get_str("config").unwrap_or("");
-    Ok(Words {
-        task: task_of(matches.get_flag("check")),
-        path: String::from_str(alloc, path)?,
-        has_log: matches.get_flag("log"),
-    })
+        .arg(log)?;
+    let command = if program.has_loops {
+        command.arg(loops(alloc))?
+    } else {
+        command
+    };
+    Ok(command.arg(config)?)
+}
+
+/// How many loops there are.
+fn loops<'a>(alloc: Global) -> Arg<'a> {
+    Arg::new(alloc, "loops")
+        .long("loops")
+        .value_name("n")
+        .action(ArgAction::Set)
+        .value_parser(ValueParser::unsigned(1, u64::from(MAX_LOOPS)))
+        .help("How many event loops serve, 1 to 64; else one for each processor, at most 4")
 }
 
 /// The task of a run that is a check, or isn't.

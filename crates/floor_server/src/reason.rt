@@ -2,7 +2,7 @@
 
 ghost use Rattle.std.specs.Prelude.{◌≡◌};
 ghost use Rattle.std.specs.IoError.{error_kind};
-ghost use Rattle.floor_threads.specs.Faults.{refusal_of_configuration, refusal_of_port, refusal_of_reading};
+ghost use Rattle.floor_server.specs.Faults.{refusal_of_configuration, refusal_of_port, refusal_of_reading};
 
 use floor_config::{Config, ConfigFault, read_configs};
 use floor_console::BoardRefusal;

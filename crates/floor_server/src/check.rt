@@ -13,12 +13,10 @@ use std::rt::Files;
 
 /// Reads and checks a file as a start does, tries each port, and prints each fault with its name, and as
 /// a warning each key that says nothing. It ends by the first fault, if there is one.
-pub fn check<R: Net<Listener = TcpListener, Stream = TcpStream> + Files + AllocGlobal, O: Write>(
-    rt: &R,
-    alloc: Global,
-    path: &str,
-    output: &mut O,
-) -> Ending {
+pub fn check_configuration<
+    R: Net<Listener = TcpListener, Stream = TcpStream> + Files + AllocGlobal,
+    O: Write,
+>(rt: &R, alloc: Global, path: &str, output: &mut O) -> Ending {
     match check_file(rt, alloc, path, output) {
         Ok(None) => Ending::InOrder,
         Ok(Some(fault)) | Err(fault) => Ending::Fault(fault),

@@ -1,0 +1,4 @@
+pub mod Words
+pub mod Console
+pub mod Faults
+pub mod Departures

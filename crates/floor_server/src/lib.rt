@@ -1,0 +1,31 @@
+//! What the servers share, however they serve: the program's words, the check of a configuration, why a
+//! file or a port can't be had, the lines of standard input and standard error, and the log's entries
+//! with the names in them.
+//!
+//! It stands on floor_listen, which decides, on floor_console, which has the administrator's lines, and on
+//! floor_log, which writes. It starts no thread but the log's, and serves no connection: that is left to
+//! each server.
+#![tactic(auto)]
+
+mod check;
+mod departure;
+mod entry;
+mod fault;
+mod lines;
+mod log;
+mod reason;
+mod running;
+mod words;
+
+pub use check::check_configuration;
+pub use departure::{Departure, Refused};
+pub use entry::{Entry, Peer, UserPort};
+pub use fault::{fault_of_opening, fault_of_stop};
+pub use floor_config::{Config, ConfigFault};
+pub use floor_console::{BoardRefusal, Command, ConsoleFault, RoomRefusal, StopRefusal};
+pub use floor_listen::{Ending, ServerFault, Unserved};
+pub use lines::{next_command, print, tell};
+pub use log::Log;
+pub use reason::{PortFault, Reason, configurations, read_text};
+pub use running::{ending_of_words, log_of, tell_ending};
+pub use words::{MAX_LOOPS, Program, Task, Words, WordsFault, read_words};
