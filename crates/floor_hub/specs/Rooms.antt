@@ -6,18 +6,19 @@ use Rattle.floor_wire.specs.Message.{messages}
 use Rattle.floor_machine.specs.declared.act.Act.{Act}
 use Rattle.floor_machine.specs.declared.event.Event.{Event}
 use Rattle.floor_machine.specs.declared.event.Event.TheVariants.{Join, Message, Took, Leave}
-use Rattle.floor_machine.specs.Conference.{is_cut}
 use Rattle.floor_machine.specs.Machine.{event_of_act}
 use Rattle.floor_machine.specs.Parcel.{Parcel}
 use Rattle.floor_machine.specs.declared.machine.Refusal.TheVariants.{Broken, Memory}
 use Rattle.floor_room.specs.declared.refusal.RoomRefusal.TheVariants.{Refused as ByMachine}
-use Rattle.floor_room.specs.Ledger.{closed, conference_of}
+use Rattle.floor_room.specs.Ledger.{IsRefusedBy, closed, refusal}
+use Rattle.floor_room.specs.declared.refusal.RoomRefusal.{RoomRefusal}
 use Rattle.floor_room.specs.Outbox.{Outbox}
 use Rattle.floor_room.specs.Room.{IsRoom, Room, new_room}
 use Rattle.floor_room.specs.Taking.{Gave, outbox_of}
 use Rattle.floor_hub.specs.declared.refusal.HubRefusal.{HubRefusal}
 use Rattle.floor_hub.specs.declared.refusal.HubRefusal.TheVariants.{NoConnection, ByRoom, Memory as NoMemory}
 use Rattle.floor_hub.specs.declared.connection.Connection.{Connection}
+use Rattle.floor_hub.specs.Concerned.{is_cut}
 use Rattle.floor_hub.specs.Connections.{Puts, SameConnections, connection_at}
 use Rattle.floor_hub.specs.Hub.{Hub, room_at}
 
@@ -87,6 +88,10 @@ RoomAfterIn shut_by why own None new = (new ≡ None) × (why ≢ by_memory) × 
 RoomAfterIn shut_by why own (Some r) None = ⊥
 RoomAfterIn shut_by why own (Some r) (Some s) = RoomAfter shut_by why (own r) r s
 
+-- the call was refused as the room refuses this event, or memory was refused for the event
+abbrev pub IsRefusedIn : Event → Room → HubRefusal → Type 0
+IsRefusedIn e r why = (reason : RoomRefusal) × (why ≡ ByRoom reason) × IsRefusedBy {T = Unit {0}} (refusal r.ledger e) (Err reason)
+
 -- The call was for this conference's room: every other is as it was.
 pub record OneRoom (shut_by why : Option HubRefusal) (event : Room → List Event) (c : ℕ) (old new : Hub) : Type 0 where
   pub others : (d : ℕ) → nat_eq c d ≡ false → room_at new d ≡ room_at old d
@@ -119,10 +124,10 @@ abbrev pub TakenOf : Option Connection → Result (Option Parcel) HubRefusal →
 TakenOf None result old new = (result ≡ Err NoConnection) × SameHub old new
 TakenOf (Some x) result old new = (parcel : Option Parcel) × (result ≡ Ok parcel) × TakenFrom x.conference x.n parcel old new
 
--- whether the member of a live connection is cut: no without one, and of a broken room nothing is said
+-- whether the member of a live connection is cut: no without one, and of a broken room nobody is said to be
 abbrev pub CutIs : Hub → Option Connection → Bool → Type 0
 CutIs h None result = result ≡ false
-CutIs h (Some x) result = (r : Room) → room_at h x.conference ≡ Some r → r.ledger.is_broken ≡ false → result ≡ is_cut (conference_of r.ledger) x.n
+CutIs h (Some x) result = (r : Room) → room_at h x.conference ≡ Some r → result ≡ is_cut r x.n
 
 -- how many parcels to the member n were taken, and none where nobody has joined under the number
 abbrev pub taken_of : Room → ℕ → ℕ

@@ -11,12 +11,15 @@ use floor_room::{Refusal, Room, RoomRefusal};
 use std::alloc::{AllocError, Global};
 use std::marker::Model;
 
-/// A live connection.
-#[derive(Clone, Copy, Debug)]
-pub(crate) struct Live {
+/// A live connection of a conference.
+#[derive(Clone, Copy, Debug, PartialEq, Eq)]
+pub struct Live {
+    /// Its number over all conferences.
     pub number: ConnNo,
+    /// The number of its member within the conference, from 1 on.
     pub n: u32,
-    /// Whether its member is cut, as far as any call has seen.
+    /// Whether its member is cut, as far as any call has seen: of a conference that is closed or broken
+    /// off, how it was before.
     pub is_cut: bool,
 }
 
@@ -47,6 +50,14 @@ impl Attached {
         Attached {
             live: Vec::new(alloc),
         }
+    }
+
+    /// The connections that are live.
+    pub(crate) fn as_slice(&self) -> &[Live]
+        ensures value { result.now ≡ self.now }
+        ensures listed { AreListed result.now }
+    {
+        self.live.as_slice()
     }
 
     /// How many connections are live.

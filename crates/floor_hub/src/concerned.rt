@@ -3,7 +3,7 @@
 
 ghost use Rattle.std.specs.Prelude.{◌≡◌, ◌++◌, ◌∷◌, ℕ, [], false, map, nat_eq, OnErr, OnOk};
 ghost use Rattle.floor_hub.specs.Concerned.{AscendFrom};
-ghost use Rattle.floor_hub.specs.steps.Attached.{IsBehind, NamedIn, Names, PutsLive, SameLive, is_noted, live_in, marked, numbers_of, without};
+ghost use Rattle.floor_hub.specs.steps.Attached.{AreListed, IsBehind, NamedIn, Names, PutsLive, SameLive, is_noted, live_in, marked, numbers_of, without};
 
 use crate::attached::{Attached, Live, is_shut};
 use crate::connection::ConnNo;
@@ -50,6 +50,17 @@ impl Concerned {
         ensures value { result.now ≡ self.now.numbers }
     {
         self.numbers.as_slice()
+    }
+
+    /// The live connections of a conference.
+    pub(crate) fn live(&self, conference: u32) -> &[Live]
+        ensures value { result.now ≡ live_in self.now conference }
+        ensures listed { AreListed result.now }
+    {
+        match self.attached.get(&conference) {
+            Some(attached) => attached.as_slice(),
+            None => &[],
+        }
     }
 
     /// Nobody is concerned.

@@ -64,12 +64,13 @@ impl Connections {
         self.slots.get_mut(key)
     }
 
-    /// Puts a connection under a number. After an error nothing has changed.
+    /// Puts a connection under a number that none has. After an error nothing has changed.
     pub(crate) fn insert(
         &mut self,
         number: ConnNo,
         connection: Connection,
     ) -> Result<(), AllocError>
+        requires fresh { connection_at self.old number ≡ None }
         ensures took { OnOk result (Puts self.old self.new number (Some connection)) }
         ensures left { OnErr result (SameConnections self.old self.new) }
     {

@@ -1,11 +1,13 @@
-//! What a room has queued to one of its members, as bytes.
+//! What a room has queued to one of its members, as bytes, and who that member is.
 
 ghost use Rattle.std.specs.Prelude.{◌≡◌, ◌++◌, IfOk, OnErr, OnOk, length, take};
+ghost use Rattle.floor_machine.specs.Events.{joiner};
 ghost use Rattle.floor_room.specs.Replay.{bytes_of};
 ghost use Rattle.floor_hub.specs.Concerned.{waiting};
+ghost use Rattle.floor_hub.specs.Members.{user_of};
 ghost use Rattle.floor_hub.specs.steps.Running.{QueuedIn, first_bytes};
 
-use floor_room::{Parcel, Room};
+use floor_room::{Event, Parcel, Room};
 use floor_wire::Octets;
 use std::alloc::{AllocError, Global};
 use std::collections::VecDeque;
@@ -80,5 +82,37 @@ fn put_whole(parcel: &Parcel, bytes: &mut Vec<u8>) -> Result<(), AllocError>
             bytes.truncate(before);
             Err(AllocError)
         }
+    }
+}
+
+/// The user that joined as n, and None where nobody did.
+pub(crate) fn user_of(events: &[Event], n: u32) -> Option<u16>
+    ensures value { result ≡ user_of events.now n }
+{
+    if n == 0 {
+        return None;
+    }
+    let mut left = n;
+    for event in events {
+        match joiner(event) {
+            Some(user) => {
+                if left == 1 {
+                    return Some(user);
+                }
+                left -= 1;
+            }
+            None => {}
+        }
+    }
+    None
+}
+
+/// The user that joins by an event.
+fn joiner(event: &Event) -> Option<u16>
+    ensures value { result ≡ joiner event.now }
+{
+    match event {
+        Event::Join { user } => Some(*user),
+        _ => None,
     }
 }

@@ -1,17 +1,17 @@
 //! All conferences at once: their rooms and their connections.
 
-ghost use Rattle.std.specs.Prelude.{◌≡◌, ◌++◌, ◌∷◌, [], false, length, ℕ, Err, nat_eq, IfErr, IfNone, IfOk, IfSome, MatchResult, None, OnErr, OnOk, Some};
+ghost use Rattle.std.specs.Prelude.{◌≡◌, ◌++◌, ◌∷◌, [], false, length, ℕ, Err, nat_eq, IfErr, IfNone, IfOk, IfSome, MatchResult, None, Ok, OnErr, OnOk, Some};
 ghost use Rattle.indexmap.specs.IndexMap.{get};
-ghost use Rattle.floor_machine.specs.Conference.{is_cut};
-ghost use Rattle.floor_room.specs.Ledger.{conference_of};
+ghost use Rattle.floor_machine.specs.declared.event.Event.TheVariants.{Took as Takes};
 ghost use Rattle.floor_room.specs.Room.{IsRoom, Room as Kept};
 ghost use Rattle.floor_room.specs.Status.{IsStatus};
 ghost use Rattle.floor_hub.specs.Calls.{Fails, FailsGone, FailsSame, Turns, answer_of};
-ghost use Rattle.floor_hub.specs.Concerned.{Concerns, waiting};
+ghost use Rattle.floor_hub.specs.Concerned.{Concerns, is_cut, waiting};
 ghost use Rattle.floor_hub.specs.Connections.{Puts, SameConnections, StayLive, connection_at};
 ghost use Rattle.floor_hub.specs.Hub.{room_at};
 ghost use Rattle.floor_hub.specs.Left.{LeftAt, LeftLeaving, LeftServing, LeftTaking};
-ghost use Rattle.floor_hub.specs.Rooms.{CutIs, Joins, KeptOf, OneRoom, Opens, RoomOf, SameHub, TakenInto, TakenOf, admin_event, attach_event, by_broken, leave_event, refusal_in, serve_event, took_event};
+ghost use Rattle.floor_hub.specs.Members.{AreMembers, user_of};
+ghost use Rattle.floor_hub.specs.Rooms.{CutIs, IsRefusedIn, Joins, KeptOf, OneRoom, Opens, RoomOf, SameHub, TakenInto, TakenOf, admin_event, attach_event, by_broken, leave_event, refusal_in, serve_event, took_event};
 ghost use Rattle.floor_hub.specs.StandsFor.{StandsFor};
 ghost use Rattle.floor_hub.specs.World.{World, nothing};
 ghost use Rattle.floor_hub.specs.declared.step.Answer.TheVariants.{Attached, Done};
@@ -25,11 +25,11 @@ use crate::attached::{Live, is_shut};
 use crate::concerned::Concerned;
 use crate::connection::{ConnNo, Connection, Place};
 use crate::connections::Connections;
-use crate::gathering::{put_first, queued_to};
+use crate::gathering::{put_first, queued_to, user_of};
 use crate::refusal::HubRefusal;
 use crate::rooms::{admin_at, leave_room, open_at, serve_room, take_room, took_room};
 use crate::step::Served;
-use floor_room::{Act, Config, Parcel, Refusal, Room, RoomRefusal, Status};
+use floor_room::{Act, Config, Event, Parcel, Refusal, Room, RoomRefusal, Status};
 use floor_wire::{Framer, Octets};
 use indexmap::IndexMap;
 use std::alloc::{AllocError, Global};
@@ -38,7 +38,7 @@ use std::marker::Model;
 /// All conferences. A conference is found by its number, a connection by its own; nothing that a
 /// call does grows with the other conferences or connections.
 ///
-/// - Conferences: `open`, `admin`, `status`.
+/// - Conferences: `open`, `admin`; `status`, `journal`, `members` and `user_of` read.
 /// - Connections: `attach`, then `piece` and `serve` as bytes come, `take` as they are sent, `took`
 ///   once they were, and `leave` at the end. Whoever is more than 1,024 parcels behind is cut: it is
 ///   told nothing more, its messages are refused by `Cut`, and `is_cut` tells it.
@@ -199,6 +199,10 @@ impl Hub {
             (λ r. Fails self.new w (Took number k) r) }
         ensures room { RoomOf by_broken (refusal_in result) (took_event k)
             (connection_at self.old.connections number) self.old self.new }
+        ensures refused { (x : Connection) (r : Kept)
+            → connection_at self.old.connections number ≡ Some x
+            → room_at self.old x.conference ≡ Some r
+            → IfErr result (IsRefusedIn (Takes x.n k) r) }
         ensures connections { StayLive self.old.connections self.new.connections }
         ensures left { IfErr result (LeftTaking k
             (connection_at self.old.connections number) self.old self.new) }
@@ -281,9 +285,53 @@ impl Hub {
         }
     }
 
+    /// What happened in a conference so far, in order: the journal of its room, as it has it, so that
+    /// `add_lines` of floor_room gives its text by pieces. Refused by `NoConference`. Takes no memory.
+    pub fn journal(&self, conference: u32) -> Result<&[Event], HubRefusal>
+        ensures no_conference { room_at self.now conference ≡ None
+            → result ≡ Err HubRefusal.NoConference }
+        ensures found { (r : Kept) → room_at self.now conference ≡ Some r
+            → MatchResult result (λ events. events.now ≡ r.ledger.journal) (λ _. ⊥) }
+        ensures kept { (r : Kept) → room_at self.now conference ≡ Some r → IsRoom r }
+    {
+        match self.rooms.get(&conference) {
+            Some(room) => Ok(room.journal()),
+            None => Err(HubRefusal::NoConference),
+        }
+    }
+
+    /// Who is in a conference now: its live connections, by ascending number and so by ascending n.
+    /// Refused by `NoConference`. Takes no memory.
+    pub fn members(&self, conference: u32) -> Result<&[Live], HubRefusal>
+        ensures no_conference { room_at self.now conference ≡ None
+            → result ≡ Err HubRefusal.NoConference }
+        ensures found { (r : Kept) → room_at self.now conference ≡ Some r
+            → MatchResult result (λ live. AreMembers self.now conference live.now) (λ _. ⊥) }
+    {
+        if self.rooms.contains_key(&conference) {
+            Ok(self.concerned.live(conference))
+        } else {
+            Err(HubRefusal::NoConference)
+        }
+    }
+
+    /// The user that joined a conference as n, and None where nobody did, as the journal has it: it is
+    /// read from its start up to that Join. Refused by `NoConference`. Takes no memory.
+    pub fn user_of(&self, conference: u32, n: u32) -> Result<Option<u16>, HubRefusal>
+        ensures no_conference { room_at self.now conference ≡ None
+            → result ≡ Err HubRefusal.NoConference }
+        ensures found { (r : Kept) → room_at self.now conference ≡ Some r
+            → result ≡ Ok (user_of r.ledger.journal n) }
+    {
+        match self.rooms.get(&conference) {
+            Some(room) => Ok(user_of(room.journal(), n)),
+            None => Err(HubRefusal::NoConference),
+        }
+    }
+
     /// Whether the member of a live connection is cut: it came to be more than 1,024 messages behind,
-    /// and is told nothing more. False where no live connection has the number; of one whose
-    /// conference's room is broken off nothing is said. Takes no memory.
+    /// and is told nothing more. False where no live connection has the number, and of one whose
+    /// conference's room is broken off. Takes no memory.
     pub fn is_cut(&self, number: ConnNo) -> bool
         ensures value { CutIs self.now (connection_at self.now.connections number) result }
     {
@@ -607,8 +655,7 @@ fn leave_at(
 /// Whether the member of a connection is cut.
 fn is_cut_at(rooms: &IndexMap<u32, Room>, connection: &Connection) -> bool
     ensures { (r : Kept) → get nat_eq rooms.now connection.now.conference ≡ Some r
-        → r.ledger.is_broken ≡ false
-        → result ≡ is_cut (conference_of r.ledger) connection.now.n }
+        → result ≡ is_cut r connection.now.n }
 {
     match rooms.get(&connection.conference) {
         Some(room) => room.is_cut(connection.n),

@@ -17,6 +17,7 @@ mod running;
 mod step;
 mod transcript;
 
+pub use attached::Live;
 pub use connection::ConnNo;
 pub use floor_room::{
     Act, AddedUser, Config, Event, Floor, Frame, Parcel, Refusal, RoomRefusal, Status, User,

@@ -31,6 +31,7 @@ use Rattle.floor_loop.specs.steps.Changed.{carrying, changed}
 use Rattle.floor_loop.specs.steps.Moved.{AreWoken, IsLoop, KeepsAll, KeepsLive, KeptAt, Moved, Went, loop_of}
 use Rattle.floor_loop.specs.steps.Taken.{Took, TakenFor}
 use Rattle.floor_loop.proofs.Altering.{changed-none, keeps-changed, look-here, look-other}
+use Rattle.floor_loop.proofs.Over.{from-ledgers, over-same}
 use Rattle.floor_loop.proofs.Moving.{moved-on, moved-same, serves-on, steps-none, went-of, went-one, went-same}
 use Rattle.floor_loop.proofs.Taking.{count_in, over-by, takes-one}
 use Rattle.floor_loop.proofs.Stepping.{keeps-live, keeps-refl, left-connections, some-out, stay-same, steps-gone, steps-same, steps-turn, timed-on, went-left, went-none, went-open}
@@ -170,6 +171,7 @@ moved-taken number a b old new stands t = by (lookup (nat_eq number) a.outgoing)
           serving = λ l. (all l).0;
           timed = λ l. (all l).1;
           took = λ l. (all l).2;
+          over = λ d r is. let u = from-ledgers x.conference x.n g.0 old new g.3 d r is in (u.0, u.1, λ n. over-same r u.0 n n u.2 refl);
         }
       where
         counted : (k : ℕ) (parcel : Option Parcel) → k + (if is_some parcel then 1 else 0) ≡ k + count_in parcel

@@ -1,3 +1,4 @@
+pub mod Over
 pub mod Front
 pub mod Moving
 pub mod Taking
@@ -11,3 +12,5 @@ pub mod Waking
 pub mod Due
 pub mod Attaching
 pub mod Calling
+pub mod Sparing
+pub mod Handing

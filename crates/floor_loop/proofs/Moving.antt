@@ -31,6 +31,7 @@ use Rattle.floor_loop.specs.Loop.{Loop, Outgoing, outgoing_at, until_of}
 use Rattle.floor_loop.specs.Done.{AtMost, Each, NoSteps, Reads, Steps, Then}
 use Rattle.floor_loop.specs.Written.{Attends, IsOnItsWay, IsServing, IsTimed, Took, TookNothing, acknowledged, called_for, taken_bytes, written}
 use Rattle.floor_loop.specs.steps.Moved.{Grows, IsLoop, Keeps, KeepsLive, Moved, WasLive, Went}
+use Rattle.floor_loop.proofs.Over.{over-grows}
 use Rattle.floor_loop.proofs.Front.{before, taken-stay, within-more}
 
 some_is : {A : Type 0} (x y : A) → ◌≡◌ {A = Option A} (Some x) (Some y) → x ≡ y
@@ -142,7 +143,7 @@ written-grows r s n rest parcels g h = ap (λ (z : List ℕ). before z rest) (ta
 -- rooms after the calls of a hub
 
 pub grows-same : (r s : Room) → s ≡ r → Grows r s
-grows-same r s e = subst (Grows r) (sym e) (record { config = refl; more = []; journal = sym (append-nil r.ledger.journal); taken = λ n. refl })
+grows-same r s e = subst (Grows r) (sym e) (record { config = refl; more = []; journal = sym (append-nil r.ledger.journal); taken = λ n. refl; broken = λ h. h })
 
 untaken-more : (os ps : List Outbox) (k : ℕ) → QueuesMore os ps → option_map_or (λ o. o.taken) (slice_get ps k) 0 ≡ option_map_or (λ o. o.taken) (slice_get os k) 0
 untaken-more [] [] k h = refl
@@ -165,7 +166,7 @@ adds-some (Some refusal) own old new h = ([], h ∙ sym (append-nil old))
 grows-after : (shut why : Option HubRefusal) (own : List Event) (r s : Room) → RoomAfter shut why own r s → Grows r s
 grows-after shut why own r s a =
     let m = adds-some why own r.ledger.journal s.ledger.journal a.journal in
-    record { config = a.config; more = m.0; journal = m.1; taken = λ n. untaken-at r s n a.outboxes }
+    record { config = a.config; more = m.0; journal = m.1; taken = λ n. untaken-at r s n a.outboxes; broken = λ h. a.broken.1 (inl h) }
 
 pub rooms-one : (shut why : Option HubRefusal) (own : Room → List Event) (c : ℕ) (old new : Hub) → OneRoom shut why own c old new → (d : ℕ) (r : Room) → room_at old d ≡ Some r →
     (s : Room) × (room_at new d ≡ Some s) × Grows r s
@@ -255,6 +256,7 @@ moved-on Are old new steps went keeps timed = record {
   serving = λ l. serves-on old new went keeps l.serving;
   timed = timed;
   took = λ l number. took-on old new number (went.live number) went.rooms (λ y is o. keeps number y o is) l.serving;
+  over = λ c r is. let t = went.rooms c r is in (t.0, t.1, λ n. over-grows r t.0 n t.2);
 }
 
 pub loop-moves : (Are : List Step → Type 0) (old new : Loop) → Moved Are old new → IsLoop old → IsLoop new
@@ -284,6 +286,10 @@ moved-both First Next a b c f g = record {
   serving = λ l. g.serving (loop-moves First a b f l);
   timed = λ l. g.timed (loop-moves First a b f l);
   took = λ l number. took-both a b c number [] [] 0 0 (g.live number) (f.serving l) (f.took l number) (g.took (loop-moves First a b f l) number);
+  over = λ c r is.
+      let s = f.over c r is in
+      let t = g.over c s.0 s.1 in
+      (t.0, t.1, λ n h. t.2 n (s.2 n h));
 }
   where
     live : (number : ℕ) (z : Connection) → connection_at c.hub.connections number ≡ Some z → WasLive a.hub number z
@@ -293,7 +299,7 @@ moved-both First Next a b c f g = record {
         record { connection = x.connection; live = x.live; conference = y.conference ∙ x.conference; n = y.n ∙ x.n }
 
 pub moved-of : (Are Others : List Step → Type 0) (a b : Loop) → ((steps : List Step) → Are steps → Others steps) → Moved Are a b → Moved Others a b
-moved-of Are Others a b f m = record { steps = steps-of Are Others a.hub b.hub f m.steps; live = m.live; serving = m.serving; timed = m.timed; took = m.took }
+moved-of Are Others a b f m = record { steps = steps-of Are Others a.hub b.hub f m.steps; live = m.live; serving = m.serving; timed = m.timed; took = m.took; over = m.over }
 
 -- a move behind one without steps, and before one
 pub moved-behind : (Are : List Step → Type 0) (a b c : Loop) → Moved NoSteps a b → Moved Are b c → Moved Are a c

@@ -1,9 +1,7 @@
 -- Whoever is woken, and whoever isn't.
 use Rattle.std.proofs.Common.{◌≡◌, ◌≢◌, ◌⊎◌, inl, inr, ℕ, Bool, true, false, refl, ap, subst, sym, ◌∙◌, Some}
-use Rattle.std.specs.Prelude.{Option, ◌&&◌, ◌||◌, ◌↔◌, not, nat_eq}
+use Rattle.std.specs.Prelude.{Option, ◌||◌, ◌↔◌, not, nat_eq}
 use Rattle.std.proofs.lemmas.Bool.Decides.{eqb_tells}
-use Rattle.floor_machine.specs.Conference.{is_cut as machine_is_cut}
-use Rattle.floor_room.specs.Ledger.{conference_of}
 use Rattle.floor_room.specs.Status.{phase_of}
 use Rattle.floor_room.specs.declared.status.Phase.TheVariants.{Running, Ended, Broken}
 use Rattle.floor_room.specs.Room.{Room}
@@ -12,17 +10,17 @@ use Rattle.floor_hub.specs.Rooms.{CutIs}
 use Rattle.floor_loop.specs.Written.{IsOver}
 use Rattle.floor_hub.specs.declared.connection.Connection.{Connection}
 use Rattle.floor_hub.specs.Hub.{Hub, room_at}
-use Rattle.floor_loop.specs.Loop.{Attended, Outgoing, outgoing_in, until_of}
+use Rattle.floor_loop.specs.Loop.{Attended, Outgoing, outgoing_in}
 use Rattle.floor_loop.specs.steps.Moved.{IsSpared, KeepsAll}
 use Rattle.floor_loop.proofs.Stepping.{kept-some, some-out}
 
 -- a call that changes one connection spares each other
-pub spared-at : {P : Type 0} (number k : ℕ) (o p : Outgoing) (g : ℕ → Option Outgoing) → (nat_eq number k ≡ false → g k ≡ Some o) → g k ≡ Some p → (number ≡ k → (until_of p ≡ until_of o) ⊎ P) → (until_of p ≡ until_of o) ⊎ P
+pub spared-at : {P : Type 0} (number k : ℕ) (o p : Outgoing) (g : ℕ → Option Outgoing) → (nat_eq number k ≡ false → g k ≡ Some o) → g k ≡ Some p → (number ≡ k → (p.ends ≡ o.ends) ⊎ P) → (p.ends ≡ o.ends) ⊎ P
 spared-at {P} number k o p g others is same = by (eqb_tells number k)
   where
-    by : (((nat_eq number k ≡ true) × (number ≡ k)) ⊎ ((nat_eq number k ≡ false) × (number ≢ k))) → (until_of p ≡ until_of o) ⊎ P
+    by : (((nat_eq number k ≡ true) × (number ≡ k)) ⊎ ((nat_eq number k ≡ false) × (number ≢ k))) → (p.ends ≡ o.ends) ⊎ P
     by (inl t) = same t.1
-    by (inr t) = inl (ap until_of (some-out p o (sym is ∙ others t.0)))
+    by (inr t) = inl (ap (λ (z : Outgoing). z.ends) (some-out p o (sym is ∙ others t.0)))
 
 -- one after another
 pub spared-both : (hub : Hub) (a b c : Attended) (k : ℕ) → KeepsAll (outgoing_in a) (outgoing_in b) → IsSpared hub a b k → IsSpared hub b c k → IsSpared hub a c k
@@ -34,22 +32,14 @@ spared-both hub a b c k keeps f g x r o q is_x is_r is_o is_q conference =
     ]
 
 pub spared-refl : (hub : Hub) (a : Attended) (k : ℕ) → IsSpared hub a a k
-spared-refl hub a k x r o p is_x is_r is_o is_p conference = inl (ap until_of (some-out p o (sym is_p ∙ is_o)))
+spared-refl hub a k x r o p is_x is_r is_o is_p conference = inl (ap (λ (z : Outgoing). z.ends) (some-out p o (sym is_p ∙ is_o)))
 
 not_true : false ≡ true → ⊥
 not_true e = cc
 
--- an open room is whole
-whole-of : (a b : Bool) → (a || b) ≡ false → a ≡ false
-whole-of true b e = e
-whole-of false b e = refl
-
 -- of an open room's member nothing more is told to it if it is cut
-pub over-is : (r : Room) (n : ℕ) (b : Bool) → is_shut r ≡ false → (r.ledger.is_broken ≡ false → b ≡ machine_is_cut (conference_of r.ledger) n) → (b ≡ true) ↔ IsOver r n
-over-is r n b opened cut =
-    let whole : r.ledger.is_broken ≡ false = whole-of r.ledger.is_broken (not (conference_of r.ledger).is_open) opened in
-    let same : is_cut r n ≡ b = ap (λ (z : Bool). not z && machine_is_cut (conference_of r.ledger) n) whole ∙ sym (cut whole) in
-    (λ e. inl (same ∙ e), λ over. by same over)
+pub over-is : (r : Room) (n : ℕ) (b : Bool) → is_shut r ≡ false → b ≡ is_cut r n → (b ≡ true) ↔ IsOver r n
+over-is r n b opened cut = (λ e. inl (sym cut ∙ e), λ over. by (sym cut) over)
   where
     by : is_cut r n ≡ b → IsOver r n → b ≡ true
     by same (inl h) = sym same ∙ h
@@ -60,7 +50,7 @@ pub shut-is : (r : Room) (n : ℕ) (b : Bool) → b ≡ true → is_shut r ≡ t
 shut-is r n b e shut = (λ h. inr shut, λ over. e)
 
 -- whether a live connection's member is cut
-pub cut-of : (h : Hub) (z : Option Connection) (x : Connection) (b : Bool) → CutIs h z b → z ≡ Some x → (r : Room) → room_at h x.conference ≡ Some r → r.ledger.is_broken ≡ false → b ≡ machine_is_cut (conference_of r.ledger) x.n
+pub cut-of : (h : Hub) (z : Option Connection) (x : Connection) (b : Bool) → CutIs h z b → z ≡ Some x → (r : Room) → room_at h x.conference ≡ Some r → b ≡ is_cut r x.n
 cut-of h z x b c e = let t : CutIs h (Some x) b = subst (λ (y : Option Connection). CutIs h y b) e c in t
 
 -- what the phase of a room says

@@ -38,6 +38,10 @@ pub record Then (First Next : List Step → Type 0) (steps : List Step) : Type 0
 abbrev pub Reads : ℕ → List ℕ → ℕ → List Step → Type 0
 Reads number bytes most = Then (AtMost 1 (Piece number bytes)) (AtMost most (Serve number))
 
+-- these bytes have come from the connection, and so many of its messages at most are served then
+abbrev pub Hands : ℕ → List ℕ → ℕ → List Step → Type 0
+Hands number bytes most = Then (λ steps. steps ≡ Piece number bytes ∷ []) (AtMost most (Serve number))
+
 -- none
 abbrev pub NoSteps : List Step → Type 0
 NoSteps steps = steps ≡ []

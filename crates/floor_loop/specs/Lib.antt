@@ -3,5 +3,6 @@ pub mod Loop
 pub mod Written
 pub mod Done
 pub mod Laws
+pub mod Examples
 -- the steps of the proofs
 pub mod steps

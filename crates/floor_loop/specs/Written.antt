@@ -1,13 +1,15 @@
 -- What the socket of a connection took, and what is still on its way: together they are what was taken from its conference's room.
-use Rattle.std.specs.Prelude.{◌≡◌, ◌⊎◌, ◌≤◌, ◌+◌, ◌-◌, ◌++◌, ◌∷◌, ℕ, List, [], length, take, true, Some, None, IsSome}
+use Rattle.std.specs.Prelude.{◌≡◌, ◌⊎◌, ◌≤◌, ◌+◌, ◌-◌, ◌++◌, ◌∷◌, ℕ, List, [], length, take, true, is_some, Some, None, IsSome}
+use Rattle.floor_machine.specs.declared.event.Event.TheVariants as Event
 use Rattle.floor_machine.specs.Journal.{Q}
 use Rattle.floor_machine.specs.Parcel.{Parcel}
+use Rattle.floor_room.specs.Ledger.{refusal}
 use Rattle.floor_room.specs.Replay.{bytes_of}
 use Rattle.floor_room.specs.Room.{Room, parcels_to}
 use Rattle.floor_hub.specs.declared.connection.Connection.{Connection}
 use Rattle.floor_hub.specs.Concerned.{IsLeftAlone, is_cut, is_shut}
 use Rattle.floor_hub.specs.Connections.{connection_at}
-use Rattle.floor_hub.specs.Hub.{room_at}
+use Rattle.floor_hub.specs.Hub.{Hub, room_at}
 use Rattle.floor_hub.specs.Rooms.{taken_of}
 use Rattle.floor_loop.specs.Loop.{Loop, Outgoing, outgoing_at, until_of}
 
@@ -90,3 +92,22 @@ IsAwakened old new number =
 -- so each
 abbrev pub Wakes : Loop → Loop → Type 0
 Wakes old new = (number : ℕ) → IsAwakened old new number
+
+-- The room has the acknowledgement of so many parcels to n behind its journal; or it refuses it; or memory was refused for it, and the room is broken off.
+abbrev pub IsTaken : Room → Room → ℕ → ℕ → Type 0
+IsTaken r s n parcels = (s.ledger.journal ≡ r.ledger.journal ++ Event.Took n parcels ∷ []) ⊎ ((is_some (refusal r.ledger (Event.Took n parcels)) ≡ true) ⊎ (s.ledger.is_broken ≡ true))
+
+-- the hub was asked for the acknowledgement of so many parcels to a live connection
+abbrev pub Acknowledges : ℕ → ℕ → Hub → Hub → Type 0
+Acknowledges number parcels old new =
+    (x : Connection) (r : Room) → connection_at old.connections number ≡ Some x → room_at old x.conference ≡ Some r → (s : Room) × (room_at new x.conference ≡ Some s) × IsTaken r s x.n parcels
+
+-- By when a connection that was live and stays so is to be shut down, but for a failed socket, is what it was; or nothing more is told to it now.
+abbrev pub IsSparedOrOver : Loop → Loop → ℕ → Type 0
+IsSparedOrOver old new number =
+    (x y : Connection) (s : Room) (o p : Outgoing) → connection_at old.hub.connections number ≡ Some x → connection_at new.hub.connections number ≡ Some y → room_at new.hub y.conference ≡ Some s →
+    outgoing_at old number ≡ Some o → outgoing_at new number ≡ Some p → (p.ends ≡ o.ends) ⊎ IsOver s y.n
+
+-- so each
+abbrev pub Spares : Loop → Loop → Type 0
+Spares old new = (number : ℕ) → IsSparedOrOver old new number

@@ -1,5 +1,6 @@
 //! The law of loops. It is the contract of a function that does nothing.
 
+ghost use Rattle.floor_loop.specs.Examples.{HelloIsWritten};
 ghost use Rattle.floor_loop.specs.Laws.{WrittenIsCalledFor};
 
 use floor_hub::conference_alone;
@@ -13,3 +14,9 @@ pub fn written_is_called_for()
 {
     conference_alone();
 }
+
+/// One run, computed: a Hello is served in one of two conferences, its answer is written in two parts,
+/// between which the other conference closes, and acknowledged behind the second.
+pub fn hello_is_written()
+    ensures { HelloIsWritten }
+{}

@@ -1,21 +1,23 @@
 //! A loop: a hub, and what is on its way to each of its connections.
 
-ghost use Rattle.std.specs.Prelude.{◌≡◌, ◌≤◌, ◌<◌, ℕ, [], Err, IfNone, IfOk, IfSome, IsSome, MatchResult, None, OnErr, Some, drop, false, length, max, nat_eq, take};
+ghost use Rattle.std.specs.Prelude.{◌≡◌, ◌≢◌, ◌≤◌, ◌<◌, ℕ, [], Err, IfNone, IfOk, IfSome, IsSome, MatchResult, None, Ok, OnErr, OnOk, Some, drop, false, length, max, nat_eq, take};
 ghost use Rattle.floor_hub.specs.Connections.{connection_at};
 ghost use Rattle.floor_hub.specs.Hub.{room_at};
+ghost use Rattle.floor_hub.specs.Members.{AreMembers, user_of};
+ghost use Rattle.floor_hub.specs.Rooms.{CutIs, Joins, OneRoom, Opens, admin_event, by_broken, refusal_in};
 ghost use Rattle.floor_hub.specs.declared.connection.Connection.{Connection};
 ghost use Rattle.floor_hub.specs.declared.step.Step.TheVariants.{Admin, Attach, Leave, Open, Serve, Took as Takes};
 ghost use Rattle.floor_room.specs.Room.{Room};
 ghost use Rattle.floor_room.specs.Status.{IsStatus};
 ghost use Rattle.floor_loop.specs.Loop.{HasFailed, IsEnded, outgoing_at, parcels_at, ready_at, rest_at, until_at};
-ghost use Rattle.floor_loop.specs.Done.{AtMost, Each, NoSteps, Reads, Steps};
-ghost use Rattle.floor_loop.specs.Written.{Follow, IsOver, Took, TookNothing, Wakes, acknowledged_by};
+ghost use Rattle.floor_loop.specs.Done.{AtMost, Each, Hands, NoSteps, Reads, Steps};
+ghost use Rattle.floor_loop.specs.Written.{Acknowledges, Follow, IsOver, IsSparedOrOver, Spares, Took, TookNothing, Wakes, acknowledged_by};
 ghost use Rattle.floor_loop.specs.steps.Moved.{IsLoop, loop_of};
 
 use crate::attended::Attended;
 use crate::changing::MAX_WRITE;
 use crate::turn::{acknowledge, attach, end, fail, fill, leave_from, read_turn, serve_turn, wake};
-use floor_hub::{Act, Config, ConnNo, Hub, HubRefusal, Status};
+use floor_hub::{Act, Config, ConnNo, Event, Hub, HubRefusal, Live, Status};
 use std::alloc::Global;
 use std::marker::Model;
 
@@ -28,7 +30,7 @@ const MAX_LEFT: u32 = 4_294_967_295;
 /// A hub, and what is on its way to each of its connections. Times are milliseconds; one that is earlier
 /// than the last counts as the last.
 ///
-/// - Conferences: `open`, `admin`, `status`.
+/// - Conferences: `open`, `admin`; `status`, `journal`, `members` and `user_of` read.
 /// - Connections: `attach`; `read` as bytes come, and again without bytes while it says that more
 ///   wait; `ended` and `failed` at the end of the stream and of the socket; `leave` once the
 ///   connection is shut down.
@@ -72,6 +74,7 @@ impl Loop {
     pub fn open(&mut self, alloc: Global, config: Config) -> Result<(), HubRefusal>
         ensures steps { Steps (AtMost 1 (Open config)) self.old.hub self.new.hub }
         ensures took { TookNothing self.old self.new }
+        ensures opened { OnOk result (Opens config self.old.hub self.new.hub) }
         ensures attended { self.new.attended ≡ self.old.attended }
     {
         self.hub.open(alloc, config)
@@ -89,9 +92,12 @@ impl Loop {
         ensures steps { Steps (AtMost 1 (Attach conference user)) self.old.hub self.new.hub }
         ensures took { TookNothing self.old self.new }
         ensures woke { Wakes self.old self.new }
+        ensures spares { Spares self.old self.new }
         ensures found { IfOk result (λ number. (x : Connection)
             × (connection_at self.new.hub.connections number ≡ Some x)
             × (x.conference ≡ conference)) }
+        ensures joined { IfOk result (λ number. Joins conference number
+            self.old.hub self.new.hub) }
         ensures ready { IfOk result (λ number. IsSome (ready_at self.new number)) }
     {
         self.attended.pass(now);
@@ -108,14 +114,60 @@ impl Loop {
         self.hub.status(conference)
     }
 
+    /// What happened in a conference so far, as the hub lends it. Refused by `NoConference`. Takes no
+    /// memory.
+    pub fn journal(&self, conference: u32) -> Result<&[Event], HubRefusal>
+        ensures no_conference { room_at self.now.hub conference ≡ None
+            → result ≡ Err HubRefusal.NoConference }
+        ensures found { (r : Room) → room_at self.now.hub conference ≡ Some r
+            → MatchResult result (λ events. events.now ≡ r.ledger.journal) (λ _. ⊥) }
+    {
+        self.hub.journal(conference)
+    }
+
+    /// Who is in a conference now: its live connections, as the hub lends them. Refused by
+    /// `NoConference`. Takes no memory.
+    pub fn members(&self, conference: u32) -> Result<&[Live], HubRefusal>
+        ensures no_conference { room_at self.now.hub conference ≡ None
+            → result ≡ Err HubRefusal.NoConference }
+        ensures found { (r : Room) → room_at self.now.hub conference ≡ Some r
+            → MatchResult result (λ live. AreMembers self.now.hub conference live.now) (λ _. ⊥) }
+    {
+        self.hub.members(conference)
+    }
+
+    /// The user that joined a conference as n, and None where nobody did, as the hub tells it. Refused by
+    /// `NoConference`. Takes no memory.
+    pub fn user_of(&self, conference: u32, n: u32) -> Result<Option<u16>, HubRefusal>
+        ensures no_conference { room_at self.now.hub conference ≡ None
+            → result ≡ Err HubRefusal.NoConference }
+        ensures found { (r : Room) → room_at self.now.hub conference ≡ Some r
+            → result ≡ Ok (user_of r.ledger.journal n) }
+    {
+        self.hub.user_of(conference, n)
+    }
+
+    /// Whether the member of a live connection is cut, as the hub tells it. False where no live connection has
+    /// the number, and of one whose conference's room is broken off. Takes no memory.
+    pub fn is_cut(&self, number: ConnNo) -> bool
+        ensures value { CutIs self.now.hub (connection_at self.now.hub.connections number) result }
+    {
+        self.hub.is_cut(number)
+    }
+
     /// Takes bytes that came from a connection, serves its whole messages, 64 at most, and says whether
     /// more may wait. Refused as the hub refuses the bytes or a message; where it refuses a message the
     /// connection is to be shut down.
     pub fn read(&mut self, number: ConnNo, bytes: &[u8], now: u64) -> Result<bool, HubRefusal>
         ensures steps { Steps (Reads number bytes.now 64) self.old.hub self.new.hub }
+        ensures handed { OnOk result
+            (Steps (Hands number bytes.now 64) self.old.hub self.new.hub) }
         ensures took { TookNothing self.old self.new }
         ensures woke { Wakes self.old self.new }
         ensures refused { OnErr result (IsEnded self.new.attended number) }
+        ensures spares { OnOk result (Spares self.old self.new) }
+        ensures others { (k : ℕ) → nat_eq number k ≡ false
+            → IsSparedOrOver self.old self.new k }
     {
         self.attended.pass(now);
         read_turn(&mut self.hub, &mut self.attended, number, bytes, MAX_TURN)
@@ -124,8 +176,11 @@ impl Loop {
     /// Does what the administrator of a conference does, as the hub does.
     pub fn admin(&mut self, conference: u32, act: Act, now: u64) -> Result<(), HubRefusal>
         ensures steps { Steps (AtMost 1 (Admin conference act)) self.old.hub self.new.hub }
+        ensures room { OneRoom by_broken (refusal_in result) (admin_event act) conference
+            self.old.hub self.new.hub }
         ensures took { TookNothing self.old self.new }
         ensures woke { Wakes self.old self.new }
+        ensures spares { Spares self.old self.new }
     {
         self.attended.pass(now);
         let done = self.hub.admin(conference, act);
@@ -160,7 +215,8 @@ impl Loop {
         ensures none { IfNone result ((number : ℕ) → ready_at self.old number ≡ None) }
         ensures given { IfSome result (λ number. ready_at self.new number ≡ None) }
         ensures others { IfSome result (λ number. (k : ℕ) → nat_eq number k ≡ false
-            → ready_at self.new k ≡ ready_at self.old k) }
+            → outgoing_at self.new k ≡ outgoing_at self.old k) }
+        ensures spares { Spares self.old self.new }
     {
         match self.attended.next_ready() {
             Some(number) => {
@@ -183,6 +239,10 @@ impl Loop {
         ensures others { (k : ℕ) → nat_eq number k ≡ false → Took self.old self.new k [] 0 }
         ensures whole { count < length (rest_at self.old number)
             → self.new.hub ≡ self.old.hub }
+        ensures acknowledged { drop count (rest_at self.old number) ≡ []
+            → parcels_at self.old number ≢ 0
+            → Acknowledges number (parcels_at self.old number) self.old.hub self.new.hub }
+        ensures spares { Spares self.old self.new }
     {
         self.attended.pass(now);
         match self.attended.advance(number, count) {
@@ -197,6 +257,8 @@ impl Loop {
         ensures steps { Steps (Each (Serve number)) self.old.hub self.new.hub }
         ensures took { TookNothing self.old self.new }
         ensures woke { Wakes self.old self.new }
+        ensures others { (k : ℕ) → nat_eq number k ≡ false
+            → IsSparedOrOver self.old self.new k }
         ensures ended { IsEnded self.new.attended number }
     {
         self.attended.pass(now);
@@ -210,6 +272,8 @@ impl Loop {
         ensures steps { Steps (Each (Serve number)) self.old.hub self.new.hub }
         ensures took { TookNothing self.old self.new }
         ensures woke { Wakes self.old self.new }
+        ensures others { (k : ℕ) → nat_eq number k ≡ false
+            → IsSparedOrOver self.old self.new k }
         ensures failed { HasFailed self.new.attended number }
     {
         self.attended.pass(now);
@@ -222,7 +286,9 @@ impl Loop {
         ensures steps { Steps (AtMost 1 (Leave number)) self.old.hub self.new.hub }
         ensures took { TookNothing self.old self.new }
         ensures woke { Wakes self.old self.new }
+        ensures spares { Spares self.old self.new }
         ensures gone { outgoing_at self.new number ≡ None }
+        ensures left { connection_at self.new.hub.connections number ≡ None }
     {
         self.attended.pass(now);
         leave_from(&mut self.hub, &mut self.attended, number)

@@ -5,12 +5,13 @@ ghost use Rattle.floor_room.specs.Room.{Room};
 ghost use Rattle.floor_hub.specs.Concerned.{is_shut};
 ghost use Rattle.floor_hub.specs.Connections.{connection_at};
 ghost use Rattle.floor_hub.specs.Hub.{room_at};
+ghost use Rattle.floor_hub.specs.Rooms.{Joins};
 ghost use Rattle.floor_hub.specs.declared.connection.Connection.{Connection};
 ghost use Rattle.floor_hub.specs.declared.step.Step.TheVariants.{Attach, Leave, Serve, Took};
 ghost use Rattle.floor_loop.specs.Loop.{HasFailed, IsEnded, Outgoing as Way, outgoing_in};
-ghost use Rattle.floor_loop.specs.Done.{AtMost, NoSteps, Reads, Steps};
-ghost use Rattle.floor_loop.specs.Written.{IsOver, IsServing, IsTimed, TookNothing, Wakes};
-ghost use Rattle.floor_loop.specs.steps.Moved.{AreWoken, IsLoop, IsSpared, IsWoken, KeepsAll, Moved, loop_of};
+ghost use Rattle.floor_loop.specs.Done.{AtMost, Hands, NoSteps, Reads, Steps};
+ghost use Rattle.floor_loop.specs.Written.{Acknowledges, IsOver, IsServing, IsSparedOrOver, IsTimed, Spares, TookNothing, Wakes};
+ghost use Rattle.floor_loop.specs.steps.Moved.{AreWoken, IsLoop, IsSpared, IsWoken, KeepsAll, Moved, SameEnds, SameLedgers, loop_of};
 
 use crate::attended::Attended;
 use crate::changing::MAX_PARCELS;
@@ -32,9 +33,12 @@ pub(crate) fn attach(
         × TookNothing (loop_of hub.old attended.old) (loop_of hub.new attended.new) }
     ensures woke { IsLoop (loop_of hub.old attended.old)
         → Wakes (loop_of hub.old attended.old) (loop_of hub.new attended.new) }
+    ensures spares { IsLoop (loop_of hub.old attended.old)
+        → Spares (loop_of hub.old attended.old) (loop_of hub.new attended.new) }
     ensures found { IfOk result (λ number. (x : Connection)
         × (connection_at hub.new.connections number ≡ Some x)
         × (x.conference ≡ conference)) }
+    ensures joined { IfOk result (λ number. Joins conference number hub.old hub.new) }
     ensures ready { IfOk result (λ number. (o : Way)
         × (outgoing_in attended.new number ≡ Some o) × IsSome o.ready) }
 {
@@ -63,9 +67,14 @@ pub(crate) fn read_turn(
 ) -> Result<bool, HubRefusal>
     ensures moved { Moved (Reads number bytes.now turns) (loop_of hub.old attended.old)
         (loop_of hub.new attended.new) }
+    ensures handed { OnOk result (Steps (Hands number bytes.now turns) hub.old hub.new) }
     ensures woke { IsLoop (loop_of hub.old attended.old)
         → Wakes (loop_of hub.old attended.old) (loop_of hub.new attended.new) }
     ensures refused { OnErr result (IsEnded attended.new number) }
+    ensures spares { IsLoop (loop_of hub.old attended.old) → OnOk result
+        (Spares (loop_of hub.old attended.old) (loop_of hub.new attended.new)) }
+    ensures others { IsLoop (loop_of hub.old attended.old) → (k : ℕ) → nat_eq number k ≡ false
+        → IsSparedOrOver (loop_of hub.old attended.old) (loop_of hub.new attended.new) k }
 {
     match hub.piece(number, bytes) {
         Ok(()) => {}
@@ -89,6 +98,10 @@ pub(crate) fn serve_turn(
     ensures woke { IsLoop (loop_of hub.old attended.old)
         → Wakes (loop_of hub.old attended.old) (loop_of hub.new attended.new) }
     ensures refused { OnErr result (IsEnded attended.new number) }
+    ensures spares { IsLoop (loop_of hub.old attended.old) → OnOk result
+        (Spares (loop_of hub.old attended.old) (loop_of hub.new attended.new)) }
+    ensures others { IsLoop (loop_of hub.old attended.old) → (k : ℕ) → nat_eq number k ≡ false
+        → IsSparedOrOver (loop_of hub.old attended.old) (loop_of hub.new attended.new) k }
 {
     for _turn in 0..turns {
         match serve_one(hub, attended, number) {
@@ -108,7 +121,10 @@ fn serve_one(hub: &mut Hub, attended: &mut Attended, number: ConnNo) -> Result<S
     ensures woke { IsLoop (loop_of hub.old attended.old)
         → Wakes (loop_of hub.old attended.old) (loop_of hub.new attended.new) }
     ensures refused { OnErr result (IsEnded attended.new number) }
-    ensures spared { OnOk result ((k : ℕ) → IsSpared hub.new attended.old attended.new k) }
+    ensures spares { IsLoop (loop_of hub.old attended.old) → OnOk result
+        (Spares (loop_of hub.old attended.old) (loop_of hub.new attended.new)) }
+    ensures others { IsLoop (loop_of hub.old attended.old) → (k : ℕ) → nat_eq number k ≡ false
+        → IsSparedOrOver (loop_of hub.old attended.old) (loop_of hub.new attended.new) k }
 {
     let served = hub.serve(number);
     wake(hub, attended);
@@ -180,8 +196,11 @@ fn is_shut(hub: &Hub, conference: u32) -> bool
 
 /// Acknowledges so many parcels to a connection, and takes the next ones from the hub.
 pub(crate) fn acknowledge(hub: &mut Hub, attended: &mut Attended, number: ConnNo, parcels: u32)
-    ensures { Moved (AtMost 1 (Took number parcels)) (loop_of hub.old attended.old)
+    ensures moved { Moved (AtMost 1 (Took number parcels)) (loop_of hub.old attended.old)
         (loop_of hub.new attended.new) }
+    ensures acknowledged { Acknowledges number parcels hub.old hub.new }
+    ensures spares { IsLoop (loop_of hub.old attended.old)
+        → Spares (loop_of hub.old attended.old) (loop_of hub.new attended.new) }
 {
     let _acknowledged = hub.took(number, parcels);
     wake(hub, attended);
@@ -203,6 +222,8 @@ pub(crate) fn end(attended: &mut Attended, number: ConnNo)
 pub(crate) fn fail(attended: &mut Attended, number: ConnNo)
     ensures kept { KeepsAll (outgoing_in attended.old) (outgoing_in attended.new) }
     ensures failed { HasFailed attended.new number }
+    ensures others { (k : ℕ) → nat_eq number k ≡ false
+        → outgoing_in attended.new k ≡ outgoing_in attended.old k }
 {
     attended.fail(number);
     attended.wake(number);
@@ -218,7 +239,10 @@ pub(crate) fn leave_from(
         (loop_of hub.new attended.new) }
     ensures woke { IsLoop (loop_of hub.old attended.old)
         → Wakes (loop_of hub.old attended.old) (loop_of hub.new attended.new) }
+    ensures spares { IsLoop (loop_of hub.old attended.old)
+        → Spares (loop_of hub.old attended.old) (loop_of hub.new attended.new) }
     ensures gone { outgoing_in attended.new number ≡ None }
+    ensures left { connection_at hub.new.connections number ≡ None }
 {
     let left = hub.leave(number);
     attended.remove(number);
@@ -232,6 +256,10 @@ pub(crate) fn fill(hub: &mut Hub, attended: &mut Attended, number: ConnNo)
     ensures moved { Moved NoSteps (loop_of hub.old attended.old) (loop_of hub.new attended.new) }
     ensures ready { (k : ℕ) → option_and_then (λ o. o.ready) (outgoing_in attended.new k)
         ≡ option_and_then (λ o. o.ready) (outgoing_in attended.old k) }
+    ensures others { (k : ℕ) → nat_eq number k ≡ false
+        → outgoing_in attended.new k ≡ outgoing_in attended.old k }
+    ensures ends { SameEnds attended.old attended.new }
+    ensures ledgers { SameLedgers hub.old hub.new }
 {
     for _turn in 0..MAX_PARCELS {
         match attended.take_one(hub, number) {

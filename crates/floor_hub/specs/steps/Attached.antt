@@ -13,6 +13,7 @@ use Rattle.floor_hub.specs.Connections.{connection_at}
 use Rattle.floor_hub.specs.Hub.{Hub, room_at}
 use Rattle.floor_hub.specs.StandsFor.{Stood}
 use Rattle.floor_hub.specs.Concerned.{AscendFrom, is_cut, is_shut}
+pub use Rattle.floor_hub.specs.Members.{EachOf, IsKnown, Stands}
 
 -- the live connections of each conference, and whom the last call concerned
 pub record Concerned : Type 0 where
@@ -98,25 +99,11 @@ pub record NamedIn (was_shut : Bool) (s : Room) (told : List ℕ) (live after : 
   pub marked : after ≡ map (marked cut) live
   pub names : Names numbers (is_named was_shut (is_shut s) told cut) live
 
--- under this number, and as n, a connection stands there
-abbrev pub Stands : List Live → ℕ → ℕ → Type 0
-Stands [] number n = ⊥
-Stands (l ∷ live) number n = ((l.number ≡ number) × (l.n ≡ n)) ⊎ Stands live number n
-
 -- Each live connection stands in the list of its conference, and nobody else.
 pub record AreAttached (lists : ℕ → List Live) (connections : ℕ → Option Connection) : Type 0 where
   pub found : (number : ℕ) (x : Connection) → connections number ≡ Some x → Stands (lists x.conference) number x.n
   pub live : (conference number n : ℕ) → Stands (lists conference) number n →
       (x : Connection) × (connections number ≡ Some x) × (x.conference ≡ conference) × (x.n ≡ n)
-
--- the fact holds of each connection
-abbrev pub EachOf : (Live → Type 0) → List Live → Type 0
-EachOf P [] = Unit {0}
-EachOf P (l ∷ live) = P l × EachOf P live
-
--- of a connection it is known whether its member is cut, while its conference is open and its room isn't broken off
-abbrev pub IsKnown : Room → Live → Type 0
-IsKnown r l = is_shut r ≡ false → l.is_cut ≡ is_cut r l.n
 
 -- the same of each live connection
 abbrev pub AreKnown : (ℕ → Option Room) → (ℕ → List Live) → Type 0

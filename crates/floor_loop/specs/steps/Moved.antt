@@ -1,5 +1,5 @@
 -- How a loop moves on from call to call.
-use Rattle.std.specs.Prelude.{◌≡◌, ◌⊎◌, ℕ, List, ◌++◌, Option, Some, None, IsSome}
+use Rattle.std.specs.Prelude.{◌≡◌, ◌⊎◌, ℕ, List, ◌++◌, true, Option, Some, None, IsSome, option_and_then}
 use Rattle.std.specs.List.{Contains}
 use Rattle.floor_machine.specs.declared.event.Event.{Event}
 use Rattle.floor_room.specs.Room.{Room}
@@ -28,6 +28,10 @@ pub record WasLive (old : Hub) (number : ℕ) (y : Connection) : Type 0 where
   pub conference : y.conference ≡ connection.conference
   pub n : y.n ≡ connection.n
 
+-- there is each room still, and to whom nothing more was told in it nothing more is told
+abbrev pub OverStays : Hub → Hub → Type 0
+OverStays old new = (c : ℕ) (r : Room) → room_at old c ≡ Some r → (s : Room) × (room_at new c ≡ Some s) × ((n : ℕ) → IsOver r n → IsOver s n)
+
 -- such steps were done, nobody has come, each connection is attended to, and no socket took anything
 pub record Moved (Are : List Step → Type 0) (old new : Loop) : Type 0 where
   pub steps : Steps Are old.hub new.hub
@@ -35,13 +39,15 @@ pub record Moved (Are : List Step → Type 0) (old new : Loop) : Type 0 where
   pub serving : IsLoop old → IsServing new
   pub timed : IsLoop old → IsTimed new
   pub took : IsLoop old → TookNothing old new
+  pub over : OverStays old.hub new.hub
 
--- the journal of a room has grown, if it has changed, and nothing was taken
+-- the journal of a room has grown, if it has changed, nothing was taken, and what is broken off stays so
 pub record Grows (r s : Room) : Type 0 where
   pub config : s.ledger.config ≡ r.ledger.config
   pub more : List Event
   pub journal : s.ledger.journal ≡ r.ledger.journal ++ more
   pub taken : (n : ℕ) → taken_of s n ≡ taken_of r n
+  pub broken : r.ledger.is_broken ≡ true → s.ledger.is_broken ≡ true
 
 -- rooms have grown, and nobody has come
 pub record Went (old new : Hub) : Type 0 where
@@ -81,11 +87,19 @@ pub record IsWoken (hub : Hub) (a : Attended) (number : ℕ) : Type 0 where
 abbrev pub AreWoken : Hub → Attended → Type 0
 AreWoken hub a = (number : ℕ) → Contains hub.concerned number → IsWoken hub a number
 
--- by when a connection is to be shut down is what it was, or nothing more is told to it
+-- by when a connection is to be shut down, but for a failed socket, is what it was, or nothing more is told to it
 abbrev pub IsSpared : Hub → Attended → Attended → ℕ → Type 0
 IsSpared hub old new number =
     (x : Connection) (r : Room) (o p : Outgoing) → connection_at hub.connections number ≡ Some x → room_at hub x.conference ≡ Some r → outgoing_in old number ≡ Some o → outgoing_in new number ≡ Some p → o.conference ≡ x.conference →
-    (until_of p ≡ until_of o) ⊎ IsOver r x.n
+    (p.ends ≡ o.ends) ⊎ IsOver r x.n
+
+-- each room keeps its ledger
+abbrev pub SameLedgers : Hub → Hub → Type 0
+SameLedgers old new = (c : ℕ) (r : Room) → room_at old c ≡ Some r → (s : Room) × (room_at new c ≡ Some s) × (s.ledger ≡ r.ledger)
+
+-- by when each connection is to be shut down, but for a failed socket, is what it was
+abbrev pub SameEnds : Attended → Attended → Type 0
+SameEnds old new = (k : ℕ) → option_and_then (λ o. o.ends) (outgoing_in new k) ≡ option_and_then (λ o. o.ends) (outgoing_in old k)
 
 -- the loop of these
 abbrev pub loop_of : Hub → Attended → Loop

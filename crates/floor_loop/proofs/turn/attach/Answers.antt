@@ -1,9 +1,12 @@
-use Rattle.std.proofs.Common.{ap, subst}
-use Rattle.floor_loop.specs.Loop.{Attended, outgoing_in}
+use Rattle.std.proofs.Common.{Some, ap, subst}
+use Rattle.std.specs.Prelude.{option_and_then}
+use Rattle.floor_loop.specs.Loop.{Attended, Outgoing, outgoing_in}
 use Rattle.floor_loop.specs.steps.Joined.{Adds, Attaches}
 use Rattle.floor_loop.specs.steps.Moved.{AreWoken, loop_of}
 use Rattle.floor_loop.proofs.Attaching.{attached, moved-refused, steps-attached, woke-attached}
 use Rattle.floor_loop.proofs.Calls.{moved-kept}
+use Rattle.floor_loop.proofs.Sparing.{come-spared, come-stay, spared-beside, spares-by, spares-same, stay-in}
+use Rattle.floor_loop.proofs.Waking.{spared-both}
 use Rattle.floor_loop.proofs.Stepping.{keeps-both, keeps-passed, stays-kept, wakes-on, woken-on}
 use Rattle.floor_loop.proofs.turn.attach.Goals as goal
 
@@ -59,3 +62,31 @@ returns-in-Err-joined-clause-woke c = λ l.
     let same = subst (Adds c.args.conference c.args.attended.now c.attach.new.self) c.in-Err-joined.is c.in-Ok.ensures.added in
     let keeps = keeps-both (outgoing_in c.args.attended.now) (outgoing_in c.attach.new.self) (outgoing_in c.wake.new.attended) (keeps-passed c.args.attended.now c.attach.new.self (ap (λ (z : Attended). z.outgoing) same)) c.wake.ensures.kept in
     wakes-on (loop_of c.args.hub.now c.args.attended.now) (loop_of c.attach.new.hub c.wake.new.attended) t.concerned (stays-kept (outgoing_in c.args.attended.now) (outgoing_in c.wake.new.attended) keeps) c.wake.ensures.woken
+
+pub returns-in-Err-clause-spares : goal.returns-in-Err-clause-spares
+returns-in-Err-clause-spares c = λ l.
+    spares-same (loop_of c.args.hub.now c.args.attended.now) (loop_of c.attach.new.hub c.attach.new.self)
+    (λ k. ap (λ (a : Attended). option_and_then (λ (o : Outgoing). o.ends) (outgoing_in a k)) c.in-Err.ensures.left.1)
+
+pub returns-in-Ok-joined-clause-spares : goal.returns-in-Ok-joined-clause-spares
+returns-in-Ok-joined-clause-spares c = λ l.
+    let t = subst (Attaches c.args.conference c.args.user c.args.hub.now c.attach.new.hub) c.in-Ok-joined.is c.in-Ok.ensures.attached in
+    let added = subst (Adds c.args.conference c.args.attended.now c.attach.new.self) c.in-Ok-joined.is c.in-Ok.ensures.added in
+    let n = c.in-Ok-joined.number in
+    spares-by (loop_of c.args.hub.now c.args.attended.now) (loop_of c.attach.new.hub c.wake_one.new.attended) l.serving (come-stay c.args.hub.now c.attach.new.hub n (Some t.joined.connection) t.joined.fresh t.joined.put)
+    (λ k x y is_x is_y. come-spared c.args.hub.now c.attach.new.hub c.args.attended.now c.attach.new.self c.wake_one.new.attended n k x t.joined.fresh is_x added.1
+    (spared-both c.attach.new.hub c.attach.new.self c.wake.new.attended c.wake_one.new.attended k c.wake.ensures.kept (c.wake.ensures.spared k) (c.wake_one.ensures.spared k)))
+
+pub returns-in-Err-joined-clause-spares : goal.returns-in-Err-joined-clause-spares
+returns-in-Err-joined-clause-spares c = λ l.
+    let t = subst (Attaches c.args.conference c.args.user c.args.hub.now c.attach.new.hub) c.in-Err-joined.is c.in-Ok.ensures.attached in
+    let same = subst (Adds c.args.conference c.args.attended.now c.attach.new.self) c.in-Err-joined.is c.in-Ok.ensures.added in
+    let keeps = keeps-both (outgoing_in c.args.attended.now) (outgoing_in c.attach.new.self) (outgoing_in c.wake.new.attended) (keeps-passed c.args.attended.now c.attach.new.self (ap (λ (z : Attended). z.outgoing) same)) c.wake.ensures.kept in
+    let m = moved-refused c.args.conference c.args.user c.args.hub.now c.attach.new.hub c.args.attended.now c.wake.new.attended c.in-Err-joined.refusal t keeps c.wake.ensures.woken in
+    spares-by (loop_of c.args.hub.now c.args.attended.now) (loop_of c.attach.new.hub c.wake.new.attended) l.serving (stay-in c.args.hub.now c.attach.new.hub m.live)
+    (λ k x y is_x is_y. spared-beside c.attach.new.hub c.args.attended.now c.attach.new.self c.wake.new.attended k (ap (λ (a : Attended). outgoing_in a k) same) (c.wake.ensures.spared k))
+
+pub returns-in-Ok-joined-clause-joined : goal.returns-in-Ok-joined-clause-joined
+returns-in-Ok-joined-clause-joined c =
+    let t = subst (Attaches c.args.conference c.args.user c.args.hub.now c.attach.new.hub) c.in-Ok-joined.is c.in-Ok.ensures.attached in
+    t.joined

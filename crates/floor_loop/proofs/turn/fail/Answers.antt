@@ -1,8 +1,10 @@
-use Rattle.std.proofs.Common.{ap}
+use Rattle.std.proofs.Common.{ap, ◌∙◌}
 use Rattle.floor_loop.specs.declared.outgoing.Mark.TheVariants.{Ready, Fails}
 use Rattle.floor_loop.specs.Loop.{Attended, outgoing_in}
+use Rattle.floor_loop.specs.steps.Changed.{marked}
 use Rattle.floor_loop.proofs.Marking.{failed-by, keeps-marked}
 use Rattle.floor_loop.proofs.Stepping.{keeps-both}
+use Rattle.floor_loop.proofs.Writing.{changed-beside}
 use Rattle.floor_loop.proofs.turn.fail.Goals as goal
 
 pub returns : goal.returns
@@ -14,5 +16,6 @@ returns c =
     let next = ap (λ (z : Attended). z.outgoing) c.wake.ensures.next in
     record {
       kept = keeps-both (outgoing_in old) (outgoing_in mid) (outgoing_in new) (keeps-marked Fails old.time c.args.number old mid first) (keeps-marked Ready mid.time c.args.number mid new next);
+      others = λ k ne. changed-beside (marked Ready mid.time) c.args.number mid new next k ne ∙ changed-beside (marked Fails old.time) c.args.number old mid first k ne;
       failed = failed-by mid.time c.args.number mid new next (ap (λ (z : Attended). z.time) c.wake.ensures.next) c.fail.ensures.past;
     }

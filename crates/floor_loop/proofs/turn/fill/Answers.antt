@@ -7,11 +7,13 @@ use Rattle.floor_loop.specs.steps.Moved.{loop_of}
 use Rattle.floor_loop.proofs.Calls.{moved-kept, moved-taken}
 use Rattle.floor_loop.proofs.Marking.{keeps-marked, ready-changed}
 use Rattle.floor_loop.proofs.Moving.{moved-before}
+use Rattle.floor_loop.proofs.Sparing.{ends-changed, ledgers-both, ledgers-same, ledgers-taken}
 use Rattle.floor_loop.proofs.Stepping.{keeps-refl}
+use Rattle.floor_loop.proofs.Writing.{changed-beside}
 use Rattle.floor_loop.proofs.turn.fill.Goals as goal
 
 pub loop-turn-init : goal.loop-turn-init
-loop-turn-init c = (moved-kept (loop_of c.args.hub.now c.args.attended.now) (loop_of c.args.hub.now c.args.attended.now) refl (keeps-refl (outgoing_in c.args.attended.now)), λ k. refl)
+loop-turn-init c = (moved-kept (loop_of c.args.hub.now c.args.attended.now) (loop_of c.args.hub.now c.args.attended.now) refl (keeps-refl (outgoing_in c.args.attended.now)), λ k. refl, λ k. refl, ledgers-same c.args.hub.now c.args.hub.now (λ d. refl), λ k ne. refl)
 
 pub loop-turn-preserved : goal.loop-turn-preserved
 loop-turn-preserved c =
@@ -19,6 +21,9 @@ loop-turn-preserved c =
       moved-before NoSteps (loop_of c.args.hub.now c.args.attended.now) (loop_of c.loop-turn.hub c.loop-turn.attended) (loop_of c.take_one.new.hub c.take_one.new.self) c.loop-turn.invariant.0
           (moved-taken c.args.number c.loop-turn.attended c.take_one.new.self c.loop-turn.hub c.take_one.new.hub c.take_one.ensures.stands t),
       λ k. ready-changed (carrying t.rest t.parcels) c.args.number c.loop-turn.attended c.take_one.new.self t.next (λ o. refl) k ∙ c.loop-turn.invariant.1 k,
+      λ k. ends-changed (carrying t.rest t.parcels) c.args.number c.loop-turn.attended c.take_one.new.self t.next (λ o. refl) k ∙ c.loop-turn.invariant.2 k,
+      ledgers-both c.args.hub.now c.loop-turn.hub c.take_one.new.hub c.loop-turn.invariant.3 (ledgers-taken c.args.number c.loop-turn.attended.outgoing c.take_one.new.self.outgoing c.loop-turn.hub c.take_one.new.hub t),
+      λ k ne. changed-beside (carrying t.rest t.parcels) c.args.number c.loop-turn.attended c.take_one.new.self t.next k ne ∙ c.loop-turn.invariant.4 k ne,
     )
 
 pub returns-in-Ok-false : goal.returns-in-Ok-false
@@ -28,6 +33,9 @@ returns-in-Ok-false c =
       moved = moved-before NoSteps (loop_of c.args.hub.now c.args.attended.now) (loop_of c.loop-turn.hub c.loop-turn.attended) (loop_of c.take_one.new.hub c.take_one.new.self) c.loop-turn.invariant.0
           (moved-taken c.args.number c.loop-turn.attended c.take_one.new.self c.loop-turn.hub c.take_one.new.hub c.take_one.ensures.stands t);
       ready = λ k. ready-changed (carrying t.rest t.parcels) c.args.number c.loop-turn.attended c.take_one.new.self t.next (λ o. refl) k ∙ c.loop-turn.invariant.1 k;
+      ends = λ k. ends-changed (carrying t.rest t.parcels) c.args.number c.loop-turn.attended c.take_one.new.self t.next (λ o. refl) k ∙ c.loop-turn.invariant.2 k;
+      ledgers = ledgers-both c.args.hub.now c.loop-turn.hub c.take_one.new.hub c.loop-turn.invariant.3 (ledgers-taken c.args.number c.loop-turn.attended.outgoing c.take_one.new.self.outgoing c.loop-turn.hub c.take_one.new.hub t);
+      others = λ k ne. changed-beside (carrying t.rest t.parcels) c.args.number c.loop-turn.attended c.take_one.new.self t.next k ne ∙ c.loop-turn.invariant.4 k ne;
     }
 
 pub returns-in-Err : goal.returns-in-Err
@@ -43,4 +51,9 @@ returns-in-Err c =
       ready = λ k.
           ready-changed (marked Fails c.take_one.new.self.time) c.args.number c.take_one.new.self c.fail.new.self failed (λ o. refl) k
           ∙ ready-changed (carrying t.rest t.parcels) c.args.number c.loop-turn.attended c.take_one.new.self t.next (λ o. refl) k ∙ c.loop-turn.invariant.1 k;
+      ends = λ k.
+          ends-changed (marked Fails c.take_one.new.self.time) c.args.number c.take_one.new.self c.fail.new.self failed (λ o. refl) k
+          ∙ ends-changed (carrying t.rest t.parcels) c.args.number c.loop-turn.attended c.take_one.new.self t.next (λ o. refl) k ∙ c.loop-turn.invariant.2 k;
+      ledgers = ledgers-both c.args.hub.now c.loop-turn.hub c.take_one.new.hub c.loop-turn.invariant.3 (ledgers-taken c.args.number c.loop-turn.attended.outgoing c.take_one.new.self.outgoing c.loop-turn.hub c.take_one.new.hub t);
+      others = λ k ne. changed-beside (marked Fails c.take_one.new.self.time) c.args.number c.take_one.new.self c.fail.new.self failed k ne ∙ changed-beside (carrying t.rest t.parcels) c.args.number c.loop-turn.attended c.take_one.new.self t.next k ne ∙ c.loop-turn.invariant.4 k ne;
     }

@@ -1,12 +1,13 @@
-use Rattle.std.proofs.Common.{◌≡◌, ℕ}
-use Rattle.std.specs.Prelude.{option_and_then}
+use Rattle.std.proofs.Common.{◌≡◌, ℕ, false}
+use Rattle.std.specs.Prelude.{nat_eq, option_and_then}
 use Rattle.floor_loop.specs.Done.{NoSteps}
 use Rattle.floor_loop.specs.Loop.{outgoing_in}
-use Rattle.floor_loop.specs.steps.Moved.{Moved, loop_of}
+use Rattle.floor_loop.specs.steps.Moved.{Moved, SameEnds, SameLedgers, loop_of}
 use Rattle.floor_loop.proofs.turn.fill.Given as goal
 
--- so many parcels were taken, and whoever is ready is so
+-- so many parcels were taken, whoever is ready is so, nobody's end has changed, rooms keep their ledgers, and all others are as they were
 abbrev pub invariant-loop-turn : goal.invariant-loop-turn
 invariant-loop-turn l =
     Moved NoSteps (loop_of l.fn.hub l.fn.attended) (loop_of l.hub l.attended)
     × ((k : ℕ) → option_and_then (λ o. o.ready) (outgoing_in l.attended k) ≡ option_and_then (λ o. o.ready) (outgoing_in l.fn.attended k))
+    × SameEnds l.fn.attended l.attended × SameLedgers l.fn.hub l.hub × ((k : ℕ) → nat_eq l.number k ≡ false → outgoing_in l.attended k ≡ outgoing_in l.fn.attended k)

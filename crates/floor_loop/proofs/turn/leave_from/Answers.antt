@@ -1,6 +1,7 @@
 use Rattle.floor_loop.specs.Loop.{outgoing_in}
 use Rattle.floor_loop.specs.steps.Moved.{loop_of}
 use Rattle.floor_loop.proofs.Calls.{moved-leave}
+use Rattle.floor_loop.proofs.Sparing.{others-spared, spares-by, stay-in}
 use Rattle.floor_loop.proofs.Stepping.{gone-stays, live-gone, stays-gone, wakes-on}
 use Rattle.floor_loop.proofs.turn.leave_from.Goals as goal
 
@@ -11,10 +12,15 @@ returns c =
     let f = outgoing_in c.args.attended.now in
     let g = outgoing_in c.remove.new.self in
     let h = outgoing_in c.wake.new.attended in
+    let moved =
+    moved-leave c.args.number old new c.leave-left.result c.leave-left.ensures.next c.leave-left.ensures.room c.leave-left.ensures.gone c.leave-left.ensures.concerned
+    (live-gone c.leave-left.new.self f g h c.args.number c.leave-left.ensures.gone.here c.remove.ensures.others c.wake.ensures.kept) c.wake.ensures.woken in
     record {
-      moved =
-          moved-leave c.args.number old new c.leave-left.result c.leave-left.ensures.next c.leave-left.ensures.room c.leave-left.ensures.gone c.leave-left.ensures.concerned
-          (live-gone c.leave-left.new.self f g h c.args.number c.leave-left.ensures.gone.here c.remove.ensures.others c.wake.ensures.kept) c.wake.ensures.woken;
+      moved = moved;
+      spares = λ l.
+          spares-by old new l.serving (stay-in c.args.hub.now c.leave-left.new.self moved.live)
+          (λ k x y is_x is_y. others-spared c.leave-left.new.self c.args.attended.now c.remove.new.self c.wake.new.attended c.args.number k y c.leave-left.ensures.gone.here is_y (c.remove.ensures.others k) (c.wake.ensures.spared k));
       woke = λ l. wakes-on old new c.leave-left.ensures.concerned (stays-gone f g h c.args.number c.remove.ensures.gone c.remove.ensures.others c.wake.ensures.kept) c.wake.ensures.woken;
+      left = c.leave-left.ensures.gone.here;
       gone = gone-stays g h c.args.number c.wake.ensures.kept c.remove.ensures.gone;
     }

@@ -2,10 +2,11 @@ use Rattle.std.proofs.Common.{refl, arith, ◌+◌, ◌≤◌, ℕ}
 use Rattle.floor_hub.specs.declared.step.Step.TheVariants.{Serve}
 use Rattle.floor_loop.specs.Done.{AtMost, NoSteps, Then}
 use Rattle.floor_loop.specs.Loop.{Loop, outgoing_in}
-use Rattle.floor_loop.specs.Written.{Wakes}
+use Rattle.floor_loop.specs.Written.{IsSparedOrOver, Wakes}
 use Rattle.floor_loop.specs.steps.Moved.{IsLoop, Moved, loop_of}
 use Rattle.floor_loop.proofs.Calls.{moved-kept}
 use Rattle.floor_loop.proofs.Moving.{at-most-both, at-most-more, loop-moves, moved-both, moved-of, none-at-most}
+use Rattle.floor_loop.proofs.Sparing.{spared-through, spares-same}
 use Rattle.floor_loop.proofs.Stepping.{keeps-refl, stays-kept, wakes-both, wakes-same}
 use Rattle.floor_loop.proofs.turn.serve_turn.Goals as goal
 
@@ -21,12 +22,16 @@ woken number j a b c f g wf wg l =
     let m = loop-moves (AtMost j (Serve number)) a b f l in
     wakes-both (AtMost j (Serve number)) (AtMost 1 (Serve number)) a b c f g m.serving (wf l) (wg m)
 
+spared : (number j : ℕ) (a b c : Loop) (k : ℕ) → Moved (AtMost j (Serve number)) a b → Moved (AtMost 1 (Serve number)) b c → IsLoop a → IsSparedOrOver a b k → (IsLoop b → IsSparedOrOver b c k) → IsSparedOrOver a c k
+spared number j a b c k f g l before after = let m = loop-moves (AtMost j (Serve number)) a b f l in spared-through a b c k m.serving g.live g.over before (after m)
+
 pub loop-turn-init : goal.loop-turn-init
 loop-turn-init c =
     let old = loop_of c.args.hub.now c.args.attended.now in
     let keeps = keeps-refl (outgoing_in c.args.attended.now) in (
       moved-of NoSteps (AtMost 0 (Serve c.args.number)) old old (none-at-most 0 (Serve c.args.number)) (moved-kept old old refl keeps),
       λ l. wakes-same old old (λ d. refl) (stays-kept (outgoing_in c.args.attended.now) (outgoing_in c.args.attended.now) keeps),
+      λ l. spares-same old old (λ k. refl),
     )
 
 pub loop-turn-preserved : goal.loop-turn-preserved
@@ -36,6 +41,7 @@ loop-turn-preserved c =
     let new = loop_of c.serve_one.new.hub c.serve_one.new.attended in (
       more c.args.number c.loop-turn._turn old mid new c.loop-turn.invariant.0 c.serve_one.ensures.moved,
       woken c.args.number c.loop-turn._turn old mid new c.loop-turn.invariant.0 c.serve_one.ensures.moved c.loop-turn.invariant.1 c.serve_one.ensures.woke,
+      λ l k. spared c.args.number c.loop-turn._turn old mid new k c.loop-turn.invariant.0 c.serve_one.ensures.moved l (c.loop-turn.invariant.2 l k) (λ m. c.in-Ok-Message.ensures.spares m k),
     )
 
 pub returns-in-Ok-Nothing : goal.returns-in-Ok-Nothing
@@ -47,6 +53,8 @@ returns-in-Ok-Nothing c =
       moved = within c.args.number (c.loop-turn._turn + 1) c.args.turns old new (omega arith) (more c.args.number c.loop-turn._turn old mid new c.loop-turn.invariant.0 c.serve_one.ensures.moved);
       woke = woken c.args.number c.loop-turn._turn old mid new c.loop-turn.invariant.0 c.serve_one.ensures.moved c.loop-turn.invariant.1 c.serve_one.ensures.woke;
       refused = tt;
+      spares = λ l k. spared c.args.number c.loop-turn._turn old mid new k c.loop-turn.invariant.0 c.serve_one.ensures.moved l (c.loop-turn.invariant.2 l k) (λ m. c.in-Ok-Nothing.ensures.spares m k);
+      others = λ l k ne. spared c.args.number c.loop-turn._turn old mid new k c.loop-turn.invariant.0 c.serve_one.ensures.moved l (c.loop-turn.invariant.2 l k) (λ m. c.serve_one.ensures.others m k ne);
     }
 
 pub returns-in-Err : goal.returns-in-Err
@@ -58,6 +66,8 @@ returns-in-Err c =
       moved = within c.args.number (c.loop-turn._turn + 1) c.args.turns old new (omega arith) (more c.args.number c.loop-turn._turn old mid new c.loop-turn.invariant.0 c.serve_one.ensures.moved);
       woke = woken c.args.number c.loop-turn._turn old mid new c.loop-turn.invariant.0 c.serve_one.ensures.moved c.loop-turn.invariant.1 c.serve_one.ensures.woke;
       refused = c.in-Err.ensures.refused;
+      spares = λ l. tt;
+      others = λ l k ne. spared c.args.number c.loop-turn._turn old mid new k c.loop-turn.invariant.0 c.serve_one.ensures.moved l (c.loop-turn.invariant.2 l k) (λ m. c.serve_one.ensures.others m k ne);
     }
 
 pub returns : goal.returns
@@ -66,4 +76,6 @@ returns c =
       moved = within c.args.number c.loop-turn._turn c.args.turns (loop_of c.args.hub.now c.args.attended.now) (loop_of c.loop-turn.hub c.loop-turn.attended) (omega arith) c.loop-turn.invariant.0;
       woke = c.loop-turn.invariant.1;
       refused = tt;
+      spares = c.loop-turn.invariant.2;
+      others = λ l k ne. c.loop-turn.invariant.2 l k;
     }

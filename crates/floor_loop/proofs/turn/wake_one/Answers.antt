@@ -1,7 +1,7 @@
 use Rattle.std.proofs.Common.{◌≡◌, inl, inr, true, false, ap, sym, ◌∙◌}
 use Rattle.floor_hub.specs.Connections.{connection_at}
 use Rattle.floor_loop.specs.declared.outgoing.Mark.TheVariants.{Ready}
-use Rattle.floor_loop.specs.Loop.{Attended, outgoing_in, until_of}
+use Rattle.floor_loop.specs.Loop.{Attended, Outgoing, outgoing_in}
 use Rattle.floor_loop.specs.steps.Changed.{marked}
 use Rattle.floor_loop.proofs.Marking.{ends-until, keeps-marked, marked-some}
 use Rattle.floor_loop.proofs.Stepping.{kept-back, some-out}
@@ -36,7 +36,7 @@ returns c =
             absurd (not_both (sym c.if-is_over.false ∙ (c.is_over.ensures x r t.0 is_x is_r t.1 (sym t.2.conference ∙ conference)).1 over));
       };
       spared = λ k x r o p is_x is_r is_o is_p conference. spared-at c.args.number k o p (outgoing_in new) (λ ne. changed-beside (marked Ready old.time) c.args.number old new next k ne ∙ is_o) is_p
-          (λ same. inl (ap until_of (sym (some-out (marked Ready old.time o) p (sym (changed-at (marked Ready old.time) c.args.number old new next o (ap (outgoing_in old) same ∙ is_o)) ∙ ap (outgoing_in new) same ∙ is_p)))));
+          (λ same. inl (ap (λ (z : Outgoing). z.ends) (sym (some-out (marked Ready old.time o) p (sym (changed-at (marked Ready old.time) c.args.number old new next o (ap (outgoing_in old) same ∙ is_o)) ∙ ap (outgoing_in new) same ∙ is_p)))));
     }
   where
     not_both : false ≡ true → ⊥

@@ -17,7 +17,7 @@ use Rattle.floor_hub.specs.declared.step.Answer.TheVariants.{Done}
 use Rattle.floor_hub.specs.Connections.{StayLive, connection_at}
 use Rattle.floor_hub.specs.Hub.{Hub, room_at}
 use Rattle.floor_hub.specs.Left.{LeftTaking}
-use Rattle.floor_hub.specs.Rooms.{RoomOf, by_broken, refusal_in, took_event}
+use Rattle.floor_hub.specs.Rooms.{IsRefusedIn, RoomOf, by_broken, refusal_in, took_event}
 use Rattle.floor_hub.specs.StandsFor.{StandsFor, Stood}
 use Rattle.floor_hub.specs.Calls.{IsWant, Fails, Turns}
 use Rattle.floor_hub.specs.steps.Serving.{EventIn}
@@ -96,3 +96,13 @@ returns-clause-left c =
     (λ none. let a = c.took_at.ensures.connection.absent none in (a.0, a.1))
     (λ x is. let r = outbox-room (room_at (old c) x.conference) x.n (c.self.invariant.stood.2 c.args.number x is) in
     let t = there c x is r.0 r.1 in (r.0, t.0, r.1, t.1, t.2, fails c x r.0 t.0 c.took_at.result t.3)) (λ k. refl))
+
+-- and why it is refused
+refuses : (c : goal.After-took_at) (x : Connection) (r s : Room) (res : Result (Unit {0}) HubRefusal) → EventIn (Takes x.n c.args.k) r s res → IfErr res (IsRefusedIn (Takes x.n c.args.k) r)
+refuses c x r s (Ok v) h = tt
+refuses c x r s (Err z) h = (h.1.0, h.1.1, h.1.2)
+
+pub returns-clause-refused : goal.returns-clause-refused
+returns-clause-refused c =
+    subst (λ h. (x : Connection) (r : Room) → connection_at h.connections c.args.number ≡ Some x → room_at h x.conference ≡ Some r → IfErr c.took_at.result (IsRefusedIn (Takes x.n c.args.k) r)) c.self.view_is
+    (λ x r is room. let t = there c x is r room in refuses c x r t.0 c.took_at.result t.3)

@@ -1,11 +1,15 @@
-use Rattle.std.proofs.Common.{ap, subst}
+use Rattle.std.proofs.Common.{ℕ, List, ap, subst}
 use Rattle.floor_hub.specs.declared.step.Step.TheVariants.{Admin}
+use Rattle.floor_hub.specs.Rooms.{OneRoom, admin_event, by_broken, refusal_in}
 use Rattle.floor_loop.specs.Done.{AtMost, Steps}
-use Rattle.floor_loop.specs.Loop.{Attended, Loop, outgoing_in}
-use Rattle.floor_loop.specs.Written.{TookNothing, Wakes}
+use Rattle.std.specs.Prelude.{nat_eq}
+use Rattle.std.specs.Map.{lookup}
+use Rattle.floor_loop.specs.Loop.{Attended, Loop, Outgoing, outgoing_in}
+use Rattle.floor_loop.specs.Written.{Spares, TookNothing, Wakes}
 use Rattle.floor_loop.specs.steps.Moved.{KeepsAll, Moved, loop_of}
 use Rattle.floor_loop.proofs.Calls.{moved-admin}
 use Rattle.floor_loop.proofs.Moving.{loop-moves}
+use Rattle.floor_loop.proofs.Sparing.{spared-beside, spares-by, stay-in}
 use Rattle.floor_loop.proofs.Stepping.{keeps-both, keeps-passed, stays-kept, wakes-on}
 use Rattle.floor_loop.proofs.serving.Loop.admin.Goals as goal
 
@@ -37,3 +41,13 @@ returns-clause-took c = subst (λ (l : Loop). TookNothing l (new c)) c.self.view
 
 pub returns-clause-woke : goal.returns-clause-woke
 returns-clause-woke c = subst (λ (l : Loop). Wakes l (new c)) c.self.view_is (woke c)
+
+pub returns-clause-spares : goal.returns-clause-spares
+returns-clause-spares c =
+    subst (λ (l : Loop). Spares l (new c)) c.self.view_is
+    (spares-by (old c) (new c) c.self.invariant.serving (stay-in c.self.inside.hub c.admin-done.new.self (moved c).live)
+    (λ k x y is_x is_y. spared-beside c.admin-done.new.self c.self.inside.attended c.pass.new.self c.wake.new.attended k
+    (ap (λ (es : List (ℕ × Outgoing)). lookup (nat_eq k) es) (ap (λ (z : Attended). z.outgoing) c.pass.ensures.next)) (c.wake.ensures.spared k)))
+
+pub returns-clause-room : goal.returns-clause-room
+returns-clause-room c = subst (λ (l : Loop). OneRoom by_broken (refusal_in c.admin-done.result) (admin_event c.args.act) c.args.conference l.hub (new c).hub) c.self.view_is c.admin-done.ensures.room

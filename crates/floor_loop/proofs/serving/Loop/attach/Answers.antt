@@ -1,12 +1,15 @@
 use Rattle.std.proofs.Common.{◌≡◌, ℕ, List, ap, refl, subst}
 use Rattle.floor_hub.specs.declared.step.Step.TheVariants.{Attach}
+use Rattle.floor_hub.specs.Rooms.{Joins}
+use Rattle.std.specs.Prelude.{IfOk}
 use Rattle.floor_loop.specs.Done.{AtMost, NoSteps, Steps}
 use Rattle.floor_hub.specs.Runs.{run}
 use Rattle.floor_loop.specs.Loop.{Attended, Loop, Outgoing}
-use Rattle.floor_loop.specs.Written.{TookNothing, Wakes}
+use Rattle.floor_loop.specs.Written.{Spares, TookNothing, Wakes}
 use Rattle.floor_loop.specs.steps.Moved.{IsLoop, loop_of}
 use Rattle.floor_loop.proofs.Calls.{moved-kept}
 use Rattle.floor_loop.proofs.Moving.{loop-moves}
+use Rattle.floor_loop.proofs.Sparing.{passed-found, spares-behind}
 use Rattle.floor_loop.proofs.Stepping.{keeps-passed}
 use Rattle.floor_loop.proofs.serving.Loop.attach.Goals as goal
 
@@ -45,3 +48,11 @@ pub returns-clause-woke : goal.returns-clause-woke
 returns-clause-woke c =
     subst (λ (l : Loop). Wakes l (new c)) c.self.view_is
     (subst (λ (es : List (ℕ × Outgoing)). Wakes (loop_of c.self.inside.hub (record { outgoing = es; time = 0 })) (new c)) (same c) (c.attach.ensures.woke (later c)))
+
+pub returns-clause-spares : goal.returns-clause-spares
+returns-clause-spares c =
+    subst (λ (l : Loop). Spares l (new c)) c.self.view_is
+    (spares-behind (old c) (mid c) (new c) (λ k. refl) (passed-found c.self.inside.attended c.pass.new.self (same c)) (c.attach.ensures.spares (later c)))
+
+pub returns-clause-joined : goal.returns-clause-joined
+returns-clause-joined c = subst (λ (l : Loop). IfOk c.attach.result (λ number. Joins c.args.conference number l.hub (new c).hub)) c.self.view_is c.attach.ensures.joined

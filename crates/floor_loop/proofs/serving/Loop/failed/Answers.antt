@@ -2,10 +2,11 @@ use Rattle.std.proofs.Common.{ap, refl, subst}
 use Rattle.floor_hub.specs.declared.step.Step.TheVariants.{Serve}
 use Rattle.floor_loop.specs.Done.{AtMost, Each, NoSteps, Steps}
 use Rattle.floor_loop.specs.Loop.{Attended, Loop, outgoing_in}
-use Rattle.floor_loop.specs.Written.{TookNothing, Wakes}
+use Rattle.floor_loop.specs.Written.{IsSparedOrOver, TookNothing, Wakes}
 use Rattle.floor_loop.specs.steps.Moved.{IsLoop, KeepsAll, Moved, loop_of}
 use Rattle.floor_loop.proofs.Calls.{moved-kept}
 use Rattle.floor_loop.proofs.Moving.{each-of, loop-moves, moved-behind, moved-before, moved-of}
+use Rattle.floor_loop.proofs.Sparing.{passed-found, spared-behind, spared-last}
 use Rattle.floor_loop.proofs.Stepping.{keeps-passed, stays-kept, wakes-both, wakes-same}
 use Rattle.floor_loop.proofs.serving.Loop.failed.Goals as goal
 
@@ -63,3 +64,9 @@ returns-clause-took c = subst (λ (l : Loop). TookNothing l (new c)) c.self.view
 
 pub returns-clause-woke : goal.returns-clause-woke
 returns-clause-woke c = subst (λ (l : Loop). Wakes l (new c)) c.self.view_is (woke c)
+
+pub returns-clause-others : goal.returns-clause-others
+returns-clause-others c = λ k ne.
+    subst (λ (l : Loop). IsSparedOrOver l (new c) k) c.self.view_is
+    (spared-behind (old c) (mid c) (new c) k (λ x is. (x, is)) (passed-found c.self.inside.attended c.pass.new.self (ap (λ (z : Attended). z.outgoing) c.pass.ensures.next))
+    (spared-last (mid c) c.serve_turn-served.new.hub c.serve_turn-served.new.attended c.fail.new.attended k (c.fail.ensures.others k ne) (c.serve_turn-served.ensures.others (later c) k ne)))

@@ -2,10 +2,11 @@ use Rattle.std.proofs.Common.{ap, refl, subst}
 use Rattle.floor_hub.specs.declared.step.Step.TheVariants.{Leave}
 use Rattle.floor_loop.specs.Done.{AtMost, NoSteps, Steps}
 use Rattle.floor_loop.specs.Loop.{Attended, Loop, outgoing_in}
-use Rattle.floor_loop.specs.Written.{TookNothing, Wakes}
+use Rattle.floor_loop.specs.Written.{Spares, TookNothing, Wakes}
 use Rattle.floor_loop.specs.steps.Moved.{IsLoop, KeepsAll, Moved, loop_of}
 use Rattle.floor_loop.proofs.Calls.{moved-kept}
 use Rattle.floor_loop.proofs.Moving.{loop-moves, moved-behind}
+use Rattle.floor_loop.proofs.Sparing.{passed-found, spares-behind}
 use Rattle.floor_loop.proofs.Stepping.{keeps-passed, stays-kept, wakes-both, wakes-same}
 use Rattle.floor_loop.proofs.serving.Loop.leave.Goals as goal
 
@@ -46,3 +47,8 @@ returns-clause-took c = subst (λ (l : Loop). TookNothing l (new c)) c.self.view
 
 pub returns-clause-woke : goal.returns-clause-woke
 returns-clause-woke c = subst (λ (l : Loop). Wakes l (new c)) c.self.view_is (woke c)
+
+pub returns-clause-spares : goal.returns-clause-spares
+returns-clause-spares c =
+    subst (λ (l : Loop). Spares l (new c)) c.self.view_is
+    (spares-behind (old c) (mid c) (new c) (λ k. refl) (passed-found c.self.inside.attended c.pass.new.self (ap (λ (z : Attended). z.outgoing) c.pass.ensures.next)) (c.leave_from.ensures.spares (later c)))

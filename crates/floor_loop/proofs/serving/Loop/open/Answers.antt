@@ -1,5 +1,7 @@
 use Rattle.std.proofs.Common.{ap, subst}
 use Rattle.floor_hub.specs.declared.step.Step.TheVariants.{Open}
+use Rattle.floor_hub.specs.Rooms.{Opens}
+use Rattle.std.specs.Prelude.{OnOk}
 use Rattle.floor_loop.specs.Done.{AtMost, Steps}
 use Rattle.floor_loop.specs.Loop.{Loop, outgoing_in}
 use Rattle.floor_loop.specs.Written.{TookNothing}
@@ -29,3 +31,6 @@ returns-clause-took c = subst (λ (l : Loop). TookNothing l (new c)) c.self.view
 
 pub returns-clause-attended : goal.returns-clause-attended
 returns-clause-attended c = ap (λ (l : Loop). l.attended) c.self.view_is
+
+pub returns-clause-opened : goal.returns-clause-opened
+returns-clause-opened c = subst (λ (l : Loop). OnOk c.open.result (Opens c.args.config l.hub (new c).hub)) c.self.view_is c.open.ensures.took

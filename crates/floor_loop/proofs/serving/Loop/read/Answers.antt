@@ -1,10 +1,13 @@
-use Rattle.std.proofs.Common.{ap, refl, subst}
-use Rattle.floor_loop.specs.Done.{NoSteps, Reads, Steps}
-use Rattle.floor_loop.specs.Loop.{Attended, Loop, outgoing_in}
-use Rattle.floor_loop.specs.Written.{TookNothing, Wakes}
+use Rattle.std.proofs.Common.{◌≡◌, ℕ, Some, ap, refl, subst}
+use Rattle.std.specs.Prelude.{OnOk}
+use Rattle.floor_loop.specs.Done.{Hands, NoSteps, Reads, Steps}
+use Rattle.floor_loop.specs.Loop.{Attended, Loop, Outgoing, outgoing_in}
+use Rattle.floor_loop.specs.Written.{IsSparedOrOver, Spares, TookNothing, Wakes}
 use Rattle.floor_loop.specs.steps.Moved.{IsLoop, KeepsAll, Moved, loop_of}
 use Rattle.floor_loop.proofs.Calls.{moved-kept}
 use Rattle.floor_loop.proofs.Moving.{loop-moves, moved-behind}
+use Rattle.floor_loop.proofs.Handing.{on-ok-of}
+use Rattle.floor_loop.proofs.Sparing.{passed-found, spared-behind, spares-behind}
 use Rattle.floor_loop.proofs.Stepping.{keeps-passed, stays-kept, wakes-both, wakes-same}
 use Rattle.floor_loop.proofs.serving.Loop.read.Goals as goal
 
@@ -45,3 +48,19 @@ returns-clause-took c = subst (λ (l : Loop). TookNothing l (new c)) c.self.view
 
 pub returns-clause-woke : goal.returns-clause-woke
 returns-clause-woke c = subst (λ (l : Loop). Wakes l (new c)) c.self.view_is (woke c)
+
+pub returns-clause-handed : goal.returns-clause-handed
+returns-clause-handed c = subst (λ (l : Loop). OnOk c.read_turn.result (Steps (Hands c.args.number c.args.bytes.now 64) l.hub (new c).hub)) c.self.view_is c.read_turn.ensures.handed
+
+found : (c : goal.After-read_turn) (k : ℕ) (o : Outgoing) → outgoing_in c.self.inside.attended k ≡ Some o → (p : Outgoing) × (outgoing_in c.pass.new.self k ≡ Some p) × (p.ends ≡ o.ends)
+found c = passed-found c.self.inside.attended c.pass.new.self (ap (λ (z : Attended). z.outgoing) c.pass.ensures.next)
+
+pub returns-clause-spares : goal.returns-clause-spares
+returns-clause-spares c =
+    subst (λ (l : Loop). OnOk c.read_turn.result (Spares l (new c))) c.self.view_is
+    (on-ok-of (Spares (mid c) (new c)) (Spares (old c) (new c)) c.read_turn.result (spares-behind (old c) (mid c) (new c) (λ k. refl) (found c)) (c.read_turn.ensures.spares (later c)))
+
+pub returns-clause-others : goal.returns-clause-others
+returns-clause-others c = λ k ne.
+    subst (λ (l : Loop). IsSparedOrOver l (new c) k) c.self.view_is
+    (spared-behind (old c) (mid c) (new c) k (λ x is. (x, is)) (found c) (c.read_turn.ensures.others (later c) k ne))

@@ -1,11 +1,12 @@
 use Rattle.std.proofs.Common.{◌≡◌, ap, refl, subst, ◌∙◌}
-use Rattle.std.specs.Prelude.{Option, IsSome, option_and_then}
+use Rattle.std.specs.Prelude.{IsSome}
 use Rattle.floor_loop.specs.Done.{NoSteps, Steps}
-use Rattle.floor_loop.specs.Loop.{Attended, Loop, Outgoing, ready_at}
-use Rattle.floor_loop.specs.Written.{TookNothing}
+use Rattle.floor_loop.specs.Loop.{Attended, Loop, outgoing_at, ready_at}
+use Rattle.floor_loop.specs.Written.{Spares, TookNothing}
 use Rattle.floor_loop.specs.steps.Changed.{changed, given}
 use Rattle.floor_loop.specs.steps.Moved.{Moved, loop_of}
 use Rattle.floor_loop.proofs.Moving.{loop-moves, moved-before, moved-same}
+use Rattle.floor_loop.proofs.Sparing.{ends-changed, spares-same}
 use Rattle.floor_loop.proofs.Writing.{changed-beside, given-ready, keeps-given, live-changed, ready-some-at}
 use Rattle.floor_loop.proofs.serving.Loop.ready.Goals as goal
 
@@ -40,5 +41,6 @@ returns-in-Some c =
       found = subst (λ (l : Loop). IsSome (ready_at l c.in-Some.number)) c.self.view_is (ready-some-at a c.in-Some.number f.0 f.1 f.2);
       none = tt;
       given = c.fill.ensures.ready c.in-Some.number ∙ given-ready a b c.in-Some.number (given-to c);
-      others = λ k ne. c.fill.ensures.ready k ∙ ap (λ (z : Option Outgoing). option_and_then (λ o. o.ready) z) (changed-beside given c.in-Some.number a b (given-to c) k ne) ∙ ap (λ (l : Loop). ready_at l k) c.self.view_is;
+      others = λ k ne. c.fill.ensures.others k ne ∙ changed-beside given c.in-Some.number a b (given-to c) k ne ∙ ap (λ (l : Loop). outgoing_at l k) c.self.view_is;
+      spares = subst (λ (l : Loop). Spares l (new c)) c.self.view_is (spares-same (old c) (new c) (λ k. c.fill.ensures.ends k ∙ ends-changed given c.in-Some.number a b (given-to c) (λ o. refl) k));
     }
