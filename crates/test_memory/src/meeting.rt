@@ -78,7 +78,7 @@ const FIRST_PIECE: usize = 9;
 
 /// One line of a meeting.
 #[derive(Debug, Drop)]
-enum Line {
+pub enum Line {
     Script(Command),
     Took { connection: u64, parcels: u32 },
 }
@@ -131,6 +131,19 @@ impl Meeting {
         self.connections.as_slice()
     }
 
+    /// Its line at this place, if there is one.
+    pub fn line(&self, place: usize) -> Option<&Line> {
+        self.lines.get(place)
+    }
+
+    /// One more connection was attached.
+    pub fn add(&mut self, connection: ConnNo) -> Result<(), HubRefusal> {
+        match self.connections.push(connection) {
+            Ok(()) => Ok(()),
+            Err(_) => Err(HubRefusal::Memory),
+        }
+    }
+
     /// Does the line at this place, if there is one. A connection that isn't there does nothing.
     pub fn play(&mut self, alloc: Global, hub: &mut Hub, place: usize) -> Result<(), HubRefusal> {
         match self.lines.get(place) {
@@ -146,10 +159,7 @@ impl Meeting {
             },
             Some(Line::Script(Command::Attach { conference, user })) => {
                 let connection = hub.attach(alloc, *conference, *user)?;
-                match self.connections.push(connection) {
-                    Ok(()) => Ok(()),
-                    Err(_) => Err(HubRefusal::Memory),
-                }
+                self.add(connection)
             }
             Some(Line::Script(command)) => self.carry_out(alloc, hub, command),
         }
@@ -176,9 +186,16 @@ impl Meeting {
 
     /// The number in the hub of the connection that was attached as this one of the meeting, counted
     /// from 1.
-    fn connection(&self, number: u64) -> Option<ConnNo> {
+    pub fn connection(&self, number: u64) -> Option<ConnNo> {
         let place = number.checked_sub(1)? as usize;
         self.connections.get(place).copied()
+    }
+
+    /// As which one of the meeting the connection with this number in the hub was attached, counted
+    /// from 1.
+    pub fn number_of(&self, connection: ConnNo) -> Option<usize> {
+        let place = self.connections.iter().position(|it| *it == connection)?;
+        Some(place.saturating_add(1))
     }
 }
 

@@ -2,22 +2,22 @@
 
 use crate::meeting::{CONFIGURATION, LONG, Meeting, SHORT};
 use crate::run::{Ended, allocate};
-use floor_config::read_configs;
+use floor_config::{Config, read_configs};
 use floor_hub::Hub;
 use std::alloc::Global;
 use std::io::Write;
 
 /// The conferences in the order of opening, and their meetings. The middle one is unlucky: it goes
 /// on whatever it is refused, and nothing of it is printed.
-const MEETINGS: [(u32, &str); 3] = [(1, SHORT), (UNLUCKY, LONG), (3, SHORT)];
+pub const MEETINGS: [(u32, &str); 3] = [(1, SHORT), (UNLUCKY, LONG), (3, SHORT)];
 
-const UNLUCKY: u32 = 2;
+pub const UNLUCKY: u32 = 2;
 
 /// Behind how many lines of the long meeting a line of the short ones is done.
 const LONG_LINES: usize = 3;
 
 /// How many turns there are: a line of the long meeting is done in each.
-const TURNS: usize = 30;
+pub const TURNS: usize = 30;
 
 /// How many parcels wait for a connection after one line at most.
 const MAX_PARCELS: u32 = 1000;
@@ -71,10 +71,10 @@ fn go_well<W: Write>(
     turn: usize,
     output: &mut W,
 ) -> Result<(), Ended> {
-    if turn % LONG_LINES != 0 {
+    let Some(place) = place_at(meeting.conference, turn) else {
         return Ok(());
-    }
-    match meeting.play(alloc, hub, turn / LONG_LINES) {
+    };
+    match meeting.play(alloc, hub, place) {
         Ok(()) => print_waiting(alloc, hub, meeting, output),
         Err(refusal) if refusal.is_memory() => Err(Ended),
         Err(refusal) => {
@@ -82,6 +82,17 @@ fn go_well<W: Write>(
             Ok(())
         }
     }
+}
+
+/// Which line of its meeting a conference does in a turn, if it does any.
+pub fn place_at(conference: u32, turn: usize) -> Option<usize> {
+    if conference == UNLUCKY {
+        return Some(turn);
+    }
+    if turn % LONG_LINES != 0 {
+        return None;
+    }
+    Some(turn / LONG_LINES)
 }
 
 /// Opens the conferences, at whose meetings nobody is yet.
@@ -99,17 +110,22 @@ fn open_all(alloc: Global, hub: &mut Hub) -> Result<Vec<Meeting>, Ended> {
 
 /// Opens a conference.
 fn open(alloc: Global, hub: &mut Hub, conference: u32) -> Result<(), Ended> {
-    let text = format!(in alloc; "[[conference]]\nid = {conference}\n{CONFIGURATION}")?;
-    let Ok(configs) = read_configs(alloc, text.as_str()) else {
-        return Err(Ended);
-    };
-    for config in configs {
+    for config in configurations(alloc, conference)? {
         match hub.open(alloc, config) {
             Ok(()) => {}
             Err(_) => return Err(Ended),
         }
     }
     Ok(())
+}
+
+/// The configuration of a conference, and none besides.
+pub fn configurations(alloc: Global, conference: u32) -> Result<Vec<Config>, Ended> {
+    let text = format!(in alloc; "[[conference]]\nid = {conference}\n{CONFIGURATION}")?;
+    let Ok(configs) = read_configs(alloc, text.as_str()) else {
+        return Err(Ended);
+    };
+    Ok(configs)
 }
 
 /// Takes and prints the parcels that wait for the connections of a meeting: the conference, the

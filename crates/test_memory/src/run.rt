@@ -1,6 +1,6 @@
 //! The runs that the input names.
 
-use crate::{client, meetings, threads};
+use crate::{client, loops, meetings, threads};
 use floor_words::{read_u32, words};
 use std::alloc::{AllocError, AllocFailed, Global};
 use std::io;
@@ -67,6 +67,9 @@ fn run_named<R: Wait, W: Write, E: Write>(
 ) -> Result<(), Ended> {
     if name == "meetings" {
         return meetings::run(alloc, ahead, output, errors);
+    }
+    if name == "loops" {
+        return loops::run(alloc, ahead, output, errors);
     }
     if name == "threads" {
         return threads::run(rt, alloc, ahead, output, errors);
