@@ -1,7 +1,7 @@
 #!/usr/bin/env python3
-"""Peers that mean no good: ./hostile.py FLOORD [CASE ..]
+"""Peers that mean no good: ./hostile.py SERVER [CASE ..]
 
-Runs each case (or those that are named) against a floord of its own, whose conference 1 the case
+Runs each case (or those that are named) against a floord or a floorhub of its own, whose conference 1 the case
 may do to what it likes. Meanwhile a Hello of conference 2 is answered all the while, each within
 DEADLINE. Every answer is compared with what messages.py has for it; at the end of a case the events
 in the conference's journal that are no acknowledgements, the report of `stop` and its status are
@@ -105,6 +105,8 @@ class Case:
 
     def __init__(self, floord, limits=None, variables=None):
         self.server = Server(floord, configuration(), limits=limits, variables=variables)
+        # Without threads for connections, whose members leave when their connections end.
+        self.by_loops = self.server.by_loops
         self.seats = 0
         self.events = 0
         self.pipe, theirs = multiprocessing.Pipe()
@@ -226,9 +228,11 @@ class Case:
         events = int(self.status().split()[7]) + leaving + others
         began = time.monotonic()
         report = self.server.stop()
-        wanted = ('ok stopped seats %d events %d' % (self.seats, events), 0)
-        if report != wanted:
-            raise Failed('the report is %s, not %s' % (report, wanted))
+        # By loops whoever leaves is written to for a while yet, and what is written is acknowledged.
+        wanted = [('ok stopped seats %d events %d' % (self.seats, events + more), 0)
+                  for more in range(1 + (leaving if self.by_loops else 0))]
+        if report not in wanted:
+            raise Failed('the report is %s, not %s' % (report, wanted[0]))
         return time.monotonic() - began
 
     def end(self):
@@ -589,7 +593,8 @@ def wait_until_gone(case, held, beside=None):
         took = time.monotonic() - began
         if all(now[name] <= held[name] for name in ('Threads', 'descriptors')):
             return took
-        if took > GONE:
+        # A loop's time begins when it has read the end.
+        if took > GONE + case.by_loops:
             raise Failed('after %d s there is still %s, before %s' % (took, now, held))
         if beside:
             case.exchange(beside, hello(1, 11), ack(1, 11))
@@ -627,7 +632,12 @@ def unread(case):
     client = case.member(narrow=True)
     case.wait_for(2)
     while not case.status().startswith('conference 1 members 1 '):
-        client.sendall(hello() * 100)
+        try:
+            client.sendall(hello() * 100)
+        except ConnectionError:
+            # By loops it leaves once it is shut down.
+            if not case.by_loops:
+                raise
         case.exchange(neighbour, hello(1, 11), ack(1, 11))
     grown = case.server.held()['VmRSS'] - held['VmRSS']
     again = case.member()
@@ -661,7 +671,9 @@ def unread_again(case):
             raise Failed('%d of 1,500 queries came' % came)
         case.events += came
         case.wait_until_back()
-    if fulls[0] - case.before['VmRSS'] > 16 * MAX_WAITING or fulls[-1] > 1.2 * fulls[0]:
+    # By loops an outbox keeps the room of what waited in it, if not what waited.
+    most = 1.3 if case.by_loops else 1.2
+    if fulls[0] - case.before['VmRSS'] > 16 * MAX_WAITING or fulls[-1] > most * fulls[0]:
         raise Failed('five outboxes one after another take %s kB' % fulls)
     return '1,024 statuses of 64 requests each, five times: %s MB in all' % ', '.join(
         '%.0f' % (full / 1024) for full in fulls)
@@ -774,15 +786,17 @@ def half_closed(case):
     members = crowd(case)
     held = case.server.held()
     clients = []
-    for count in (60, 60, 4):
+    # By loops they are members until they are gone, and 64 may be.
+    for count in (60,) if case.by_loops else (60, 60, 4):
         some = unread_queries(case, count)
         for client in some:
             client.shutdown(socket.SHUT_WR)
         clients += some
-        case.wait_for_members(4, 256)
+        case.wait_for_members(64 if case.by_loops else 4, 256)
     full = case.server.held()
-    if full['Threads'] - held['Threads'] != 2 * 124:
-        raise Failed('124 keep %d threads' % (full['Threads'] - held['Threads']))
+    threads = 0 if case.by_loops else 2 * 124
+    if full['Threads'] - held['Threads'] != threads:
+        raise Failed('they keep %d threads' % (full['Threads'] - held['Threads']))
     for user in USERS:
         ended(case.connect(user))
     took = wait_until_gone(case, held)
@@ -791,10 +805,11 @@ def half_closed(case):
     client.close()
     for client in clients + members:
         reset(client)
-    return ('124 are no members any more, and keep %d threads, %d descriptors and %.1f MB each; '
+    return ('%d keep %d threads, %d descriptors and %.1f MB each; '
             'beside them and 4 members a newcomer is shut down; they are gone after %.1f s' % (
-                full['Threads'] - held['Threads'], full['descriptors'] - held['descriptors'],
-                (full['VmRSS'] - held['VmRSS']) / 124 / 1024, took))
+                len(clients), full['Threads'] - held['Threads'],
+                full['descriptors'] - held['descriptors'],
+                (full['VmRSS'] - held['VmRSS']) / len(clients) / 1024, took))
 
 
 def closed_while_blocked(case):
@@ -814,8 +829,8 @@ def closed_while_blocked(case):
     case.remains = (34, 0, 'ended')
     case.wait_for_members(*case.remains)
     # So do the threads and descriptors of its four ports.
-    case.before['Threads'] -= 4
-    case.before['descriptors'] -= 2 * 4
+    case.before['Threads'] -= 0 if case.by_loops else 4
+    case.before['descriptors'] -= 4 if case.by_loops else 2 * 4
     case.wait_until_back()
     for client in members + clients:
         reset(client)
@@ -832,7 +847,7 @@ def stopped_while_blocked(case):
     # Until the sockets hold what they can, and nothing is acknowledged any more.
     time.sleep(1)
     took = case.stop(leaving=34)
-    if took > 10:
+    if took > 10 + case.by_loops:
         raise Failed('stop took %.1f s' % took)
     case.is_stopped = True
     for client in members + clients:

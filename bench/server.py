@@ -1,4 +1,4 @@
-"""Starts and stops a floord, reads what the system says of it, and makes a client's bytes."""
+"""Starts and stops a floord or a floorhub, reads what the system says of it, and makes a client's bytes."""
 import os
 import resource
 import select
@@ -33,11 +33,13 @@ def configuration(conferences, users, first_port=FIRST_PORT):
 
 
 class Server:
-    """A floord that runs, pinned to processors where they are given, under limits of the system
+    """A floord or a floorhub that runs, pinned to processors where they are given, under limits of the system
     (`resource.RLIMIT_NOFILE` to a number, and the like) and with variables of the environment
     where they are."""
 
     def __init__(self, floord, text, processors=None, limits=None, variables=None):
+        # Whether it serves by event loops.
+        self.by_loops = os.path.basename(floord).startswith('floorhub')
         handle, self.path = tempfile.mkstemp(suffix='.toml')
         with os.fdopen(handle, 'w') as file:
             file.write(text)

@@ -15,8 +15,8 @@ pub(crate) struct Connection {
 }
 
 /// Whose an arrival is: its conference, and n within it.
-#[derive(Clone, Copy, Debug)]
-pub(crate) struct Place {
+#[derive(Clone, Copy, Debug, PartialEq, Eq)]
+pub struct Place {
     pub conference: u32,
     pub n: u32,
 }

@@ -351,6 +351,35 @@ impl Hub {
         self.concerned.numbers()
     }
 
+    /// The conference of a live connection, and its member's number n there. Takes no memory.
+    pub fn place(&self, number: ConnNo) -> Option<Place>
+        ensures found { IfSome result (λ place. (x : Connection)
+            × (connection_at self.now.connections number ≡ Some x)
+            × (place.conference ≡ x.conference) × (place.n ≡ x.n)) }
+        ensures none { IfNone result (connection_at self.now.connections number ≡ None) }
+    {
+        match self.connections.get(number) {
+            Some(connection) => Some(Place {
+                conference: connection.conference,
+                n: connection.n,
+            }),
+            None => None,
+        }
+    }
+
+    /// How many bytes came from a live connection behind the last message that was served; 0 where no
+    /// live connection has the number. Takes no memory.
+    pub fn held_len(&self, number: ConnNo) -> usize
+        ensures found { (x : Connection) → connection_at self.now.connections number ≡ Some x
+            → result ≡ length x.held }
+        ensures none { connection_at self.now.connections number ≡ None → result ≡ 0 }
+    {
+        match self.connections.get(number) {
+            Some(connection) => connection.held.rest_len(),
+            None => 0,
+        }
+    }
+
     /// Takes the first parcel that waits for a connection, also where its conference's room is
     /// broken off. Refused by `NoConnection`, where no live connection has the number, and by
     /// nothing else. Takes no memory.
@@ -411,22 +440,6 @@ impl Hub {
 
 // What a whole run reads.
 impl Hub {
-    /// Whose a live connection is. Takes no memory.
-    pub(crate) fn place(&self, number: ConnNo) -> Option<Place>
-        ensures found { IfSome result (λ place. (x : Connection)
-            × (connection_at self.now.connections number ≡ Some x)
-            × (place.conference ≡ x.conference) × (place.n ≡ x.n)) }
-        ensures none { IfNone result (connection_at self.now.connections number ≡ None) }
-    {
-        match self.connections.get(number) {
-            Some(connection) => Some(Place {
-                conference: connection.conference,
-                n: connection.n,
-            }),
-            None => None,
-        }
-    }
-
     /// All bytes that were queued to a member of a conference, where none of them was taken and its
     /// room isn't broken off.
     pub(crate) fn queued_to(

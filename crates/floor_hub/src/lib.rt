@@ -18,7 +18,7 @@ mod step;
 mod transcript;
 
 pub use attached::Live;
-pub use connection::ConnNo;
+pub use connection::{ConnNo, Place};
 pub use floor_room::{
     Act, AddedUser, Config, Event, Floor, Frame, Parcel, Refusal, RoomRefusal, Status, User,
 };

@@ -14,3 +14,4 @@ pub mod Attaching
 pub mod Calling
 pub mod Sparing
 pub mod Handing
+pub mod Throwing

@@ -236,10 +236,10 @@ some-room r s e = cc
 some-connection : (x y : Connection) → ◌≡◌ {A = Option Connection} (Some x) (Some y) → x ≡ y
 some-connection x y e = cc
 
-alone-refl : (r s : Room) (n : ℕ) → r ≡ s → IsLeftAlone r s n
+pub alone-refl : (r s : Room) (n : ℕ) → r ≡ s → IsLeftAlone r s n
 alone-refl r s n e = subst (λ (z : Room). IsLeftAlone r z n) e (record { waiting = refl; cut = λ h. h; shut = λ h. h })
 
-alone-both : (r s t : Room) (n : ℕ) → IsLeftAlone r s n → IsLeftAlone s t n → IsLeftAlone r t n
+pub alone-both : (r s t : Room) (n : ℕ) → IsLeftAlone r s n → IsLeftAlone s t n → IsLeftAlone r t n
 alone-both r s t n f g = record { waiting = g.waiting ∙ f.waiting; cut = λ h. f.cut (g.cut h); shut = λ h. f.shut (g.shut h) }
 
 -- where rooms are as they were everybody is left alone

@@ -17,8 +17,9 @@ use Rattle.floor_room.specs.declared.outbox.NoMember.{NoMember}
 use Rattle.floor_room.specs.Outbox.{Outbox}
 use Rattle.floor_room.specs.Replay.{bytes_of}
 use Rattle.floor_room.specs.Room.{AreSent, IsRoom, IsSent, Room, parcels_to}
-use Rattle.floor_room.specs.Taking.{Gives, GivesFrom, GivesHeld, after_take, outbox_of, with_outbox}
+use Rattle.floor_room.specs.Taking.{Gave, Gives, GivesFrom, GivesHeld, after_take, outbox_of, with_outbox}
 use Rattle.floor_hub.specs.declared.connection.Connection.{Connection}
+use Rattle.floor_hub.specs.Concerned.{IsLeftAlone}
 use Rattle.floor_hub.specs.Connections.{connection_at}
 use Rattle.floor_hub.specs.Hub.{Hub, room_at}
 use Rattle.floor_hub.specs.Rooms.{TakenFrom, bytes_in, taken_of}
@@ -246,6 +247,23 @@ way-written r n rest parcels count h = by (drop count rest) refl
 pub over-by : (r s : Room) (n : ℕ) → r.ledger ≡ s.ledger → IsOver r n → IsOver s n
 over-by r s n same (inl cut) = inl (ap (λ (l : Ledger). not l.is_broken && machine_is_cut (conference_of l) n) (sym same) ∙ cut)
 over-by r s n same (inr shut) = inr (ap (λ (l : Ledger). l.is_broken || not (conference_of l).is_open) (sym same) ∙ shut)
+
+-- another member's outbox is as it was
+beside : (os ps : List Outbox) (n m : ℕ) (parcel : Option Parcel) → m ≢ n → Gives os ps n (Ok parcel) → outbox_of ps m ≡ outbox_of os m
+beside os ps n m None ne h = ap (λ (z : List Outbox). outbox_of z m) (gave-none os ps n h)
+beside os ps n m (Some p) ne h =
+    let g = gave-some os ps n p h in
+    ap (λ (z : List Outbox). outbox_of z m) g.4 ∙ outbox-other os n m (after_take g.0 g.1) ne
+
+-- whoever has another number is left alone
+pub beside-waits : (r s : Room) (n m : ℕ) (parcel : Option Parcel) → m ≢ n → Gave r s n (Ok parcel) → IsLeftAlone r s m
+beside-waits r s n m parcel ne g =
+    let ledger : s.ledger ≡ r.ledger = ap (λ (z : Room). z.ledger) g.same in
+    record {
+      waiting = ap (λ (z : Option Outbox). option_map_or (λ o. o.held) z []) (beside r.outboxes s.outboxes n m parcel ne g.given);
+      cut = λ h. ap (λ (l : Ledger). not l.is_broken && machine_is_cut (conference_of l) m) (sym ledger) ∙ h;
+      shut = λ h. ap (λ (l : Ledger). l.is_broken || not (conference_of l).is_open) (sym ledger) ∙ h;
+    }
 
 -- a loop of which one connection was given a parcel from the hub, if one waited
 

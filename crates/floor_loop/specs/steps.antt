@@ -4,3 +4,4 @@ pub mod Listed
 pub mod Taken
 pub mod Joined
 pub mod Moved
+pub mod Thrown

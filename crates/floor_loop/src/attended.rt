@@ -186,6 +186,19 @@ impl Attended {
         advance_in(&mut self.outgoing, number, count)
     }
 
+    /// What is on its way to a connection is thrown away.
+    pub(crate) fn throw(&mut self, number: ConnNo)
+        ensures next { (count : ℕ) × (self.new ≡ record self.old {
+          outgoing = changed (wrote_of count) number self.old.outgoing;
+        }) }
+    {
+        let count = match self.get(number) {
+            Some(one) => one.rest().len(),
+            None => 0,
+        };
+        let _parcels = self.advance(number, count);
+    }
+
     /// Takes the first parcel that waits for a connection from the hub, and says whether one was taken: none
     /// where 64 parcels or 64 KiB are on their way.
     pub(crate) fn take_one(&mut self, hub: &mut Hub, number: ConnNo) -> Result<bool, HubRefusal>

@@ -16,8 +16,10 @@ ghost use Rattle.floor_loop.specs.steps.Moved.{IsLoop, loop_of};
 
 use crate::attended::Attended;
 use crate::changing::MAX_WRITE;
-use crate::turn::{acknowledge, attach, end, fail, fill, leave_from, read_turn, serve_turn, wake};
-use floor_hub::{Act, Config, ConnNo, Event, Hub, HubRefusal, Live, Status};
+use crate::turn::{
+    acknowledge, attach, end, fail, fill, leave_from, read_turn, serve_turn, throw_away, wake,
+};
+use floor_hub::{Act, Config, ConnNo, Event, Hub, HubRefusal, Live, Place, Status};
 use std::alloc::Global;
 use std::marker::Model;
 
@@ -155,6 +157,25 @@ impl Loop {
         self.hub.is_cut(number)
     }
 
+    /// The conference of a connection, and its member's number n there, as the hub tells it.
+    pub fn place(&self, number: ConnNo) -> Option<Place>
+        ensures found { IfSome result (λ place. (x : Connection)
+            × (connection_at self.now.hub.connections number ≡ Some x)
+            × (place.conference ≡ x.conference) × (place.n ≡ x.n)) }
+        ensures none { IfNone result (connection_at self.now.hub.connections number ≡ None) }
+    {
+        self.hub.place(number)
+    }
+
+    /// How many bytes came from a connection behind its last message that was served, as the hub tells it.
+    pub fn held_len(&self, number: ConnNo) -> usize
+        ensures found { (x : Connection) → connection_at self.now.hub.connections number ≡ Some x
+            → result ≡ length x.held }
+        ensures none { connection_at self.now.hub.connections number ≡ None → result ≡ 0 }
+    {
+        self.hub.held_len(number)
+    }
+
     /// Takes bytes that came from a connection, serves its whole messages, 64 at most, and says whether
     /// more may wait. Refused as the hub refuses the bytes or a message; where it refuses a message the
     /// connection is to be shut down.
@@ -281,7 +302,8 @@ impl Loop {
         fail(&mut self.attended, number);
     }
 
-    /// A connection was shut down: its member leaves. Refused as the hub refuses it.
+    /// A connection was shut down: its member leaves, and what waits for it is thrown away. Refused as the hub refuses
+    /// it.
     pub fn leave(&mut self, number: ConnNo, now: u64) -> Result<(), HubRefusal>
         ensures steps { Steps (AtMost 1 (Leave number)) self.old.hub self.new.hub }
         ensures took { TookNothing self.old self.new }
@@ -291,6 +313,7 @@ impl Loop {
         ensures left { connection_at self.new.hub.connections number ≡ None }
     {
         self.attended.pass(now);
+        throw_away(&mut self.hub, &mut self.attended, number);
         leave_from(&mut self.hub, &mut self.attended, number)
     }
 

@@ -12,12 +12,16 @@ ghost use Rattle.floor_loop.specs.Loop.{HasFailed, IsEnded, Outgoing as Way, out
 ghost use Rattle.floor_loop.specs.Done.{AtMost, Hands, NoSteps, Reads, Steps};
 ghost use Rattle.floor_loop.specs.Written.{Acknowledges, IsOver, IsServing, IsSparedOrOver, IsTimed, Spares, TookNothing, Wakes};
 ghost use Rattle.floor_loop.specs.steps.Moved.{AreWoken, IsLoop, IsSpared, IsWoken, KeepsAll, Moved, SameEnds, SameLedgers, loop_of};
+ghost use Rattle.floor_loop.specs.steps.Thrown.{Thrown};
 
 use crate::attended::Attended;
 use crate::changing::MAX_PARCELS;
 use floor_hub::{ConnNo, Hub, HubRefusal, Served};
 use floor_room::Phase;
 use std::alloc::Global;
+
+/// How many parcels are thrown away at most: whoever is more than 1,024 behind is cut, so no more wait.
+const MAX_THROWN: u32 = 1_026;
 
 /// Attaches a connection of a user to a conference. After a `Memory` of the loop's own nothing has changed.
 pub(crate) fn attach(
@@ -227,6 +231,28 @@ pub(crate) fn fail(attended: &mut Attended, number: ConnNo)
 {
     attended.fail(number);
     attended.wake(number);
+}
+
+/// Throws away what is on its way to a connection that leaves and what waits for it, so that its conference's room
+/// keeps none of it.
+pub(crate) fn throw_away(hub: &mut Hub, attended: &mut Attended, number: ConnNo)
+    ensures thrown { Thrown number (loop_of hub.old attended.old) (loop_of hub.new attended.new) }
+{
+    for _parcel in 0..MAX_THROWN {
+        if !throw_next(hub, attended, number) {
+            return;
+        }
+    }
+}
+
+/// Throws away what is on its way to a connection, and takes the next parcel that waits for it; says whether one was
+/// taken.
+fn throw_next(hub: &mut Hub, attended: &mut Attended, number: ConnNo) -> bool
+    ensures thrown { Thrown number (loop_of hub.old attended.old) (loop_of hub.new attended.new) }
+{
+    attended.throw(number);
+    let taken = attended.take_one(hub, number);
+    taken.unwrap_or(false)
 }
 
 /// A connection leaves the hub, and nothing is on its way to it any more.

@@ -8,6 +8,7 @@ use Rattle.floor_loop.proofs.Calls.{moved-kept}
 use Rattle.floor_loop.proofs.Moving.{loop-moves, moved-behind}
 use Rattle.floor_loop.proofs.Sparing.{passed-found, spares-behind}
 use Rattle.floor_loop.proofs.Stepping.{keeps-passed, stays-kept, wakes-both, wakes-same}
+use Rattle.floor_loop.proofs.Throwing.{thrown-moves, thrown-spares, thrown-wakes}
 use Rattle.floor_loop.proofs.serving.Loop.leave.Goals as goal
 
 abbrev old : goal.After-leave_from → Loop
@@ -15,6 +16,10 @@ old c = loop_of c.self.inside.hub c.self.inside.attended
 
 abbrev mid : goal.After-leave_from → Loop
 mid c = loop_of c.self.inside.hub c.pass.new.self
+
+-- behind what was thrown away
+abbrev away : goal.After-leave_from → Loop
+away c = loop_of c.throw_away.new.hub c.throw_away.new.attended
 
 abbrev new : goal.After-leave_from → Loop
 new c = loop_of c.leave_from.new.hub c.leave_from.new.attended
@@ -28,13 +33,18 @@ first c = moved-kept (old c) (mid c) refl (keeps c)
 later : (c : goal.After-leave_from) → IsLoop (mid c)
 later c = loop-moves NoSteps (old c) (mid c) (first c) c.self.invariant
 
+left : (c : goal.After-leave_from) → Moved (AtMost 1 (Leave c.args.number)) (mid c) (new c)
+left c = thrown-moves c.args.number (mid c) (away c) (new c) c.throw_away.ensures.thrown c.leave_from.ensures.left (AtMost 1 (Leave c.args.number)) c.leave_from.ensures.moved
+
 moved : (c : goal.After-leave_from) → Moved (AtMost 1 (Leave c.args.number)) (old c) (new c)
-moved c = moved-behind (AtMost 1 (Leave c.args.number)) (old c) (mid c) (new c) (first c) c.leave_from.ensures.moved
+moved c = moved-behind (AtMost 1 (Leave c.args.number)) (old c) (mid c) (new c) (first c) (left c)
 
 woke : (c : goal.After-leave_from) → Wakes (old c) (new c)
 woke c =
-    wakes-both NoSteps (AtMost 1 (Leave c.args.number)) (old c) (mid c) (new c) (first c) c.leave_from.ensures.moved (later c).serving
-    (wakes-same (old c) (mid c) (λ d. refl) (stays-kept (outgoing_in c.self.inside.attended) (outgoing_in c.pass.new.self) (keeps c))) (c.leave_from.ensures.woke (later c))
+    let thrown = c.throw_away.ensures.thrown in
+    wakes-both NoSteps (AtMost 1 (Leave c.args.number)) (old c) (mid c) (new c) (first c) (left c) (later c).serving
+    (wakes-same (old c) (mid c) (λ d. refl) (stays-kept (outgoing_in c.self.inside.attended) (outgoing_in c.pass.new.self) (keeps c)))
+    (thrown-wakes c.args.number (mid c) (away c) (new c) thrown c.leave_from.ensures.left (later c) (c.leave_from.ensures.woke (thrown.loop (later c))))
 
 pub invariant_of-self : goal.invariant_of-self
 invariant_of-self c = loop-moves (AtMost 1 (Leave c.args.number)) (old c) (new c) (moved c) c.self.invariant
@@ -51,4 +61,5 @@ returns-clause-woke c = subst (λ (l : Loop). Wakes l (new c)) c.self.view_is (w
 pub returns-clause-spares : goal.returns-clause-spares
 returns-clause-spares c =
     subst (λ (l : Loop). Spares l (new c)) c.self.view_is
-    (spares-behind (old c) (mid c) (new c) (λ k. refl) (passed-found c.self.inside.attended c.pass.new.self (ap (λ (z : Attended). z.outgoing) c.pass.ensures.next)) (c.leave_from.ensures.spares (later c)))
+    (spares-behind (old c) (mid c) (new c) (λ k. refl) (passed-found c.self.inside.attended c.pass.new.self (ap (λ (z : Attended). z.outgoing) c.pass.ensures.next))
+    (thrown-spares c.args.number (mid c) (away c) (new c) c.throw_away.ensures.thrown c.leave_from.ensures.left (c.leave_from.ensures.spares (c.throw_away.ensures.thrown.loop (later c)))))

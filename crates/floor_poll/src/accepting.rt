@@ -1,0 +1,160 @@
+//! Who connects to a port is accepted, and joins its conference.
+
+use crate::connection::Connection;
+use crate::departure::refused_by;
+use crate::worker::Worker;
+use floor_loop::ConnNo;
+use floor_server::{Entry, Peer, Refused, UserPort};
+use mio::net::TcpStream;
+use mio::{Interest, Token};
+use std::io::ErrorKind;
+use std::mem;
+use std::net::SocketAddr;
+use std::sync::Wait;
+use std::time::Clock;
+
+/// How many are accepted at a port before others are served.
+const MAX_ACCEPTS: u32 = 64;
+
+/// How long a port waits where an accept failed, as it does without a descriptor left, in milliseconds.
+const ACCEPT_AGAIN_MILLIS: u64 = 100;
+
+impl<R: Clock + Wait + Copy + Drop> Worker<R> {
+    /// Accepts who waits at a port, 64 at most at a time. Where an accept fails the port is looked at again after
+    /// 100 milliseconds.
+    pub fn accept_all(&mut self, number: u64) {
+        for _ in 0..MAX_ACCEPTS {
+            let Some(port) = self.ports.get(&number) else {
+                return;
+            };
+            match port.listener.accept() {
+                Ok((stream, address)) => {
+                    let to = port.place;
+                    self.set_failing(number, false);
+                    self.attach(
+                        stream,
+                        Peer {
+                            to,
+                            port: address.port(),
+                        },
+                    );
+                }
+                Err(error) => match error.kind() {
+                    ErrorKind::WouldBlock => return,
+                    ErrorKind::Interrupted | ErrorKind::ConnectionAborted => {}
+                    _ => {
+                        self.set_failing(number, true);
+                        self.look_again(number, ACCEPT_AGAIN_MILLIS);
+                        return;
+                    }
+                },
+            }
+        }
+        self.look_again(number, 0);
+    }
+
+    /// Looks again at the ports at which somebody may still wait, where it is time.
+    pub fn accept_again(&mut self) {
+        match self.again {
+            Some(again) if again <= self.now => {}
+            _ => return,
+        }
+        self.again = None;
+        for _ in 0..self.waiting.len() {
+            let Some(number) = self.waiting.pop_front() else {
+                return;
+            };
+            if let Some(port) = self.ports.get_mut(&number) {
+                port.is_waiting = false;
+            }
+            self.accept_all(number);
+        }
+    }
+
+    /// Has a port looked at again after so many milliseconds. There is room for it since it was listened on.
+    fn look_again(&mut self, number: u64, millis: u64) {
+        let again = self.now.saturating_add(millis);
+        self.again = Some(self.again.map_or(again, |other| other.min(again)));
+        let Some(port) = self.ports.get_mut(&number) else {
+            return;
+        };
+        if !port.is_waiting {
+            port.is_waiting = self.waiting.push_back(number).is_ok();
+        }
+    }
+
+    /// Takes down whether a port's accept failed, and tells the log of a change.
+    fn set_failing(&mut self, number: u64, is_failing: bool) {
+        let Some(port) = self.ports.get_mut(&number) else {
+            return;
+        };
+        let place = port.place;
+        match (mem::replace(&mut port.is_failing, is_failing), is_failing) {
+            (false, true) => self.tell(&Entry::CannotAccept(place)),
+            (true, false) => self.tell(&Entry::Accepts(place)),
+            (true, true) | (false, false) => {}
+        }
+    }
+
+    /// Attaches a connection to its conference. Where it isn't let in the log is told why, and its socket is
+    /// closed.
+    fn attach(&mut self, stream: TcpStream, peer: Peer) {
+        match self.join(peer.to) {
+            Ok(number) => self.add(number, stream, peer),
+            Err(cause) => self.tell(&Entry::Refused { peer, cause }),
+        }
+    }
+
+    /// Has whoever connects to this port join its conference, with a place there and room here.
+    fn join(&mut self, to: UserPort) -> Result<ConnNo, Refused> {
+        self.reserve()?;
+        let Some(places) = self.conferences.get_mut(&to.conference) else {
+            return Err(Refused::NoConference);
+        };
+        if let Err(unserved) = places.take() {
+            return Err(Refused::by_table(unserved));
+        }
+        match self
+            .hub
+            .attach(self.alloc, to.conference, to.user, self.now)
+        {
+            Ok(number) => Ok(number),
+            Err(refusal) => {
+                places.give_back();
+                Err(refused_by(refusal))
+            }
+        }
+    }
+
+    /// Takes room for one connection more.
+    fn reserve(&mut self) -> Result<(), Refused> {
+        let count = self.connections.len().saturating_add(1);
+        if self.connections.reserve(1).is_err() || self.turns.reserve(count).is_err() {
+            return Err(Refused::Memory);
+        }
+        Ok(())
+    }
+
+    /// Takes a connection in that has joined.
+    fn add(&mut self, number: ConnNo, mut stream: TcpStream, peer: Peer) {
+        let n = self.hub.place(number).map_or(0, |place| place.n);
+        self.joined = self.joined.saturating_add(1);
+        self.tell(&Entry::Joined { peer, n });
+        // Without it a small answer waits for the next.
+        let _outcome = stream.set_nodelay(true);
+        let token = Token((number as usize).saturating_mul(2));
+        let interests = Interest::READABLE | Interest::WRITABLE;
+        let is_told = self
+            .poll
+            .registry()
+            .register(&mut stream, token, interests)
+            .is_ok();
+        let added = self
+            .connections
+            .insert(number, Connection::new(stream, peer, n));
+        if !is_told || added.is_err() {
+            // Nothing would ever be told of it.
+            self.hub.failed(number, self.now);
+        }
+    }
+}

@@ -1,0 +1,237 @@
+//! What the first thread asks for: conferences and their ports, and what their administrators do.
+
+ghost use Rattle.std.specs.Prelude.{◌≡◌};
+ghost use Rattle.floor_poll.specs.Refusals.{refusal_of};
+
+use crate::mailbox::{Answer, Asked, Lines, Mailbox};
+use crate::places::Places;
+use crate::port::Port;
+use crate::worker::Worker;
+use floor_config::Config;
+use floor_console::BoardRefusal;
+use floor_loop::{Act, AddedUser, HubRefusal, User};
+use floor_room::{Phase, add_lines};
+use floor_server::Entry;
+use mio::{Interest, Token};
+use std::alloc::AllocError;
+use std::sync::Wait;
+use std::time::Clock;
+
+impl<R: Clock + Wait + Copy + Drop> Worker<R> {
+    /// Does what is asked, and answers. A stop is answered once nobody is connected.
+    pub fn answer(&mut self, mailbox: &Mailbox) {
+        let rt = self.rt;
+        let Some(asked) = mailbox.take(&rt) else {
+            return;
+        };
+        let answer = match asked {
+            Asked::Open { config, ports } => Answer::Done(self.open(config, ports)),
+            Asked::AddUser {
+                conference,
+                user,
+                port,
+            } => Answer::Done(self.add_user(conference, user, port)),
+            Asked::Admin { conference, act } => Answer::Done(self.admin(conference, act)),
+            Asked::Status { conference } => {
+                Answer::Stands(self.hub.status(conference).map_err(refusal_of))
+            }
+            Asked::Journal { conference, done } => Answer::Lines(self.lines(conference, done)),
+            Asked::Stop => {
+                self.stop();
+                return;
+            }
+        };
+        mailbox.reply(&rt, answer);
+        self.write_ready();
+    }
+
+    /// Opens a conference with its ports. Where it is refused they are given back.
+    fn open(&mut self, config: Config, ports: Vec<Port>) -> Result<(), BoardRefusal> {
+        let conference = config.conference();
+        let mut places = Places::new(Vec::new(self.alloc));
+        let outcome = self.open_with(&mut places, config, ports);
+        match outcome {
+            Ok(()) => {
+                let _added = self.conferences.insert(conference, places);
+                self.tell(&Entry::Opened { conference });
+            }
+            Err(_) => self.close_ports(&mut places),
+        }
+        outcome
+    }
+
+    /// Takes the ports in, and then opens the conference, with room for what is kept of it.
+    fn open_with(
+        &mut self,
+        places: &mut Places,
+        config: Config,
+        ports: Vec<Port>,
+    ) -> Result<(), BoardRefusal> {
+        self.conferences.reserve(1)?;
+        for port in ports {
+            self.take_in(places, port)?;
+        }
+        match self.hub.open(self.alloc, config) {
+            Ok(()) => Ok(()),
+            Err(refusal) => Err(refusal_of(refusal)),
+        }
+    }
+
+    /// Takes in a port that is listened on, with room for what is kept of it, and is told of who connects.
+    fn take_in(&mut self, places: &mut Places, port: Port) -> Result<(), BoardRefusal> {
+        self.reserve_port(places)?;
+        let number = self.last_port.saturating_add(2);
+        let place = port.place;
+        let mut port = port;
+        let token = Token(number as usize);
+        let registry = self.poll.registry();
+        match registry.register(&mut port.listener, token, Interest::READABLE) {
+            Ok(()) => {}
+            Err(_) => return Err(BoardRefusal::CannotListen),
+        }
+        self.last_port = number;
+        let _added = self.ports.insert(number, port);
+        let _added = places.add(number);
+        self.tell(&Entry::Listens(place));
+        Ok(())
+    }
+
+    /// Takes room for one port more.
+    fn reserve_port(&mut self, places: &mut Places) -> Result<(), AllocError> {
+        let count = self.ports.len().saturating_add(1);
+        places.reserve()?;
+        self.ports.reserve(1)?;
+        self.waiting.reserve(count)
+    }
+
+    /// Adds a user. Its port is taken in first, where it has one, and given back where the user is refused.
+    fn add_user(
+        &mut self,
+        conference: u32,
+        user: User,
+        port: Option<Port>,
+    ) -> Result<(), BoardRefusal> {
+        let mut places = Places::new(Vec::new(self.alloc));
+        if let Some(port) = port {
+            self.take_in(&mut places, port)?;
+        }
+        let outcome = self.add_to(conference, user);
+        match (outcome, places.take_last()) {
+            (Ok(()), Some(number)) => self.keep_port(conference, number),
+            (Err(_), Some(number)) => self.close_port(number),
+            (_, None) => {}
+        }
+        outcome
+    }
+
+    /// Adds a user. The port is this server's, and no part of the conference.
+    fn add_to(&mut self, conference: u32, user: User) -> Result<(), BoardRefusal> {
+        let user = AddedUser::new(self.alloc, User { port: None, ..user })?;
+        self.admin(conference, Act::AddUser(user))
+    }
+
+    /// Keeps a port with its conference.
+    fn keep_port(&mut self, conference: u32, number: u64) {
+        if let Some(places) = self.conferences.get_mut(&conference) {
+            let _added = places.add(number);
+        }
+    }
+
+    /// Does what a conference's administrator does. A closed conference has no port any more.
+    fn admin(&mut self, conference: u32, act: Act) -> Result<(), BoardRefusal> {
+        let closes = matches!(act, Act::Close);
+        match self.hub.admin(conference, act, self.now) {
+            Ok(()) => {
+                if closes {
+                    self.tell(&Entry::Closed { conference });
+                    self.close_ports_of(conference);
+                }
+                Ok(())
+            }
+            Err(refusal) => {
+                self.tell_if_broken(conference);
+                Err(refusal_of(refusal))
+            }
+        }
+    }
+
+    /// Tells the log of a conference that is broken off.
+    fn tell_if_broken(&self, conference: u32) {
+        let Some(log) = &self.log else {
+            return;
+        };
+        if let Ok(status) = self.hub.status(conference) {
+            if status.phase == Phase::Broken {
+                log.tell_broken(&self.rt, conference);
+            }
+        }
+    }
+
+    /// Some lines of a journal behind the first `done`.
+    fn lines(&self, conference: u32, done: usize) -> Result<Lines, BoardRefusal> {
+        let events = match self.hub.journal(conference) {
+            Ok(events) => events,
+            Err(refusal) => return Err(refusal_of(refusal)),
+        };
+        let mut text = String::new(self.alloc);
+        let added = add_lines(self.alloc, &mut text, events, done)?;
+        Ok(Lines { text, added })
+    }
+
+    fn close_ports_of(&mut self, conference: u32) {
+        let Some(places) = self.conferences.get_mut(&conference) else {
+            return;
+        };
+        let ports = places.take_ports(self.alloc);
+        for number in ports {
+            self.close_port(number);
+        }
+    }
+
+    fn close_ports(&mut self, places: &mut Places) {
+        let ports = places.take_ports(self.alloc);
+        for number in ports {
+            self.close_port(number);
+        }
+    }
+
+    /// Listens on a port no longer.
+    fn close_port(&mut self, number: u64) {
+        if let Some(port) = self.ports.swap_remove(&number) {
+            let place = port.place;
+            drop(port);
+            self.tell(&Entry::Ended(place));
+        }
+    }
+
+    /// Accepts nobody any more, and ends each connection once what is queued to it is written.
+    fn stop(&mut self) {
+        self.is_stopping = true;
+        for _ in 0..self.ports.len() {
+            let Some((number, _)) = self.ports.first() else {
+                break;
+            };
+            let number = *number;
+            self.close_port(number);
+        }
+        for place in 0..self.connections.len() {
+            if let Some((number, _)) = self.connections.get_index(place) {
+                let number = *number;
+                self.hub.ended(number, self.now);
+            }
+        }
+        self.write_ready();
+    }
+}
+
+/// What the administrator is answered whom the hub refuses so.
+fn refusal_of(refusal: HubRefusal) -> BoardRefusal
+    ensures value { result ≡ refusal_of refusal }
+{
+    match refusal {
+        HubRefusal::Used => BoardRefusal::Used,
+        HubRefusal::NoConference | HubRefusal::NoConnection => BoardRefusal::NoConference,
+        HubRefusal::Memory => BoardRefusal::Memory,
+        HubRefusal::ByRoom(refusal) => BoardRefusal::ByRoom(refusal),
+    }
+}

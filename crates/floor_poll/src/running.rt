@@ -1,0 +1,144 @@
+//! A run of the server over its words, a reader and two writers.
+
+use crate::lines::answer_lines;
+use crate::server::Server;
+use floor_console::Board;
+use floor_listen::{Ending, ServerFault, ended};
+use floor_server::{
+    Log, Program, Task, Words, check_configuration, ending_of_words, fault_of_opening,
+    fault_of_stop, log_of, print, read_words, tell, tell_ending,
+};
+use std::alloc::Global;
+use std::io::{Read, Write};
+use std::net::{Net, TcpListener, TcpStream};
+use std::rt::Files;
+use std::sync::{Arc, Wait};
+use std::thread;
+use std::thread::Threads;
+use std::time::Clock;
+
+/// How many loops there are at most where the words don't say how many.
+const MAX_LOOPS: usize = 4;
+
+/// Does what the words ask for: serves a configuration until `input` says `stop` or ends, or checks one.
+/// A log that the words ask for goes to the sink. Prints to `errors` the name of a fault, and above it what
+/// a person is told of it, and gives the exit status.
+pub fn run<
+    R: Net<Listener = TcpListener, Stream = TcpStream>
+        + Files
+        + AllocGlobal
+        + Clock
+        + Threads
+        + Wait
+        + Copy
+        + Drop
+        + Send
+        + 'static,
+    I: Read,
+    O: Write,
+    E: Write,
+    L: Write + Send + Drop + 'static,
+>(
+    rt: R,
+    alloc: Global,
+    program: &Program,
+    words: &[String],
+    input: &mut I,
+    output: &mut O,
+    errors: &mut E,
+    sink: L,
+) -> u8 {
+    let ending = match read_words(alloc, words, program) {
+        Ok(words) => match words.task {
+            Task::Serve => serve(rt, alloc, &words, input, output, errors, sink),
+            Task::Check => check_configuration(&rt, alloc, words.path.as_str(), output),
+        },
+        Err(fault) => ending_of_words(fault, output, errors),
+    };
+    tell_ending(errors, program.name, ending)
+}
+
+/// How many loops there are: as many as the words say, else as processors, and at most four.
+fn loops_of<R: Threads>(rt: &R, loops: Option<u8>) -> usize {
+    match loops {
+        Some(loops) => usize::from(loops),
+        None => thread::available_parallelism(rt)
+            .map_or(1, |count| count.get())
+            .min(MAX_LOOPS),
+    }
+}
+
+/// Serves the configuration of a file until `input` says `stop` or ends.
+fn serve<R, I: Read, O: Write, E: Write, L>(
+    rt: R,
+    alloc: Global,
+    words: &Words,
+    input: &mut I,
+    output: &mut O,
+    errors: &mut E,
+    sink: L,
+) -> Ending
+where
+    R: Net + Files + AllocGlobal + Clock + Threads + Wait + Copy + Drop + Send + 'static,
+    L: Write + Send + Drop + 'static,
+{
+    let log = match log_of(rt, alloc, words.has_log, sink) {
+        None => None,
+        Some(log) => Arc::new(alloc, log).ok(),
+    };
+    let Ok(mut server) = Server::start(rt, alloc, loops_of(&rt, words.loops), &log) else {
+        return Ending::Fault(ServerFault::Memory);
+    };
+    let served = converse(
+        rt,
+        alloc,
+        &mut server,
+        words.path.as_str(),
+        input,
+        output,
+        errors,
+    );
+    // Whatever went wrong, no thread is left behind.
+    let outcome = match server.outcome() {
+        Some(outcome) => outcome,
+        None => server.stop(),
+    };
+    server.join();
+    end_log(&rt, &log);
+    let stopped = match outcome {
+        Ok(_) => Ok(()),
+        Err(refusal) => Err(fault_of_stop(refusal)),
+    };
+    ended(served, stopped)
+}
+
+/// Ends the log, where there is one, once its last lines are written.
+fn end_log<R: Wait>(rt: &R, log: &Option<Arc<Log, Global>>) {
+    match log {
+        Some(log) => log.end(rt),
+        None => {}
+    }
+}
+
+/// Opens the conferences of a file, and answers the administrator's lines.
+fn converse<R, I: Read, O: Write, E: Write>(
+    rt: R,
+    alloc: Global,
+    server: &mut Server<R>,
+    path: &str,
+    input: &mut I,
+    output: &mut O,
+    errors: &mut E,
+) -> Result<(), ServerFault>
+where
+    R: Net + Files + AllocGlobal + Clock + Threads + Wait + Copy + Drop + Send + 'static,
+{
+    let opened = server.open_file(path);
+    tell(errors, server.take_told());
+    match opened {
+        Ok(_) => {}
+        Err(refusal) => return Err(fault_of_opening(refusal)),
+    }
+    print(output, "ready\n")?;
+    answer_lines(rt, alloc, server, input, output, errors)
+}

@@ -1,0 +1,428 @@
+//! The server as its administrator sees it: the loops, and which of them has which conference.
+
+use crate::mailbox::{Answer, Asked, Mailbox, Report};
+use crate::owners::Owners;
+use crate::port::Port;
+use crate::worker::{Room, WAKER, serve};
+use floor_config::Config;
+use floor_console::{Board, BoardRefusal, Floor, StopRefusal, Stopped, Text, User};
+use floor_loop::{Act, Status};
+use floor_room::add_end;
+use floor_server::{Log, PortFault, Reason, UserPort, configurations, read_text};
+use mio::{Poll, Waker};
+use std::alloc::{AllocError, Global};
+use std::net::Net;
+use std::rt::Files;
+use std::sync::{Arc, Wait};
+use std::thread;
+use std::thread::{JoinHandle, Threads};
+use std::time::Clock;
+
+/// The loops of a server, and their conferences.
+#[derive(Drop)]
+pub struct Server<R> {
+    rt: R,
+    alloc: Global,
+    loops: Vec<Serving>,
+    owners: Owners,
+    outcome: Option<Result<Stopped, StopRefusal>>,
+    /// What a person has yet to be told of the last refusal.
+    told: Option<String>,
+}
+
+/// A loop that runs.
+#[derive(Drop)]
+struct Serving {
+    mailbox: Arc<Mailbox, Global>,
+    thread: JoinHandle<()>,
+}
+
+impl<R> Server<R>
+where
+    R: Net + Files + AllocGlobal + Clock + Threads + Wait + Copy + Drop + Send + 'static,
+{
+    /// Starts so many loops. Without memory, descriptors or threads for all of them none runs.
+    pub fn start(
+        rt: R,
+        alloc: Global,
+        loops: usize,
+        log: &Option<Arc<Log, Global>>,
+    ) -> Result<Server<R>, AllocError> {
+        let mut server = Server {
+            rt,
+            alloc,
+            loops: Vec::with_capacity(alloc, loops)?,
+            owners: Owners::new(alloc, loops),
+            outcome: None,
+            told: None,
+        };
+        for _ in 0..loops {
+            match start_one(rt, alloc, log) {
+                Ok(one) => server.loops.push(one)?,
+                Err(error) => {
+                    let _outcome = server.stop();
+                    return Err(error);
+                }
+            }
+        }
+        Ok(server)
+    }
+}
+
+/// Starts a loop.
+fn start_one<R>(rt: R, alloc: Global, log: &Option<Arc<Log, Global>>) -> Result<Serving, AllocError>
+where
+    R: Net + Clock + Threads + Wait + Copy + Drop + Send + 'static,
+{
+    let (poll, waker) = poll_of(&rt)?;
+    let (mailbox, theirs) = mailboxes(alloc, waker)?;
+    let log = share_log(log)?;
+    let thread = start_thread(rt, alloc, poll, log, theirs)?;
+    Ok(Serving { mailbox, thread })
+}
+
+/// What a loop waits for its sockets by, and what ends its waiting.
+fn poll_of<R: Net>(rt: &R) -> Result<(Poll, Waker), AllocError> {
+    match Poll::new(rt) {
+        Ok(poll) => match Waker::new(poll.registry(), WAKER) {
+            Ok(waker) => Ok((poll, waker)),
+            Err(_) => Err(AllocError),
+        },
+        Err(_) => Err(AllocError),
+    }
+}
+
+/// A mailbox, the first thread's and the loop's.
+fn mailboxes(
+    alloc: Global,
+    waker: Waker,
+) -> Result<(Arc<Mailbox, Global>, Arc<Mailbox, Global>), AllocError> {
+    match Arc::new(alloc, Mailbox::new(waker)) {
+        Ok(ours) => {
+            let theirs = Arc::try_clone(&ours)?;
+            Ok((ours, theirs))
+        }
+        Err(_) => Err(AllocError),
+    }
+}
+
+/// The log once more, where there is one.
+fn share_log(log: &Option<Arc<Log, Global>>) -> Result<Option<Arc<Log, Global>>, AllocError> {
+    match log {
+        Some(log) => Ok(Some(Arc::try_clone(log)?)),
+        None => Ok(None),
+    }
+}
+
+/// Has a loop without a conference served by a thread of its own.
+fn start_thread<R>(
+    rt: R,
+    alloc: Global,
+    poll: Poll,
+    log: Option<Arc<Log, Global>>,
+    mailbox: Arc<Mailbox, Global>,
+) -> Result<JoinHandle<()>, AllocError>
+where
+    R: Clock + Threads + Wait + Copy + Drop + Send + 'static,
+{
+    let room = Room::new(alloc)?;
+    match thread::spawn(&rt, move || serve(rt, alloc, poll, log, room, &mailbox)) {
+        Ok(thread) => Ok(thread),
+        Err(_) => Err(AllocError),
+    }
+}
+
+impl<R: Net + Files + AllocGlobal + Clock + Threads + Wait + Drop> Server<R> {
+    /// What the stop found, once it was asked for.
+    pub fn outcome(&self) -> Option<Result<Stopped, StopRefusal>> {
+        self.outcome
+    }
+
+    /// What a person is to be told of the last refusal, a line, once.
+    pub fn take_told(&mut self) -> Option<String> {
+        self.told.take()
+    }
+
+    /// Waits until the threads of the loops have ended, behind a stop.
+    pub fn join(self) {
+        let rt = self.rt;
+        for one in self.loops {
+            one.thread.join(&rt);
+        }
+    }
+
+    /// Keeps what a person is to be told, and gives the refusal.
+    fn refuse(&mut self, reason: Reason) -> BoardRefusal {
+        let Reason { refusal, line } = reason;
+        self.told = line;
+        refusal
+    }
+
+    /// Opens the conferences of a file, and tells how many.
+    pub fn open_file(&mut self, path: &str) -> Result<usize, BoardRefusal> {
+        let configs = match self.read(path) {
+            Ok(configs) => configs,
+            Err(reason) => return Err(self.refuse(reason)),
+        };
+        let mut count = 0usize;
+        for config in configs {
+            self.open_one(config)?;
+            count = count.saturating_add(1);
+        }
+        Ok(count)
+    }
+
+    /// Reads and checks a file whole.
+    fn read(&self, path: &str) -> Result<Vec<Config>, Reason> {
+        let text = read_text(&self.rt, self.alloc, path)?;
+        configurations(self.alloc, path, text.as_str())
+    }
+
+    /// Opens one conference, in the loop whose turn it is.
+    fn open_one(&mut self, config: Config) -> Result<(), BoardRefusal> {
+        let conference = config.conference();
+        if self.owners.get(conference).is_some() {
+            return Err(BoardRefusal::Used);
+        }
+        self.owners.reserve()?;
+        let ports = match self.listen_all(&config) {
+            Ok(ports) => ports,
+            Err(reason) => return Err(self.refuse(reason)),
+        };
+        let place = self.owners.next();
+        match self.ask_at(place, Asked::Open { config, ports }) {
+            Some(Answer::Done(Ok(()))) => Ok(self.owners.add(conference, place)?),
+            Some(Answer::Done(Err(refusal))) => Err(refusal),
+            _ => Err(BoardRefusal::Memory),
+        }
+    }
+
+    /// Listens on the port of each user of a configuration who has one.
+    fn listen_all(&self, config: &Config) -> Result<Vec<Port>, Reason> {
+        let mut ports = Vec::new(self.alloc);
+        for user in config.users() {
+            if let Some(port) = user.port {
+                let opened = self.listen(config.conference(), user.id, port)?;
+                if ports.push(opened).is_err() {
+                    return Err(only(BoardRefusal::Memory));
+                }
+            }
+        }
+        Ok(ports)
+    }
+
+    /// Listens on a user's port.
+    fn listen(&self, conference: u32, user: u16, port: u16) -> Result<Port, Reason> {
+        let place = UserPort {
+            conference,
+            user,
+            port,
+        };
+        match Port::open(&self.rt, place) {
+            Ok(opened) => Ok(opened),
+            Err(error) => {
+                Err(PortFault::System(error).reason(self.alloc, conference, user, port))
+            }
+        }
+    }
+
+    /// Adds a user, whose port is listened on first, where there is one. The conference is looked for before that.
+    fn add(&mut self, conference: u32, user: User) -> Result<(), BoardRefusal> {
+        if self.owners.get(conference).is_none() {
+            return Err(BoardRefusal::NoConference);
+        }
+        let port = match user.port {
+            None => None,
+            Some(port) => match self.listen(conference, user.id, port) {
+                Ok(opened) => Some(opened),
+                Err(reason) => return Err(self.refuse(reason)),
+            },
+        };
+        self.change(
+            conference,
+            Asked::AddUser {
+                conference,
+                user,
+                port,
+            },
+        )
+    }
+
+    /// Asks a loop, and waits for its answer.
+    fn ask_at(&self, place: usize, asked: Asked) -> Option<Answer> {
+        let one = self.loops.get(place)?;
+        one.mailbox.ask(&self.rt, asked);
+        one.mailbox.answer(&self.rt)
+    }
+
+    /// Asks the loop of a conference, and waits for its answer.
+    fn ask(&self, conference: u32, asked: Asked) -> Result<Answer, BoardRefusal> {
+        let Some(place) = self.owners.get(conference) else {
+            return Err(BoardRefusal::NoConference);
+        };
+        match self.ask_at(place, asked) {
+            Some(answer) => Ok(answer),
+            None => Err(BoardRefusal::Memory),
+        }
+    }
+
+    /// Has something done in a conference.
+    fn change(&self, conference: u32, asked: Asked) -> Result<(), BoardRefusal> {
+        match self.ask(conference, asked)? {
+            Answer::Done(done) => done,
+            _ => Err(BoardRefusal::Memory),
+        }
+    }
+
+    fn act(&self, conference: u32, act: Act) -> Result<(), BoardRefusal> {
+        self.change(conference, Asked::Admin { conference, act })
+    }
+
+    /// How a conference stands.
+    fn stands(&self, conference: u32) -> Result<Status, BoardRefusal> {
+        match self.ask(conference, Asked::Status { conference })? {
+            Answer::Stands(found) => found,
+            _ => Err(BoardRefusal::Memory),
+        }
+    }
+
+    /// The lines of a conference's journal, and their number: of all events that it had when the call began, and
+    /// perhaps of some behind them. They are taken by pieces, between which the loop serves its connections.
+    fn journal_text(&self, conference: u32) -> Result<String, BoardRefusal> {
+        let count = self.stands(conference)?.events as usize;
+        let mut text = String::new(self.alloc);
+        let mut done = 0usize;
+        for _ in 0..count {
+            if done >= count {
+                break;
+            }
+            let added = self.add_piece(conference, done, &mut text)?;
+            done = done.saturating_add(added);
+        }
+        add_end(self.alloc, &mut text, done)?;
+        Ok(text)
+    }
+
+    /// Adds some lines of a journal behind the first `done`, and gives how many.
+    fn add_piece(
+        &self,
+        conference: u32,
+        done: usize,
+        text: &mut String,
+    ) -> Result<usize, BoardRefusal> {
+        match self.ask(conference, Asked::Journal { conference, done })? {
+            Answer::Lines(Ok(lines)) => {
+                text.push_str(lines.text.as_str())?;
+                Ok(lines.added)
+            }
+            Answer::Lines(Err(refusal)) => Err(refusal),
+            _ => Err(BoardRefusal::Memory),
+        }
+    }
+
+    /// Has all loops end, beside each other, and gives what they had together.
+    fn stop_all(&self) -> Result<Stopped, StopRefusal> {
+        for one in self.loops.iter() {
+            one.mailbox.ask(&self.rt, Asked::Stop);
+        }
+        let mut seats = 0usize;
+        let mut events = 0u128;
+        let mut broken = None;
+        for one in self.loops.iter() {
+            if let Some(Answer::Stopped(report)) = one.mailbox.answer(&self.rt) {
+                seats = seats.saturating_add(report.joined);
+                events = events.saturating_add(report.events);
+                broken = self.first(broken, report);
+            }
+        }
+        match broken {
+            Some(conference) => Err(StopRefusal::Broken { conference }),
+            None => Ok(Stopped { seats, events }),
+        }
+    }
+
+    /// Of two conferences the one that was opened first.
+    fn first(&self, broken: Option<u32>, report: Report) -> Option<u32> {
+        match (broken, report.broken) {
+            (Some(one), Some(other)) => {
+                if self.owners.order(other) < self.owners.order(one) {
+                    Some(other)
+                } else {
+                    Some(one)
+                }
+            }
+            (one, other) => one.or(other),
+        }
+    }
+}
+
+impl<R: Net + Files + AllocGlobal + Clock + Threads + Wait + Drop> Board for Server<R> {
+    ghost opens = { λ _ _ _ _. Unit {0} };
+
+    ghost closes = { λ _ _ _ _. Unit {0} };
+
+    ghost revokes = { λ _ _ _ _ _. Unit {0} };
+
+    ghost adds_user = { λ _ _ _ _ _. Unit {0} };
+
+    ghost adds_floor = { λ _ _ _ _ _. Unit {0} };
+
+    ghost sets_chair = { λ _ _ _ _ _ _. Unit {0} };
+
+    ghost stands = { λ _ _ _ _. Unit {0} };
+
+    ghost lists = { λ _ _ _ _. Unit {0} };
+
+    ghost stops = { λ _ _ _. Unit {0} };
+
+    fn open(&mut self, path: &str) -> Result<usize, BoardRefusal> {
+        self.open_file(path)
+    }
+
+    fn close(&mut self, conference: u32) -> Result<(), BoardRefusal> {
+        self.act(conference, Act::Close)
+    }
+
+    fn revoke(&mut self, conference: u32, request: u16) -> Result<(), BoardRefusal> {
+        self.act(conference, Act::Revoke(request))
+    }
+
+    fn add_user(&mut self, conference: u32, user: User) -> Result<(), BoardRefusal> {
+        self.add(conference, user)
+    }
+
+    fn add_floor(&mut self, conference: u32, floor: Floor) -> Result<(), BoardRefusal> {
+        self.act(conference, Act::AddFloor(floor))
+    }
+
+    fn set_chair(
+        &mut self,
+        conference: u32,
+        floor: u16,
+        chair: Option<u16>,
+    ) -> Result<(), BoardRefusal> {
+        self.act(conference, Act::SetChair(floor, chair))
+    }
+
+    fn status(&mut self, conference: u32) -> Result<Status, BoardRefusal> {
+        self.stands(conference)
+    }
+
+    fn journal(&mut self, conference: u32) -> Result<Text, BoardRefusal> {
+        Ok(Text::from_string(self.journal_text(conference)?))
+    }
+
+    fn stop(&mut self) -> Result<Stopped, StopRefusal> {
+        let outcome = self.stop_all();
+        self.outcome = Some(outcome);
+        outcome
+    }
+}
+
+/// A refusal, of which there is no more to say.
+fn only(refusal: BoardRefusal) -> Reason {
+    Reason {
+        refusal,
+        line: None,
+    }
+}

@@ -1,0 +1,198 @@
+//! A connection's turn: what came is read and served, what is queued is written, and who is to be shut down is.
+
+use crate::connection::{Connection, Found, Written};
+use crate::departure::{End, departure_of};
+use crate::worker::Worker;
+use floor_loop::{ConnNo, HubRefusal, Loop};
+use floor_room::Phase;
+use std::sync::Wait;
+use std::time::Clock;
+
+impl<R: Clock + Wait + Copy + Drop> Worker<R> {
+    /// Has a connection served, each once. There is room for each since it was accepted; without it the
+    /// connection is given up.
+    pub fn queue(&mut self, number: ConnNo) {
+        let Some(connection) = self.connections.get_mut(&number) else {
+            return;
+        };
+        if connection.is_queued {
+            return;
+        }
+        match self.turns.push_back(number) {
+            Ok(()) => connection.is_queued = true,
+            Err(_) => self.hub.failed(number, self.now),
+        }
+    }
+
+    /// Gives each that is to be served a turn.
+    pub fn serve_turns(&mut self) {
+        for _ in 0..self.turns.len() {
+            let Some(number) = self.turns.pop_front() else {
+                return;
+            };
+            self.serve_turn(number);
+            self.write_ready();
+        }
+    }
+
+    /// Reads once from a connection, and serves what came; or goes on where a turn has left something over.
+    /// Of whom is to be shut down nothing more is read.
+    fn serve_turn(&mut self, number: ConnNo) {
+        let is_over = self.hub.until(number).is_some();
+        let Some(connection) = self.connections.get_mut(&number) else {
+            return;
+        };
+        connection.is_queued = false;
+        if is_over {
+            connection.is_readable = false;
+            connection.has_more = false;
+            return;
+        }
+        if connection.has_more {
+            let served = self.hub.read(number, &[], self.now);
+            self.go_on(number, served);
+        } else if connection.is_readable {
+            let found = connection.read(self.buffer.as_mut_slice());
+            self.serve_found(number, found);
+        }
+    }
+
+    /// Serves what a read found.
+    fn serve_found(&mut self, number: ConnNo, found: Found) {
+        match found {
+            Found::Bytes(count) => {
+                let served = hand_in(&mut self.hub, number, &self.buffer, count, self.now);
+                self.go_on(number, served);
+            }
+            Found::Nothing => self.go_on(number, Ok(false)),
+            Found::End => {
+                self.hub.ended(number, self.now);
+                let held = self.hub.held_len(number);
+                self.note_end(number, End::Stream(held));
+            }
+            Found::Failure => {
+                self.hub.failed(number, self.now);
+                self.note_end(number, End::Failure);
+            }
+        }
+    }
+
+    /// Has a connection served again, where more is to be served.
+    fn go_on(&mut self, number: ConnNo, served: Result<bool, HubRefusal>) {
+        let Some(connection) = self.connections.get_mut(&number) else {
+            return;
+        };
+        match served {
+            Ok(more) => {
+                connection.has_more = more;
+                if more || connection.is_readable {
+                    self.queue(number);
+                }
+            }
+            Err(refusal) => self.note_end(number, End::Refused(refusal)),
+        }
+    }
+
+    /// Takes down how the reading of a connection ended, the first time.
+    fn note_end(&mut self, number: ConnNo, end: End) {
+        if let Some(connection) = self.connections.get_mut(&number) {
+            connection.end = connection.end.or(Some(end));
+        }
+    }
+
+    /// Writes to each connection that has something to write, and shuts down each that is to be.
+    pub fn write_ready(&mut self) {
+        for _ in 0..u64::MAX {
+            match self.hub.ready() {
+                Some(number) => self.write(number),
+                None => return,
+            }
+        }
+    }
+
+    /// Writes what is to be written to a connection, as far as its socket takes it, and shuts it down where it is
+    /// to be and nothing is left.
+    pub fn write(&mut self, number: ConnNo) {
+        let Some(connection) = self.connections.get_mut(&number) else {
+            return;
+        };
+        connection.is_blocked = false;
+        for _ in 0..u64::MAX {
+            match write_once(&mut self.hub, connection, number, self.now) {
+                Written::All => break,
+                Written::Bytes(_) => {}
+                Written::Nothing => return,
+                Written::Failure => {
+                    connection.end = connection.end.or(Some(End::Failure));
+                    self.hub.failed(number, self.now);
+                    break;
+                }
+            }
+        }
+        // Whoever's socket failed is among them.
+        if self.hub.until(number).is_some() {
+            self.end(number);
+        }
+    }
+
+    /// Shuts down each connection whose time is over.
+    pub fn end_due(&mut self) {
+        for _ in 0..u64::MAX {
+            match self.hub.due(self.now) {
+                Some(number) => self.end(number),
+                None => break,
+            }
+        }
+        self.write_ready();
+    }
+
+    /// Shuts a connection down: its member leaves.
+    fn end(&mut self, number: ConnNo) {
+        let connection = self.connections.swap_remove(&number);
+        if let Some(mut connection) = connection {
+            self.tell_left(number, &connection);
+            connection.shut_down(self.buffer.as_mut_slice());
+            if let Some(places) = self.conferences.get_mut(&connection.peer.to.conference) {
+                places.give_back();
+            }
+        }
+        let _left = self.hub.leave(number, self.now);
+    }
+
+    /// Tells the log, where there is one, why a member leaves.
+    fn tell_left(&self, number: ConnNo, connection: &Connection) {
+        let Some(log) = &self.log else {
+            return;
+        };
+        let conference = connection.peer.to.conference;
+        let phase = self
+            .hub
+            .status(conference)
+            .map_or(Phase::Ended, |status| status.phase);
+        let is_cut = self.hub.is_cut(number);
+        let departure = departure_of(phase, is_cut, self.is_stopping, connection.end);
+        log.tell_left(&self.rt, connection.peer, connection.n, departure);
+    }
+}
+
+/// Writes once what is to be written to a connection, and takes it that its socket took so much of it.
+fn write_once(hub: &mut Loop, connection: &mut Connection, number: ConnNo, now: u64) -> Written {
+    let written = connection.write(hub.writing(number));
+    match written {
+        Written::Bytes(count) => hub.wrote(number, count, now),
+        _ => {}
+    }
+    written
+}
+
+/// Hands the first so many bytes of a buffer in, as they came from a connection.
+fn hand_in(
+    hub: &mut Loop,
+    number: ConnNo,
+    buffer: &Vec<u8>,
+    count: usize,
+    now: u64,
+) -> Result<bool, HubRefusal> {
+    let bytes = buffer.as_slice().get(..count).unwrap_or(&[]);
+    hub.read(number, bytes, now)
+}

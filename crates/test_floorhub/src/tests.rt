@@ -1,0 +1,6 @@
+//! Runs over real sockets: a client is a socket, the administrator's lines come through one too.
+
+mod clients;
+mod console;
+mod endings;
+mod logged;
