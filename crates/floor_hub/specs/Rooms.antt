@@ -8,7 +8,7 @@ use Rattle.floor_machine.specs.declared.event.Event.{Event}
 use Rattle.floor_machine.specs.declared.event.Event.TheVariants.{Join, Message, Took, Leave}
 use Rattle.floor_machine.specs.Machine.{event_of_act}
 use Rattle.floor_machine.specs.Parcel.{Parcel}
-use Rattle.floor_machine.specs.declared.machine.Refusal.TheVariants.{Broken, Memory}
+use Rattle.floor_machine.specs.declared.machine.Refusal.TheVariants.{Broken, Ended, Memory}
 use Rattle.floor_room.specs.declared.refusal.RoomRefusal.TheVariants.{Refused as ByMachine}
 use Rattle.floor_room.specs.Ledger.{IsRefusedBy, closed, refusal}
 use Rattle.floor_room.specs.declared.refusal.RoomRefusal.{RoomRefusal}
@@ -16,11 +16,11 @@ use Rattle.floor_room.specs.Outbox.{Outbox}
 use Rattle.floor_room.specs.Room.{IsRoom, Room, new_room}
 use Rattle.floor_room.specs.Taking.{Gave, outbox_of}
 use Rattle.floor_hub.specs.declared.refusal.HubRefusal.{HubRefusal}
-use Rattle.floor_hub.specs.declared.refusal.HubRefusal.TheVariants.{NoConnection, ByRoom, Memory as NoMemory}
+use Rattle.floor_hub.specs.declared.refusal.HubRefusal.TheVariants.{Forgotten, NoConference, NoConnection, Running, ByRoom, Memory as NoMemory}
 use Rattle.floor_hub.specs.declared.connection.Connection.{Connection}
 use Rattle.floor_hub.specs.Concerned.{is_cut}
 use Rattle.floor_hub.specs.Connections.{Puts, SameConnections, connection_at}
-use Rattle.floor_hub.specs.Hub.{Hub, room_at}
+use Rattle.floor_hub.specs.Hub.{Hub, is_forgotten, room_at}
 
 -- nothing has changed
 pub record SameHub (old new : Hub) : Type 0 where
@@ -161,3 +161,24 @@ TakenInto (Some x) result before after old new =
     MatchResult result
     (λ waited. (parcel : Option Parcel) × (waited ≡ is_some parcel) × (after ≡ before ++ bytes_in parcel) × TakenFrom x.conference x.n parcel old new)
     (λ r. (r ≡ NoMemory) × (after ≡ before) × SameHub old new)
+
+-- The conference had ended, and no connection of it was live: its room is gone, and it counts as forgotten. All else is as it was.
+pub record Forgets (conference : ℕ) (old new : Hub) : Type 0 where
+  pub room : Room
+  pub was : room_at old conference ≡ Some room
+  pub ended : closed room.ledger ≡ Some (ByMachine Ended)
+  pub nobody : (number : ℕ) (x : Connection) → connection_at old.connections number ≡ Some x → x.conference ≢ conference
+  pub gone : room_at new conference ≡ None
+  pub others : (d : ℕ) → nat_eq conference d ≡ false → (room_at new d ≡ room_at old d) × (is_forgotten new d ≡ is_forgotten old d)
+  pub forgotten : is_forgotten new conference ≡ true
+  pub connections : SameConnections old.connections new.connections
+  pub arrivals : new.arrivals ≡ old.arrivals
+
+-- why a conference isn't forgotten: it was before; there is none; it is open or broken off, or a connection of it is live; or memory was refused
+abbrev pub IsRemembered : ℕ → Hub → HubRefusal → Type 0
+IsRemembered conference h Forgotten = is_forgotten h conference ≡ true
+IsRemembered conference h NoConference = (is_forgotten h conference ≡ false) × (room_at h conference ≡ None)
+IsRemembered conference h Running = (r : Room) × (room_at h conference ≡ Some r)
+    × ((closed r.ledger ≢ Some (ByMachine Ended)) ⊎ ((number : ℕ) × (x : Connection) × (connection_at h.connections number ≡ Some x) × (x.conference ≡ conference)))
+IsRemembered conference h NoMemory = Unit {0}
+IsRemembered conference h refusal = ⊥

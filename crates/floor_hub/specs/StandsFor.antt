@@ -1,7 +1,10 @@
 -- Which worlds a hub stands for.
-use Rattle.std.specs.Prelude.{◌≡◌, ◌≤◌, ℕ, ◌++◌, false, Option, Some, None, length}
+use Rattle.std.specs.Prelude.{◌≡◌, ◌≢◌, ◌≤◌, ℕ, ◌++◌, Bool, true, false, Option, Some, None, length}
 use Rattle.floor_hub.specs.Connections.{connection_at}
-use Rattle.floor_hub.specs.Hub.{Hub, room_at}
+use Rattle.floor_hub.specs.Hub.{Hub, is_forgotten, room_at}
+use Rattle.floor_machine.specs.declared.machine.Refusal.TheVariants.{Ended}
+use Rattle.floor_room.specs.declared.refusal.RoomRefusal.TheVariants.{Refused as ByMachine}
+use Rattle.floor_room.specs.Ledger.{closed}
 use Rattle.floor_hub.specs.Kept.{IsKept, IsNumbered}
 use Rattle.std.specs.List.{concat}
 use Rattle.floor_room.specs.Room.{Room}
@@ -51,11 +54,24 @@ pub record Stands (rooms : ℕ → Option Room) (connections : ℕ → Option Co
   -- no two numbers have one place
   pub apart : (j k : ℕ) (p : Place) → place w.places j ≡ Some p → place w.places k ≡ Some p → j ≡ k
 
--- A hub stands for a kept world.
+-- the room that a forgotten conference had: it had ended, the hub has none in its place, and no connection of it is live
+pub record HadRoom (h : Hub) (c : ℕ) (r : Room) : Type 0 where
+  pub absent : room_at h c ≡ None
+  pub ended : closed r.ledger ≡ Some (ByMachine Ended)
+  pub nobody : (number : ℕ) (x : Connection) → connection_at h.connections number ≡ Some x → x.conference ≢ c
+
+-- of each conference that wasn't forgotten the room is the hub's, and of each that was the one that it had
+abbrev pub Remembers : Hub → (ℕ → Option Room) → ℕ → Bool → Type 0
+Remembers h rooms c false = rooms c ≡ room_at h c
+Remembers h rooms c true = (r : Room) × (rooms c ≡ Some r) × HadRoom h c r
+
+-- A hub stands for a kept world. What it stood for with the room of a conference that it forgot since it stands for still.
 pub record StandsFor (h : Hub) (w : World) : Type 0 where
   pub kept : IsKept w
   pub numbered : IsNumbered w
-  pub stands : Stands (room_at h) (connection_at h.connections) h.arrivals w
+  pub rooms : ℕ → Option Room
+  pub remembers : (c : ℕ) → Remembers h rooms c (is_forgotten h c)
+  pub stands : Stands rooms (connection_at h.connections) h.arrivals w
 
 -- the conference is open, and its room keeps an outbox for n
 abbrev pub HasOutbox : Option Room → ℕ → Type 0

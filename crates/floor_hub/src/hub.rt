@@ -11,7 +11,7 @@ ghost use Rattle.floor_hub.specs.Connections.{Puts, SameConnections, StayLive, c
 ghost use Rattle.floor_hub.specs.Hub.{room_at};
 ghost use Rattle.floor_hub.specs.Left.{LeftAt, LeftLeaving, LeftServing, LeftTaking};
 ghost use Rattle.floor_hub.specs.Members.{AreMembers, user_of};
-ghost use Rattle.floor_hub.specs.Rooms.{CutIs, IsRefusedIn, Joins, KeptOf, OneRoom, Opens, RoomOf, SameHub, TakenInto, TakenOf, admin_event, attach_event, by_broken, leave_event, refusal_in, serve_event, took_event};
+ghost use Rattle.floor_hub.specs.Rooms.{CutIs, Forgets, IsRefusedIn, IsRemembered, Joins, KeptOf, OneRoom, Opens, RoomOf, SameHub, TakenInto, TakenOf, admin_event, attach_event, by_broken, leave_event, refusal_in, serve_event, took_event};
 ghost use Rattle.floor_hub.specs.StandsFor.{StandsFor};
 ghost use Rattle.floor_hub.specs.World.{World, nothing};
 ghost use Rattle.floor_hub.specs.declared.step.Answer.TheVariants.{Attached, Done};
@@ -56,6 +56,8 @@ pub struct Hub {
     concerned: Concerned,
     // Whom the last event told something, as its room says.
     told: Vec<u32>,
+    // The conferences that were forgotten, ascending.
+    forgotten: Vec<u32>,
 }
 
 impl Model for Hub {
@@ -70,6 +72,7 @@ impl Model for Hub {
       connections = h.connections;
       arrivals = h.arrivals;
       concerned = h.concerned.numbers;
+      forgotten = h.forgotten.items;
     } };
 
     ghost invariant = { λ h. IsKeptHub
@@ -78,6 +81,7 @@ impl Model for Hub {
           connections = h.connections;
           arrivals = h.arrivals;
           concerned = h.concerned.numbers;
+          forgotten = h.forgotten.items;
         }
         h.concerned };
 }
@@ -93,6 +97,7 @@ impl Hub {
             arrivals: 0,
             concerned: Concerned::new(alloc),
             told: Vec::new(alloc),
+            forgotten: Vec::new(alloc),
         }
     }
 
@@ -262,6 +267,42 @@ impl Hub {
             conference,
             act,
         )
+    }
+
+    /// Gives the memory of a conference back that has ended and of which no connection is live; what stays
+    /// is its number. Behind it `open` is refused by `Used`, `attach` and `admin` by `Ended`, and
+    /// `status`, `journal`, `members`, `user_of` and a second `forget` by `Forgotten`. Refused by
+    /// `Forgotten`, `NoConference`, and `Running` where it is open or broken off, or a connection of it is
+    /// live. After an error nothing has changed.
+    pub fn forget(&mut self, conference: u32) -> Result<(), HubRefusal>
+        ensures took { OnOk result (Forgets conference self.old self.new) }
+        ensures refused { IfErr result (IsRemembered conference self.old) }
+        ensures left { OnErr result (SameHub self.old self.new) }
+        ensures stands { (w : World) → StandsFor self.old w → StandsFor self.new w }
+        ensures concerned { self.new.concerned ≡ self.old.concerned }
+    {
+        let place = match self.forgotten.binary_search(&conference) {
+            Ok(_) => return Err(HubRefusal::Forgotten),
+            Err(place) => place,
+        };
+        match self.rooms.get(&conference) {
+            None => return Err(HubRefusal::NoConference),
+            Some(room) => {
+                if room.closed() != Some(RoomRefusal::Refused(Refusal::Ended)) {
+                    return Err(HubRefusal::Running);
+                }
+            }
+        }
+        if !self.concerned.live(conference).is_empty() {
+            return Err(HubRefusal::Running);
+        }
+        match self.forgotten.insert(place, conference) {
+            Ok(()) => {}
+            Err(_) => return Err(HubRefusal::Memory),
+        }
+        let _room = self.rooms.swap_remove(&conference);
+        self.concerned.forget(conference);
+        Ok(())
     }
 
     /// How the room of a conference stands. Refused by `NoConference`. Takes no memory.
