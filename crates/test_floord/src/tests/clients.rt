@@ -9,7 +9,10 @@ use std::rt::Files;
 use std::sync::Wait;
 use std::thread::Threads;
 use std::time::Clock;
-pub use test_clients::{Closed, Server, Start, ask, connect, events_of_stop, free_port, greet, hear, hear_message, joined, line, log_lines, next_line, prepare, send, two_ends, write_file};
+pub use test_clients::{
+    Closed, Server, Start, ask, connect, events_of_stop, free_port, greet, hear, hear_message,
+    joined, line, log_lines, next_line, prepare, send, two_ends, write_file,
+};
 
 /// Runs a server to its end, and gives the exit status.
 pub fn run_to_end<R, G>(rt: R, alloc: Global, start: Start, gate: G) -> u8
