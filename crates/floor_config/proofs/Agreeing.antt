@@ -135,6 +135,10 @@ limit_test : (limit : Option ℕ) → passes 1 16 limit ≡ is_within 1 16 (unwr
 limit_test None = refl
 limit_test (Some n) = refl
 
+connections_test : (connections : Option ℕ) → passes 1 64 connections ≡ is_within 1 64 (unwrap_or connections 64)
+connections_test None = refl
+connections_test (Some n) = refl
+
 abbrev made_floor : ℕ → Option ℕ → Option ℕ → Floor
 made_floor id room chair = record { id = id; room = unwrap_or room 1; chair = chair }
 
@@ -256,38 +260,46 @@ chairs_plain users (f ∷ floors) = rw (known_plain users f.chair, chairs_plain 
 limit_any : (o : Option Data) (limit : Option ℕ) → optional short o ≡ Ok limit → optional (number_of 1 16) o ≡ Tested (is_within 1 16 (unwrap_or limit 4)) limit
 limit_any o limit e = optional_any 1 16 o limit e ∙ ap (λ (b : Bool). Tested b limit) (limit_test limit)
 
-abbrev made : ℕ → Option ℕ → List User → List Floor → Configuration
-made id limit users floors = record { conference = id; limit = unwrap_or limit 4; users = users; floors = floors }
+connections_any : (o : Option Data) (connections : Option ℕ) → optional short o ≡ Ok connections
+    → optional (number_of 1 64) o ≡ Tested (is_within 1 64 (unwrap_or connections 64)) connections
+connections_any o connections e = optional_any 1 64 o connections e ∙ ap (λ (b : Bool). Tested b connections) (connections_test connections)
+
+abbrev made : ℕ → Option ℕ → Option ℕ → List User → List Floor → Configuration
+made id limit connections users floors = record { conference = id; limit = unwrap_or limit 4; connections = unwrap_or connections 64; users = users; floors = floors }
 
 -- the checks of a conference, in their order
-conference_steps : (id : ℕ) (limit : Option ℕ) (us : List User) (fs : List Floor) (a u du f df c : Bool) → chairs_are_known us fs ≡ c → (do
+conference_steps : (id : ℕ) (limit connections : Option ℕ) (us : List User) (fs : List Floor) (a b u du f df c : Bool) → chairs_are_known us fs ≡ c → (do
   l ← Tested a limit
+  n ← Tested b connections
   users ← checked u du DoubleUser us
   floors ← checked f df DoubleFloor fs
-  cond (chairs_are_known users floors) (okay (made id l users floors)) (Err UnknownChair)) ≡ (do
+  cond (chairs_are_known users floors) (okay (made id l n users floors)) (Err UnknownChair)) ≡ (do
     limit_fits ← unless a OutOfRange
+    connections_fit ← unless b OutOfRange
     users_fit ← unless u OutOfRange
     users_differ ← unless (not du) DoubleUser
     floors_fit ← unless f OutOfRange
     floors_differ ← unless (not df) DoubleFloor
     chairs_known ← unless c UnknownChair
-    okay (made id limit us fs))
-conference_steps id limit us fs false u du f df c h = refl
-conference_steps id limit us fs true false du f df c h = refl
-conference_steps id limit us fs true true true f df c h = refl
-conference_steps id limit us fs true true false false df c h = refl
-conference_steps id limit us fs true true false true true c h = refl
-conference_steps id limit us fs true true false true false true h = rw h refl
-conference_steps id limit us fs true true false true false false h = rw h refl
+    okay (made id limit connections us fs))
+conference_steps id limit connections us fs false b u du f df c h = refl
+conference_steps id limit connections us fs true false u du f df c h = refl
+conference_steps id limit connections us fs true true false du f df c h = refl
+conference_steps id limit connections us fs true true true true f df c h = refl
+conference_steps id limit connections us fs true true true false false df c h = refl
+conference_steps id limit connections us fs true true true false true true c h = refl
+conference_steps id limit connections us fs true true true false true false true h = rw h refl
+conference_steps id limit connections us fs true true true false true false false h = rw h refl
 
-conference_read : (t : Members) (id : ℕ) (limit : Option ℕ) (us : List User) (fs : List Floor)
+conference_read : (t : Members) (id : ℕ) (limit connections : Option ℕ) (us : List User) (fs : List Floor)
     → needed (number_of 0 4294967295) (get_member (codes "id") t) ≡ Ok id → optional short (get_member (codes "limit") t) ≡ Ok limit
+    → optional short (get_member (codes "connections") t) ≡ Ok connections
     → parts_at user_part (get_member (codes "user") t) ≡ Ok us → parts_at floor_part (get_member (codes "floor") t) ≡ Ok fs
-    → conference_of t ≡ built id (unwrap_or limit 4) us fs
+    → conference_of t ≡ built id (unwrap_or limit 4) (unwrap_or connections 64) us fs
 unfolding conference_of built
-conference_read t id limit us fs a b c d =
-    rw (a, limit_any _ limit b, users_any _ us c, floors_any _ fs d)
-    (conference_steps id limit (map without_empty_texts us) fs (is_within 1 16 (unwrap_or limit 4)) (users_fit us) (has_double (user_ids us))
+conference_read t id limit connections us fs a b n c d =
+    rw (a, limit_any _ limit b, connections_any _ connections n, users_any _ us c, floors_any _ fs d)
+    (conference_steps id limit connections (map without_empty_texts us) fs (is_within 1 16 (unwrap_or limit 4)) (is_within 1 64 (unwrap_or connections 64)) (users_fit us) (has_double (user_ids us))
     (floors_fit fs) (has_double (floor_ids fs)) (chairs_are_known us fs) (chairs_plain us fs))
 
 pub read_is_built : ReadIsBuilt
@@ -297,5 +309,6 @@ read_is_built table parts e =
     let b = bound _ _ parts a.2 in
     let c = bound _ _ parts b.2 in
     let d = bound _ _ parts c.2 in
-    conference_read table a.0 b.0 c.0 d.0 a.1 b.1 c.1 d.1
-    ∙ ap (λ (p : Configuration). built p.conference p.limit p.users p.floors) (same_ok _ parts d.2)
+    let f = bound _ _ parts d.2 in
+    conference_read table a.0 b.0 c.0 d.0 f.0 a.1 b.1 c.1 d.1 f.1
+    ∙ ap (λ (p : Configuration). built p.conference p.limit p.connections p.users p.floors) (same_ok _ parts f.2)

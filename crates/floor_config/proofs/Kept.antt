@@ -62,6 +62,7 @@ pub kept_is_built : KeptIsBuilt
 unfolding built
 kept_is_built c is =
     let limit : is_within 1 16 c.limit ≡ true = and_from (nat_le 1 c.limit) (nat_le c.limit 16) (le-leb 1 c.limit is.limit_least) (le-leb c.limit 16 is.limit_most) in
+    let connections : is_within 1 64 c.connections ≡ true = and_from (nat_le 1 c.connections) (nat_le c.connections 64) (le-leb 1 c.connections is.connections_least) (le-leb c.connections 64 is.connections_most) in
     let each_user = recursion_from_All IsUser c.users is.users in
     let each_floor = recursion_from_All IsFloor c.floors is.floors in
     let users : users_fit c.users ≡ true = and_from (nat_le (length c.users) 256) (list_all user_fits c.users) (le-leb (length c.users) 256 is.users_count) (users_pass c.users each_user) in
@@ -69,4 +70,4 @@ kept_is_built c is =
     let users_differ : has_double (user_ids c.users) ≡ false = none_AllDiffer (user_ids c.users) is.users_differ in
     let floors_differ : has_double (floor_ids c.floors) ≡ false = none_AllDiffer (floor_ids c.floors) is.floors_differ in
     let chairs : chairs_are_known c.users c.floors ≡ true = chairs_pass c.users c.floors (recursion_from_All (λ f. IfSome f.chair (Contains (user_ids c.users))) c.floors is.chairs) in
-    rw (limit, users, users_differ, floors, floors_differ, chairs, users_stay c.users each_user) refl
+    rw (limit, connections, users, users_differ, floors, floors_differ, chairs, users_stay c.users each_user) refl

@@ -18,16 +18,18 @@ length-plain [] = refl
 length-plain (u ∷ users) = ap suc (length-plain users)
 
 -- values that pass the tests make a configuration, of whose users an empty text counts as absent
-pub IsConfiguration-plain : (conference limit : ℕ) (users : List User) (floors : List Floor)
-    → conference ≤ 4294967295 → 1 ≤ limit → limit ≤ 16
+pub IsConfiguration-plain : (conference limit connections : ℕ) (users : List User) (floors : List Floor)
+    → conference ≤ 4294967295 → 1 ≤ limit → limit ≤ 16 → 1 ≤ connections → connections ≤ 64
     → length users ≤ 256 → All (λ u. IsUser (without_empty_texts u)) users → AllDiffer (user_ids users)
     → length floors ≤ 32 → All IsFloor floors → AllDiffer (floor_ids floors) → chairs_are_known users floors ≡ true
-    → IsConfiguration record { conference = conference; limit = limit; users = map without_empty_texts users; floors = floors }
-IsConfiguration-plain conference limit users floors id least most few fit differ few_floors floors_fit floors_differ known =
+    → IsConfiguration record { conference = conference; limit = limit; connections = connections; users = map without_empty_texts users; floors = floors }
+IsConfiguration-plain conference limit connections users floors id least most conn_least conn_most few fit differ few_floors floors_fit floors_differ known =
     record {
       conference = id;
       limit_least = least;
       limit_most = most;
+      connections_least = conn_least;
+      connections_most = conn_most;
       users_count = rw (length-plain users) few;
       users = All-map IsUser without_empty_texts users fit;
       users_differ = rw (user_ids-plain users) differ;

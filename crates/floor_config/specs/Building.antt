@@ -46,16 +46,17 @@ unless true fault = Ok true
 unless false fault = Err fault
 
 -- the configuration of these values, if they pass each test; the first that they don't pass is the fault
-unfoldable pub built : ℕ → ℕ → List User → List Floor → Result Configuration ConfigFault
-built conference limit users floors = do
+unfoldable pub built : ℕ → ℕ → ℕ → List User → List Floor → Result Configuration ConfigFault
+built conference limit connections users floors = do
   limit_fits ← unless (is_within 1 16 limit) OutOfRange
+  connections_fit ← unless (is_within 1 64 connections) OutOfRange
   users_fit ← unless (users_fit users) OutOfRange
   users_differ ← unless (not (has_double (user_ids users))) DoubleUser
   floors_fit ← unless (floors_fit floors) OutOfRange
   floors_differ ← unless (not (has_double (floor_ids floors))) DoubleFloor
   chairs_known ← unless (chairs_are_known users floors) UnknownChair
-  Ok (record { conference = conference; limit = limit; users = map without_empty_texts users; floors = floors })
+  Ok (record { conference = conference; limit = limit; connections = connections; users = map without_empty_texts users; floors = floors })
 
 -- each configuration that keeps the limits is built of its own parts, as it is
 abbrev pub KeptIsBuilt : Type 0
-KeptIsBuilt = (c : Configuration) → IsConfiguration c → built c.conference c.limit c.users c.floors ≡ Ok c
+KeptIsBuilt = (c : Configuration) → IsConfiguration c → built c.conference c.limit c.connections c.users c.floors ≡ Ok c

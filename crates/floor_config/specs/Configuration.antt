@@ -4,10 +4,11 @@ use Rattle.floor_config.specs.Doubles.{AllDiffer}
 use Rattle.floor_config.specs.declared.users.User.{User}
 use Rattle.floor_config.specs.declared.floors.Floor.{Floor}
 
--- a conference, how many ongoing floor requests each user may have for one floor, its users and its floors
+-- a conference, how many ongoing floor requests each user may have for one floor, how many connections each user may have at once, its users and its floors
 pub record Configuration : Type 0 where
   pub conference : ℕ
   pub limit : ℕ
+  pub connections : ℕ
   pub users : List User
   pub floors : List Floor
 
@@ -32,11 +33,13 @@ pub record IsFloor (f : Floor) : Type 0 where
   pub room_least : 1 ≤ f.room
   pub room_most : f.room ≤ 255
 
--- The conference has an id of 32 bits, a limit of 1 to 16, at most 256 users and 32 floors, no two users and no two floors with one id, and each floor's chair, if it has one, is one of the users.
+-- The conference has an id of 32 bits, a limit of 1 to 16, 1 to 64 connections of a user, at most 256 users and 32 floors, no two users and no two floors with one id, and each floor's chair, if it has one, is one of the users.
 pub record IsConfiguration (c : Configuration) : Type 0 where
   pub conference : c.conference ≤ 4294967295
   pub limit_least : 1 ≤ c.limit
   pub limit_most : c.limit ≤ 16
+  pub connections_least : 1 ≤ c.connections
+  pub connections_most : c.connections ≤ 64
   pub users_count : length c.users ≤ 256
   pub users : All IsUser c.users
   pub users_differ : AllDiffer (user_ids c.users)

@@ -41,16 +41,17 @@ abbrev pub parts_at : {A : Type 0} → (Members → Result A ConfigFault) → Op
 parts_at read None = Ok []
 parts_at read (Some value) = tables_of value >>= all_of read
 
--- the parts of a conference: an absent limit is 4
+-- the parts of a conference: an absent limit is 4, and absent connections are 64
 unfoldable pub parts_of : Members → Result Configuration ConfigFault
 parts_of table = do
   conference ← needed (number_of 0 4294967295) (get_member (codes "id") table)
   limit ← optional short (get_member (codes "limit") table)
+  connections ← optional short (get_member (codes "connections") table)
   users ← parts_at user_part (get_member (codes "user") table)
   floors ← parts_at floor_part (get_member (codes "floor") table)
-  Ok (record { conference = conference; limit = unwrap_or limit 4; users = users; floors = floors })
+  Ok (record { conference = conference; limit = unwrap_or limit 4; connections = unwrap_or connections 64; users = users; floors = floors })
 
 -- What a table with such parts is read as is what is built of them: the same configuration, or the same first fault.
 abbrev pub ReadIsBuilt : Type 0
 ReadIsBuilt = (table : Members) (parts : Configuration) → parts_of table ≡ Ok parts
-    → conference_of table ≡ built parts.conference parts.limit parts.users parts.floors
+    → conference_of table ≡ built parts.conference parts.limit parts.connections parts.users parts.floors

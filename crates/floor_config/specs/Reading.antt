@@ -58,14 +58,15 @@ floors_of (Some value) = do
   floors ← all_of floor_of tables
   unless_double DoubleFloor (floor_ids floors) floors
 
--- the conference of a table: the keys id, limit, user and floor, where an absent limit is 4, and each chair is one of the users
+-- the conference of a table: the keys id, limit, connections, user and floor, where an absent limit is 4, absent connections are 64, and each chair is one of the users
 unfoldable pub conference_of : Members → Result Configuration ConfigFault
 conference_of table = do
   conference ← needed (number_of 0 4294967295) (get_member (codes "id") table)
   limit ← optional (number_of 1 16) (get_member (codes "limit") table)
+  connections ← optional (number_of 1 64) (get_member (codes "connections") table)
   users ← users_of (get_member (codes "user") table)
   floors ← floors_of (get_member (codes "floor") table)
-  if chairs_are_known users floors then Ok (record { conference = conference; limit = unwrap_or limit 4; users = users; floors = floors }) else Err UnknownChair
+  if chairs_are_known users floors then Ok (record { conference = conference; limit = unwrap_or limit 4; connections = unwrap_or connections 64; users = users; floors = floors }) else Err UnknownChair
 
 -- the Conference IDs, in the order of the text
 abbrev pub conference_ids : List Configuration → List ℕ

@@ -17,19 +17,23 @@ use std::alloc::Global;
 
 impl Config {
     /// The configuration of these values, tested in the order in which a text would be. An empty
-    /// name or URI counts as absent. Refused are, in this order, `OutOfRange` of the limit or a user,
-    /// `DoubleUser`, `OutOfRange` of a floor, `DoubleFloor` and `UnknownChair`.
+    /// name or URI counts as absent. Refused are, in this order, `OutOfRange` of the limit, of the
+    /// connections or of a user, `DoubleUser`, `OutOfRange` of a floor, `DoubleFloor` and `UnknownChair`.
     #[tactic(auto, unfolding(crate::specs::Building::built))]
     pub fn build(
         alloc: Global,
         conference: u32,
         limit: u16,
+        connections: u16,
         users: Users,
         floors: Floors,
     ) -> Result<Config, ConfigFault>
-        ensures { Gives (λ config. config) result (built conference limit users floors) }
+        ensures { Gives (λ config. config) result (built conference limit connections users floors) }
     {
-        if limit < 1 || 16 < limit || !users_fit(users.as_slice()) {
+        if limit < 1 || 16 < limit || connections < 1 || 64 < connections {
+            return Err(ConfigFault::OutOfRange);
+        }
+        if !users_fit(users.as_slice()) {
             return Err(ConfigFault::OutOfRange);
         }
         if doubles::has_double_user(alloc, users.as_slice())? {
@@ -45,7 +49,7 @@ impl Config {
             return Err(ConfigFault::UnknownChair);
         }
         let users = without_empty_texts(users);
-        Ok(Config::of_parts(conference, limit, users, floors))
+        Ok(Config::of_parts(conference, limit, connections, users, floors))
     }
 }
 

@@ -15,6 +15,7 @@ use std::marker::Model;
 pub struct Config {
     conference: u32,
     limit: u16,
+    connections: u16,
     users: Users,
     floors: Floors,
 }
@@ -24,26 +25,53 @@ impl Model for Config {
 
     ghost Value = { Configuration };
 
-    ghost view = { λ c.
-        record { conference = c.conference; limit = c.limit; users = c.users; floors = c.floors } };
+    ghost view = { λ c. record {
+      conference = c.conference;
+      limit = c.limit;
+      connections = c.connections;
+      users = c.users;
+      floors = c.floors;
+    } };
 
-    ghost invariant = { λ c. IsConfiguration
-        record { conference = c.conference; limit = c.limit; users = c.users; floors = c.floors } };
+    ghost invariant = { λ c. IsConfiguration record {
+      conference = c.conference;
+      limit = c.limit;
+      connections = c.connections;
+      users = c.users;
+      floors = c.floors;
+    } };
 }
 
 impl Config {
     ghost use Rattle.floor_config.specs.Configuration.{IsConfiguration};
 
     /// The configuration of values that keep the limits.
-    pub(crate) fn of_parts(conference: u32, limit: u16, users: Users, floors: Floors) -> Config
-        requires { IsConfiguration
-            record { conference = conference; limit = limit; users = users; floors = floors } }
-        ensures { result
-            ≡ record { conference = conference; limit = limit; users = users; floors = floors } }
+    pub(crate) fn of_parts(
+        conference: u32,
+        limit: u16,
+        connections: u16,
+        users: Users,
+        floors: Floors,
+    ) -> Config
+        requires { IsConfiguration record {
+          conference = conference;
+          limit = limit;
+          connections = connections;
+          users = users;
+          floors = floors;
+        } }
+        ensures { result ≡ record {
+          conference = conference;
+          limit = limit;
+          connections = connections;
+          users = users;
+          floors = floors;
+        } }
     {
         Config {
             conference,
             limit,
+            connections,
             users,
             floors,
         }
@@ -63,6 +91,15 @@ impl Config {
         ensures kept { IsConfiguration self.now }
     {
         self.limit
+    }
+
+    /// How many connections of one user a server serves at once, those of all its ports together. No
+    /// event of a conference depends on it: a server that has no such bound may leave it unread.
+    pub fn connections(&self) -> u16
+        ensures value { result ≡ self.now.connections }
+        ensures kept { IsConfiguration self.now }
+    {
+        self.connections
     }
 
     /// The users, in order.
@@ -117,6 +154,7 @@ impl Config {
         Ok(Config {
             conference: self.conference,
             limit: self.limit,
+            connections: self.connections,
             users,
             floors,
         })

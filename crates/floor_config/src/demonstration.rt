@@ -9,7 +9,7 @@ use crate::users::{User, Users};
 use std::alloc::{AllocError, Global};
 
 impl Config {
-    /// Conference 1 with limit 4: users 10, 11 and 12 without names, URIs, proxy marks and ports,
+    /// Conference 1 with limit 4 and 64 connections of a user: users 10, 11 and 12 without names, URIs, proxy marks and ports,
     /// and floor 1 with room for one floor request and no chair.
     #[tactic(auto, using(crate::proofs::Shown::demonstration_keeps))]
     pub fn demonstration(alloc: Global) -> Result<Config, AllocError>
@@ -25,7 +25,7 @@ impl Config {
         ]?;
         let users = Users::from_vec(users);
         let floors = Floors::from_vec(floors);
-        Ok(Config::of_parts(1, 4, users, floors))
+        Ok(Config::of_parts(1, 4, 64, users, floors))
     }
 }
 

@@ -4,6 +4,7 @@
 //! [[conference]]
 //! id = 1
 //! limit = 4
+//! connections = 8
 //! [[conference.user]]
 //! id = 10
 //! name = "Ann"
@@ -21,6 +22,7 @@
 //! | `conference` | array of tables | `MissingKey` |
 //! | `conference.id` | 0 to 4294967295 | `MissingKey` |
 //! | `conference.limit` | 1 to 16 | 4 |
+//! | `conference.connections` | 1 to 64 | 64 |
 //! | `conference.user` | array of at most 256 tables | no users |
 //! | `conference.floor` | array of at most 32 tables | no floors |
 //! | `user.id`, `floor.id` | 0 to 65535 | `MissingKey` |
@@ -33,7 +35,7 @@
 //!
 //! Other keys are ignored, and an empty text counts as absent. Each key's kind is looked at
 //! (`WrongType`) and then its range (`OutOfRange`), in the order of the table: the array of the
-//! conferences, and then each conference with its id, its limit, its users, `DoubleUser`, its
+//! conferences, and then each conference with its id, its limit, its connections, its users, `DoubleUser`, its
 //! floors, `DoubleFloor` and `UnknownChair`. `DoubleConference` and `DoublePort` come last, and are
 //! told of all conferences together.
 
@@ -112,12 +114,13 @@ fn conference(alloc: Global, table: &Table) -> Result<Config, ConfigFault>
 {
     let id = values::number_needed(table, "id", 0, 4_294_967_295)?;
     let limit = values::short_at(table, "limit", 1, 16)?.unwrap_or(4);
+    let connections = values::short_at(table, "connections", 1, 64)?.unwrap_or(64);
     let users = users(alloc, table)?;
     let floors = floors(alloc, table)?;
     if !chairs::are_known(users.as_slice(), floors.as_slice()) {
         return Err(ConfigFault::UnknownChair);
     }
-    Ok(Config::of_parts(id, limit, users, floors))
+    Ok(Config::of_parts(id, limit, connections, users, floors))
 }
 
 /// The users of a conference's table.

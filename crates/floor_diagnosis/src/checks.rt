@@ -37,6 +37,7 @@ pub fn conferences(alloc: Global, table: &Table) -> Result<(), Fault> {
 fn conference(alloc: Global, place: &Place) -> Result<(), Fault> {
     needed(alloc, place, "id", 0, GREATEST_CONFERENCE)?;
     optional(alloc, place, "limit", 1, 16)?;
+    optional(alloc, place, "connections", 1, 64)?;
     let items = tables(alloc, place, "user", 256)?;
     let users = places(alloc, place.path.as_str(), "user", items)?;
     for user in users.iter() {

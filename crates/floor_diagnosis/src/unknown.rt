@@ -15,7 +15,7 @@ const MAX_TOLD: usize = 100;
 
 /// The keys of a conference's table, of a user's and of a floor's. `title` and `token` say nothing to a
 /// server, and something to the gateway for browsers, which reads the same file.
-const CONFERENCE: [&str; 5] = ["id", "limit", "user", "floor", "title"];
+const CONFERENCE: [&str; 6] = ["id", "limit", "connections", "user", "floor", "title"];
 
 const USER: [&str; 6] = ["id", "name", "uri", "proxy", "port", "token"];
 

@@ -35,7 +35,7 @@ plain id = record { id = id; name = None; uri = None; proxy = false; port = None
 -- users 10, 11 and 12, and floor 1, which has no chair and room for one
 abbrev demonstration : ℕ → Configuration
 demonstration conference =
-    record { conference = conference; limit = 4; users = plain 10 ∷ plain 11 ∷ plain 12 ∷ []; floors = record { id = 1; room = 1; chair = None } ∷ [] }
+    record { conference = conference; limit = 4; connections = 64; users = plain 10 ∷ plain 11 ∷ plain 12 ∷ []; floors = record { id = 1; room = 1; chair = None } ∷ [] }
 
 -- user 10 asks for floor 1, and then user 11
 abbrev first_request : List ℕ

@@ -56,7 +56,7 @@ limits-change s (SetChair floor chair) lawful h = chair_kept s.config floor chai
 -- growing ---------------------------------------------------------------------------------------
 
 pub grown-opening : (config : Configuration) → HasGrown config config
-grown-opening config = record { conference = refl; limit = refl; users = all config.users; floors = ap (map unchaired) (all config.floors) }
+grown-opening config = record { conference = refl; limit = refl; connections = refl; users = all config.users; floors = ap (map unchaired) (all config.floors) }
   where
     all : {A : Type 0} (xs : List A) → take (length xs) xs ≡ xs
     all [] = refl
@@ -96,6 +96,7 @@ grown-change config s (AddUser user) h =
     record {
       conference = h.conference;
       limit = h.limit;
+      connections = h.connections;
       users = first-stay (length config.users) s.config.users (added_user user ∷ []) (ap (λ (us : List User). length us) h.users) ∙ h.users;
       floors = h.floors;
     }
@@ -106,11 +107,12 @@ grown-change config s (AddFloor floor) h =
     record {
       conference = h.conference;
       limit = h.limit;
+      connections = h.connections;
       users = h.users;
       floors = ap (map unchaired) (first-stay n s.config.floors (floor ∷ []) long) ∙ h.floors;
     }
 grown-change config s (SetChair floor chair) h =
-    record { conference = h.conference; limit = h.limit; users = h.users; floors = unchaired-chaired floor chair (length config.floors) s.config.floors ∙ h.floors }
+    record { conference = h.conference; limit = h.limit; connections = h.connections; users = h.users; floors = unchaired-chaired floor chair (length config.floors) s.config.floors ∙ h.floors }
 
 -- users -----------------------------------------------------------------------------------------
 

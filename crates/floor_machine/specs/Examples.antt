@@ -29,7 +29,7 @@ free id = record { id = id; room = 1; chair = None }
 
 -- users 10, 11 and 12, and floor 1
 abbrev pub demonstration : Configuration
-demonstration = record { conference = 1; limit = 4; users = plain 10 ∷ plain 11 ∷ plain 12 ∷ []; floors = free 1 ∷ [] }
+demonstration = record { conference = 1; limit = 4; connections = 64; users = plain 10 ∷ plain 11 ∷ plain 12 ∷ []; floors = free 1 ∷ [] }
 
 -- the same with floors 1 and 2
 abbrev two_floors : Configuration

@@ -21,11 +21,12 @@ use Rattle.floor_machine.specs.Next.{MAX_BACKLOG, next, told}
 abbrev pub unchaired : Floor → Floor
 unchaired f = record f { chair = None }
 
--- A configuration that began as the opening one: its conference and its limit are the same, and its users and floors begin with the
+-- A configuration that began as the opening one: its conference, its limit and its connections are the same, and its users and floors begin with the
 -- opening ones in their order, of which nothing but chairs has changed.
 pub record HasGrown (opening now : Configuration) : Type 0 where
   pub conference : now.conference ≡ opening.conference
   pub limit : now.limit ≡ opening.limit
+  pub connections : now.connections ≡ opening.connections
   pub users : take (length opening.users) now.users ≡ opening.users
   pub floors : map unchaired (take (length opening.floors) now.floors) ≡ map unchaired opening.floors
 

@@ -51,7 +51,7 @@ pub fn run<
     let ending = match read_words(alloc, words, program) {
         Ok(words) => match words.task {
             Task::Serve => serve(rt, alloc, &words, input, output, errors, sink),
-            Task::Check => check_configuration(&rt, alloc, words.path.as_str(), output),
+            Task::Check => check_configuration(&rt, alloc, program, words.path.as_str(), output),
         },
         Err(fault) => ending_of_words(fault, output, errors),
     };

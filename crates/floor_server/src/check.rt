@@ -3,6 +3,7 @@
 use crate::fault::fault_of_opening;
 use crate::lines::print;
 use crate::reason::{PortFault, Reason, configurations, read_text};
+use crate::words::Program;
 use floor_config::{Config, User};
 use floor_diagnosis::unknown_keys;
 use floor_listen::{Ending, ServerFault, listening_address};
@@ -11,13 +12,17 @@ use std::io::Write;
 use std::net::{Net, TcpListener, TcpStream};
 use std::rt::Files;
 
+/// How many live members a conference has at most, all of whom one user may be.
+const ALL_MEMBERS: u16 = 64;
+
 /// Reads and checks a file as a start does, tries each port, and prints each fault with its name, and as
-/// a warning each key that says nothing. It ends by the first fault, if there is one.
+/// a warning each key that says nothing, and once `conference.connections` where the program doesn't go by
+/// it. It ends by the first fault, if there is one.
 pub fn check_configuration<
     R: Net<Listener = TcpListener, Stream = TcpStream> + Files + AllocGlobal,
     O: Write,
->(rt: &R, alloc: Global, path: &str, output: &mut O) -> Ending {
-    match check_file(rt, alloc, path, output) {
+>(rt: &R, alloc: Global, program: &Program, path: &str, output: &mut O) -> Ending {
+    match check_file(rt, alloc, program, path, output) {
         Ok(None) => Ending::InOrder,
         Ok(Some(fault)) | Err(fault) => Ending::Fault(fault),
     }
@@ -27,6 +32,7 @@ pub fn check_configuration<
 fn check_file<R: Net<Listener = TcpListener, Stream = TcpStream> + Files + AllocGlobal, O: Write>(
     rt: &R,
     alloc: Global,
+    program: &Program,
     path: &str,
     output: &mut O,
 ) -> Result<Option<ServerFault>, ServerFault> {
@@ -36,7 +42,10 @@ fn check_file<R: Net<Listener = TcpListener, Stream = TcpStream> + Files + Alloc
     };
     warn(alloc, path, text.as_str(), output)?;
     match configurations(alloc, path, text.as_str()) {
-        Ok(configs) => check_ports(rt, alloc, &configs, output),
+        Ok(configs) => {
+            warn_of_connections(alloc, program, path, &configs, output)?;
+            check_ports(rt, alloc, &configs, output)
+        }
         Err(reason) => tell(alloc, output, &reason),
     }
 }
@@ -54,6 +63,25 @@ fn warn<O: Write>(
             Some(line) => format!(in alloc; "warning: {path}: line {line}: {place} is ignored\n")?,
             None => format!(in alloc; "warning: {path}: {place} is ignored\n")?,
         };
+        print(output, line.as_str())?;
+    }
+    Ok(())
+}
+
+/// Prints that `conference.connections` says nothing, where a conference asks for a bound by it and the
+/// program has none.
+fn warn_of_connections<O: Write>(
+    alloc: Global,
+    program: &Program,
+    path: &str,
+    configs: &[Config],
+    output: &mut O,
+) -> Result<(), ServerFault> {
+    let has_bound = configs
+        .iter()
+        .any(|config| config.connections() < ALL_MEMBERS);
+    if has_bound && !program.bounds_connections {
+        let line = format!(in alloc; "warning: {path}: connections is ignored\n")?;
         print(output, line.as_str())?;
     }
     Ok(())

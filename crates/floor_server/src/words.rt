@@ -50,6 +50,8 @@ pub struct Program {
     pub about: &'static str,
     /// Whether `--loops <n>` is one of its words.
     pub has_loops: bool,
+    /// Whether it serves no more connections of a user at once than `conference.connections` says.
+    pub bounds_connections: bool,
 }
 
 /// What the program is to do with a configuration.

@@ -16,6 +16,7 @@ const PROGRAM: Program = Program {
     name: "floorhub",
     about: "Serves the floors of conferences (BFCP, RFC 8855) by event loops, and reads an administrator's lines.",
     has_loops: true,
+    bounds_connections: true,
 };
 
 fn main(rt: HostRuntime) -> ExitCode {

@@ -201,7 +201,7 @@ fn built(alloc: Global, case: &str) -> Result<String, AllocError> {
     let floors = Floors::from_vec(vec![in alloc; first, second]?);
     let limit = number(part(case, 1));
     let mut told = String::new(alloc);
-    match Config::build(alloc, 1, limit, users_of(alloc, case)?, floors) {
+    match Config::build(alloc, 1, limit, 64, users_of(alloc, case)?, floors) {
         Ok(config) => push_fields(&mut told, &config)?,
         Err(fault) => write!(told, " {fault}")?,
     }

@@ -54,9 +54,10 @@ fn push_read(alloc: Global, told: &mut String, text: &str) -> Result<(), AllocEr
 fn push_fields(alloc: Global, told: &mut String, config: &Config) -> Result<(), AllocError> {
     write!(
         told,
-        "conference {} limit {}\n",
+        "conference {} limit {} connections {}\n",
         config.conference(),
-        config.limit()
+        config.limit(),
+        config.connections()
     )?;
     for user in config.users() {
         push_user(told, &user.copy(alloc)?)?;
@@ -131,8 +132,8 @@ fn push_items(out: &mut String, count: u32, words: &str) -> Result<(), AllocErro
     Ok(())
 }
 
-/// What `Config::build` makes of each line's values: the limit, the ids of the users, the name, the URI
-/// and the port of the first of them, the room and the chair of floor 1, and the id of another floor.
+/// What `Config::build` makes of each line's values: the limit, the connections, the ids of the users,
+/// the name, the URI and the port of the first of them, the room and the chair of floor 1, and the id of another floor.
 pub fn built(alloc: Global, text: &str) -> Result<String, AllocError> {
     let mut told = String::new(alloc);
     for line in text.lines() {
@@ -143,7 +144,8 @@ pub fn built(alloc: Global, text: &str) -> Result<String, AllocError> {
 
 fn push_built(alloc: Global, told: &mut String, line: &str) -> Result<(), AllocError> {
     let (users, floors) = (users_of(alloc, line)?, floors_of(alloc, line)?);
-    match Config::build(alloc, 1, number(part(line, 0)), users, floors) {
+    let (limit, connections) = (number(part(line, 0)), number(part(line, 1)));
+    match Config::build(alloc, 1, limit, connections, users, floors) {
         Ok(config) => push_fields(alloc, told, &config),
         Err(fault) => write!(told, "{fault}\n"),
     }
@@ -152,11 +154,11 @@ fn push_built(alloc: Global, told: &mut String, line: &str) -> Result<(), AllocE
 fn floors_of(alloc: Global, line: &str) -> Result<Floors, AllocError> {
     let first = Floor {
         id: 1,
-        room: number(part(line, 5)),
-        chair: read_u16(part(line, 6)),
+        room: number(part(line, 6)),
+        chair: read_u16(part(line, 7)),
     };
     let second = Floor {
-        id: number(part(line, 7)),
+        id: number(part(line, 8)),
         room: 1,
         chair: None,
     };
@@ -166,7 +168,7 @@ fn floors_of(alloc: Global, line: &str) -> Result<Floors, AllocError> {
 /// The users of a line, the first of whom has a name, a URI and a port.
 fn users_of(alloc: Global, line: &str) -> Result<Users, AllocError> {
     let mut users = Vec::new(alloc);
-    for id in part(line, 1).split(' ') {
+    for id in part(line, 2).split(' ') {
         let mut user = User {
             id: number(id),
             name: None,
@@ -175,9 +177,9 @@ fn users_of(alloc: Global, line: &str) -> Result<Users, AllocError> {
             port: None,
         };
         if users.is_empty() {
-            user.name = Some(Text::from_string(String::from_str(alloc, part(line, 2))?));
-            user.uri = Some(Text::from_string(String::from_str(alloc, part(line, 3))?));
-            user.port = Some(number(part(line, 4)));
+            user.name = Some(Text::from_string(String::from_str(alloc, part(line, 3))?));
+            user.uri = Some(Text::from_string(String::from_str(alloc, part(line, 4))?));
+            user.port = Some(number(part(line, 5)));
         }
         users.push(user)?;
     }

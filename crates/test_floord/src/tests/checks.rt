@@ -57,6 +57,17 @@ limits = 4
 id = 1
 chair = 10
 => 1|warning: checked.toml: line 3: conference 1: limits is ignored/UnknownChair: checked.toml: conference 1 (id 1), floor 1 (id 1): chair 10 is no user of the conference/
+== connections of a user, which this server doesn't go by
+[[conference]]
+id = 1
+connections = 64
+[[conference]]
+id = 2
+connections = 8
+[[conference]]
+id = 3
+connections = 1
+=> 0|warning: checked.toml: connections is ignored/
 == no TOML
 [[conference]]
 id 1

@@ -58,12 +58,14 @@ const LOOPING: Program = Program {
     name: "looping",
     about: "Serves by loops.",
     has_loops: true,
+    bounds_connections: true,
 };
 
 const PLAIN: Program = Program {
     name: "plain",
     about: "Serves.",
     has_loops: false,
+    bounds_connections: false,
 };
 
 /// Words, and the loops that they ask for or the first line of why they are refused: of a program with loops

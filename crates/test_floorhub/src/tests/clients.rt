@@ -56,6 +56,7 @@ where
         name: "floorhub",
         about: "",
         has_loops: true,
+        bounds_connections: true,
     };
     run(
         rt,

@@ -37,7 +37,7 @@ fn machine(
             chair: None,
         })?;
     }
-    match Config::build(alloc, 1, limit, users, Floors::from_vec(all)) {
+    match Config::build(alloc, 1, limit, 64, users, Floors::from_vec(all)) {
         Ok(config) => joined(Machine::new(alloc, config)?),
         Err(_) => Ok(None),
     }

@@ -6,8 +6,11 @@ pub of_parts-requires : goal.of_parts-requires
 of_parts-requires c =
     let id : c.args.conference ≤ 4294967295 = omega arith in
     let most : c.args.limit ≤ 16 = omega arith in
+    let least : 1 ≤ c.args.limit = omega arith in
+    let conn_least : 1 ≤ c.args.connections = omega arith in
+    let conn_most : c.args.connections ≤ 64 = omega arith in
     rw c.without_empty_texts-users.ensures
-    (IsConfiguration-plain c.args.conference c.args.limit c.args.users c.args.floors id c.if-limit-lt1.false most
+    (IsConfiguration-plain c.args.conference c.args.limit c.args.connections c.args.users c.args.floors id least most conn_least conn_most
     (rw c.as_slice.ensures at (c.users_fit.ensures.few c.if-not-users_fit.false))
     (rw c.as_slice.ensures at (c.users_fit.ensures.fits c.if-not-users_fit.false))
     (rw c.as_slice-2.ensures at (c.in_ok-has_double_user.ensures.differ c.if-branch.false))
