@@ -8,6 +8,7 @@
 
 mod answers;
 mod configurations;
+mod headers;
 mod origins;
 mod pages;
 mod participants;

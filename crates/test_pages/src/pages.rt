@@ -2,10 +2,12 @@
 
 use crate::answers::answers;
 use crate::configurations::{built, diagnosed, keys, read, with_items};
+use crate::headers::{answered, by_chance};
 use crate::origins::allowed;
 use crate::participants::participants;
 use crate::relays::{of_browser, of_server};
 use crate::requests::asked;
+use floor_proxy::NamedBy;
 use std::alloc::{AllocError, Global};
 use test_cases::{Fault, Runner};
 
@@ -38,6 +40,10 @@ fn told(alloc: Global, subject: &str, text: &str) -> Result<String, AllocError> 
         "participants" => participants(alloc, text),
         "browser" => of_browser(alloc, text),
         "server" => of_server(alloc, text),
+        "header by certificate" => answered(alloc, NamedBy::Certificate, text),
+        "header by unique-id" => answered(alloc, NamedBy::UniqueId, text),
+        "made by certificate" => by_chance(alloc, NamedBy::Certificate, text),
+        "made by unique-id" => by_chance(alloc, NamedBy::UniqueId, text),
         _ => String::from_str(alloc, "no subject\n"),
     }
 }
