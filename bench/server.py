@@ -34,10 +34,10 @@ def configuration(conferences, users, first_port=FIRST_PORT):
 
 class Server:
     """A floord or a floorhub that runs, pinned to processors where they are given, under limits of the system
-    (`resource.RLIMIT_NOFILE` to a number, and the like) and with variables of the environment
-    where they are."""
+    (`resource.RLIMIT_NOFILE` to a number, and the like), with variables of the environment and with further
+    words where they are, and with its standard error in a file where one is given."""
 
-    def __init__(self, floord, text, processors=None, limits=None, variables=None):
+    def __init__(self, floord, text, processors=None, limits=None, variables=None, words=(), errors=None):
         # Whether it serves by event loops.
         self.by_loops = os.path.basename(floord).startswith('floorhub')
         handle, self.path = tempfile.mkstemp(suffix='.toml')
@@ -49,8 +49,8 @@ class Server:
             for kind, value in (limits or {}).items():
                 resource.setrlimit(kind, (value, value))
         self.process = subprocess.Popen(
-            pinned + [os.path.abspath(floord), self.path],
-            stdin=subprocess.PIPE, stdout=subprocess.PIPE, preexec_fn=limit,
+            pinned + [os.path.abspath(floord), *words, self.path],
+            stdin=subprocess.PIPE, stdout=subprocess.PIPE, stderr=errors, preexec_fn=limit,
             env={**os.environ, **(variables or {})})
         self.pid = self.process.pid
         self.printed = b''
