@@ -13,7 +13,7 @@ use Rattle.floor_proxy.specs.declared.refusal.ProxyRefusal.TheVariants.{BadHeade
 use Rattle.floor_proxy.specs.Header.{◌>>=◌, addresses_len, agrees, behind_command, behind_family, behind_high, behind_signature, proxy, signature, whole, who, with_len, IsWithin}
 use Rattle.floor_proxy.specs.Laws.{AnswersStay, AnswersCome}
 
-abbrev Answer : Type 0
+abbrev pub Answer : Type 0
 Answer = Result ProxyRead ProxyRefusal
 
 -- more are wanted, or the other answer is the same
@@ -25,7 +25,7 @@ stays-cond : (b : Bool) (x y u v : Answer) → Stays x u → Stays y v → Stays
 stays-cond true x y u v p q = p
 stays-cond false x y u v p q = q
 
-none-behind : (n : ℕ) (xs : List ℕ) → length xs ≤ n → drop n xs ≡ []
+pub none-behind : (n : ℕ) (xs : List ℕ) → length xs ≤ n → drop n xs ≡ []
 none-behind zero [] h = refl
 none-behind zero (x ∷ xs) h = absurd (omega (arith, h))
 none-behind (suc n) [] h = refl

@@ -4,3 +4,4 @@ pub mod Signature
 pub mod Naming
 pub mod Cuts
 pub mod Rereading
+pub mod InTime

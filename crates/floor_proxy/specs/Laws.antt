@@ -1,11 +1,12 @@
 -- What is written is read, and how much of it has come makes no difference.
-use Rattle.std.specs.Prelude.{◌≡◌, ◌≢◌, ◌↔◌, ℕ, ◌+◌, ◌/◌, ◌%◌, ◌<◌, ◌≤◌, ◌^◌, List, ◌∷◌, ◌++◌, length, flat_map, Some, Result, Ok}
+use Rattle.std.specs.Prelude.{◌≡◌, ◌≢◌, ◌↔◌, ℕ, ◌+◌, ◌/◌, ◌%◌, ◌<◌, ◌≤◌, ◌^◌, List, ◌∷◌, ◌++◌, length, flat_map, Some, Result, Ok, Err}
 use Rattle.std.specs.Fmt.{decimal}
 use Rattle.floor_proxy.specs.declared.header.NamedBy.{NamedBy}
 use Rattle.floor_proxy.specs.declared.header.NamedBy.TheVariants.{Certificate, UniqueId}
 use Rattle.floor_proxy.specs.declared.header.ProxyRead.TheVariants.{More}
 use Rattle.floor_proxy.specs.declared.name.Name.{Name}
 use Rattle.floor_proxy.specs.declared.refusal.ProxyRefusal.{ProxyRefusal}
+use Rattle.floor_proxy.specs.declared.refusal.ProxyRefusal.TheVariants.{BadHeader}
 use Rattle.floor_proxy.specs.Name.{name_in}
 use Rattle.floor_proxy.specs.Tlv.{Tlv, tlvs, value_of}
 use Rattle.floor_proxy.specs.Header.{◌>>=◌, addresses_len, named, of_session, proxy, signature, with_len}
@@ -18,6 +19,11 @@ AnswersStay = (by : NamedBy) (bytes behind : List ℕ) → proxy by bytes ≢ Ok
 abbrev pub AnswersCome : Type 0
 AnswersCome = (by : NamedBy) (bytes : List ℕ) → proxy by bytes ≡ Ok More
     → (behind : List ℕ) × (proxy by (bytes ++ behind) ≢ Ok More) × (length (bytes ++ behind) ≤ 1024)
+
+-- where more are wanted of fewer than 16, some bytes behind them are answered, and not as a bad header
+abbrev pub FaultsAreToldAtOnce : Type 0
+FaultsAreToldAtOnce = (by : NamedBy) (bytes : List ℕ) → proxy by bytes ≡ Ok More → length bytes < 16
+    → (behind : List ℕ) × (proxy by (bytes ++ behind) ≢ Ok More) × (proxy by (bytes ++ behind) ≢ Err BadHeader)
 
 -- the bytes of a TLV: its type, the length of its value, the most significant byte first, and its value
 abbrev pub tlv_bytes : Tlv → List ℕ

@@ -1,6 +1,6 @@
 //! What the words of the contracts mean. Each law is the contract of a function that does nothing.
 
-ghost use Rattle.floor_proxy.specs.Laws.{AnswersCome, AnswersStay, HeadersAreRead, NamesAreReadBack, ValuesAreReadBack};
+ghost use Rattle.floor_proxy.specs.Laws.{AnswersCome, AnswersStay, FaultsAreToldAtOnce, HeadersAreRead, NamesAreReadBack, ValuesAreReadBack};
 
 use floor_words::numbers_are_read_back;
 
@@ -14,6 +14,12 @@ pub fn answers_stay()
 /// these have 1,024 at most.
 pub fn answers_come()
     ensures { AnswersCome }
+{}
+
+/// A byte that no header has at its place is refused at once, and no byte before it: while more are wanted of
+/// fewer than 16, some bytes behind are answered otherwise than by `BadHeader`.
+pub fn faults_are_told_at_once()
+    ensures { FaultsAreToldAtOnce }
 {}
 
 /// The TLVs of bytes are those whose bytes they are, one behind another.

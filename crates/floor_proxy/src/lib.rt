@@ -16,6 +16,7 @@ mod tlv;
 
 pub use header::{MAX_HEADER, NamedBy, ProxyRead, read_proxy};
 pub use laws::{
-    answers_come, answers_stay, headers_are_read, names_are_read_back, values_are_read_back,
+    answers_come, answers_stay, faults_are_told_at_once, headers_are_read, names_are_read_back,
+    values_are_read_back,
 };
 pub use refusal::ProxyRefusal;
