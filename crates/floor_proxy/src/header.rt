@@ -19,7 +19,7 @@
 //! Length counts the addresses and the TLVs. The lower half of the family's byte, the protocol, says nothing
 //! here, and neither do the addresses.
 
-ghost use Rattle.std.specs.Prelude.{◌≡◌, ◌≤◌, ◌-◌, length, take, drop, IfOk, option_map};
+ghost use Rattle.std.specs.Prelude.{◌≡◌, ◌≤◌, length, IfOk, option_map};
 ghost use Rattle.floor_proxy.specs.Header.{IsWithin, addresses_len, agrees, behind_command, behind_family, behind_high, behind_signature, has_certificate, is_verified, named, of_certificate, of_session, proxy, signature, who, whole};
 
 use crate::name::{Name, read_name};

@@ -1,6 +1,6 @@
 //! Who a header names: `CONFERENCE.USER`, two decimal numbers of 32 and 16 bits.
 
-ghost use Rattle.std.specs.Prelude.{◌≡◌, ◌^◌, Bool};
+ghost use Rattle.std.specs.Prelude.{◌≡◌, ◌^◌};
 ghost use Rattle.floor_proxy.specs.Name.{has_leading_zero, name_in, numeral};
 
 use floor_words::{read_u16, read_u32};
