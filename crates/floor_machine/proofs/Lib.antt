@@ -31,7 +31,9 @@ pub mod Live
 pub mod Counting
 pub mod Sender
 pub mod Passed
+pub mod Those
 pub mod Cut
+pub mod Watchers
 pub mod Counted
 pub mod Reachable
 pub mod Reasoned

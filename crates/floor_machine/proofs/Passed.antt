@@ -6,7 +6,7 @@ use Rattle.std.specs.Option.{option_map_or}
 use Rattle.floor_machine.specs.declared.member.Member.{Member}
 use Rattle.floor_machine.specs.declared.replied.Replied.{Replied}
 use Rattle.floor_machine.specs.declared.tell.changed.Update.{Update}
-use Rattle.floor_machine.specs.declared.tell.parcels.FloorNotice.{FloorNotice}
+use Rattle.floor_machine.specs.declared.tell.notices.FloorNotice.{FloorNotice}
 use Rattle.floor_machine.specs.Conference.{is_numbered_from, member_with}
 use Rattle.floor_machine.specs.Outgoing.{Outgoing}
 use Rattle.floor_machine.specs.Parcel.{Parcel}

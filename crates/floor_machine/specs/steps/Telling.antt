@@ -21,7 +21,7 @@ use Rattle.floor_machine.specs.declared.course.Ended.{Ended}
 use Rattle.floor_machine.specs.declared.information.shown.Shown.{Shown}
 use Rattle.floor_machine.specs.declared.replied.Replied.{Replied}
 use Rattle.floor_machine.specs.declared.tell.changed.Update.{Update}
-use Rattle.floor_machine.specs.declared.tell.parcels.FloorNotice.{FloorNotice}
+use Rattle.floor_machine.specs.declared.tell.notices.FloorNotice.{FloorNotice}
 use Rattle.floor_machine.specs.steps.Outcomes.{FloorUpdate}
 use Rattle.floor_machine.specs.Shown.{Entry, entry_of, info, info_of, named}
 use Rattle.floor_machine.specs.Same.{same_infos}

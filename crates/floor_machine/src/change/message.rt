@@ -121,7 +121,7 @@ impl State {
                 Ok(Some(course))
             }
             Change::Watch(floors) => {
-                self.members.watch(n, floors);
+                self.members.watch(n, floors)?;
                 Ok(None)
             }
         }

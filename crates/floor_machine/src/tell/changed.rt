@@ -123,7 +123,7 @@ impl Updates {
     pub(crate) fn concern(&self, user: u16) -> bool
         ensures { result ≡ list_any (telling.is_of user) self.now }
     {
-        has_user(&self.users, user)
+        has_number(&self.users, user)
     }
 
     /// The statuses, in their order.
@@ -135,10 +135,18 @@ impl Updates {
     }
 }
 
-fn has_user(users: &[u16], user: u16) -> bool
-    ensures { result ≡ list_any (λ u. u == user) users.now }
+/// Whether the number is one of these.
+// A loop, since these are mostly few and it is asked for each live member and each floor: `any` takes
+// longer to begin.
+pub(crate) fn has_number(numbers: &[u16], number: u16) -> bool
+    ensures { result ≡ list_any (λ k. k == number) numbers.now }
 {
-    users.iter().any(|u| *u == user)
+    for k in numbers {
+        if *k == number {
+            return true;
+        }
+    }
+    false
 }
 
 /// Notes the user, unless it is noted already.
@@ -148,7 +156,7 @@ fn note_user(users: &mut Vec<u16>, user: u16)
     ensures len { vec_len users.new ≤ vec_len users.old + 1 }
     ensures capacity { vec_capacity users.new ≡ vec_capacity users.old }
 {
-    let is_noted = has_user(users, user);
+    let is_noted = has_number(users, user);
     if !is_noted {
         users.push_reserved(user);
     }
@@ -158,5 +166,5 @@ fn note_user(users: &mut Vec<u16>, user: u16)
 pub(crate) fn is_changed(changed: &[u16], floor: u16) -> bool
     ensures { result ≡ list_any (λ f. f == floor) changed.now }
 {
-    changed.iter().any(|f| *f == floor)
+    has_number(changed, floor)
 }

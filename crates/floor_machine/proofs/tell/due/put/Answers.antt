@@ -1,6 +1,6 @@
 use Rattle.std.proofs.Common.{refl}
 use Rattle.floor_machine.specs.Outgoing.{outgoing_bytes}
-use Rattle.floor_machine.proofs.tell.parcels.put.Goals as goal
+use Rattle.floor_machine.proofs.tell.due.put.Goals as goal
 
 pub returns : goal.returns
 unfolding outgoing_bytes

@@ -1,7 +1,7 @@
 use Rattle.std.proofs.Common.{◌≡◌, ◌++◌, take, map}
 use Rattle.std.specs.Prelude.{filter}
 use Rattle.floor_machine.specs.steps.Telling.{floor_notice_to, is_noticed}
-use Rattle.floor_machine.proofs.tell.parcels.put_floor_notices.Given as goal
+use Rattle.floor_machine.proofs.tell.due.put_floor_notices.Given as goal
 
 abbrev pub invariant-loop-notice : goal.invariant-loop-notice
 invariant-loop-notice l =

@@ -4,8 +4,8 @@ use Rattle.floor_machine.specs.Journal.{parcel}
 use Rattle.floor_machine.specs.steps.Telling.{is_due_to, update_to}
 use Rattle.floor_machine.proofs.Concerned.{none-due}
 use Rattle.floor_machine.proofs.Filtered.{step_yes, step_no}
-use Rattle.floor_machine.proofs.tell.parcels.put_updates.Goals as goal
-use Rattle.floor_machine.proofs.tell.parcels.put_updates.Goals.{then-is_due_to+in_ok-put_status, else-is_due_to}
+use Rattle.floor_machine.proofs.tell.due.put_updates.Goals as goal
+use Rattle.floor_machine.proofs.tell.due.put_updates.Goals.{then-is_due_to+in_ok-put_status, else-is_due_to}
 
 pub loop-update-preserved : goal.loop-update-preserved
 loop-update-preserved c =

@@ -1,8 +1,8 @@
 use Rattle.std.proofs.Common.{◌<◌, ◌≡◌, ◌∙◌, sym, true, false, length, arith}
 use Rattle.floor_machine.specs.steps.Telling.{floor_notice_to, is_noticed}
 use Rattle.floor_machine.proofs.Filtered.{step_yes, step_no}
-use Rattle.floor_machine.proofs.tell.parcels.put_floor_notices.Goals as goal
-use Rattle.floor_machine.proofs.tell.parcels.put_floor_notices.Goals.{then-watches+in_ok-put_floor_notice, else-watches}
+use Rattle.floor_machine.proofs.tell.due.put_floor_notices.Goals as goal
+use Rattle.floor_machine.proofs.tell.due.put_floor_notices.Goals.{then-watches+in_ok-put_floor_notice, else-watches}
 
 pub loop-notice-preserved : goal.loop-notice-preserved
 loop-notice-preserved c =

@@ -1,10 +1,10 @@
 use Rattle.std.proofs.Common.{◌<◌, ◌∙◌, List, [], ◌∷◌, ◌++◌, sym, ap, length, get_or, None, arith}
 use Rattle.std.proofs.lemmas.List.{map_more}
 use Rattle.floor_config.specs.declared.floors.Floor.{Floor}
-use Rattle.floor_machine.specs.declared.tell.parcels.FloorNotice.{FloorNotice}
+use Rattle.floor_machine.specs.declared.tell.notices.FloorNotice.{FloorNotice}
 use Rattle.floor_machine.specs.steps.Telling.{floor_notice, floor_update}
 use Rattle.floor_machine.proofs.Fitting.{floors_fit}
-use Rattle.floor_machine.proofs.tell.parcels.floor_notices.Goals as goal
+use Rattle.floor_machine.proofs.tell.notices.floor_notices.Goals as goal
 
 pub loop-floor-preserved : goal.loop-floor-preserved
 loop-floor-preserved c =

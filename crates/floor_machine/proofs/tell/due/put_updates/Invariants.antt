@@ -2,7 +2,7 @@ use Rattle.std.proofs.Common.{◌≡◌, ◌++◌, take, map}
 use Rattle.std.specs.Prelude.{filter}
 use Rattle.floor_machine.specs.Journal.{parcel}
 use Rattle.floor_machine.specs.steps.Telling.{is_due_to, update_to}
-use Rattle.floor_machine.proofs.tell.parcels.put_updates.Given as goal
+use Rattle.floor_machine.proofs.tell.due.put_updates.Given as goal
 
 abbrev pub invariant-loop-update : goal.invariant-loop-update
 invariant-loop-update l =
