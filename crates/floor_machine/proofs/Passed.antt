@@ -17,11 +17,11 @@ use Rattle.floor_machine.proofs.Concerned.{none-due}
 use Rattle.floor_machine.proofs.Counting.{members-cut, taken-nothing}
 use Rattle.floor_machine.proofs.Live.{if_live, live-found}
 
-or-first : (a b : Bool) → (a || b) ≡ false → a ≡ false
+pub or-first : (a b : Bool) → (a || b) ≡ false → a ≡ false
 or-first true b h = h
 or-first false b h = refl
 
-or-second : (a b : Bool) → (a || b) ≡ false → b ≡ false
+pub or-second : (a b : Bool) → (a || b) ≡ false → b ≡ false
 or-second true b h = absurd (let clash : true ≡ false = h in cc)
 or-second false b h = h
 
