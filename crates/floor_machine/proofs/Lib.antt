@@ -6,6 +6,7 @@ pub mod Concerned
 pub mod Configs
 pub mod Entries
 pub mod Telling
+pub mod Updated
 pub mod Changing
 pub mod Verdicts
 pub mod Served

@@ -132,6 +132,11 @@ update_at config ongoing ended before number = option_map_or (update_if before) 
 abbrev pub updates : Configuration → List Request → List Ended → List Info → List ℕ → List Update
 updates config ongoing ended before numbers = flat_map (update_at config ongoing ended before) numbers
 
+-- the status of each of these requests tells of it as it is shown
+abbrev pub AreTold : Configuration → List Request → List Ended → List Update → Type 0
+AreTold config ongoing ended updates =
+    (number : ℕ) (u : Update) → find (λ u. u.number == number) updates ≡ Some u → option_map update_of (shown_at config ongoing ended number) ≡ Some u
+
 -- the floor with all requests shown that name it
 abbrev pub floor_update : List Info → Floor → FloorUpdate
 floor_update now floor = record { floor = floor.id; tell = FloorStatus (Some floor.id) (infos_on floor.id now) }

@@ -1,10 +1,12 @@
 //! What an event changed, with the statuses that tell of it (RFC 8855, sections 10.1.2 and 12.1).
 
 ghost use Rattle.std.specs.List.{list_any};
-ghost use Rattle.std.specs.Prelude.{◌≡◌, ◌==◌, ◌+◌, ◌<◌, ◌≤◌, ◌++◌, ◌∷◌, [], IfOk, OnOk, vec_capacity, vec_len};
+ghost use Rattle.std.specs.Prelude.{◌≡◌, ◌==◌, ◌+◌, ◌<◌, ◌≤◌, ◌++◌, ◌∷◌, [], IfOk, OnOk, find, vec_capacity, vec_len};
+ghost use Rattle.std.specs.Option.{option_copied};
 ghost use Rattle.floor_message.specs.Shown.{IsShown, IsShownInfo};
 ghost use Rattle.floor_message.specs.Written.{tell_bytes};
 ghost use Rattle.floor_message.specs.declared.tell.Tell.TheVariants.{FloorRequestStatus};
+ghost use Rattle.floor_machine.specs.Told.{is_status_of};
 ghost use Rattle.floor_machine.specs.steps.Fitting.{AreUpdatesShown};
 ghost use Rattle.floor_machine.specs.steps.Telling as telling;
 
@@ -36,6 +38,20 @@ impl SharedStatus {
         ensures { result ≡ FloorRequestStatus info }
     {
         SharedStatus { info }
+    }
+
+    /// Whether it is the status of this request.
+    pub(crate) fn is_of(&self, request: u16) -> bool
+        ensures { result ≡ is_status_of request self.now }
+    {
+        self.info.as_info().request == request
+    }
+
+    /// Another owner of the same. Takes no memory.
+    pub(crate) fn share(&self) -> Result<SharedStatus, AllocError>
+        ensures { IfOk result (λ status. status ≡ self.now) }
+    {
+        Ok(SharedStatus::of(self.info.share()?))
     }
 
     /// The message under this head, for its user alone.
@@ -133,6 +149,13 @@ impl Updates {
     {
         self.items.as_slice()
     }
+}
+
+/// The status of the request with this number, where it is among these.
+pub(crate) fn find_update(updates: &[Update], number: u16) -> Option<&Update>
+    ensures { option_copied result ≡ find (λ u. u.number == number) updates.now }
+{
+    updates.iter().find(|update| update.number == number)
 }
 
 /// Whether the number is one of these.

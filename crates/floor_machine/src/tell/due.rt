@@ -10,7 +10,7 @@ ghost use Rattle.floor_machine.specs.steps.Telling.{answered, answered_to, floor
 
 use crate::member::Member;
 use crate::parcel::Parcel;
-use crate::replied::Replied;
+use crate::replied::{Messages, Replied};
 use crate::tell::changed::{SharedStatus, Update, Updates};
 use crate::tell::notices::FloorNotice;
 use crate::tell::watching::watches;
@@ -108,6 +108,31 @@ fn put_reply(
 
 /// Puts the answer, of which the first message alone has the transaction.
 fn put_answer(
+    alloc: Global,
+    out: &mut Vec<Parcel>,
+    n: u32,
+    first: Head,
+    messages: &Messages,
+) -> Result<(), AllocError>
+    requires { All IsShown messages.now }
+    ensures { OnOk result (out.new.items
+        ≡ out.old.items ++ map (parcel n) (answered first messages.now)) }
+{
+    match &messages.status {
+        None => put_tells(alloc, out, n, first, &messages.others),
+        Some(status) => {
+            put_status(alloc, out, n, &first, status)?;
+            let head = Head {
+                transaction: 0,
+                ..first
+            };
+            put_tells(alloc, out, n, head, &messages.others)
+        }
+    }
+}
+
+/// Puts messages of an answer, of which the first alone has the transaction.
+fn put_tells(
     alloc: Global,
     out: &mut Vec<Parcel>,
     n: u32,
@@ -236,7 +261,16 @@ fn is_answered(reply: &Option<Replied>, n: u32, request: u16) -> bool
 }
 
 /// Whether one of the messages is the status of this request.
-fn has_status_of(tells: &[Tell], request: u16) -> bool
+fn has_status_of(messages: &Messages, request: u16) -> bool
+    ensures { result ≡ list_any (is_status_of request) messages.now }
+{
+    match &messages.status {
+        None => is_any_status_of(&messages.others, request),
+        Some(status) => { status.is_of(request) || is_any_status_of(&messages.others, request) }
+    }
+}
+
+fn is_any_status_of(tells: &[Tell], request: u16) -> bool
     ensures { result ≡ list_any (is_status_of request) tells.now }
 {
     tells.iter().any(|tell| is_status_of(request, tell))

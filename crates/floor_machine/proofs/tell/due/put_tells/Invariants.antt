@@ -1,7 +1,7 @@
 use Rattle.std.proofs.Common.{◌≡◌, ◌++◌, drop, map}
 use Rattle.floor_machine.specs.Journal.{parcel}
 use Rattle.floor_machine.specs.steps.Telling.{answered}
-use Rattle.floor_machine.proofs.tell.due.put_answer.Given as goal
+use Rattle.floor_machine.proofs.tell.due.put_tells.Given as goal
 
 -- what is put and what is left are all the messages
 abbrev pub invariant-loop-tell : goal.invariant-loop-tell
