@@ -11,6 +11,7 @@ use Rattle.floor_machine.specs.Conference.{AreCut, is_numbered_from, joining, me
 use Rattle.floor_machine.specs.steps.Counting.{counted_at, is_cut_by, is_told, taken_on, with_cut}
 use Rattle.floor_machine.proofs.Counting.{live-at, n-counted}
 use Rattle.floor_machine.proofs.Live.{if_live, live-found}
+use Rattle.floor_machine.proofs.Those.{still-those, those-joining, those-leaving, those-same}
 
 -- whether a member that may be there is cut
 abbrev is_cut_there : Option Member → Bool
@@ -21,42 +22,17 @@ abbrev cut_at : List Member → ℕ → Bool
 cut_at ms k = is_cut_there (member_with ms k)
 
 -- whoever joins isn't cut
-push-at : (n user k : ℕ) (ms : List Member) → cut_at (ms ++ joining n user ∷ []) k ≡ cut_at ms k
-push-at n user k [] = by (n == k)
-  where
-    by : (b : Bool) → is_cut_there (cond (b && true) (Some (joining n user)) None) ≡ false
-    by true = refl
-    by false = refl
-push-at n user k (m ∷ ms) = by (m.n == k && m.is_live) (push-at n user k ms)
-  where
-    by : (b : Bool) → cut_at (ms ++ joining n user ∷ []) k ≡ cut_at ms k →
-        is_cut_there (cond b (Some m) (member_with (ms ++ joining n user ∷ []) k)) ≡ is_cut_there (cond b (Some m) (member_with ms k))
-    by true h = refl
-    by false h = h
-
 pub cut-joining : (n user : ℕ) (ms : List Member) (cut : List ℕ) → AreCut ms cut → AreCut (ms ++ joining n user ∷ []) cut
-cut-joining n user ms cut h k = h k ∙ sym (push-at n user k ms)
+cut-joining n user ms cut h = those-joining (λ m. m.is_cut) n user refl ms cut h
 
 -- members that keep their numbers, and that are live and cut as before
-same-at : (f : Member → Member) → ((m : Member) → (f m).n ≡ m.n) → ((m : Member) → (f m).is_live ≡ m.is_live) → ((m : Member) → (f m).is_cut ≡ m.is_cut) → (k : ℕ) (ms : List Member) →
-    cut_at (map f ms) k ≡ cut_at ms k
-same-at f number live cut k [] = refl
-same-at f number live cut k (m ∷ ms) =
-    ap (λ (b : Bool). is_cut_there (cond b (Some (f m)) (member_with (map f ms) k)))
-    (ap (λ (i : ℕ). i == k && (f m).is_live) (number m) ∙ ap (λ (l : Bool). m.n == k && l) (live m))
-    ∙ by (m.n == k && m.is_live) (same-at f number live cut k ms)
-  where
-    by : (b : Bool) → cut_at (map f ms) k ≡ cut_at ms k → is_cut_there (cond b (Some (f m)) (member_with (map f ms) k)) ≡ is_cut_there (cond b (Some m) (member_with ms k))
-    by true h = cut m
-    by false h = h
-
 pub cut-same : (f : Member → Member) → ((m : Member) → (f m).n ≡ m.n) → ((m : Member) → (f m).is_live ≡ m.is_live) → ((m : Member) → (f m).is_cut ≡ m.is_cut) → (ms : List Member) (cut : List ℕ) →
     AreCut ms cut → AreCut (map f ms) cut
-cut-same f number live same ms cut h k = h k ∙ sym (same-at f number live same k ms)
+cut-same f number live same ms cut h = those-same (λ m. m.is_cut) f number live same ms cut h
 
 -- what is written of members and numbers holds of those that they come to be
 pub still-cut : {ms ms' : List Member} {cut cut' : List ℕ} → ms' ≡ ms → cut' ≡ cut → AreCut ms cut → AreCut ms' cut'
-still-cut {ms} {ms'} {cut} {cut'} e f h k = ap (list_any (λ j. j == k)) f ∙ h k ∙ sym (ap (λ (xs : List Member). cut_at xs k) e)
+still-cut e f h = still-those (λ m. m.is_cut) e f h
 
 pub cut-acknowledging : (j k : ℕ) (m : Member) → (acknowledging j k m).is_cut ≡ m.is_cut
 cut-acknowledging j k m = by (m.n == j)
@@ -86,12 +62,6 @@ cut-watching n floors m = by (m.n == n)
     by true = refl
     by false = refl
 
-both-same : (a k n : ℕ) → (a == k) ≡ true → (a == n) ≡ true → (k == n) ≡ true
-both-same a k n e f = grind (arith, nat_tests)
-
-other-same : (a k n : ℕ) → (a == k) ≡ true → (a == n) ≡ false → (k == n) ≡ false
-other-same a k n e f = grind (arith, nat_tests)
-
 same-back : (a k n : ℕ) → (a == n) ≡ true → (a == k) ≡ true → (n == k) ≡ true
 same-back a k n e f = grind (arith, nat_tests)
 
@@ -102,57 +72,8 @@ other-forth : (a k n : ℕ) → (a == n) ≡ false → (a == k) ≡ true → (n 
 other-forth a k n e f = grind (arith, nat_tests)
 
 -- whoever leaves isn't live any more
-leaving-at : (n k : ℕ) (ms : List Member) → cut_at (map (leaving n) ms) k ≡ (not (k == n) && cut_at ms k)
-leaving-at n k [] = by (k == n)
-  where
-    by : (b : Bool) → false ≡ (not b && false)
-    by true = refl
-    by false = refl
-leaving-at n k (m ∷ ms) = by (m.n == n) refl (leaving-at n k ms)
-  where
-    gone : (d l : Bool) → (m.n == k) ≡ d → (m.n == n) ≡ true → cut_at (map (leaving n) ms) k ≡ (not (k == n) && cut_at ms k) →
-        is_cut_there (cond (d && false) (Some (record m { is_live = false })) (member_with (map (leaving n) ms) k)) ≡ (not (k == n) && is_cut_there (cond (d && l) (Some m) (member_with ms k)))
-    gone true l d e h =
-        h
-        ∙ ap (λ (b : Bool). not b && cut_at ms k) (both-same m.n k n d e)
-        ∙ sym (ap (λ (b : Bool). not b && is_cut_there (cond l (Some m) (member_with ms k))) (both-same m.n k n d e))
-    gone false l d e h = h
-
-    stays : (d l : Bool) → (m.n == k) ≡ d → (m.n == n) ≡ false → cut_at (map (leaving n) ms) k ≡ (not (k == n) && cut_at ms k) →
-        is_cut_there (cond (d && l) (Some m) (member_with (map (leaving n) ms) k)) ≡ (not (k == n) && is_cut_there (cond (d && l) (Some m) (member_with ms k)))
-    stays true true d e h = sym (ap (λ (b : Bool). not b && m.is_cut) (other-same m.n k n d e))
-    stays true false d e h = h
-    stays false l d e h = h
-
-    by : (b : Bool) → (m.n == n) ≡ b → cut_at (map (leaving n) ms) k ≡ (not (k == n) && cut_at ms k) →
-        is_cut_there (cond ((cond b (record m { is_live = false }) m).n == k && (cond b (record m { is_live = false }) m).is_live) (Some (cond b (record m { is_live = false }) m)) (member_with (map (leaving n) ms) k))
-        ≡ (not (k == n) && is_cut_there (cond (m.n == k && m.is_live) (Some m) (member_with ms k)))
-    by true e h = gone (m.n == k) m.is_live refl e h
-    by false e h = stays (m.n == k) m.is_live refl e h
-
--- and is taken out of those that are noted
-without-at : (n k : ℕ) (ks : List ℕ) → list_any (λ j. j == k) (filter (λ j. not (j == n)) ks) ≡ (not (k == n) && list_any (λ j. j == k) ks)
-without-at n k [] = by (k == n)
-  where
-    by : (b : Bool) → false ≡ (not b && false)
-    by true = refl
-    by false = refl
-without-at n k (j ∷ ks) = by (j == n) (j == k) refl refl (without-at n k ks)
-  where
-    by : (b d : Bool) → (j == n) ≡ b → (j == k) ≡ d → list_any (λ j. j == k) (filter (λ j. not (j == n)) ks) ≡ (not (k == n) && list_any (λ j. j == k) ks) →
-        list_any (λ j. j == k) (cond (not b) (j ∷ filter (λ j. not (j == n)) ks) (filter (λ j. not (j == n)) ks)) ≡ (not (k == n) && (d || list_any (λ j. j == k) ks))
-    by true true e d h =
-        h
-        ∙ ap (λ (b : Bool). not b && list_any (λ j. j == k) ks) (both-same j k n d e)
-        ∙ sym (ap (λ (b : Bool). not b && true) (both-same j k n d e))
-    by true false e d h = h
-    by false true e d h =
-        ap (λ (b : Bool). b || list_any (λ j. j == k) (filter (λ j. not (j == n)) ks)) d
-        ∙ sym (ap (λ (b : Bool). not b && true) (other-same j k n d e))
-    by false false e d h = ap (λ (b : Bool). b || list_any (λ j. j == k) (filter (λ j. not (j == n)) ks)) d ∙ h
-
 pub cut-leaving : (n : ℕ) (ms : List Member) (cut : List ℕ) → AreCut ms cut → AreCut (map (leaving n) ms) (filter (λ k. not (k == n)) cut)
-cut-leaving n ms cut h k = without-at n k cut ∙ ap (λ (b : Bool). not (k == n) && b) (h k) ∙ sym (leaving-at n k ms)
+cut-leaving n ms cut h = those-leaving (λ m. m.is_cut) n ms cut h
 
 -- so many messages cut this member
 abbrev is_cut_now : ℕ → Member → Bool

@@ -1,15 +1,18 @@
 -- A user or a floor that is added changes and tells nothing else.
-use Rattle.std.proofs.Common.{◌≡◌, ℕ, true, List, [], ◌∷◌, ◌++◌, map, None, refl, sym, ap, ◌∙◌}
-use Rattle.std.specs.List.{list_all}
+use Rattle.std.proofs.Common.{◌≡◌, ℕ, Bool, true, false, cond, List, [], ◌∷◌, ◌++◌, map, Option, Some, None, refl, sym, ap, ◌∙◌, arith}
+use Rattle.std.specs.Prelude.{◌==◌, find}
+use Rattle.std.specs.List.{list_all, list_any}
+use Rattle.std.proofs.lemmas.Bool.Decides.{nat_tests}
 use Rattle.floor_config.specs.declared.floors.Floor.{Floor}
 use Rattle.floor_config.specs.declared.users.User.{User}
-use Rattle.floor_config.specs.Changed.{floor_fault, with_floor, with_user}
+use Rattle.floor_config.specs.Changed.{added_user, floor_fault, with_floor, with_user}
 use Rattle.floor_config.specs.Configuration.{Configuration}
 use Rattle.floor_config.specs.Lookup.{is_user, user_with}
 use Rattle.floor_config.proofs.KeptAfter.{floor_free}
 use Rattle.floor_queue.specs.declared.request.Request.{Request}
 use Rattle.floor_queue.specs.declared.requested_floor.RequestedFloor.{RequestedFloor}
-use Rattle.floor_queue.specs.Order.{position}
+use Rattle.floor_queue.specs.Order.{position, settle}
+use Rattle.floor_queue.specs.Queue.{IsQueue, IsSettled, involves, is_ascending}
 use Rattle.floor_queue.proofs.Added.{position-more, settle-more}
 use Rattle.floor_queue.proofs.Places.{have_rooms, queue_has_rooms}
 use Rattle.floor_message.specs.declared.information.Info.{Info}
@@ -27,6 +30,8 @@ use Rattle.floor_machine.proofs.Counted.{counted-quiet}
 use Rattle.floor_machine.proofs.Found.{and_left, and_right}
 use Rattle.floor_machine.proofs.Grows.{are_known, user-more}
 use Rattle.floor_machine.proofs.Left.{map-same}
+use Rattle.floor_machine.specs.Reply.{infos}
+use Rattle.floor_machine.proofs.Passed.{or-first, or-second}
 use Rattle.floor_machine.proofs.Quiet.{IsStill, due-unsent, settled-still}
 use Rattle.floor_machine.proofs.Reachable.{Keeps}
 use Rattle.floor_machine.proofs.Sent.{told-nothing}
@@ -71,14 +76,43 @@ still-user : (s : Conference) (user : User) → Keeps s → IsStill s (AddUser u
 unfolding change
 still-user s user k = record { entries = refl; settled = k.settled; infos = infos-user s.config user s.ongoing s.ongoing k.known }
 
-still-floor : (s : Conference) (floor : Floor) → floor_fault s.config floor ≡ None → Keeps s → IsStill s (AddFloor floor)
+-- whoever isn't the new user is the same one behind it
+stranger-more : (config : Configuration) (user : User) (id : ℕ) → (id == user.id) ≡ false → user_with (with_user config user) id ≡ user_with config id
+stranger-more config user id other = at config.users
+  where
+    turned : (a b : ℕ) → (a == b) ≡ false → (b == a) ≡ false
+    turned a b e = grind (arith, nat_tests)
+
+    at : (us : List User) → find (λ u. u.id == id) (us ++ added_user user ∷ []) ≡ find (λ u. u.id == id) us
+    at [] = ap (λ (b : Bool). cond b (Some (added_user user)) None) (turned id user.id other)
+    at (u ∷ us) = ap (λ (o : Option User). cond (u.id == id) (Some u) o) (at us)
+
+-- a request that doesn't involve the new user is shown as before
+info-stranger : (config : Configuration) (user : User) (all : List Request) (r : Request) → involves r user.id ≡ false → info (with_user config user) all r ≡ info config all r
+unfolding info_of
+info-stranger config user all r h =
+    let theirs : user_with (with_user config user) r.beneficiary ≡ user_with config r.beneficiary = stranger-more config user r.beneficiary (or-second (r.requester == user.id) (r.beneficiary == user.id) h) in
+    let mine : user_with (with_user config user) r.requester ≡ user_with config r.requester = stranger-more config user r.requester (or-first (r.requester == user.id) (r.beneficiary == user.id) h) in
+    rw (theirs, mine) refl
+
+infos-stranger : (config : Configuration) (user : User) (all rs : List Request) → list_any (λ r. involves r user.id) rs ≡ false → map (info (with_user config user) all) rs ≡ map (info config all) rs
+infos-stranger config user all [] h = refl
+infos-stranger config user all (r ∷ rs) h =
+    ap (λ (i : Info). i ∷ map (info (with_user config user) all) rs) (info-stranger config user all r (or-first (involves r user.id) (list_any (λ r. involves r user.id) rs) h))
+    ∙ ap (λ (is : List Info). info config all r ∷ is) (infos-stranger config user all rs (or-second (involves r user.id) (list_any (λ r. involves r user.id) rs) h))
+
+pub still-stranger : (s : Conference) (user : User) → list_any (λ r. involves r user.id) s.ongoing ≡ false → IsSettled (queue_of s) → IsStill s (AddUser user)
 unfolding change
-still-floor s floor may k =
+still-stranger s user stranger is_settled = record { entries = refl; settled = is_settled; infos = infos-stranger s.config user s.ongoing s.ongoing stranger }
+
+pub still-floor : (s : Conference) (floor : Floor) → floor_fault s.config floor ≡ None → IsQueue (queue_of s) → IsSettled (queue_of s) → IsStill s (AddFloor floor)
+unfolding change
+still-floor s floor may queue is_settled =
     let free = (floor_free s.config floor may).0 in
     record {
       entries = refl;
-      settled = settle-more (queue_of s) floor free k.queue ∙ k.settled;
-      infos = infos-floor s.config floor s.ongoing s.ongoing (position-more (queue_of s) floor free k.queue) (queue_has_rooms (queue_of s) k.queue);
+      settled = settle-more (queue_of s) floor free queue ∙ is_settled;
+      infos = infos-floor s.config floor s.ongoing s.ongoing (position-more (queue_of s) floor free queue) (queue_has_rooms (queue_of s) queue);
     }
 
 -- what each such event leaves
@@ -91,17 +125,43 @@ next-quiet : (s : Conference) (e : Event) → ((n : ℕ) → due s e n ≡ []) �
 unfolding next
 next-quiet s e quiet = ap (λ (ms : List Member). record (settled s e) { members = ms }) (counted-all-quiet s e quiet (settled s e).members)
 
+pub next-still : (s : Conference) (e : Event) → is_telling e ≡ true → ((n : ℕ) → reply_to s e n ≡ []) → is_ascending s.ongoing ≡ true → IsStill s e → (change s e).given ≡ s.given → (change s e).is_open ≡ s.is_open →
+    (change s e).members ≡ s.members → next s e ≡ record s { config = (change s e).config }
+next-still s e telling unsent ascending still given opened members =
+    next-quiet s e (due-unsent s e telling unsent still ascending)
+    ∙ sym (settled-still s e still given opened)
+    ∙ ap (λ (ms : List Member). record s { config = (change s e).config; members = ms }) members
+
+-- so of a user whom no request involves
+pub next-stranger : (s : Conference) (user : User) → is_ascending s.ongoing ≡ true → IsStill s (AddUser user) → next s (AddUser user) ≡ record s { config = with_user s.config user }
+unfolding change
+next-stranger s user ascending still = next-still s (AddUser user) refl (λ n. refl) ascending still refl refl refl
+
+-- and of a floor
+pub next-floor : (s : Conference) (floor : Floor) → is_ascending s.ongoing ≡ true → IsStill s (AddFloor floor) → next s (AddFloor floor) ≡ record s { config = with_floor s.config floor }
+unfolding change
+next-floor s floor ascending still = next-still s (AddFloor floor) refl (λ n. refl) ascending still refl refl refl
+
+-- what is shown and settled by the configuration after it
+pub infos-stranger-after : (s : Conference) (user : User) → IsStill s (AddUser user) → map (info (with_user s.config user) s.ongoing) s.ongoing ≡ infos s
+unfolding change
+infos-stranger-after s user still = still.infos
+
+pub infos-floor-after : (s : Conference) (floor : Floor) → IsStill s (AddFloor floor) → map (info (with_floor s.config floor) s.ongoing) s.ongoing ≡ infos s
+unfolding change
+infos-floor-after s floor still = still.infos
+
+pub settled-floor-after : (s : Conference) (floor : Floor) → IsStill s (AddFloor floor) → settle (with_floor s.config floor).floors s.ongoing ≡ s.ongoing
+unfolding change
+settled-floor-after s floor still = still.settled
+
 alone-still : (s : Conference) (e : Event) → is_telling e ≡ true → ((n : ℕ) → reply_to s e n ≡ []) → Keeps s → IsStill s e → (change s e).given ≡ s.given → (change s e).is_open ≡ s.is_open →
     (change s e).members ≡ s.members → GrowsAlone s e
 alone-still s e telling unsent k still given opened members =
-    let quiet : (n : ℕ) → due s e n ≡ [] = due-unsent s e telling unsent still k.queue.ascending in
-    let is : next s e ≡ record s { config = (change s e).config } =
-    next-quiet s e quiet
-    ∙ sym (settled-still s e still given opened)
-    ∙ ap (λ (ms : List Member). record s { config = (change s e).config; members = ms }) members in
+    let is : next s e ≡ record s { config = (change s e).config } = next-still s e telling unsent k.queue.ascending still given opened members in
     record {
       next = is ∙ ap (λ (config : Configuration). record s { config = config }) (sym (ap (λ (x : Conference). x.config) is));
-      told = λ n. told-nothing s e n (quiet n);
+      told = λ n. told-nothing s e n (due-unsent s e telling unsent still k.queue.ascending n);
     }
 
 alone-user : (s : Conference) (user : User) → Keeps s → GrowsAlone s (AddUser user)
@@ -110,7 +170,7 @@ alone-user s user k = alone-still s (AddUser user) refl (λ n. refl) k (still-us
 
 alone-floor : (s : Conference) (floor : Floor) → floor_fault s.config floor ≡ None → Keeps s → GrowsAlone s (AddFloor floor)
 unfolding change
-alone-floor s floor may k = alone-still s (AddFloor floor) refl (λ n. refl) k (still-floor s floor may k) refl refl refl
+alone-floor s floor may k = alone-still s (AddFloor floor) refl (λ n. refl) k (still-floor s floor may k.queue k.settled) refl refl refl
 
 -- a user or a floor that may be added changes and tells nothing else
 pub grows_alone : (s : Conference) (e : Event) → is_growth e ≡ true → IsLawful s e → Keeps s → GrowsAlone s e

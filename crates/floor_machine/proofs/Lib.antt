@@ -6,6 +6,7 @@ pub mod Concerned
 pub mod Configs
 pub mod Entries
 pub mod Telling
+pub mod Updated
 pub mod Changing
 pub mod Verdicts
 pub mod Served
@@ -31,7 +32,9 @@ pub mod Live
 pub mod Counting
 pub mod Sender
 pub mod Passed
+pub mod Those
 pub mod Cut
+pub mod Watchers
 pub mod Counted
 pub mod Reachable
 pub mod Reasoned

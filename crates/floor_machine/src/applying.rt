@@ -23,6 +23,7 @@ use crate::information::settled::Settled;
 use crate::marks::mark_granted;
 use crate::outcome::Outcome;
 use crate::parcel::Parcel;
+use crate::tell::changed::Updates;
 use crate::tell::renewing::{Changes, renew};
 use floor_wire::Frame;
 use std::alloc::{AllocError, Global};
@@ -59,15 +60,18 @@ impl State {
                 let outcome = Outcome {
                     state: self,
                     ended: &course.ended,
+                    updates: &changes.updates,
                 };
                 let reply = outcome.reply(alloc, n, user, frame, decision.reply)?;
                 self.tell(alloc, &changes, &Some(reply), out)
             }
             // Its sender alone is told anything, and nothing that is shown is looked at.
             None => {
+                let none = Updates::new(alloc);
                 let outcome = Outcome {
                     state: self,
                     ended: &[],
+                    updates: &none,
                 };
                 let reply = outcome.reply(alloc, n, user, frame, decision.reply)?;
                 self.tell_reply(alloc, &Some(reply), out)

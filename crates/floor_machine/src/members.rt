@@ -1,9 +1,11 @@
 //! All members of a conference, and which of them are live.
 
-ghost use Rattle.std.specs.Prelude.{◌≡◌, ◌==◌, ◌<◌, ◌+◌, ◌∷◌, ◌++◌, [], false, true, OnOk, OnErr, count_by, filter, find, length, map, not};
+ghost use Rattle.std.specs.Prelude.{◌≡◌, ◌==◌, ◌&&◌, ◌<◌, ◌+◌, ◌∷◌, ◌++◌, [], false, true, OnOk, OnErr, count_by, filter, find, is_some, length, map, not};
+ghost use Rattle.std.specs.List.{list_any};
 ghost use Rattle.std.specs.Option.{option_copied, option_map_or};
 ghost use Rattle.floor_machine.specs.Change as change;
 ghost use Rattle.floor_machine.specs.Conference.{AreCut, is_numbered_from, is_present, joining, live_numbers, member_with};
+ghost use Rattle.floor_machine.specs.steps.Counting.{AreWatching, noted_if};
 
 use crate::joined::Joined;
 use crate::member::Member;
@@ -11,15 +13,17 @@ use floor_wire::Numbers;
 use std::alloc::{AllocError, Global};
 use std::marker::Model;
 
-/// All that ever joined, in the order of joining, and the numbers of those that are live, and of those
-/// of them that are cut: what is done for each of these costs nothing for the others. Contracts see the
-/// members alone.
+/// All that ever joined, in the order of joining, and the numbers of those that are live, of those of
+/// them that watch floors, and of those that are cut: what is done for each of these costs nothing for
+/// the others. Contracts see the members alone.
 #[derive(Debug, Drop)]
 pub(crate) struct Members {
     /// All that ever joined.
     pub joined: Joined,
     /// The numbers of those that are live, ascending.
     pub live: Vec<u32>,
+    /// The numbers of the live ones that watch some floor, in no order.
+    pub watching: Vec<u32>,
 }
 
 impl Model for Members {
@@ -31,7 +35,8 @@ impl Model for Members {
 
     ghost view = { λ m. m.joined.members.items };
 
-    ghost invariant = { λ m. AreListed m.joined.members.items m.live.items m.joined.cut.items };
+    ghost invariant = { λ m. AreListed m.joined.members.items m.live.items m.watching.items
+        m.joined.cut.items };
 }
 
 impl Members {
@@ -42,6 +47,7 @@ impl Members {
         Members {
             joined: Joined::new(alloc),
             live: Vec::new(alloc),
+            watching: Vec::new(alloc),
         }
     }
 
@@ -72,6 +78,14 @@ impl Members {
         ensures kept { is_numbered_from 1 self.now ≡ true }
     {
         self.live.as_slice()
+    }
+
+    /// The numbers of the live ones that watch some floor, in no order.
+    pub(crate) fn watching(&self) -> &[u32]
+        ensures value { AreWatching self.now result.now }
+        ensures kept { is_numbered_from 1 self.now ≡ true }
+    {
+        self.watching.as_slice()
     }
 
     /// The live member with this number.
@@ -122,11 +136,16 @@ impl Members {
         Ok(())
     }
 
-    /// The member with this number watches these floors from now on.
-    pub(crate) fn watch(&mut self, n: u32, floors: Numbers)
-        ensures { self.new ≡ map (change.watching n floors) self.old }
+    /// The member with this number watches these floors from now on. After an error nothing has
+    /// changed.
+    pub(crate) fn watch(&mut self, n: u32, floors: Numbers) -> Result<(), AllocError>
+        ensures next { OnOk result (self.new ≡ map (change.watching n floors) self.old) }
+        ensures left { OnErr result (self.new ≡ self.old) }
     {
+        let is_watching = is_to_watch(&self.joined, n, floors.as_slice());
+        put_number(&mut self.watching, n, is_watching)?;
         self.joined.watch(n, floors);
+        Ok(())
     }
 
     /// So many of the messages that were told to the member with this number are acknowledged.
@@ -142,6 +161,7 @@ impl Members {
     {
         self.joined.leave(n);
         take_number(&mut self.live, n);
+        take_number(&mut self.watching, n);
         take_number(&mut self.joined.cut, n);
     }
 }
@@ -152,6 +172,40 @@ fn is_present(joined: &Joined, live: &[u32], user: u16) -> bool
     ensures { result ≡ is_present joined.now.members.items user }
 {
     joined.is_of_any(live, user)
+}
+
+/// Whether the member with this number is live, and these floors are some.
+fn is_to_watch(joined: &Joined, n: u32, floors: &[u16]) -> bool
+    ensures { result ≡ (is_some (member_with joined.now.members.items n)
+        && not (length floors.now == 0)) }
+{
+    match joined.find_live(n) {
+        Some(_member) => !floors.is_empty(),
+        None => false,
+    }
+}
+
+/// Notes the number of a member among some, or takes it out of them. After an error nothing has
+/// changed.
+fn put_number(numbers: &mut Vec<u32>, n: u32, is_one: bool) -> Result<(), AllocError>
+    ensures next { OnOk result (numbers.new.items ≡ noted_if is_one n numbers.old.items) }
+    ensures left { OnErr result (numbers.new.items ≡ numbers.old.items) }
+{
+    if !is_one {
+        take_number(numbers, n);
+        return Ok(());
+    }
+    let is_noted = has_number(numbers, n);
+    if !is_noted {
+        numbers.push(n)?;
+    }
+    Ok(())
+}
+
+fn has_number(numbers: &[u32], n: u32) -> bool
+    ensures { result ≡ list_any (λ k. k == n) numbers.now }
+{
+    numbers.iter().any(|k| *k == n)
 }
 
 /// Takes the number of a member out of some.

@@ -1,8 +1,10 @@
-//! What is told of an event: what is shown otherwise than before, and the parcels to the members that
-//! are told of it.
+//! What is told of an event: what is shown otherwise than before, what of that is due to each member,
+//! and the parcels of those that are told it.
 
 pub(crate) mod backlog;
 pub(crate) mod changed;
+pub(crate) mod due;
+pub(crate) mod notices;
 pub(crate) mod parcels;
 pub(crate) mod renewing;
 pub(crate) mod watching;

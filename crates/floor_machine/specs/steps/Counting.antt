@@ -1,6 +1,6 @@
 -- What is due to the members is told and counted, member by member.
-use Rattle.std.specs.Prelude.{◌≡◌, ℕ, ◌+◌, ◌==◌, ◌&&◌, ◌||◌, nat_le, nat_lt, not, if◌then◌else◌, Bool, false, List, [], ◌∷◌, ◌++◌, find, length, map}
-use Rattle.std.specs.List.{flat_map}
+use Rattle.std.specs.Prelude.{◌≡◌, ℕ, ◌+◌, ◌==◌, ◌&&◌, ◌||◌, nat_le, nat_lt, not, if◌then◌else◌, Bool, false, List, [], ◌∷◌, ◌++◌, filter, find, length, map}
+use Rattle.std.specs.List.{flat_map, list_any}
 use Rattle.std.specs.Option.{option_map_or}
 use Rattle.floor_machine.specs.declared.member.Member.{Member}
 use Rattle.floor_machine.specs.Parcel.{Parcel}
@@ -10,6 +10,7 @@ use Rattle.floor_machine.specs.Change.{settled}
 use Rattle.floor_machine.specs.Told.{due}
 use Rattle.floor_machine.specs.Journal.{parcel, sent_to}
 use Rattle.floor_machine.specs.Next.{MAX_BACKLOG}
+use Rattle.floor_machine.specs.steps.Telling.{noting}
 
 -- so many messages that are due to the member are told
 abbrev pub is_told : ℕ → Member → Bool
@@ -35,9 +36,26 @@ is_cut_by many n members = nat_lt 0 many && not (is_told_at many n members)
 abbrev pub with_cut : ℕ → ℕ → List Member → List ℕ → List ℕ
 with_cut many n members cut = if is_cut_by many n members then cut ++ n ∷ [] else cut
 
--- These are the numbers of the live members, ascending, and of those of them that are cut.
-pub record AreListed (members : List Member) (numbers noted : List ℕ) : Type 0 where
+-- these are the numbers of the live members that pass
+abbrev pub AreThose : (Member → Bool) → List Member → List ℕ → Type 0
+AreThose passes members numbers = (n : ℕ) → list_any (λ k. k == n) numbers ≡ option_map_or passes (member_with members n) false
+
+-- the member watches some floor
+abbrev pub is_watching : Member → Bool
+is_watching m = not (length m.watched == 0)
+
+-- these are the numbers of the live members that watch some floor
+abbrev pub AreWatching : List Member → List ℕ → Type 0
+AreWatching members numbers = AreThose is_watching members numbers
+
+-- these numbers with this one among them, or without it
+abbrev pub noted_if : Bool → ℕ → List ℕ → List ℕ
+noted_if is_one n numbers = if is_one then noting n numbers else filter (λ k. not (k == n)) numbers
+
+-- These are the numbers of the live members, ascending, of those of them that watch some floor, and of those that are cut.
+pub record AreListed (members : List Member) (numbers watchers noted : List ℕ) : Type 0 where
   pub live : numbers ≡ live_numbers members
+  pub watching : AreWatching members watchers
   pub cut : AreCut members noted
 
 -- what is due to the live member with this number

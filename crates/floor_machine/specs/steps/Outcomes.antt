@@ -4,13 +4,16 @@ use Rattle.floor_message.specs.declared.head.Head.{Head}
 use Rattle.floor_message.specs.declared.information.Info.{Info}
 use Rattle.floor_message.specs.declared.tell.Tell.{Tell}
 use Rattle.floor_machine.specs.declared.course.Ended.{Ended}
+use Rattle.floor_machine.specs.declared.tell.changed.Update.{Update}
 use Rattle.floor_machine.specs.Conference.{Conference}
 
--- the conference after the event, what is shown of its ongoing requests, and the requests that the event ended
+-- the conference after the event, what is shown of its ongoing requests, the requests that the event ended, and the statuses of those
+-- that it changed
 pub record Outcome : Type 0 where
   pub conference : Conference
   pub shown : List Info
   pub ended : List Ended
+  pub updates : List Update
 
 -- a floor, with its status
 pub record FloorUpdate : Type 0 where

@@ -21,7 +21,7 @@ use Rattle.floor_machine.specs.declared.course.Ended.{Ended}
 use Rattle.floor_machine.specs.declared.information.shown.Shown.{Shown}
 use Rattle.floor_machine.specs.declared.replied.Replied.{Replied}
 use Rattle.floor_machine.specs.declared.tell.changed.Update.{Update}
-use Rattle.floor_machine.specs.declared.tell.parcels.FloorNotice.{FloorNotice}
+use Rattle.floor_machine.specs.declared.tell.notices.FloorNotice.{FloorNotice}
 use Rattle.floor_machine.specs.steps.Outcomes.{FloorUpdate}
 use Rattle.floor_machine.specs.Shown.{Entry, entry_of, info, info_of, named}
 use Rattle.floor_machine.specs.Same.{same_infos}
@@ -131,6 +131,11 @@ update_at config ongoing ended before number = option_map_or (update_if before) 
 -- the statuses of those with these numbers that are shown otherwise than before
 abbrev pub updates : Configuration → List Request → List Ended → List Info → List ℕ → List Update
 updates config ongoing ended before numbers = flat_map (update_at config ongoing ended before) numbers
+
+-- the status of each of these requests tells of it as it is shown
+abbrev pub AreTold : Configuration → List Request → List Ended → List Update → Type 0
+AreTold config ongoing ended updates =
+    (number : ℕ) (u : Update) → find (λ u. u.number == number) updates ≡ Some u → option_map update_of (shown_at config ongoing ended number) ≡ Some u
 
 -- the floor with all requests shown that name it
 abbrev pub floor_update : List Info → Floor → FloorUpdate

@@ -16,7 +16,7 @@ use crate::conference::State;
 use crate::course::Course;
 use crate::decision::{Change, Decision, Reply};
 use crate::outcome::Outcome;
-use crate::replied::Replied;
+use crate::replied::{Messages, Replied};
 use floor_message::{Ask, AskFault, Binding, Head, Tell, read_ask, what_is_asked_fits};
 use floor_wire::Frame;
 use std::alloc::{AllocError, Global};
@@ -121,7 +121,7 @@ impl State {
                 Ok(Some(course))
             }
             Change::Watch(floors) => {
-                self.members.watch(n, floors);
+                self.members.watch(n, floors)?;
                 Ok(None)
             }
         }
@@ -154,27 +154,33 @@ impl Outcome<'_> {
     }
 
     /// The messages that answer this user.
-    fn tells(&self, alloc: Global, user: u16, reply: Reply) -> Result<Vec<Tell>, AllocError>
+    fn tells(&self, alloc: Global, user: u16, reply: Reply) -> Result<Messages, AllocError>
         requires details { DetailsFit reply }
-        ensures value { IfOk result (λ tells. tells.items
+        ensures value { IfOk result (λ tells. tells
             ≡ tells_by self.now.conference self.now.ended user reply) }
-        ensures shown { IfOk result (λ tells. All IsShown tells.items) }
+        ensures shown { IfOk result (λ tells. All IsShown tells) }
     {
         match reply {
-            Reply::Nothing => Ok(Vec::new(alloc)),
-            Reply::Status(request) => self.status_tells(alloc, request),
-            Reply::Added => self.status_tells(alloc, self.state.requests.given()),
-            Reply::User(beneficiary) => self.user_tells(alloc, user, beneficiary),
-            Reply::Floors(floors) => self.floor_tells(alloc, floors.as_slice()),
-            Reply::Ack => one(alloc, Tell::ChairActionAck),
-            Reply::Hello => hello_tells(alloc),
-            Reply::Error(code, details) => one(
-                alloc,
-                Tell::Error {
+            Reply::Nothing => Ok(Messages::of(Vec::new(alloc))),
+            Reply::Status(request) => self.status(alloc, request),
+            Reply::Added => self.status(alloc, self.state.requests.given()),
+            Reply::User(beneficiary) => {
+                let tells = self.user_tells(alloc, user, beneficiary)?;
+                Ok(Messages::of(tells))
+            }
+            Reply::Floors(floors) => {
+                let tells = self.floor_tells(alloc, floors.as_slice())?;
+                Ok(Messages::of(tells))
+            }
+            Reply::Ack => Ok(Messages::of(one(alloc, Tell::ChairActionAck)?)),
+            Reply::Hello => Ok(Messages::of(hello_tells(alloc)?)),
+            Reply::Error(code, details) => {
+                let tell = Tell::Error {
                     code: code.number(),
                     details,
-                },
-            ),
+                };
+                Ok(Messages::of(one(alloc, tell)?))
+            }
         }
     }
 }

@@ -6,15 +6,32 @@ ghost use Rattle.floor_machine.specs.steps.Serving as serving;
 
 use crate::information::settled::Settled;
 use crate::outcome::Outcome;
-use floor_message::{Head, Tell};
+use crate::replied::Messages;
+use crate::tell::changed::{SharedStatus, find_update};
+use floor_message::{SharedInfo, Tell};
 use std::alloc::{AllocError, Global};
 
 impl Outcome<'_> {
-    /// The status of the request with this number.
-    pub(crate) fn status_tells(&self, alloc: Global, number: u16) -> Result<Vec<Tell>, AllocError>
-        ensures value { IfOk result (λ tells. tells.items
+    /// The status of the request with this number: that of the event, where it changed the request.
+    pub(crate) fn status(&self, alloc: Global, number: u16) -> Result<Messages, AllocError>
+        ensures value { IfOk result (λ messages. messages
             ≡ serving.status_tells self.now.conference self.now.ended number) }
-        ensures shown { IfOk result (λ tells. All IsShown tells.items) }
+        ensures shown { IfOk result (λ messages. All IsShown messages) }
+    {
+        match find_update(self.updates.as_slice(), number) {
+            Some(update) => {
+                let status = update.tell.share()?;
+                Ok(Messages::of_status(alloc, status))
+            }
+            None => self.status_anew(alloc, number),
+        }
+    }
+
+    /// The status of the request with this number, shown for it alone.
+    fn status_anew(&self, alloc: Global, number: u16) -> Result<Messages, AllocError>
+        ensures value { IfOk result (λ messages. messages
+            ≡ serving.status_tells self.now.conference self.now.ended number) }
+        ensures shown { IfOk result (λ messages. All IsShown messages) }
     {
         let state = self.state;
         let settled = Settled {
@@ -22,8 +39,11 @@ impl Outcome<'_> {
             requests: &state.requests,
         };
         match settled.shown_at(alloc, self.ended, number)? {
-            None => Ok(Vec::new(alloc)),
-            Some(shown) => one(alloc, Tell::FloorRequestStatus { info: shown.info }),
+            None => Ok(Messages::of(Vec::new(alloc))),
+            Some(shown) => {
+                let status = SharedStatus::of(SharedInfo::new(alloc, shown.info)?);
+                Ok(Messages::of_status(alloc, status))
+            }
         }
     }
 }

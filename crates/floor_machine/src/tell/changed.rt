@@ -1,10 +1,12 @@
 //! What an event changed, with the statuses that tell of it (RFC 8855, sections 10.1.2 and 12.1).
 
 ghost use Rattle.std.specs.List.{list_any};
-ghost use Rattle.std.specs.Prelude.{◌≡◌, ◌==◌, ◌+◌, ◌<◌, ◌≤◌, ◌++◌, ◌∷◌, [], IfOk, OnOk, vec_capacity, vec_len};
+ghost use Rattle.std.specs.Prelude.{◌≡◌, ◌==◌, ◌+◌, ◌<◌, ◌≤◌, ◌++◌, ◌∷◌, [], IfOk, OnOk, find, vec_capacity, vec_len};
+ghost use Rattle.std.specs.Option.{option_copied};
 ghost use Rattle.floor_message.specs.Shown.{IsShown, IsShownInfo};
 ghost use Rattle.floor_message.specs.Written.{tell_bytes};
 ghost use Rattle.floor_message.specs.declared.tell.Tell.TheVariants.{FloorRequestStatus};
+ghost use Rattle.floor_machine.specs.Told.{is_status_of};
 ghost use Rattle.floor_machine.specs.steps.Fitting.{AreUpdatesShown};
 ghost use Rattle.floor_machine.specs.steps.Telling as telling;
 
@@ -36,6 +38,20 @@ impl SharedStatus {
         ensures { result ≡ FloorRequestStatus info }
     {
         SharedStatus { info }
+    }
+
+    /// Whether it is the status of this request.
+    pub(crate) fn is_of(&self, request: u16) -> bool
+        ensures { result ≡ is_status_of request self.now }
+    {
+        self.info.as_info().request == request
+    }
+
+    /// Another owner of the same. Takes no memory.
+    pub(crate) fn share(&self) -> Result<SharedStatus, AllocError>
+        ensures { IfOk result (λ status. status ≡ self.now) }
+    {
+        Ok(SharedStatus::of(self.info.share()?))
     }
 
     /// The message under this head, for its user alone.
@@ -123,7 +139,7 @@ impl Updates {
     pub(crate) fn concern(&self, user: u16) -> bool
         ensures { result ≡ list_any (telling.is_of user) self.now }
     {
-        has_user(&self.users, user)
+        has_number(&self.users, user)
     }
 
     /// The statuses, in their order.
@@ -135,10 +151,25 @@ impl Updates {
     }
 }
 
-fn has_user(users: &[u16], user: u16) -> bool
-    ensures { result ≡ list_any (λ u. u == user) users.now }
+/// The status of the request with this number, where it is among these.
+pub(crate) fn find_update(updates: &[Update], number: u16) -> Option<&Update>
+    ensures { option_copied result ≡ find (λ u. u.number == number) updates.now }
 {
-    users.iter().any(|u| *u == user)
+    updates.iter().find(|update| update.number == number)
+}
+
+/// Whether the number is one of these.
+// A loop, since these are mostly few and it is asked for each live member and each floor: `any` takes
+// longer to begin.
+pub(crate) fn has_number(numbers: &[u16], number: u16) -> bool
+    ensures { result ≡ list_any (λ k. k == number) numbers.now }
+{
+    for k in numbers {
+        if *k == number {
+            return true;
+        }
+    }
+    false
 }
 
 /// Notes the user, unless it is noted already.
@@ -148,7 +179,7 @@ fn note_user(users: &mut Vec<u16>, user: u16)
     ensures len { vec_len users.new ≤ vec_len users.old + 1 }
     ensures capacity { vec_capacity users.new ≡ vec_capacity users.old }
 {
-    let is_noted = has_user(users, user);
+    let is_noted = has_number(users, user);
     if !is_noted {
         users.push_reserved(user);
     }
@@ -158,5 +189,5 @@ fn note_user(users: &mut Vec<u16>, user: u16)
 pub(crate) fn is_changed(changed: &[u16], floor: u16) -> bool
     ensures { result ≡ list_any (λ f. f == floor) changed.now }
 {
-    changed.iter().any(|f| *f == floor)
+    has_number(changed, floor)
 }

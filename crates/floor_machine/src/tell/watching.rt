@@ -9,7 +9,7 @@ ghost use Rattle.floor_machine.specs.steps.Telling.{is_to_notice};
 
 use crate::member::Member;
 use crate::members::Members;
-use crate::tell::changed::is_changed;
+use crate::tell::changed::{has_number, is_changed};
 use floor_config::{Config, Floor};
 use std::alloc::{AllocError, Global};
 
@@ -17,11 +17,7 @@ use std::alloc::{AllocError, Global};
 pub(crate) fn watches(member: &Member, floor: u16) -> bool
     ensures { result ≡ list_any (λ watched. watched == floor) member.now.watched }
 {
-    member
-        .watched
-        .as_slice()
-        .iter()
-        .any(|watched| *watched == floor)
+    has_number(member.watched.as_slice(), floor)
 }
 
 /// Whether the live member with this number watches the floor.
@@ -49,7 +45,7 @@ pub(crate) fn is_watched(members: &Members, floor: u16) -> bool
     ensures { result ≡ list_any
         (λ m. m.is_live && list_any (λ watched. watched == floor) m.watched) members.now }
 {
-    is_seen_by_any(members, members.live_numbers(), floor)
+    is_seen_by_any(members, members.watching(), floor)
 }
 
 /// Whether the floor is one of the changed ones, and a live member watches it. Of no other floor it is

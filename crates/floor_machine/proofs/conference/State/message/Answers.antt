@@ -1,6 +1,7 @@
 use Rattle.std.proofs.Common.{◌≡◌, ℕ, ◌++◌, List, [], Option, Some, sym, refl, ap, subst, ◌∙◌}
 use Rattle.floor_config.specs.Configuration.{Configuration, user_ids}
 use Rattle.floor_config.specs.declared.floors.Floor.{Floor}
+use Rattle.floor_queue.specs.declared.request.Request.{Request}
 use Rattle.floor_queue.specs.Order.{settle}
 use Rattle.floor_queue.specs.Queue.{after_settle}
 use Rattle.floor_message.specs.Ask.{Answer, ask}
@@ -9,6 +10,7 @@ use Rattle.floor_machine.specs.declared.replied.Replied.{Replied}
 use Rattle.floor_machine.specs.declared.conference.State.{State}
 use Rattle.floor_machine.specs.declared.course.Course.{Course}
 use Rattle.floor_machine.specs.declared.course.Ended.{Ended}
+use Rattle.floor_machine.specs.declared.tell.changed.Update.{Update}
 use Rattle.floor_machine.specs.declared.event.Event.{Event}
 use Rattle.floor_machine.specs.declared.event.Event.TheVariants.{Message}
 use Rattle.floor_machine.specs.Parcel.{Parcel}
@@ -18,7 +20,7 @@ use Rattle.floor_machine.specs.Told.{reply_to}
 use Rattle.floor_machine.specs.steps.Fitting.{AreFit, AreUpdatesShown}
 use Rattle.floor_machine.specs.steps.Deciding.{change_by, decision_of}
 use Rattle.floor_machine.specs.steps.Serving.{IsChanged, IsTaken, conference_of, is_rising, tells_by, with_requests}
-use Rattle.floor_machine.specs.steps.Telling.{answered_to, floors_changed, parcels_to_all}
+use Rattle.floor_machine.specs.steps.Telling.{AreTold, answered_to, floors_changed, parcels_to_all}
 use Rattle.floor_machine.specs.steps.Counting.{counted_all, due_parcels, told_of_all}
 use Rattle.floor_machine.proofs.Counted.{counted-all, told-all}
 use Rattle.floor_machine.proofs.Addable.{decided_addable, queue_addable}
@@ -28,6 +30,7 @@ use Rattle.floor_machine.proofs.Courses.{course-changed}
 use Rattle.floor_machine.proofs.Kept.{settled-message, parcels-message, replied-message, shown-message}
 use Rattle.floor_machine.proofs.Served.{change-decided, settled-state, ended-shown, settled-config, numbers-shown, reply-answered, parcels-served}
 use Rattle.floor_machine.proofs.Settled.{IsSettledTo, floors-shown, parcels-settled}
+use Rattle.floor_machine.proofs.Updated.{updates-told}
 use Rattle.floor_machine.proofs.conference.State.message.Goals as goal
 
 pub settle-requires-clause-course : goal.settle-requires-clause-course
@@ -55,11 +58,18 @@ invariant_of-outcome c =
     let T : Option Course → Type 0 = λ o. IsTaken S n j.change before o in
     let taken : IsTaken S n j.change before (Some course) = subst T c.in-Some.is c.in_ok-course.ensures.taken in
     let P : List Ended → Type 0 = λ ended. AreFit before.config.floors ended in
-    let F : List Floor → Type 0 = λ fs. AreFit fs c.deref.result.now in (
-      c.in_ok-changes-in-Some.ensures.rest,
-      subst F (sym (ap (λ (x : Conference). x.config.floors) c.in_ok-changes-in-Some.ensures.next))
-          (subst P (sym (c.deref.ensures.value ∙ ap (λ x. x.items) c.settle.ensures.ended))
+    let F : List Floor → Type 0 = λ fs. AreFit fs c.deref.result.now in
+    let done = c.in_ok-changes-in-Some.ensures in
+    let ended : c.deref.result.now ≡ course.ended.items = c.deref.ensures.value ∙ ap (λ x. x.items) c.settle.ensures.ended in
+    let rs : List Request = (after_settle before.requests).ongoing in
+    let U : List Update → Type 0 = λ us. AreTold before.config rs course.ended.items us in
+    let E : List Ended → Type 0 = λ ds. AreTold before.config rs ds c.in_ok-changes-in-Some.changes.updates in
+    let C : Conference → Type 0 = λ x. AreTold x.config x.ongoing c.deref.result.now c.in_ok-changes-in-Some.changes.updates in (
+      done.rest,
+      subst F (sym (ap (λ (x : Conference). x.config.floors) done.next))
+          (subst P (sym ended)
           (decided_addable s (conference_of before) n j.change course c.in_ok-decision.ensures.may (queue_addable S c.ongoing-ongoing.ensures.kept) taken.0)),
+      subst C (sym done.next) (subst E (sym ended) (subst U (sym done.updates) (updates-told before.config rs course.ended.items course.before.items course.numbers.items))),
     )
 
 pub returns-in_ok-reply-in-Some-clause-next : goal.returns-in_ok-reply-in-Some-clause-next

@@ -5,7 +5,7 @@ use Rattle.floor_config.specs.declared.floors.Floor.{Floor}
 use Rattle.floor_message.specs.declared.information.Info.{Info}
 use Rattle.floor_machine.specs.declared.member.Member.{Member}
 use Rattle.floor_machine.specs.steps.Fitting.{AreFloorsShown}
-use Rattle.floor_machine.specs.declared.tell.parcels.FloorNotice.{FloorNotice}
+use Rattle.floor_machine.specs.declared.tell.notices.FloorNotice.{FloorNotice}
 use Rattle.floor_machine.specs.Parcel.{Parcel}
 use Rattle.floor_machine.specs.steps.Counting.{counted_of, told_of_all}
 use Rattle.floor_machine.specs.steps.Outcomes.{FloorUpdate}

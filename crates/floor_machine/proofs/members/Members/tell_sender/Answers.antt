@@ -1,14 +1,24 @@
-use Rattle.std.proofs.Common.{[], ◌++◌, List, Option, Some, None, map, refl, sym, ap, ◌∙◌, append-nil}
+use Rattle.std.proofs.Common.{◌≡◌, ℕ, [], ◌∷◌, ◌++◌, List, Option, Some, None, map, refl, sym, ap, ◌∙◌, append-nil}
 use Rattle.floor_machine.specs.declared.member.Member.{Member}
 use Rattle.floor_machine.specs.declared.replied.Replied.{Replied}
 use Rattle.floor_machine.specs.declared.tell.changed.Update.{Update}
 use Rattle.floor_machine.specs.Parcel.{Parcel}
-use Rattle.floor_machine.specs.steps.Counting.{counted_of, members_at, told_at, told_of_all}
+use Rattle.floor_machine.specs.steps.Counting.{counted_of, members_at, members_each, told_at, told_each, told_of_all}
 use Rattle.floor_machine.specs.steps.Telling.{noticed_to, noticed_to_all}
 use Rattle.floor_machine.proofs.Asked.{on_ok}
 use Rattle.floor_machine.proofs.Noticed.{own-noticed}
 use Rattle.floor_machine.proofs.Sender.{members-alone, members-nobody, reply-alone, told-alone, told-nobody}
 use Rattle.floor_machine.proofs.members.Members.tell_sender.Goals as goal
+
+-- the sender alone
+alone-told : (to : Member → List Parcel) (ns : List ℕ) (n : ℕ) (ms : List Member) → ns ≡ n ∷ [] → told_each to ns ms ≡ told_at to n ms
+alone-told to ns n ms same = ap (λ (ks : List ℕ). told_each to ks ms) same ∙ append-nil (told_at to n ms)
+
+alone-counted : (to : Member → List Parcel) (ns : List ℕ) (n : ℕ) (ms : List Member) → ns ≡ n ∷ [] → members_each to ns ms ≡ members_at to n ms
+alone-counted to ns n ms same = ap (λ (ks : List ℕ). members_each to ks ms) same
+
+pub invariant_of-self : goal.invariant_of-self
+invariant_of-self c = record { live = c.self.invariant.live ∙ sym c.tell_each.ensures.live; watching = c.tell_each.ensures.watching _ c.self.invariant.watching; cut = c.tell_each.ensures.cut c.self.invariant.cut }
 
 pub returns-in-Some-clause-told : goal.returns-in-Some-clause-told
 returns-in-Some-clause-told c =
@@ -16,7 +26,8 @@ returns-in-Some-clause-told c =
     let out = c.args.out.now.items in
     let ms = c.self.inside.joined.members.items in
     let sent : Replied = c.in-Some.sent in
-    on_ok c.tell_one.result (λ told. told
+    on_ok c.tell_each.result (λ told. told
+    ∙ ap (λ (ps : List Parcel). out ++ ps) (alone-told _ _ c.sent.inside.n ms refl)
     ∙ ap (λ (us : List Update). out ++ told_at (noticed_to conference c.args.reply.now us []) c.sent.inside.n ms) c.new-none.ensures
     ∙ ap (λ (r : Replied). out ++ told_at (noticed_to conference c.args.reply.now [] []) r.n ms) c.sent.view_is
     ∙ ap (λ (o : Option Replied). out ++ told_at (noticed_to conference o [] []) sent.n ms) c.in-Some.is
@@ -24,21 +35,22 @@ returns-in-Some-clause-told c =
     (told-alone (noticed_to conference (Some sent) [] []) sent.n (reply-alone conference sent) (own-noticed conference (Some sent) [] []) ms c.self.inside.joined.numbered)
     ∙ ap (λ (o : Option Replied). out ++ told_of_all (noticed_to_all conference o [] [] ms) ms) (sym c.in-Some.is)
     ∙ ap (λ (xs : List Member). out ++ told_of_all (noticed_to_all conference c.args.reply.now [] [] xs) xs) c.self.view_is)
-    c.tell_one.ensures.told
+    c.tell_each.ensures.told
 
 pub returns-in-Some-clause-counted : goal.returns-in-Some-clause-counted
 returns-in-Some-clause-counted c =
     let conference = c.args.conference in
     let ms = c.self.inside.joined.members.items in
     let sent : Replied = c.in-Some.sent in
-    on_ok c.tell_one.result (λ counted. counted
+    on_ok c.tell_each.result (λ counted. counted
+    ∙ alone-counted _ _ c.sent.inside.n ms refl
     ∙ ap (λ (us : List Update). members_at (noticed_to conference c.args.reply.now us []) c.sent.inside.n ms) c.new-none.ensures
     ∙ ap (λ (r : Replied). members_at (noticed_to conference c.args.reply.now [] []) r.n ms) c.sent.view_is
     ∙ ap (λ (o : Option Replied). members_at (noticed_to conference o [] []) sent.n ms) c.in-Some.is
     ∙ members-alone (noticed_to conference (Some sent) [] []) sent.n (reply-alone conference sent) (own-noticed conference (Some sent) [] []) ms c.self.inside.joined.numbered
     ∙ ap (λ (o : Option Replied). map (counted_of (noticed_to_all conference o [] [] ms)) ms) (sym c.in-Some.is)
     ∙ ap (λ (xs : List Member). map (counted_of (noticed_to_all conference c.args.reply.now [] [] xs)) xs) c.self.view_is)
-    c.tell_one.ensures.counted
+    c.tell_each.ensures.counted
 
 pub returns-in-None-clause-told : goal.returns-in-None-clause-told
 returns-in-None-clause-told c =

@@ -9,8 +9,8 @@ use Rattle.floor_machine.proofs.tell.changed.Updates.concern.Goals as goal
 pub returns : goal.returns
 returns c =
     let user = c.args.user in
-    let P : List Update → Type 0 = λ us. c.has_user.result ≡ list_any (is_of user) us in
+    let P : List Update → Type 0 = λ us. c.has_number.result ≡ list_any (is_of user) us in
     subst P c.self.view_is
-    (c.has_user.ensures
+    (c.has_number.ensures
     ∙ ap (λ (us : List ℕ). list_any (λ u. u == user) us) c.deref.ensures.value
     ∙ noted-of user c.self.inside.users.items c.self.inside.items.items c.self.invariant.1)
