@@ -11,7 +11,7 @@ use Rattle.floor_hub.specs.declared.step.Answer.{Answer}
 use Rattle.floor_hub.specs.declared.step.Answer.TheVariants.{Done, Refused}
 use Rattle.floor_hub.specs.World as world
 use Rattle.floor_hub.specs.World.{Arrival, Part, Place, World, aim, offer, put, turn, turn_at}
-use Rattle.floor_hub.specs.StandsFor.{Stands}
+use Rattle.floor_hub.proofs.Standing.{RoomsStand}
 use Rattle.floor_hub.specs.steps.Serving.{EventIn}
 use Rattle.floor_hub.proofs.Acting.{IsQuiet, acted, offered}
 use Rattle.floor_hub.proofs.Here.{Here, WantsLive, gone, here}
@@ -25,12 +25,12 @@ wants_took : (many : ℕ) → WantsLive (λ n. Took n many)
 wants_took many None n e = refl
 wants_took many (Some p) n e = ap (world.took p n many) e
 
-module _ (rooms now : ℕ → Option Room) (xs : ℕ → Option Connection) (k : ℕ) (w : World) (number many : ℕ) (st : Stands rooms xs k w) where
+module _ (rooms now : ℕ → Option Room) (xs : ℕ → Option Connection) (k : ℕ) (w : World) (number many : ℕ) (st : RoomsStand rooms xs k w) where
   abbrev Turned : world.Turn → Answer → Type 0
-  Turned t a = Stands now xs k t.world × (t.answer ≡ a)
+  Turned t a = RoomsStand now xs k t.world × (t.answer ≡ a)
 
   abbrev Fails : world.Turn → HubRefusal → Type 0
-  Fails t r = (IsWant t.answer r × Stands now xs k w) ⊎ Turned t (Refused r)
+  Fails t r = (IsWant t.answer r × RoomsStand now xs k w) ⊎ Turned t (Refused r)
 
   -- the step is that of the connection's own conference
   took_turn : (x : Connection) (h : Here rooms w number x) → turn w (Took number many) ≡ put w h.p.conference (offered (Takes h.p.n many) (w.parts h.p.conference))
@@ -49,7 +49,7 @@ module _ (rooms now : ℕ → Option Room) (xs : ℕ → Option Connection) (k :
   took_result res None is absent there =
       let a = absent is in
       let g = gone rooms xs k w (λ n. Took n many) (wants_took many) number st is in
-      let stands : Stands now xs k (turn w (Took number many)).world = rooms_again rooms now xs k (turn w (Took number many)).world (turn w (Took number many)).world.parts a.1 (λ d. refl) g.0 in
+      let stands : RoomsStand now xs k (turn w (Took number many)).world = rooms_again rooms now xs k (turn w (Took number many)).world (turn w (Took number many)).world.parts a.1 (λ d. refl) g.0 in
       subst (λ (z : Result (Unit {0}) HubRefusal). MatchResult z (λ _. Turned (turn w (Took number many)) Done) (Fails (turn w (Took number many)))) (sym a.0) (inr (stands, g.1))
   took_result res (Some x) is absent there =
       let h = here rooms xs k w number x st is in

@@ -23,7 +23,8 @@ use Rattle.floor_hub.specs.declared.step.Answer.{Answer}
 use Rattle.floor_hub.specs.declared.step.Answer.TheVariants.{Done, Refused}
 use Rattle.floor_hub.specs.World as world
 use Rattle.floor_hub.specs.World.{IsIdle, World, Part, Arrival, messages_of, offer, put, ledger_of, refused, turn, with_events}
-use Rattle.floor_hub.specs.StandsFor.{arrival_in, RoomStands, CameTo, Stands}
+use Rattle.floor_hub.specs.StandsFor.{arrival_in, RoomStands, CameTo}
+use Rattle.floor_hub.proofs.Standing.{RoomsStand}
 use Rattle.floor_hub.proofs.Changed.{stands_changed}
 use Rattle.floor_hub.specs.Calls.{IsWant}
 use Rattle.floor_hub.proofs.Wanting.{allowed}
@@ -88,7 +89,7 @@ refused-some r e why (Some y) is h ne = is ∙ ap (λ (z : RoomRefusal). Some z)
     by : (a b : RoomRefusal) → ◌≡◌ {A = Result (Unit {0}) RoomRefusal} (Err a) (Err b) → b ≡ a
     by a b e = cc
 
-module _ (rooms now : ℕ → Option Room) (xs : ℕ → Option Connection) (k : ℕ) (w : World) (c : ℕ) (e : Event) (quiet : IsQuiet e) (st : Stands rooms xs k w) where
+module _ (rooms now : ℕ → Option Room) (xs : ℕ → Option Connection) (k : ℕ) (w : World) (c : ℕ) (e : Event) (quiet : IsQuiet e) (st : RoomsStand rooms xs k w) where
   abbrev after_put : Option Part → ℕ → Option Part
   after_put z = update nat_eq w.parts c z
 
@@ -99,7 +100,7 @@ module _ (rooms now : ℕ → Option Room) (xs : ℕ → Option Connection) (k :
   put_apart z d ne = update_apart w.parts c z d ne
 
   -- nothing has changed
-  unchanged : ((d : ℕ) → now d ≡ rooms d) → (parts : ℕ → Option Part) → ((d : ℕ) → parts d ≡ w.parts d) → Stands now xs k (record { parts = parts; places = w.places })
+  unchanged : ((d : ℕ) → now d ≡ rooms d) → (parts : ℕ → Option Part) → ((d : ℕ) → parts d ≡ w.parts d) → RoomsStand now xs k (record { parts = parts; places = w.places })
   unchanged same parts same_parts = stands_changed rooms now xs k w parts c (record {
     other_rooms = λ d ne. same d;
     other_parts = λ d ne. same_parts d;
@@ -113,7 +114,7 @@ module _ (rooms now : ℕ → Option Room) (xs : ℕ → Option Connection) (k :
   put_back z is d false h = put_apart z d (eqb-false d c h)
 
   -- the part was refused, and the room is as it was
-  pub stands_refused : ((d : ℕ) → now d ≡ rooms d) → (z : Option Part) → w.parts c ≡ z → Stands now xs k (record { parts = after_put z; places = w.places })
+  pub stands_refused : ((d : ℕ) → now d ≡ rooms d) → (z : Option Part) → w.parts c ≡ z → RoomsStand now xs k (record { parts = after_put z; places = w.places })
   stands_refused same z is = unchanged same (after_put z) (λ d. put_back z is d (d == c) refl)
 
   room_broken : (r new : Room) (z : Option Part) → RoomStands (Some r) z → new.ledger.is_broken ≡ true → new.ledger.config ≡ r.ledger.config → RoomStands (Some new) z
@@ -124,7 +125,7 @@ module _ (rooms now : ℕ → Option Room) (xs : ℕ → Option Connection) (k :
       apart x = cc
 
   -- the room is broken off, and nothing is said of it
-  pub stands_broken : (r new : Room) → rooms c ≡ Some r → ((d : ℕ) → d ≢ c → now d ≡ rooms d) → now c ≡ Some new → new.ledger.is_broken ≡ true → new.ledger.config ≡ r.ledger.config → Stands now xs k w
+  pub stands_broken : (r new : Room) → rooms c ≡ Some r → ((d : ℕ) → d ≢ c → now d ≡ rooms d) → now c ≡ Some new → new.ledger.is_broken ≡ true → new.ledger.config ≡ r.ledger.config → RoomsStand now xs k w
   stands_broken r new is others here broken config = stands_changed rooms now xs k w w.parts c (record {
     other_rooms = others;
     other_parts = λ d ne. refl;
@@ -136,7 +137,7 @@ module _ (rooms now : ℕ → Option Room) (xs : ℕ → Option Connection) (k :
   -- the room and the part have taken the event
   pub stands_taken : (r new : Room) (p : Part) → rooms c ≡ Some r → w.parts c ≡ Some p → ((d : ℕ) → d ≢ c → now d ≡ rooms d) → now c ≡ Some new →
       r.ledger.is_broken ≡ false → new.ledger.config ≡ r.ledger.config → new.ledger.journal ≡ r.ledger.journal ++ e ∷ [] →
-      Stands now xs k (record { parts = after_put (Some (with_events p (e ∷ []))); places = w.places })
+      RoomsStand now xs k (record { parts = after_put (Some (with_events p (e ∷ []))); places = w.places })
   stands_taken r new p is was others here sound config journal =
       let before : RoomStands (Some r) (Some p) = subst (RoomStands (Some r)) was (subst (λ (x : Option Room). RoomStands x (w.parts c)) is (st.of_rooms c)) in
       stands_changed rooms now xs k w (after_put (Some (with_events p (e ∷ [])))) c (record {
@@ -155,16 +156,16 @@ abbrev pub offered : Event → Option Part → world.Offered
 offered e None = world.refuses None NoConference
 offered e (Some p) = world.add_event p e (refused p e)
 
-module _ (rooms now : ℕ → Option Room) (xs : ℕ → Option Connection) (k : ℕ) (w : World) (c : ℕ) (e : Event) (quiet : IsQuiet e) (st : Stands rooms xs k w) where
+module _ (rooms now : ℕ → Option Room) (xs : ℕ → Option Connection) (k : ℕ) (w : World) (c : ℕ) (e : Event) (quiet : IsQuiet e) (st : RoomsStand rooms xs k w) where
   -- the turn with this offer
   abbrev TurnIs : world.Offered → Answer → Type 0
-  TurnIs o a = Stands now xs k (put w c o).world × ((put w c o).answer ≡ a)
+  TurnIs o a = RoomsStand now xs k (put w c o).world × ((put w c o).answer ≡ a)
 
   abbrev pub Acted : Answer → Type 0
   Acted a = TurnIs (offered e (w.parts c)) a
 
   abbrev pub ActFails : HubRefusal → Type 0
-  ActFails r = (IsWant (put w c (offered e (w.parts c))).answer r × Stands now xs k w) ⊎ Acted (Refused r)
+  ActFails r = (IsWant (put w c (offered e (w.parts c))).answer r × RoomsStand now xs k w) ⊎ Acted (Refused r)
 
   pub act_absent : rooms c ≡ None → ((d : ℕ) → now d ≡ rooms d) → Acted (Refused NoConference)
   act_absent is same = subst (λ (z : Option Part). TurnIs (offered e z) (Refused NoConference)) (sym gone) (stands_refused rooms now xs k w c e quiet st same None gone, refl)
@@ -214,11 +215,11 @@ module _ (rooms now : ℕ → Option Room) (xs : ℕ → Option Connection) (k :
       by : (a b : RoomRefusal) → ◌≡◌ {A = Option RoomRefusal} (Some a) (Some b) → a ≡ b
       by a b x = cc
 
-  stays : (r new : Room) → rooms c ≡ Some r → ((d : ℕ) → d ≢ c → now d ≡ rooms d) → now c ≡ Some new → new ≡ r → Stands now xs k w
+  stays : (r new : Room) → rooms c ≡ Some r → ((d : ℕ) → d ≢ c → now d ≡ rooms d) → now c ≡ Some new → new ≡ r → RoomsStand now xs k w
   stays r new is others here same =
       unchanged rooms now xs k w c e quiet st (λ d. same_all r new is others here same d (d == c) refl) w.parts (λ d. refl)
 
-  broken_off : (r new : Room) → rooms c ≡ Some r → ((d : ℕ) → d ≢ c → now d ≡ rooms d) → now c ≡ Some new → (new ≡ broken_room r) ⊎ Began r new e → Stands now xs k w
+  broken_off : (r new : Room) → rooms c ≡ Some r → ((d : ℕ) → d ≢ c → now d ≡ rooms d) → now c ≡ Some new → (new ≡ broken_room r) ⊎ Began r new e → RoomsStand now xs k w
   broken_off r new is others here (inl same) =
       stands_broken rooms now xs k w c e quiet st r new is others here (ap (λ (x : Room). x.ledger.is_broken) same) (ap (λ (x : Room). x.ledger.config) same)
   broken_off r new is others here (inr began) =
@@ -273,13 +274,13 @@ module _ (rooms now : ℕ → Option Room) (xs : ℕ → Option Connection) (k :
       acted_at res r t.0 is (λ d ne. t.2 d (ne_eqb c d (λ x. ne (sym x)))) t.1 t.3 t.4
 
 -- what an act in the room is in the world
-pub admin_acted : (rooms now : ℕ → Option Room) (xs : ℕ → Option Connection) (k : ℕ) (w : World) (c : ℕ) (act : Act) (st : Stands rooms xs k w) (res : Result (Unit {0}) HubRefusal) →
+pub admin_acted : (rooms now : ℕ → Option Room) (xs : ℕ → Option Connection) (k : ℕ) (w : World) (c : ℕ) (act : Act) (st : RoomsStand rooms xs k w) (res : Result (Unit {0}) HubRefusal) →
     MatchResult res (λ _. Acted rooms now xs k w c (event_of_act act) (quiet-act act) st Done) (ActFails rooms now xs k w c (event_of_act act) (quiet-act act) st) →
-    MatchResult res (λ _. Stands now xs k (turn w (Admin c act)).world × ((turn w (Admin c act)).answer ≡ Done))
-    (λ r. (IsWant (turn w (Admin c act)).answer r × Stands now xs k w) ⊎ (Stands now xs k (turn w (Admin c act)).world × ((turn w (Admin c act)).answer ≡ Refused r)))
+    MatchResult res (λ _. RoomsStand now xs k (turn w (Admin c act)).world × ((turn w (Admin c act)).answer ≡ Done))
+    (λ r. (IsWant (turn w (Admin c act)).answer r × RoomsStand now xs k w) ⊎ (RoomsStand now xs k (turn w (Admin c act)).world × ((turn w (Admin c act)).answer ≡ Refused r)))
 admin_acted rooms now xs k w c act st res h =
-    subst (λ (o : world.Offered). MatchResult res (λ _. Stands now xs k (put w c o).world × ((put w c o).answer ≡ Done))
-    (λ r. (IsWant (put w c o).answer r × Stands now xs k w) ⊎ (Stands now xs k (put w c o).world × ((put w c o).answer ≡ Refused r))))
+    subst (λ (o : world.Offered). MatchResult res (λ _. RoomsStand now xs k (put w c o).world × ((put w c o).answer ≡ Done))
+    (λ r. (IsWant (put w c o).answer r × RoomsStand now xs k w) ⊎ (RoomsStand now xs k (put w c o).world × ((put w c o).answer ≡ Refused r))))
     (same (w.parts c)) h
   where
     same : (z : Option Part) → offered (event_of_act act) z ≡ offer z (Admin c act)

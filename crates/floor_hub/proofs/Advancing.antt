@@ -16,10 +16,10 @@ use Rattle.floor_hub.specs.declared.running.Memory.{Memory as OutOfMemory}
 use Rattle.floor_hub.specs.declared.step.Step.{Step}
 use Rattle.floor_hub.specs.declared.step.Answer.{Answer}
 use Rattle.floor_hub.specs.declared.step.Answer.TheVariants.{Done, Attached, Nothing, Served, Refused}
-use Rattle.floor_hub.specs.Hub.{Hub, room_at}
+use Rattle.floor_hub.specs.Hub.{Hub, is_forgotten, room_at}
 use Rattle.floor_hub.specs.Rooms.{OneRoom, Opens, QueuesMore, RoomAfter, RoomAfterIn, RoomOf, SameHub, by_memory, refusal_in}
 use Rattle.floor_hub.specs.steps.Running.{AreUntaken, AreWhole, Goes, IsRunning, place_of, IsRunOn}
-use Rattle.floor_hub.specs.StandsFor.{ArrivalStands, NumberStands, RoomStands, StandsFor, live_at}
+use Rattle.floor_hub.specs.StandsFor.{ArrivalStands, ConferenceStands, NumberStands, StandsFor, live_at}
 use Rattle.floor_hub.specs.Calls.{Fails, FailsGone, FailsSame, Turns}
 use Rattle.floor_hub.specs.Connections.{connection_at}
 use Rattle.floor_hub.proofs.Alone.{last_place}
@@ -108,24 +108,24 @@ whole_in shut_by why own (Some r) (Some t) s want after h is = subst (λ (x : Ro
     same : (x y : Room) → ◌≡◌ {A = Option Room} (Some x) (Some y) → x ≡ y
     same x y e = cc
 
-pub whole_one : (shut_by why : Option HubRefusal) (own : Room → List Event) (c : ℕ) (old new : Hub) → OneRoom shut_by why own c old new → why ≢ by_memory → AreWhole old → AreWhole new
-whole_one shut_by why own c old new one want h = λ d r is. by d r (nat_eq c d) refl is
+pub whole_one : (shut_by why : Option HubRefusal) (own : Room → List Event) (c : ℕ) (old new : Hub) → OneRoom shut_by why own c old new → new.forgotten ≡ old.forgotten → why ≢ by_memory → AreWhole old → AreWhole new
+whole_one shut_by why own c old new one remembered want h = (λ d r is. by d r (nat_eq c d) refl is, remembered ∙ h.1)
   where
     by : (d : ℕ) (r : Room) (t : Bool) → nat_eq c d ≡ t → room_at new d ≡ Some r → (r.ledger.is_broken ≡ false) × AreUntaken r.outboxes
     by d r true e is =
         let same : c ≡ d = Rattle.std.proofs.lemmas.Bool.eqb-true c d e in
-        whole_in shut_by why own (room_at old c) (room_at new c) r want one.own (h c) (ap (room_at new) same ∙ is)
-    by d r false e is = h d r (sym (one.others d e) ∙ is)
+        whole_in shut_by why own (room_at old c) (room_at new c) r want one.own (h.0 c) (ap (room_at new) same ∙ is)
+    by d r false e is = h.0 d r (sym (one.others d e) ∙ is)
 
-pub whole_same : (old new : Hub) → ((c : ℕ) → room_at new c ≡ room_at old c) → AreWhole old → AreWhole new
-whole_same old new same h = λ c r is. h c r (sym (same c) ∙ is)
+pub whole_same : (old new : Hub) → ((c : ℕ) → room_at new c ≡ room_at old c) → new.forgotten ≡ old.forgotten → AreWhole old → AreWhole new
+whole_same old new same remembered h = (λ c r is. h.0 c r (sym (same c) ∙ is), remembered ∙ h.1)
 
-pub whole_of : (shut_by why : Option HubRefusal) (own : Connection → Room → List Event) (x : Option Connection) (old new : Hub) → RoomOf shut_by why own x old new → why ≢ by_memory → AreWhole old → AreWhole new
-whole_of shut_by why own None old new h want = whole_same old new h.0.rooms
-whole_of shut_by why own (Some x) old new h want = whole_one shut_by why (own x) x.conference old new h want
+pub whole_of : (shut_by why : Option HubRefusal) (own : Connection → Room → List Event) (x : Option Connection) (old new : Hub) → RoomOf shut_by why own x old new → new.forgotten ≡ old.forgotten → why ≢ by_memory → AreWhole old → AreWhole new
+whole_of shut_by why own None old new h remembered want = whole_same old new h.0.rooms remembered
+whole_of shut_by why own (Some x) old new h remembered want = whole_one shut_by why (own x) x.conference old new h remembered want
 
-pub whole_opens : (config : Configuration) (old new : Hub) → Opens config old new → AreWhole old → AreWhole new
-whole_opens config old new o h = λ d r is. by d r (nat_eq config.conference d) refl is
+pub whole_opens : (config : Configuration) (old new : Hub) → Opens config old new → new.forgotten ≡ old.forgotten → AreWhole old → AreWhole new
+whole_opens config old new o remembered h = (λ d r is. by d r (nat_eq config.conference d) refl is, remembered ∙ h.1)
   where
     some : (x y : Room) → ◌≡◌ {A = Option Room} (Some x) (Some y) → x ≡ y
     some x y e = cc
@@ -134,11 +134,11 @@ whole_opens config old new o h = λ d r is. by d r (nat_eq config.conference d) 
     by d r true e is =
         let same : config.conference ≡ d = Rattle.std.proofs.lemmas.Bool.eqb-true config.conference d e in
         subst (λ (x : Room). (x.ledger.is_broken ≡ false) × AreUntaken x.outboxes) (some _ r (sym o.room ∙ ap (room_at new) same ∙ is)) (refl, tt)
-    by d r false e is = h d r (sym (o.others d e) ∙ is)
+    by d r false e is = h.0 d r (sym (o.others d e) ∙ is)
 
-pub whole_result : {T : Type 0} (res : Result T HubRefusal) (config : Configuration) (old new : Hub) → OnOk res (Opens config old new) → OnErr res (SameHub old new) → AreWhole old → AreWhole new
-whole_result (Ok v) config old new took left = whole_opens config old new took
-whole_result (Err r) config old new took left = whole_same old new left.rooms
+pub whole_result : {T : Type 0} (res : Result T HubRefusal) (config : Configuration) (old new : Hub) → OnOk res (Opens config old new) → OnErr res (SameHub old new) → new.forgotten ≡ old.forgotten → AreWhole old → AreWhole new
+whole_result (Ok v) config old new took left remembered = whole_opens config old new took remembered
+whole_result (Err r) config old new took left remembered = whole_same old new left.rooms remembered
 
 -- an attach that gives a number makes one place
 abbrev NewPlace : List world.Place → ℕ → ℕ → Answer → Type 0
@@ -210,5 +210,9 @@ unattached old new s r (Ok a) before said next whole = λ w h.
     (record { stands = t.0; places = h.places ∙ sym (places_kept w (aimed w s) (subst NoNumber (sym t.1) tt)); whole = whole (no_want r said.1) h.whole }, t.1 ∙ sym said.0)
 
 -- the first hub
-pub starts : (h : Hub) → StandsFor h nothing → IsRunning h [] nothing
-starts h st = record { stands = st; places = refl; whole = λ c r is. absurd (subst (λ (y : Option Room). RoomStands y None) is (st.stands.of_rooms c)) }
+pub starts : (h : Hub) → StandsFor h nothing → h.forgotten ≡ [] → IsRunning h [] nothing
+starts h st remembered = record { stands = st; places = refl; whole = (λ c r is. by (is_forgotten h c) r (subst (λ (y : Option Room). ConferenceStands (is_forgotten h c) y None) is (st.stands.conferences c)), remembered) }
+  where
+    by : (b : Bool) (r : Room) → ConferenceStands b (Some r) None → (r.ledger.is_broken ≡ false) × AreUntaken r.outboxes
+    by false r s = absurd s
+    by true r s = absurd s.1

@@ -32,7 +32,8 @@ use Rattle.floor_hub.specs.declared.step.Answer.{Answer}
 use Rattle.floor_hub.specs.declared.step.Answer.TheVariants.{Attached, Refused}
 use Rattle.floor_hub.specs.World as world
 use Rattle.floor_hub.specs.World.{IsIdle, World, Part, Arrival, Place, Offered, arrival, if_live, messages_of, offer, place, put, refused, state_of, turn}
-use Rattle.floor_hub.specs.StandsFor.{arrival_in, live_at, RoomStands, CameTo, ArrivalStands, NumberStands, Stands}
+use Rattle.floor_hub.specs.StandsFor.{arrival_in, live_at, RoomStands, CameTo, ArrivalStands, NumberStands}
+use Rattle.floor_hub.proofs.Standing.{RoomsStand}
 use Rattle.floor_hub.specs.steps.Serving.{AttachFailsIn}
 use Rattle.floor_hub.specs.Kept.{IsKept, IsKeptPart, KeptIn}
 use Rattle.floor_hub.proofs.Acting.{IsQuiet, broken-refuses, refusal-part, refused-some, sound-by, stands_broken, stands_refused}
@@ -102,12 +103,12 @@ place_apart ps q (suc j) ne = push_apart ps q j (λ e. ne (omega (arith, e)))
 quiet_join : (user : ℕ) → IsQuiet (Join user)
 quiet_join user = λ n. refl
 
-module _ (rooms now : ℕ → Option Room) (xs now_xs : ℕ → Option Connection) (k : ℕ) (w : World) (c user : ℕ) (st : Stands rooms xs k w) (kept : IsKept w) where
+module _ (rooms now : ℕ → Option Room) (xs now_xs : ℕ → Option Connection) (k : ℕ) (w : World) (c user : ℕ) (st : RoomsStand rooms xs k w) (kept : IsKept w) where
   abbrev TurnIs : ℕ → Offered → Answer → Type 0
-  TurnIs m o a = Stands now now_xs m (put w c o).world × ((put w c o).answer ≡ a)
+  TurnIs m o a = RoomsStand now now_xs m (put w c o).world × ((put w c o).answer ≡ a)
 
   abbrev pub AttachIs : ℕ → Answer → Type 0
-  AttachIs m a = Stands now now_xs m (turn w (Attach c user)).world × ((turn w (Attach c user)).answer ≡ a)
+  AttachIs m a = RoomsStand now now_xs m (turn w (Attach c user)).world × ((turn w (Attach c user)).answer ≡ a)
 
   module _ (r new : Room) (p : Part) (is : rooms c ≡ Some r) (was : w.parts c ≡ Some p) (here : now c ≡ Some new) (others : (d : ℕ) → d ≢ c → now d ≡ rooms d) (t : Applied r new (Join user))
       (now_here : now_xs (k + 1) ≡ Some (record { conference = c; n = length (conference_of r.ledger).members + 1; held = [] })) (other_xs : (j : ℕ) → j ≢ k + 1 → now_xs j ≡ xs j) where
@@ -264,7 +265,7 @@ module _ (rooms now : ℕ → Option Room) (xs now_xs : ℕ → Option Connectio
         st.apart i j o (sym (place_apart w.places q i (λ u. eqb-false i (k + 1) e (u ∙ sym last_is))) ∙ g)
         (sym (place_apart w.places q j (λ u. eqb-false j (k + 1) f (u ∙ sym last_is))) ∙ h)
 
-    joins_stands : Stands now now_xs (k + 1) (record { parts = parts; places = places })
+    joins_stands : RoomsStand now now_xs (k + 1) (record { parts = parts; places = places })
     joins_stands = record {
       of_rooms = λ d. each_room d (d == c) refl;
       count = last_is ∙ sym (length-append w.places (q ∷ []));
@@ -285,7 +286,7 @@ module _ (rooms now : ℕ → Option Room) (xs now_xs : ℕ → Option Connectio
   attached r new (Some p) was s is here others t own_x other_x = attached_at r new p is was here others t own_x other_x
 
   abbrev pub AttachFails : HubRefusal → Type 0
-  AttachFails r = (IsWant (turn w (Attach c user)).answer r × Stands now now_xs k w) ⊎ AttachIs k (Refused r)
+  AttachFails r = (IsWant (turn w (Attach c user)).answer r × RoomsStand now now_xs k w) ⊎ AttachIs k (Refused r)
 
   refused_part : (r : Room) (why : RoomRefusal) (z : Option Part) → w.parts c ≡ z → ((d : ℕ) → now d ≡ rooms d) → ((j : ℕ) → now_xs j ≡ xs j) → r.ledger.is_broken ≡ false →
       refusal r.ledger (Join user) ≡ Some why → RoomStands (Some r) z → TurnIs k (offer z (Attach c user)) (Refused (ByRoom why))
@@ -295,7 +296,7 @@ module _ (rooms now : ℕ → Option Room) (xs now_xs : ℕ → Option Connectio
       subst (λ (y : Option RoomRefusal). TurnIs k (world.attach p user y) (Refused (ByRoom why))) (sym too)
       (connections_again now xs now_xs k (put w c (world.refuses (Some p) (ByRoom why))).world same_xs (stands_refused rooms now xs k w c (Join user) (quiet_join user) st same (Some p) was), refl)
 
-  broken_off : (r new : Room) → rooms c ≡ Some r → now c ≡ Some new → ((d : ℕ) → d ≢ c → now d ≡ rooms d) → ((j : ℕ) → now_xs j ≡ xs j) → new.ledger.is_broken ≡ true → new.ledger.config ≡ r.ledger.config → Stands now now_xs k w
+  broken_off : (r new : Room) → rooms c ≡ Some r → now c ≡ Some new → ((d : ℕ) → d ≢ c → now d ≡ rooms d) → ((j : ℕ) → now_xs j ≡ xs j) → new.ledger.is_broken ≡ true → new.ledger.config ≡ r.ledger.config → RoomsStand now now_xs k w
   broken_off r new is here others same_xs broken config =
       connections_again now xs now_xs k w same_xs (stands_broken rooms now xs k w c (Join user) (quiet_join user) st r new is others here broken config)
 

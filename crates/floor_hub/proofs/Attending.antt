@@ -31,7 +31,8 @@ use Rattle.floor_hub.specs.declared.step.Answer.{Answer}
 use Rattle.floor_hub.specs.declared.step.Answer.TheVariants.{Nothing, Refused, Served as HasServed}
 use Rattle.floor_hub.specs.World as world
 use Rattle.floor_hub.specs.World.{IsIdle, World, Part, Arrival, Place, Offered, aim, arrival, if_live, messages_of, offer, place, put, ledger_of, state_of, turn, turn_at, unserved, with_arrival, with_events}
-use Rattle.floor_hub.specs.StandsFor.{RoomStands, CameTo, ArrivalStands, Stands}
+use Rattle.floor_hub.specs.StandsFor.{RoomStands, CameTo, ArrivalStands}
+use Rattle.floor_hub.proofs.Standing.{RoomsStand}
 use Rattle.floor_hub.specs.Calls.{IsWant, answer_of}
 use Rattle.floor_hub.specs.steps.Serving.{IsServable, ServeFailsIn, ServedIn, ServesIn}
 use Rattle.floor_hub.specs.Kept.{IsKept, IsKeptPart, KeptIn}
@@ -136,7 +137,7 @@ not_mine m n frame ne = ap (λ (b : Bool). if b then frame ∷ [] else []) (ne_e
 mine : (m n : ℕ) (frame : List ℕ) → n ≡ m → messages_of n (Message m frame ∷ []) ≡ frame ∷ []
 mine m n frame e = ap (λ (b : Bool). if b then frame ∷ [] else []) (Rattle.std.proofs.lemmas.Bool.eq-eqb m n (sym e))
 
-module _ (rooms now : ℕ → Option Room) (xs now_xs : ℕ → Option Connection) (k : ℕ) (w : World) (number : ℕ) (st : Stands rooms xs k w) (kept : IsKept w)
+module _ (rooms now : ℕ → Option Room) (xs now_xs : ℕ → Option Connection) (k : ℕ) (w : World) (number : ℕ) (st : RoomsStand rooms xs k w) (kept : IsKept w)
     (x : Connection) (h : Here rooms w number x) (new : Room)
     (now_here : now h.p.conference ≡ Some new) (other_rooms : (d : ℕ) → d ≢ h.p.conference → now d ≡ rooms d)
     (others : (j : ℕ) → j ≢ number → now_xs j ≡ xs j) where
@@ -153,11 +154,11 @@ module _ (rooms now : ℕ → Option Room) (xs now_xs : ℕ → Option Connectio
   kept_part = subst KeptIn h.was (kept.parts c)
 
   -- the room is broken, and the arrival stays
-  pub stands_broken : (rest : List ℕ) → now_xs number ≡ Some (record { conference = x.conference; n = x.n; held = rest }) → new.ledger.is_broken ≡ true → new.ledger.config ≡ h.r.ledger.config → Stands now now_xs k w
+  pub stands_broken : (rest : List ℕ) → now_xs number ≡ Some (record { conference = x.conference; n = x.n; held = rest }) → new.ledger.is_broken ≡ true → new.ledger.config ≡ h.r.ledger.config → RoomsStand now now_xs k w
   stands_broken rest mine_now broken config =
       let own : ArrivalStands now h.p (Some (record { conference = x.conference; n = x.n; held = rest })) (Some h.a) =
       (h.conference, h.n, subst (λ (y : Option Room). CameTo y (record { conference = x.conference; n = x.n; held = rest }) h.a) (sym now_here) (λ sound. absurd (true_false (sym broken ∙ sound)))) in
-      let made : Stands now now_xs k (record { parts = update nat_eq w.parts c (Some part); places = w.places }) = changed rooms now xs now_xs k w number h.p part part st (record {
+      let made : RoomsStand now now_xs k (record { parts = update nat_eq w.parts c (Some part); places = w.places }) = changed rooms now xs now_xs k w number h.p part part st (record {
         at_place = h.at_place;
         was = h.was;
         other_rooms = other_rooms;
@@ -171,7 +172,7 @@ module _ (rooms now : ℕ → Option Room) (xs now_xs : ℕ → Option Connectio
 
   -- all is as it was
   pub stands_same : (rest : List ℕ) → xs number ≡ Some x → now_xs number ≡ Some (record { conference = x.conference; n = x.n; held = rest }) → new ≡ h.r → rest ≡ x.held →
-      (parts : ℕ → Option Part) → ((d : ℕ) → parts d ≡ w.parts d) → Stands now now_xs k (record { parts = parts; places = w.places })
+      (parts : ℕ → Option Part) → ((d : ℕ) → parts d ≡ w.parts d) → RoomsStand now now_xs k (record { parts = parts; places = w.places })
   stands_same rest mine_was mine_now same held parts again =
       connections_again now xs now_xs k (record { parts = parts; places = w.places })
       (same_at xs now_xs number x (record { conference = x.conference; n = x.n; held = rest }) mine_was mine_now (ap (λ (y : List ℕ). record { conference = x.conference; n = x.n; held = y }) held) others)
@@ -183,10 +184,10 @@ module _ (rooms now : ℕ → Option Room) (xs now_xs : ℕ → Option Connectio
       ∙ ap (λ (z : Option Arrival). put w c (world.serve part n z)) h.alive
 
   abbrev pub Turned : Answer → Type 0
-  Turned a = Stands now now_xs k (turn w (Serve number)).world × ((turn w (Serve number)).answer ≡ a)
+  Turned a = RoomsStand now now_xs k (turn w (Serve number)).world × ((turn w (Serve number)).answer ≡ a)
 
-  turned : (o : Offered) (a : Answer) → world.serve part n (Some h.a) ≡ o → Stands now now_xs k (put w c o).world × ((put w c o).answer ≡ a) → Turned a
-  turned o a e t = subst (λ (u : world.Turn). Stands now now_xs k u.world × (u.answer ≡ a)) (sym (serve_turn ∙ ap (put w c) e)) t
+  turned : (o : Offered) (a : Answer) → world.serve part n (Some h.a) ≡ o → RoomsStand now now_xs k (put w c o).world × ((put w c o).answer ≡ a) → Turned a
+  turned o a e t = subst (λ (u : world.Turn). RoomsStand now now_xs k u.world × (u.answer ≡ a)) (sym (serve_turn ∙ ap (put w c) e)) t
 
   -- what is served next is the first that is held
   next_held : h.r.ledger.is_broken ≡ false → unserved h.a ≡ first (messages x.held)
@@ -263,7 +264,7 @@ module _ (rooms now : ℕ → Option Room) (xs now_xs : ℕ → Option Connectio
       first_none (Some r) z e = absurd (none-some r (sym e))
 
   abbrev pub ServeFails : HubRefusal → Type 0
-  ServeFails r = (IsWant (turn w (Serve number)).answer r × Stands now now_xs k w) ⊎ Turned (Refused r)
+  ServeFails r = (IsWant (turn w (Serve number)).answer r × RoomsStand now now_xs k w) ⊎ Turned (Refused r)
 
   some_is : (y z : RoomRefusal) → ◌≡◌ {A = Option RoomRefusal} (Some y) (Some z) → z ≡ y
   some_is y z e = cc
@@ -273,7 +274,7 @@ module _ (rooms now : ℕ → Option Room) (xs now_xs : ℕ → Option Connectio
       closed h.r.ledger ≡ Some why → (why ≡ JournalFull → messages x.held ≢ []) → new ≡ h.r → rest ≡ x.held → ServeFails (ByRoom why)
   serve_closed rest why mine_was mine_now is ready same held = by h.r.ledger.is_broken (conference_of h.r.ledger).is_open (nat_le 2000000 (length h.r.ledger.journal)) refl refl refl is
     where
-      back : Stands now now_xs k (record { parts = update nat_eq w.parts c (Some part); places = w.places })
+      back : RoomsStand now now_xs k (record { parts = update nat_eq w.parts c (Some part); places = w.places })
       back = stands_same rest mine_was mine_now same held (update nat_eq w.parts c (Some part)) (λ d. put_back w c (Some part) h.was d (d == c) refl)
 
       by : (b o f : Bool) → h.r.ledger.is_broken ≡ b → (conference_of h.r.ledger).is_open ≡ o → nat_le 2000000 (length h.r.ledger.journal) ≡ f →
@@ -353,12 +354,12 @@ pub wants_leave : WantsLive Leave
 wants_leave None n e = refl
 wants_leave (Some p) n e = ap (world.leave p n) e
 
-module _ (rooms now : ℕ → Option Room) (xs now_xs : ℕ → Option Connection) (k : ℕ) (w : World) (number : ℕ) (st : Stands rooms xs k w) (kept : IsKept w) where
+module _ (rooms now : ℕ → Option Room) (xs now_xs : ℕ → Option Connection) (k : ℕ) (w : World) (number : ℕ) (st : RoomsStand rooms xs k w) (kept : IsKept w) where
   abbrev ServedAll : Answer → Type 0
-  ServedAll a = Stands now now_xs k (turn w (Serve number)).world × ((turn w (Serve number)).answer ≡ a)
+  ServedAll a = RoomsStand now now_xs k (turn w (Serve number)).world × ((turn w (Serve number)).answer ≡ a)
 
   abbrev pub ServeFailsAll : HubRefusal → Type 0
-  ServeFailsAll r = (IsWant (turn w (Serve number)).answer r × Stands now now_xs k w) ⊎ ServedAll (Refused r)
+  ServeFailsAll r = (IsWant (turn w (Serve number)).answer r × RoomsStand now now_xs k w) ⊎ ServedAll (Refused r)
 
   -- what serving is in the world
   pub serve_result : (res : Result Served HubRefusal) (y : Option Connection) → xs number ≡ y →
@@ -370,7 +371,7 @@ module _ (rooms now : ℕ → Option Room) (xs now_xs : ℕ → Option Connectio
   serve_result res None is absent there =
       let a = absent is in
       let g = gone rooms xs k w Serve wants_serve number st is in
-      let stands : Stands now now_xs k (turn w (Serve number)).world =
+      let stands : RoomsStand now now_xs k (turn w (Serve number)).world =
       connections_again now xs now_xs k (turn w (Serve number)).world a.2 (rooms_again rooms now xs k (turn w (Serve number)).world (turn w (Serve number)).world.parts a.1 (λ d. refl) g.0) in
       subst (λ (z : Result Served HubRefusal). MatchResult z (λ found. ServedAll (answer_of found)) ServeFailsAll) (sym a.0) (inr (stands, g.1))
   serve_result res (Some x) is absent there =

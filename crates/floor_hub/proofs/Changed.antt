@@ -7,7 +7,8 @@ use Rattle.std.proofs.lemmas.Bool.{eqb-true, eqb-false}
 use Rattle.floor_room.specs.Room.{Room}
 use Rattle.floor_hub.specs.declared.connection.Connection.{Connection}
 use Rattle.floor_hub.specs.World.{World, Part, Arrival, Place, place, if_live}
-use Rattle.floor_hub.specs.StandsFor.{arrival_in, live_at, RoomStands, CameTo, ArrivalStands, NumberStands, Stands}
+use Rattle.floor_hub.specs.StandsFor.{arrival_in, live_at, RoomStands, CameTo, ArrivalStands, NumberStands}
+use Rattle.floor_hub.proofs.Standing.{RoomsStand}
 
 -- what changes in the conference c alone
 pub record ChangesAt (rooms now : ℕ → Option Room) (w : World) (parts : ℕ → Option Part) (c : ℕ) : Type 0 where
@@ -18,7 +19,7 @@ pub record ChangesAt (rooms now : ℕ → Option Room) (w : World) (parts : ℕ 
   pub came : (n : ℕ) (x : Connection) (a : Arrival) → if_live (arrival_in (w.parts c) n) ≡ Some a → CameTo (rooms c) x a → CameTo (now c) x a
 
 module _ (rooms now : ℕ → Option Room) (xs : ℕ → Option Connection) (k : ℕ) (w : World) (parts : ℕ → Option Part) (c : ℕ) where
-  room_at : ChangesAt rooms now w parts c → Stands rooms xs k w → (d : ℕ) (b : Bool) → (d == c) ≡ b → RoomStands (now d) (parts d)
+  room_at : ChangesAt rooms now w parts c → RoomsStand rooms xs k w → (d : ℕ) (b : Bool) → (d == c) ≡ b → RoomStands (now d) (parts d)
   room_at ch st d true e = subst (λ (i : ℕ). RoomStands (now i) (parts i)) (sym (eqb-true d c e)) ch.room
   room_at ch st d false e =
       let ne : d ≢ c = eqb-false d c e in
@@ -48,7 +49,7 @@ module _ (rooms now : ℕ → Option Room) (xs : ℕ → Option Connection) (k :
       subst (ArrivalStands now q x) (sym (live_same ch q (q.conference == c) refl)) (arrival_at ch q x (live_at w.parts q) refl h)
 
   -- the hub stands for the world with those parts
-  pub stands_changed : ChangesAt rooms now w parts c → Stands rooms xs k w → Stands now xs k (record { parts = parts; places = w.places })
+  pub stands_changed : ChangesAt rooms now w parts c → RoomsStand rooms xs k w → RoomsStand now xs k (record { parts = parts; places = w.places })
   stands_changed ch st = record {
     of_rooms = λ d. room_at ch st d (d == c) refl;
     count = st.count;
@@ -63,7 +64,7 @@ put_back w c z is d false h = update_apart w.parts c z d (eqb-false d c h)
 
 -- the same rooms and parts in another spelling
 pub rooms_again : (rooms now : ℕ → Option Room) (xs : ℕ → Option Connection) (k : ℕ) (w : World) (parts : ℕ → Option Part) →
-    ((d : ℕ) → now d ≡ rooms d) → ((d : ℕ) → parts d ≡ w.parts d) → Stands rooms xs k w → Stands now xs k (record { parts = parts; places = w.places })
+    ((d : ℕ) → now d ≡ rooms d) → ((d : ℕ) → parts d ≡ w.parts d) → RoomsStand rooms xs k w → RoomsStand now xs k (record { parts = parts; places = w.places })
 rooms_again rooms now xs k w parts same same_parts st = stands_changed rooms now xs k w parts 0 (record {
   other_rooms = λ d ne. same d;
   other_parts = λ d ne. same_parts d;
@@ -74,7 +75,7 @@ rooms_again rooms now xs k w parts same same_parts st = stands_changed rooms now
 
 -- the same connections in another spelling
 pub connections_again : (rooms : ℕ → Option Room) (xs again : ℕ → Option Connection) (k : ℕ) (w : World) →
-    ((q : ℕ) → again q ≡ xs q) → Stands rooms xs k w → Stands rooms again k w
+    ((q : ℕ) → again q ≡ xs q) → RoomsStand rooms xs k w → RoomsStand rooms again k w
 connections_again rooms xs again k w same st = record {
   of_rooms = st.of_rooms;
   count = st.count;

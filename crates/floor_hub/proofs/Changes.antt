@@ -7,7 +7,8 @@ use Rattle.std.proofs.lemmas.Map.{update_here, update_apart}
 use Rattle.floor_room.specs.Room.{Room}
 use Rattle.floor_hub.specs.declared.connection.Connection.{Connection}
 use Rattle.floor_hub.specs.World.{Part, Arrival, World, Place, place, arrival, if_live}
-use Rattle.floor_hub.specs.StandsFor.{arrival_in, live_at, RoomStands, CameTo, ArrivalStands, NumberStands, Stands}
+use Rattle.floor_hub.specs.StandsFor.{arrival_in, live_at, RoomStands, CameTo, ArrivalStands, NumberStands}
+use Rattle.floor_hub.proofs.Standing.{RoomsStand}
 
 same_place : (p q : Place) → q.conference ≡ p.conference → q.n ≡ p.n → q ≡ p
 same_place p q e f = ap (λ c. record { conference = c; n = q.n }) e ∙ ap (λ m. record { conference = p.conference; n = m }) f
@@ -66,7 +67,7 @@ other_number rooms now_rooms xs now_xs w number p part now_part ch j (Some q) ne
     elsewhere rooms now_rooms xs now_xs w number p part now_part ch q (xs j) (q.conference == p.conference) refl (λ e. ne (ap Some e)) h
 
 each_number : (rooms now_rooms : ℕ → Option Room) (xs now_xs : ℕ → Option Connection) (k : ℕ) (w : World) (number : ℕ) (p : Place) (part now_part : Part)
-    → Stands rooms xs k w → Changes rooms now_rooms xs now_xs w number p part now_part
+    → RoomsStand rooms xs k w → Changes rooms now_rooms xs now_xs w number p part now_part
     → (j : ℕ) (b : Bool) → (j == number) ≡ b → NumberStands now_rooms (now_parts w p now_part) (now_xs j) (place w.places j)
 each_number rooms now_rooms xs now_xs k w number p part now_part st ch j true e =
     let same : j ≡ number = eqb-true j number e in
@@ -79,7 +80,7 @@ each_number rooms now_rooms xs now_xs k w number p part now_part st ch j false e
     (other_number rooms now_rooms xs now_xs w number p part now_part ch j (place w.places j) (λ f. other (st.apart j number p f ch.at_place)) (st.numbers j))
 
 each_room : (rooms now_rooms : ℕ → Option Room) (xs now_xs : ℕ → Option Connection) (k : ℕ) (w : World) (number : ℕ) (p : Place) (part now_part : Part)
-    → Stands rooms xs k w → Changes rooms now_rooms xs now_xs w number p part now_part
+    → RoomsStand rooms xs k w → Changes rooms now_rooms xs now_xs w number p part now_part
     → (d : ℕ) (b : Bool) → (d == p.conference) ≡ b → RoomStands (now_rooms d) (now_parts w p now_part d)
 each_room rooms now_rooms xs now_xs k w number p part now_part st ch d true e =
     subst (λ i. RoomStands (now_rooms i) (now_parts w p now_part i)) (sym (eqb-true d p.conference e))
@@ -90,8 +91,8 @@ each_room rooms now_rooms xs now_xs k w number p part now_part st ch d false e =
     (subst (λ z. RoomStands (rooms d) z) (sym (update_apart w.parts p.conference (Some now_part) d other)) (st.of_rooms d))
 
 pub changed : (rooms now_rooms : ℕ → Option Room) (xs now_xs : ℕ → Option Connection) (k : ℕ) (w : World) (number : ℕ) (p : Place) (part now_part : Part)
-    → Stands rooms xs k w → Changes rooms now_rooms xs now_xs w number p part now_part
-    → Stands now_rooms now_xs k (record { parts = now_parts w p now_part; places = w.places })
+    → RoomsStand rooms xs k w → Changes rooms now_rooms xs now_xs w number p part now_part
+    → RoomsStand now_rooms now_xs k (record { parts = now_parts w p now_part; places = w.places })
 changed rooms now_rooms xs now_xs k w number p part now_part st ch = record {
   of_rooms = λ d. each_room rooms now_rooms xs now_xs k w number p part now_part st ch d (d == p.conference) refl;
   count = st.count;

@@ -22,7 +22,8 @@ use Rattle.floor_hub.specs.declared.step.Answer.{Answer}
 use Rattle.floor_hub.specs.declared.step.Answer.TheVariants.{Done, Refused}
 use Rattle.floor_hub.specs.World as world
 use Rattle.floor_hub.specs.World.{IsIdle, World, Part, Arrival, Place, aim, arrival, if_live, offer, place, put, ledger_of, turn, turn_at, with_arrival, with_events}
-use Rattle.floor_hub.specs.StandsFor.{RoomStands, CameTo, ArrivalStands, Stands}
+use Rattle.floor_hub.specs.StandsFor.{RoomStands, CameTo, ArrivalStands}
+use Rattle.floor_hub.proofs.Standing.{RoomsStand}
 use Rattle.floor_hub.specs.steps.Serving.{LeaveFailsIn, LeavesIn}
 use Rattle.floor_hub.specs.Kept.{IsKept}
 use Rattle.floor_hub.proofs.Changes.{changed}
@@ -31,7 +32,7 @@ use Rattle.floor_hub.proofs.Pieces.{arrival_set, arrival_set_other}
 use Rattle.floor_hub.proofs.Changed.{connections_again, rooms_again}
 use Rattle.floor_hub.proofs.Attending.{by_memory, came_apart, closed_part, left_broken, member_live, no_refusal, true_false, wants_leave}
 
-module _ (rooms now : ℕ → Option Room) (xs now_xs : ℕ → Option Connection) (k : ℕ) (w : World) (number : ℕ) (st : Stands rooms xs k w) (kept : IsKept w)
+module _ (rooms now : ℕ → Option Room) (xs now_xs : ℕ → Option Connection) (k : ℕ) (w : World) (number : ℕ) (st : RoomsStand rooms xs k w) (kept : IsKept w)
     (x : Connection) (h : Here rooms w number x) (new : Room)
     (now_here : now h.p.conference ≡ Some new) (other_rooms : (d : ℕ) → d ≢ h.p.conference → now d ≡ rooms d)
     (others : (j : ℕ) → j ≢ number → now_xs j ≡ xs j) (now_gone : now_xs number ≡ None) where
@@ -50,7 +51,7 @@ module _ (rooms now : ℕ → Option Room) (xs now_xs : ℕ → Option Connectio
       ∙ ap (λ (z : Option Arrival). put w c (world.leave part n z)) h.alive
 
   abbrev Turned : Answer → Type 0
-  Turned a = Stands now now_xs k (turn w (Leave number)).world × ((turn w (Leave number)).answer ≡ a)
+  Turned a = RoomsStand now now_xs k (turn w (Leave number)).world × ((turn w (Leave number)).answer ≡ a)
 
   leaves : new.ledger.config ≡ h.r.ledger.config → (new.ledger.is_broken ≡ false → new.ledger.journal ≡ part.events ++ world.left part n) →
       ((y : Connection) (a : Arrival) → CameTo (Some h.r) y a → CameTo (Some new) y a) → Turned Done
@@ -58,7 +59,7 @@ module _ (rooms now : ℕ → Option Room) (xs now_xs : ℕ → Option Connectio
       let b : Arrival = record { bytes = h.a.bytes; served = h.a.served; live = false } in
       let after_part : Part = with_arrival (with_events part (world.left part n)) n b in
       let set : if_live (arrival after_part n) ≡ None = ap if_live (arrival_set (with_events part (world.left part n)) n b h.a h.there) in
-      subst (λ (u : world.Turn). Stands now now_xs k u.world × (u.answer ≡ Done)) (sym leave_turn) (
+      subst (λ (u : world.Turn). RoomsStand now now_xs k u.world × (u.answer ≡ Done)) (sym leave_turn) (
         changed rooms now xs now_xs k w number h.p part after_part st (record {
           at_place = h.at_place;
           was = h.was;
@@ -107,7 +108,7 @@ module _ (rooms now : ℕ → Option Room) (xs now_xs : ℕ → Option Connectio
       first_none (Some r) z e = absurd (none-some r (sym e))
 
   abbrev pub LeaveFails : HubRefusal → Type 0
-  LeaveFails r = (((r ≡ ByRoom (ByMachine Memory)) × (¬ IsIdle (turn w (Leave number)).answer)) × Stands now now_xs k (turn w (Leave number)).world) ⊎ Turned (Refused r)
+  LeaveFails r = (((r ≡ ByRoom (ByMachine Memory)) × (¬ IsIdle (turn w (Leave number)).answer)) × RoomsStand now now_xs k (turn w (Leave number)).world) ⊎ Turned (Refused r)
 
   failed : (why : RoomRefusal) → LeaveFailsIn h.r new x.n why → LeaveFails (ByRoom why)
   failed why f =
@@ -122,12 +123,12 @@ module _ (rooms now : ℕ → Option Room) (xs now_xs : ℕ → Option Connectio
   leave_made (Ok v) ok err = done ok
   leave_made (Err r) ok err = subst LeaveFails (sym err.1) (failed err.0 err.2)
 
-module _ (rooms now : ℕ → Option Room) (xs now_xs : ℕ → Option Connection) (k : ℕ) (w : World) (number : ℕ) (st : Stands rooms xs k w) (kept : IsKept w) where
+module _ (rooms now : ℕ → Option Room) (xs now_xs : ℕ → Option Connection) (k : ℕ) (w : World) (number : ℕ) (st : RoomsStand rooms xs k w) (kept : IsKept w) where
   abbrev LeftAll : Answer → Type 0
-  LeftAll a = Stands now now_xs k (turn w (Leave number)).world × ((turn w (Leave number)).answer ≡ a)
+  LeftAll a = RoomsStand now now_xs k (turn w (Leave number)).world × ((turn w (Leave number)).answer ≡ a)
 
   abbrev pub LeaveFailsAll : HubRefusal → Type 0
-  LeaveFailsAll r = (((r ≡ ByRoom (ByMachine Memory)) × (¬ IsIdle (turn w (Leave number)).answer)) × Stands now now_xs k (turn w (Leave number)).world) ⊎ LeftAll (Refused r)
+  LeaveFailsAll r = (((r ≡ ByRoom (ByMachine Memory)) × (¬ IsIdle (turn w (Leave number)).answer)) × RoomsStand now now_xs k (turn w (Leave number)).world) ⊎ LeftAll (Refused r)
 
   -- what leaving is in the world
   pub leave_result : (res : Result (Unit {0}) HubRefusal) (y : Option Connection) → xs number ≡ y →
@@ -140,7 +141,7 @@ module _ (rooms now : ℕ → Option Room) (xs now_xs : ℕ → Option Connectio
   leave_result res None is absent went there =
       let a = absent is in
       let g = gone rooms xs k w Leave wants_leave number st is in
-      let stands : Stands now now_xs k (turn w (Leave number)).world =
+      let stands : RoomsStand now now_xs k (turn w (Leave number)).world =
       connections_again now xs now_xs k (turn w (Leave number)).world a.2 (rooms_again rooms now xs k (turn w (Leave number)).world (turn w (Leave number)).world.parts a.1 (λ d. refl) g.0) in
       subst (λ (z : Result (Unit {0}) HubRefusal). MatchResult z (λ _. LeftAll Done) LeaveFailsAll) (sym a.0) (inr (stands, g.1))
   leave_result res (Some x) is absent went there =

@@ -1,6 +1,7 @@
 -- What a run reads for each arrival is what the events of its conference call for.
-use Rattle.std.proofs.Common.{◌≡◌, ℕ, zero, suc, ◌+◌, ◌<◌, ◌≤◌, List, [], ◌∷◌, ◌++◌, length, get_or, take, map, refl, sym, ◌∙◌, ap, arith, length-append, Some, None}
-use Rattle.std.specs.Prelude.{Option, Result, Ok, Err, IfOk, slice_get}
+use Rattle.std.proofs.Common.{◌≡◌, ℕ, zero, suc, ◌+◌, ◌<◌, ◌≤◌, Bool, List, [], ◌∷◌, ◌++◌, length, get_or, take, map, refl, sym, ◌∙◌, ap, subst, arith, length-append, Some, None}
+use Rattle.std.specs.Prelude.{Option, Result, Ok, Err, IfOk, nat_eq, slice_get}
+use Rattle.std.specs.List.{list_any}
 use Rattle.std.specs.declared.alloc.AllocError.{AllocError}
 use Rattle.std.proofs.lemmas.List.{length-map, length-take-le, map-append, take_more}
 use Rattle.floor_config.specs.Configuration.{Configuration}
@@ -14,7 +15,7 @@ use Rattle.floor_hub.specs.Hub.{Hub, room_at}
 use Rattle.floor_hub.specs.Kept.{KeptIn}
 use Rattle.floor_hub.specs.Runs.{called_at, queues_from}
 use Rattle.floor_hub.specs.steps.Running.{IsRunning, QueuedIn, place_of}
-use Rattle.floor_hub.specs.StandsFor.{RoomStands}
+use Rattle.floor_hub.specs.StandsFor.{ConferenceStands, RoomStands}
 use Rattle.floor_hub.specs.World as world
 use Rattle.floor_hub.specs.World.{Part, World, place, state_of}
 use Rattle.floor_hub.proofs.Keeping.{members_of}
@@ -40,7 +41,7 @@ module _ (h : Hub) (places : List Place) (w : World) (i : ℕ) (p d : Place) (re
       absurd (omega (arith, number.0, number.1))
   called_by (Some part) None e f s k = absurd s
   called_by (Some part) (Some r) e f s k =
-      let whole = running.whole p.conference r f in
+      let whole = running.whole.0 p.conference r f in
       let journal : r.ledger.journal ≡ part.events = s.1 whole.0 in
       let number : IsNumber (length part.arrivals) p.n = number_within w running.stands.kept p.conference (Some part) e i (place_of p) here refl in
       let same : after r.ledger.config r.ledger.journal ≡ state_of part = ap (λ (x : Configuration). after x r.ledger.journal) s.0 ∙ ap (after part.config) journal in
@@ -49,8 +50,12 @@ module _ (h : Hub) (places : List Place) (w : World) (i : ℕ) (p d : Place) (re
       (ap (λ (x : Configuration). Q x r.ledger.journal p.n) s.0 ∙ ap (λ (es : List Event). Q part.config es p.n) journal)
       (value r f number.0 high whole.1 whole.0)
 
+  -- no conference was forgotten
+  stands : RoomStands (room_at h p.conference) (w.parts p.conference)
+  stands = subst (λ (b : Bool). ConferenceStands b (room_at h p.conference) (w.parts p.conference)) (ap (λ (ks : List ℕ). list_any (nat_eq p.conference) ks) running.whole.1) (running.stands.stands.conferences p.conference)
+
   pub called_there : IfOk res (λ b. b ≡ called_at (w.parts p.conference) p.n)
-  called_there = called_by (w.parts p.conference) (room_at h p.conference) refl refl (running.stands.stands.of_rooms p.conference) (running.stands.kept.parts p.conference)
+  called_there = called_by (w.parts p.conference) (room_at h p.conference) refl refl stands (running.stands.kept.parts p.conference)
 
 -- one more place adds its entry
 queues_more : (parts : ℕ → Option Part) (k : ℕ) (ps : List world.Place) (q : world.Place) →

@@ -6,12 +6,13 @@ use Rattle.floor_room.specs.Outbox.{Outbox}
 use Rattle.floor_room.specs.Room.{Room}
 use Rattle.floor_hub.specs.declared.connection.Connection.{Connection}
 use Rattle.floor_hub.specs.World.{World, Arrival}
-use Rattle.floor_hub.specs.StandsFor.{RoomStands, CameTo, Stands}
+use Rattle.floor_hub.specs.StandsFor.{RoomStands, CameTo}
+use Rattle.floor_hub.proofs.Standing.{RoomsStand}
 use Rattle.floor_hub.proofs.Here.{here}
 use Rattle.floor_hub.proofs.Changed.{stands_changed, rooms_again}
 
-module _ (rooms now : ℕ → Option Room) (xs : ℕ → Option Connection) (k : ℕ) (w : World) (number : ℕ) (st : Stands rooms xs k w) where
-  taken : (c : ℕ) (r : Room) (os : List Outbox) → rooms c ≡ Some r → now c ≡ Some (record r { outboxes = os }) → ((d : ℕ) → d ≢ c → now d ≡ rooms d) → Stands now xs k w
+module _ (rooms now : ℕ → Option Room) (xs : ℕ → Option Connection) (k : ℕ) (w : World) (number : ℕ) (st : RoomsStand rooms xs k w) where
+  taken : (c : ℕ) (r : Room) (os : List Outbox) → rooms c ≡ Some r → now c ≡ Some (record r { outboxes = os }) → ((d : ℕ) → d ≢ c → now d ≡ rooms d) → RoomsStand now xs k w
   taken c r os is here others = stands_changed rooms now xs k w w.parts c (record {
     other_rooms = others;
     other_parts = λ d ne. refl;
@@ -29,7 +30,7 @@ module _ (rooms now : ℕ → Option Room) (xs : ℕ → Option Connection) (k :
 
   pub take_stands : (y : Option Connection) → xs number ≡ y → (xs number ≡ None → (d : ℕ) → now d ≡ rooms d) →
       ((x : Connection) → xs number ≡ Some x → (r : Room) → rooms x.conference ≡ Some r → (new : Room) × (now x.conference ≡ Some new) × ((d : ℕ) → nat_eq x.conference d ≡ false → now d ≡ rooms d)
-      × (new ≡ record r { outboxes = new.outboxes })) → Stands now xs k w
+      × (new ≡ record r { outboxes = new.outboxes })) → RoomsStand now xs k w
   take_stands None is absent there = rooms_again rooms now xs k w w.parts (absent is) (λ d. refl) st
   take_stands (Some x) is absent there =
       let h = here rooms xs k w number x st is in

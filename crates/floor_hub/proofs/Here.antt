@@ -13,7 +13,8 @@ use Rattle.floor_hub.specs.declared.step.Step.{Step}
 use Rattle.floor_hub.specs.declared.step.Answer.TheVariants.{Refused}
 use Rattle.floor_hub.specs.World as world
 use Rattle.floor_hub.specs.World.{World, Part, Arrival, Place, aim, arrival, if_live, messages_of, offer, place, put, turn_at}
-use Rattle.floor_hub.specs.StandsFor.{arrival_in, live_at, RoomStands, Came, CameTo, ArrivalStands, NumberStands, Stands}
+use Rattle.floor_hub.specs.StandsFor.{arrival_in, live_at, RoomStands, Came, CameTo, ArrivalStands, NumberStands}
+use Rattle.floor_hub.proofs.Standing.{RoomsStand}
 use Rattle.floor_hub.proofs.Pieces.{live_there, stands_again}
 use Rattle.floor_hub.proofs.Changed.{put_back}
 
@@ -71,14 +72,14 @@ module _ (rooms : ℕ → Option Room) (w : World) (number : ℕ) (x : Connectio
   at_number None at_place stands h = absurd (none-some x (sym h))
   at_number (Some p) at_place stands h = at_part p (w.parts p.conference) at_place refl (stands p.conference) h
 
-pub here : (rooms : ℕ → Option Room) (xs : ℕ → Option Connection) (k : ℕ) (w : World) (number : ℕ) (x : Connection) → Stands rooms xs k w → xs number ≡ Some x → Here rooms w number x
+pub here : (rooms : ℕ → Option Room) (xs : ℕ → Option Connection) (k : ℕ) (w : World) (number : ℕ) (x : Connection) → RoomsStand rooms xs k w → xs number ≡ Some x → Here rooms w number x
 here rooms xs k w number x st e =
     at_number rooms w number x (place w.places number) refl st.of_rooms (subst (λ (y : Option Connection). NumberStands rooms w.parts y (place w.places number)) e (st.numbers number))
 
 -- no live connection has the number: nothing has changed
 abbrev pub RefusesHere : (ℕ → Option Room) → (ℕ → Option Connection) → ℕ → World → (ℕ → Step) → ℕ → Type 0
 RefusesHere rooms xs k w step number =
-    Stands rooms xs k (turn_at w (aim step (place w.places number))).world × ((turn_at w (aim step (place w.places number))).answer ≡ Refused NoConnection)
+    RoomsStand rooms xs k (turn_at w (aim step (place w.places number))).world × ((turn_at w (aim step (place w.places number))).answer ≡ Refused NoConnection)
 
 -- a step that a connection is wanted for
 abbrev pub WantsLive : (ℕ → Step) → Type 0
@@ -90,15 +91,15 @@ module _ (rooms : ℕ → Option Room) (xs : ℕ → Option Connection) (k : ℕ
   dead p (Some a) h = absurd h
 
   abbrev Refuses : world.Turn → Type 0
-  Refuses t = Stands rooms xs k t.world × (t.answer ≡ Refused NoConnection)
+  Refuses t = RoomsStand rooms xs k t.world × (t.answer ≡ Refused NoConnection)
 
-  gone_at : (y : Option Place) → Stands rooms xs k w → NumberStands rooms w.parts None y → Refuses (turn_at w (aim step y))
+  gone_at : (y : Option Place) → RoomsStand rooms xs k w → NumberStands rooms w.parts None y → Refuses (turn_at w (aim step y))
   gone_at None st h = (st, refl)
   gone_at (Some p) st h =
       subst (λ (o : world.Offered). Refuses (put w p.conference o)) (sym (wants (w.parts p.conference) p.n (dead p (live_at w.parts p) h)))
       (stands_again rooms xs k w (update nat_eq w.parts p.conference (w.parts p.conference)) (λ d. put_back w p.conference (w.parts p.conference) refl d (d == p.conference) refl) st, refl)
 
-  pub gone : (number : ℕ) → Stands rooms xs k w → xs number ≡ None → RefusesHere rooms xs k w step number
+  pub gone : (number : ℕ) → RoomsStand rooms xs k w → xs number ≡ None → RefusesHere rooms xs k w step number
   gone number st e = gone_at (place w.places number) st (subst (λ (y : Option Connection). NumberStands rooms w.parts y (place w.places number)) e (st.numbers number))
 
 -- the messages of n, list by list

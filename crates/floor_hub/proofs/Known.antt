@@ -28,7 +28,7 @@ use Rattle.floor_hub.specs.StandsFor.{StandsFor}
 use Rattle.floor_hub.specs.World.{World, state_of}
 use Rattle.floor_hub.specs.steps.Attached.{IsKnown, joined_as}
 use Rattle.floor_hub.proofs.Attending.{part_state}
-use Rattle.floor_hub.proofs.Here.{here}
+use Rattle.floor_hub.proofs.Recalling.{here-now}
 
 -- what any call does to a room: nothing; or where it took events, it is broken off now, or an event was added
 abbrev pub Went : Room → Room → Type 0
@@ -126,7 +126,7 @@ room_is x y e = cc
 pub connected-live : (h : Hub) (w : World) → StandsFor h w → (number : ℕ) (x : Connection) → connection_at h.connections number ≡ Some x → (s : Room) → room_at h x.conference ≡ Some s → is_shut s ≡ false →
     is_live (conference_of s.ledger) x.n ≡ true
 connected-live h w st number x is s room is_open =
-    let at = here (room_at h) (connection_at h.connections) h.arrivals w number x st.stands is in
+    let at = here-now h w st number x is in
     let same : at.r ≡ s = room_is at.r s (sym at.room ∙ ap (room_at h) (sym at.conference) ∙ room) in
     let u = unshut at.r (subst (λ (z : Room). is_shut z ≡ false) (sym same) is_open) in
     let state = part_state at.r at.part at.stands.0 (at.stands.1 u.0) in

@@ -1,7 +1,7 @@
 -- What a refused call has left.
 use Rattle.std.proofs.Common.{map, take, ◌≢◌, ◌≡◌, inl, inr, ℕ, Bool, true, false, cond, List, [], ◌∷◌, length, refl, sym, ◌∙◌, ap, subst, append-nil, Some, None}
-use Rattle.std.specs.Prelude.{Option, nat_eq, nat_le, not, Result, Ok, Err, IfErr, OnErr}
-use Rattle.std.proofs.lemmas.Bool.{eqb-true, ne_eqb}
+use Rattle.std.specs.Prelude.{◌||◌, Option, nat_eq, nat_le, not, Result, Ok, Err, IfErr, OnErr}
+use Rattle.std.proofs.lemmas.Bool.{eqb-true}
 use Rattle.std.proofs.lemmas.Option.{none-some}
 use Rattle.floor_machine.specs.declared.event.Event.{Event}
 use Rattle.floor_machine.specs.declared.event.Event.TheVariants.{Join, Message, Took, Leave}
@@ -13,19 +13,22 @@ use Rattle.floor_room.specs.Calls.{Left}
 use Rattle.floor_machine.specs.Conference.{is_cut, is_live}
 use Rattle.floor_room.specs.Ledger.{IsRefusedBy, closed, conference_of, refusal}
 use Rattle.floor_room.specs.Room.{Room, broken_room}
+use Rattle.floor_room.proofs.Ledgers.{opened}
 use Rattle.floor_hub.specs.declared.connection.Connection.{Connection}
 use Rattle.floor_hub.specs.declared.refusal.HubRefusal.{HubRefusal}
-use Rattle.floor_hub.specs.declared.refusal.HubRefusal.TheVariants.{NoConference, NoConnection, ByRoom}
+use Rattle.floor_hub.specs.declared.refusal.HubRefusal.TheVariants.{NoConnection, ByRoom}
 use Rattle.floor_hub.specs.declared.step.Served.{Served}
+use Rattle.floor_hub.specs.Concerned.{is_shut}
 use Rattle.floor_hub.specs.Connections.{Puts, SameConnections, connection_at}
 use Rattle.floor_hub.specs.Hub.{Hub, room_at}
 use Rattle.floor_hub.specs.Left.{BreaksOff, IsAllowed, IsBrokenOff, IsUnbegun, LeftAt, LeftLeaving, LeftServing, LeftTaking}
-use Rattle.floor_hub.specs.Rooms.{SameHub, attach_event, leave_event, serve_event, took_event}
+use Rattle.floor_hub.specs.Rooms.{SameHub, attach_event, ended_or_none, leave_event, serve_event, took_event}
 use Rattle.floor_hub.specs.StandsFor.{StandsFor}
 use Rattle.floor_hub.specs.World.{World}
 use Rattle.floor_hub.specs.steps.Serving.{AttachFailsIn, LeaveFailsIn, ServeFailsIn, ServedIn}
-use Rattle.floor_hub.proofs.Attending.{by_memory, member_live, no_message_refusal, no_refusal}
-use Rattle.floor_hub.proofs.Here.{here}
+use Rattle.floor_hub.proofs.Attending.{by_memory, no_message_refusal, no_refusal}
+use Rattle.floor_hub.proofs.Known.{connected-live}
+use Rattle.floor_hub.proofs.Recalling.{here-now}
 use Rattle.floor_hub.proofs.RoomSteps.{leaves-open, serves-first}
 use Rattle.floor_hub.proofs.Wanting.{allowed}
 use Rattle.floor_wire.specs.Message.{messages}
@@ -95,30 +98,41 @@ module _ (c : ℕ) (old new : Hub) (r s : Room) (was : room_at old c ≡ Some r)
   left-room own e (ByMachine UnknownChair) is free left same = unchanged left same
   left-room own e (ByMachine Memory) is free left same = (breaks IsBrokenOff own (e, is, free refl) (broken-off (own r) r s e is left), same)
 
-module _ (own : Room → List Event) (e : Event) (c : ℕ) (old new : Hub) (is : (r : Room) → own r ≡ e ∷ []) (arrivals : new.arrivals ≡ old.arrivals) where
+-- what a refusal of a conference without a room has left
+none-left : (own : Room → List Event) (c : ℕ) (old new : Hub) (b : Bool) → SameHub old new → LeftAt own c old new (ended_or_none b)
+none-left own c old new true same = same
+none-left own c old new false same = same
+
+module _ (own : Room → List Event) (e : Event) (c : ℕ) (old new : Hub) (is : (r : Room) → own r ≡ e ∷ []) (arrivals : new.arrivals ≡ old.arrivals) (forgotten : Bool) where
   -- a call for a conference, whose own event is this
   pub left-at : {T : Type 0} (res : Result T HubRefusal) (y : Option Room) → room_at old c ≡ y →
-      (room_at old c ≡ None → (res ≡ Err NoConference) × ((d : ℕ) → room_at new d ≡ room_at old d)) →
+      (room_at old c ≡ None → (res ≡ Err (ended_or_none forgotten)) × ((d : ℕ) → room_at new d ≡ room_at old d)) →
       ((r : Room) → room_at old c ≡ Some r → (s : Room) × (room_at new c ≡ Some s) × ((d : ℕ) → nat_eq c d ≡ false → room_at new d ≡ room_at old d)
       × IfErr res (λ x. (why : RoomRefusal) × (x ≡ ByRoom why) × (why ≡ ByMachine Memory → refusal r.ledger e ≡ None) × Left r s e why)) →
       OnErr res (SameConnections old.connections new.connections) → IfErr res (LeftAt own c old new)
   left-at (Ok v) y was absent there same = tt
   left-at (Err x) None was absent there same =
       let a = absent was in
-      subst (LeftAt own c old new) (sym (err_is x NoConference a.0)) (record { rooms = a.1; connections = same; arrivals = arrivals })
+      subst (LeftAt own c old new) (sym (err_is x (ended_or_none forgotten) a.0)) (none-left own c old new forgotten (record { rooms = a.1; connections = same; arrivals = arrivals }))
   left-at (Err x) (Some r) was absent there same =
       let t = there r was in
       subst (LeftAt own c old new) (sym t.3.1) (left-room c old new r t.0 was t.1 t.2 arrivals own e t.3.0 (is r) t.3.2 t.3.3 same)
 
 -- an attach
-pub left-attach : (user c : ℕ) (old new : Hub) (x : HubRefusal) → new.arrivals ≡ old.arrivals → (y : Option Room) → room_at old c ≡ y →
-    (room_at old c ≡ None → (◌≡◌ {A = Result (Unit {0}) HubRefusal} (Err x) (Err NoConference)) × ((d : ℕ) → room_at new d ≡ room_at old d)) →
+pub left-attach : (user c : ℕ) (old new : Hub) (forgotten : Bool) (x : HubRefusal) → new.arrivals ≡ old.arrivals → (y : Option Room) → room_at old c ≡ y →
+    (room_at old c ≡ None → (◌≡◌ {A = Result (Unit {0}) HubRefusal} (Err x) (Err (ended_or_none forgotten))) × ((d : ℕ) → room_at new d ≡ room_at old d)) →
     ((r : Room) → room_at old c ≡ Some r → (s : Room) × (room_at new c ≡ Some s) × ((d : ℕ) → nat_eq c d ≡ false → room_at new d ≡ room_at old d)
     × ((why : RoomRefusal) × (x ≡ ByRoom why) × AttachFailsIn r s user why)) →
     SameConnections old.connections new.connections → LeftAt (attach_event user) c old new x
-left-attach user c old new x arrivals y was absent there same =
-    left-at (attach_event user) (Join user) c old new (λ r. refl) arrivals {T = Unit {0}} (Err x) y was absent
+left-attach user c old new forgotten x arrivals y was absent there same =
+    left-at (attach_event user) (Join user) c old new (λ r. refl) arrivals forgotten {T = Unit {0}} (Err x) y was absent
     (λ r is. let t = there r is in (t.0, t.1, t.2, (t.3.0, t.3.1, attach-allowed r t.0 user t.3.0 t.3.2, attach-left r t.0 user t.3.0 t.3.2))) same
+
+-- a room that takes events isn't shut
+unshut-where : (r : Room) → closed r.ledger ≡ None → is_shut r ≡ false
+unshut-where r none =
+    let u = opened r.ledger (sym none) in
+    ap (λ (b : Bool). b || not (conference_of r.ledger).is_open) u.unbroken ∙ ap (λ (o : Bool). false || not o) u.open_now
 
 module _ (number : ℕ) (old new : Hub) (arrivals : new.arrivals ≡ old.arrivals) (w : World) (st : StandsFor old w) where
   abbrev rooms : ℕ → Option Room
@@ -138,11 +152,10 @@ module _ (number : ℕ) (old new : Hub) (arrivals : new.arrivals ≡ old.arrival
       ((d : ℕ) → nat_eq x.conference d ≡ false → now d ≡ rooms d) → ((k : ℕ) → nat_eq number k ≡ false → now_xs k ≡ xs k) →
       (e : Event) → ((q : Room) → closed q.ledger ≡ None → is_live (conference_of q.ledger) x.n ≡ true → q ≡ r → refusal q.ledger e ≡ None) → closed r.ledger ≡ None → refusal r.ledger e ≡ None
   live x is r s was is_now other_rooms others e free none =
-      let h = here rooms xs old.arrivals w number x st.stands is in
+      let h = here-now old w st number x is in
       let same : h.r ≡ r = some_is h.r r (sym h.room ∙ ap rooms (sym h.conference) ∙ was) in
       let open_now : closed h.r.ledger ≡ None = ap (λ (y : Room). closed y.ledger) same ∙ none in
-      let alive = member_live rooms now xs now_xs old.arrivals w number st.stands st.kept x h s (ap now (sym h.conference) ∙ is_now)
-      (λ d ne. other_rooms d (ne_eqb x.conference d (λ e. ne (sym e ∙ h.conference)))) (λ k ne. others k (ne_eqb number k (λ e. ne (sym e)))) open_now in
+      let alive = connected-live old w st number x is h.r (ap rooms h.conference ∙ h.room) (unshut-where h.r open_now) in
       ap (λ (y : Room). refusal y.ledger e) (sym same) ∙ free h.r open_now alive same
 
   some_head : (ms : List (List ℕ)) → ms ≢ [] → (m : List ℕ) × (rest : List (List ℕ)) × (ms ≡ m ∷ rest)
@@ -205,7 +218,7 @@ module _ (number : ℕ) (old new : Hub) (arrivals : new.arrivals ≡ old.arrival
       let a = absent is in
       subst (LeftServing number None old new) (sym (err_is z NoConnection a.0)) (record { rooms = a.1; connections = a.2; arrivals = arrivals })
   left-serve (Err z) (Some x) is absent there =
-      let h = here rooms xs old.arrivals w number x st.stands is in
+      let h = here-now old w st number x is in
       let was : rooms x.conference ≡ Some h.r = ap rooms h.conference ∙ h.room in
       let t = there x is h.r was in
       let f = t.5.failed in
@@ -222,7 +235,7 @@ module _ (number : ℕ) (old new : Hub) (arrivals : new.arrivals ≡ old.arrival
       let a = absent is in
       subst (LeftLeaving number None old new) (sym (err_is z NoConnection a.0)) (record { rooms = a.1; connections = a.2; arrivals = arrivals })
   left-leave (Err z) (Some x) is absent went there =
-      let h = here rooms xs old.arrivals w number x st.stands is in
+      let h = here-now old w st number x is in
       let was : rooms x.conference ≡ Some h.r = ap rooms h.conference ∙ h.room in
       let t = there x is h.r was in
       let f = t.3.2 in

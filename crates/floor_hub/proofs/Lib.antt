@@ -1,3 +1,4 @@
+pub mod Standing
 pub mod Slotted
 pub mod Changed
 pub mod Wanting
@@ -22,6 +23,8 @@ pub mod Departing
 pub mod Acknowledging
 pub mod Arriving
 pub mod Given
+pub mod Recalling
+pub mod Forgetting
 pub mod Closing
 pub mod RoomSteps
 pub mod Left

@@ -15,7 +15,8 @@ use Rattle.floor_hub.specs.declared.step.Answer.{Answer}
 use Rattle.floor_hub.specs.declared.step.Answer.TheVariants.{Done, Refused}
 use Rattle.floor_hub.specs.World as world
 use Rattle.floor_hub.specs.World.{IsIdle, World, Part, Arrival, arrival, offer, opened, put, turn, if_live}
-use Rattle.floor_hub.specs.StandsFor.{arrival_in, RoomStands, Stands}
+use Rattle.floor_hub.specs.StandsFor.{arrival_in, RoomStands}
+use Rattle.floor_hub.proofs.Standing.{RoomsStand}
 use Rattle.floor_hub.proofs.Changed.{stands_changed, put_back, rooms_again}
 
 nobody : (config : Configuration) (n : ℕ) → arrival (opened config) n ≡ None
@@ -30,15 +31,15 @@ no_room : (y : Option Room) → RoomStands y None → y ≡ None
 no_room None h = refl
 no_room (Some r) h = absurd h
 
-module _ (rooms now : ℕ → Option Room) (xs : ℕ → Option Connection) (k : ℕ) (w : World) (config : Configuration) (st : Stands rooms xs k w) where
+module _ (rooms now : ℕ → Option Room) (xs : ℕ → Option Connection) (k : ℕ) (w : World) (config : Configuration) (st : RoomsStand rooms xs k w) where
   abbrev c : ℕ
   c = config.conference
 
   abbrev Opened : Answer → Type 0
-  Opened a = Stands now xs k (turn w (Open config)).world × ((turn w (Open config)).answer ≡ a)
+  Opened a = RoomsStand now xs k (turn w (Open config)).world × ((turn w (Open config)).answer ≡ a)
 
   abbrev OpenIs : world.Offered → Answer → Type 0
-  OpenIs o a = Stands now xs k (put w c o).world × ((put w c o).answer ≡ a)
+  OpenIs o a = RoomsStand now xs k (put w c o).world × ((put w c o).answer ≡ a)
 
   abbrev with_part : ℕ → Option Part
   with_part = update nat_eq w.parts c (Some (opened config))
@@ -48,7 +49,7 @@ module _ (rooms now : ℕ → Option Room) (xs : ℕ → Option Connection) (k :
       let gone : w.parts c ≡ None = no_part (w.parts c) (subst (λ (x : Option Room). RoomStands x (w.parts c)) is (st.of_rooms c)) in
       let part : with_part c ≡ Some (opened config) = update_here w.parts c (Some (opened config)) in
       let none : (n : ℕ) → arrival_in (w.parts c) n ≡ None = λ n. ap (λ (z : Option Part). arrival_in z n) gone in
-      let stands : Stands now xs k (record { parts = with_part; places = w.places }) = stands_changed rooms now xs k w with_part c (record {
+      let stands : RoomsStand now xs k (record { parts = with_part; places = w.places }) = stands_changed rooms now xs k w with_part c (record {
         other_rooms = others;
         other_parts = λ d ne. update_apart w.parts c (Some (opened config)) d ne;
         room = subst (λ (x : Option Room). RoomStands x (with_part c)) (sym here) (subst (RoomStands (Some (new_room config))) (sym part) (refl, λ b. refl));
@@ -62,7 +63,7 @@ module _ (rooms now : ℕ → Option Room) (xs : ℕ → Option Connection) (k :
   used (Some p) was there same = (rooms_again rooms now xs k w (update nat_eq w.parts c (Some p)) same (λ d. put_back w c (Some p) was d (d == c) refl) st, refl)
 
   abbrev pub OpenFails : HubRefusal → Type 0
-  OpenFails r = (((r ≡ Memory) × (¬ IsIdle (turn w (Open config)).answer)) × Stands now xs k w) ⊎ Opened (Refused r)
+  OpenFails r = (((r ≡ Memory) × (¬ IsIdle (turn w (Open config)).answer)) × RoomsStand now xs k w) ⊎ Opened (Refused r)
 
   failed : (r : HubRefusal) → (((r ≡ Memory) × (rooms c ≡ None)) ⊎ ((r ≡ Used) × (rooms c ≢ None))) → ((d : ℕ) → now d ≡ rooms d) → OpenFails r
   failed r (inl m) same = inl ((m.0, λ idle. subst IsIdle would idle), rooms_again rooms now xs k w w.parts same (λ d. refl) st)

@@ -18,7 +18,8 @@ use Rattle.floor_hub.specs.declared.step.Answer.TheVariants.{Done, Refused}
 use Rattle.floor_hub.specs.Connections.{Connections, Puts, connection_at}
 use Rattle.floor_hub.specs.World as world
 use Rattle.floor_hub.specs.World.{Part, Arrival, World, Place, Turn, place, arrival, if_live, turn, turn_at, put, offer, aim}
-use Rattle.floor_hub.specs.StandsFor.{arrival_in, live_at, RoomStands, CameTo, ArrivalStands, NumberStands, Stands}
+use Rattle.floor_hub.specs.StandsFor.{arrival_in, live_at, RoomStands, CameTo, ArrivalStands, NumberStands}
+use Rattle.floor_hub.proofs.Standing.{RoomsStand}
 use Rattle.floor_hub.proofs.Changes.{changed}
 
 lt_or_le : (m n : ℕ) → (m < n) ⊎ (n ≤ m)
@@ -73,7 +74,7 @@ number_again rooms parts again same x None h = h
 number_again rooms parts again same x (Some p) h = subst (λ z. ArrivalStands rooms p x (if_live (arrival_in z p.n))) (sym (same p.conference)) h
 
 pub stands_again : (rooms : ℕ → Option Room) (xs : ℕ → Option Connection) (k : ℕ) (w : World) (again : ℕ → Option Part)
-    → ((d : ℕ) → again d ≡ w.parts d) → Stands rooms xs k w → Stands rooms xs k (record { parts = again; places = w.places })
+    → ((d : ℕ) → again d ≡ w.parts d) → RoomsStand rooms xs k w → RoomsStand rooms xs k (record { parts = again; places = w.places })
 stands_again rooms xs k w again same st = record {
   of_rooms = λ d. subst (λ z. RoomStands (rooms d) z) (sym (same d)) (st.of_rooms d);
   count = st.count;
@@ -87,7 +88,7 @@ put_same f c d false e = update_apart f c (f c) d (eqb-false d c e)
 
 -- the turn is refused so, and what stood before stands after
 abbrev RefusesPiece : (ℕ → Option Room) → (ℕ → Option Connection) → ℕ → Turn → Type 0
-RefusesPiece rooms xs k t = Stands rooms xs k t.world × (t.answer ≡ Refused NoConnection)
+RefusesPiece rooms xs k t = RoomsStand rooms xs k t.world × (t.answer ≡ Refused NoConnection)
 
 offer_dead : (part : Option Part) (n : ℕ) (bytes : List ℕ) → if_live (arrival_in part n) ≡ None → offer part (Piece n bytes) ≡ world.refuses part NoConnection
 offer_dead None n bytes e = refl
@@ -98,14 +99,14 @@ dead_at rooms p None h = refl
 dead_at rooms p (Some a) h = absurd h
 
 absent_at : (rooms : ℕ → Option Room) (xs : ℕ → Option Connection) (k : ℕ) (w : World) (bytes : List ℕ) (y : Option Place)
-    → Stands rooms xs k w → NumberStands rooms w.parts None y → RefusesPiece rooms xs k (turn_at w (aim (λ n. Piece n bytes) y))
+    → RoomsStand rooms xs k w → NumberStands rooms w.parts None y → RefusesPiece rooms xs k (turn_at w (aim (λ n. Piece n bytes) y))
 absent_at rooms xs k w bytes None st h = (st, refl)
 absent_at rooms xs k w bytes (Some p) st h =
     subst (λ o. RefusesPiece rooms xs k (put w p.conference o)) (sym (offer_dead (w.parts p.conference) p.n bytes (dead_at rooms p (live_at w.parts p) h)))
     (stands_again rooms xs k w (update nat_eq w.parts p.conference (w.parts p.conference)) (λ d. put_same w.parts p.conference d (nat_eq d p.conference) refl) st, refl)
 
 pub piece_absent : (rooms : ℕ → Option Room) (xs : ℕ → Option Connection) (k : ℕ) (w : World) (number : ℕ) (bytes : List ℕ)
-    → Stands rooms xs k w → xs number ≡ None → RefusesPiece rooms xs k (turn w (Piece number bytes))
+    → RoomsStand rooms xs k w → xs number ≡ None → RefusesPiece rooms xs k (turn w (Piece number bytes))
 piece_absent rooms xs k w number bytes st e =
     absent_at rooms xs k w bytes (place w.places number) st (subst (λ x. NumberStands rooms w.parts x (place w.places number)) e (st.numbers number))
 
@@ -113,7 +114,7 @@ abbrev pub longer : Connection → List ℕ → Connection
 longer x bytes = record { conference = x.conference; n = x.n; held = x.held ++ bytes }
 
 abbrev TakesPiece : (ℕ → Option Room) → (ℕ → Option Connection) → ℕ → Turn → Type 0
-TakesPiece rooms xs k t = Stands rooms xs k t.world × (t.answer ≡ Done)
+TakesPiece rooms xs k t = RoomsStand rooms xs k t.world × (t.answer ≡ Done)
 
 came_more : (r : Option Room) (x : Connection) (a : Arrival) (bytes : List ℕ) → CameTo r x a
     → CameTo r (longer x bytes) (record { bytes = a.bytes ++ bytes; served = a.served; live = a.live })
@@ -128,7 +129,7 @@ room_again None p q e f h = h
 room_again (Some r) p q e f h = (h.0 ∙ e, λ sound. h.1 sound ∙ f)
 
 module _ (rooms : ℕ → Option Room) (xs now_xs : ℕ → Option Connection) (k : ℕ) (w : World) (number : ℕ) (bytes : List ℕ) (x : Connection) where
-  live_piece : (p : Place) (part : Part) (a : Arrival) → Stands rooms xs k w
+  live_piece : (p : Place) (part : Part) (a : Arrival) → RoomsStand rooms xs k w
       → ((j : ℕ) → j ≢ number → now_xs j ≡ xs j) → now_xs number ≡ Some (longer x bytes)
       → place w.places number ≡ Some p → w.parts p.conference ≡ Some part → if_live (arrival part p.n) ≡ Some a → ArrivalStands rooms p (Some x) (Some a)
       → TakesPiece rooms now_xs k (put w p.conference (world.piece part p.n bytes (Some a)))
@@ -152,28 +153,28 @@ module _ (rooms : ℕ → Option Room) (xs now_xs : ℕ → Option Connection) (
         refl,
       )
 
-  arrival_piece : (p : Place) (part : Part) (a : Option Arrival) → Stands rooms xs k w
+  arrival_piece : (p : Place) (part : Part) (a : Option Arrival) → RoomsStand rooms xs k w
       → ((j : ℕ) → j ≢ number → now_xs j ≡ xs j) → now_xs number ≡ Some (longer x bytes)
       → place w.places number ≡ Some p → w.parts p.conference ≡ Some part → if_live (arrival part p.n) ≡ a → ArrivalStands rooms p (Some x) a
       → TakesPiece rooms now_xs k (put w p.conference (world.piece part p.n bytes a))
   arrival_piece p part None st others now at_place was live h = absurd h
   arrival_piece p part (Some a) st others now at_place was live h = live_piece p part a st others now at_place was live h
 
-  part_piece : (p : Place) (z : Option Part) → Stands rooms xs k w
+  part_piece : (p : Place) (z : Option Part) → RoomsStand rooms xs k w
       → ((j : ℕ) → j ≢ number → now_xs j ≡ xs j) → now_xs number ≡ Some (longer x bytes)
       → place w.places number ≡ Some p → w.parts p.conference ≡ z → ArrivalStands rooms p (Some x) (if_live (arrival_in z p.n))
       → TakesPiece rooms now_xs k (put w p.conference (offer z (Piece p.n bytes)))
   part_piece p None st others now at_place was h = absurd h
   part_piece p (Some part) st others now at_place was h = arrival_piece p part (if_live (arrival part p.n)) st others now at_place was refl h
 
-  place_piece : (y : Option Place) → Stands rooms xs k w
+  place_piece : (y : Option Place) → RoomsStand rooms xs k w
       → ((j : ℕ) → j ≢ number → now_xs j ≡ xs j) → now_xs number ≡ Some (longer x bytes)
       → place w.places number ≡ y → NumberStands rooms w.parts (Some x) y
       → TakesPiece rooms now_xs k (turn_at w (aim (λ n. Piece n bytes) y))
   place_piece None st others now at_place h = absurd (none-some x (sym h))
   place_piece (Some p) st others now at_place h = part_piece p (w.parts p.conference) st others now at_place refl h
 
-  pub piece_present : Stands rooms xs k w → xs number ≡ Some x
+  pub piece_present : RoomsStand rooms xs k w → xs number ≡ Some x
       → ((j : ℕ) → j ≢ number → now_xs j ≡ xs j) → now_xs number ≡ Some (longer x bytes)
       → TakesPiece rooms now_xs k (turn w (Piece number bytes))
   piece_present st e others now =
@@ -181,7 +182,7 @@ module _ (rooms : ℕ → Option Room) (xs now_xs : ℕ → Option Connection) (
 
 -- the same connections in another spelling
 connections_again : (rooms : ℕ → Option Room) (xs again : ℕ → Option Connection) (k : ℕ) (w : World)
-    → ((q : ℕ) → again q ≡ xs q) → Stands rooms xs k w → Stands rooms again k w
+    → ((q : ℕ) → again q ≡ xs q) → RoomsStand rooms xs k w → RoomsStand rooms again k w
 connections_again rooms xs again k w same st = record {
   of_rooms = st.of_rooms;
   count = st.count;
@@ -197,7 +198,7 @@ module _ (rooms : ℕ → Option Room) (cs now_cs : Connections) (k : ℕ) (w : 
   now_xs = connection_at now_cs
 
   abbrev pub FailsPiece : HubRefusal → Type 0
-  FailsPiece r = (((r ≡ Memory) × (¬ IsIdle (turn w (Piece number bytes)).answer)) × Stands rooms now_xs k w) ⊎ (Stands rooms now_xs k (turn w (Piece number bytes)).world × ((turn w (Piece number bytes)).answer ≡ Refused r))
+  FailsPiece r = (((r ≡ Memory) × (¬ IsIdle (turn w (Piece number bytes)).answer)) × RoomsStand rooms now_xs k w) ⊎ (RoomsStand rooms now_xs k (turn w (Piece number bytes)).world × ((turn w (Piece number bytes)).answer ≡ Refused r))
 
   ok_err : (v : Unit {0}) → ◌≡◌ {A = Result (Unit {0}) HubRefusal} (Ok v) (Err NoConnection) → ⊥
   ok_err v e = cc
@@ -206,13 +207,13 @@ module _ (rooms : ℕ → Option Room) (cs now_cs : Connections) (k : ℕ) (w : 
   err_is r e = cc
 
   -- bytes of a live connection are taken
-  busy : (x : Connection) → Stands rooms xs k w → xs number ≡ Some x → ¬ IsIdle (turn w (Piece number bytes)).answer
+  busy : (x : Connection) → RoomsStand rooms xs k w → xs number ≡ Some x → ¬ IsIdle (turn w (Piece number bytes)).answer
   busy x st e =
       let more : ℕ → Option Connection = update nat_eq xs number (Some (longer x bytes)) in
       let taken = piece_present rooms xs more k w number bytes x st e (update_apart xs number (Some (longer x bytes))) (update_here xs number (Some (longer x bytes))) in
       λ idle. subst IsIdle taken.1 idle
 
-  pub piece_result : (res : Result (Unit {0}) HubRefusal) (y : Option Connection) → xs number ≡ y → Stands rooms xs k w
+  pub piece_result : (res : Result (Unit {0}) HubRefusal) (y : Option Connection) → xs number ≡ y → RoomsStand rooms xs k w
       → (xs number ≡ None → res ≡ Err NoConnection)
       → ((x : Connection) → xs number ≡ Some x → MatchResult res (λ _. Puts cs now_cs number (Some (longer x bytes))) (λ r. r ≡ Memory))
       → OnErr res ((q : ℕ) → now_xs q ≡ xs q)

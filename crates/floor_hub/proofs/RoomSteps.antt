@@ -24,15 +24,15 @@ use Rattle.floor_room.specs.Outbox.{Outbox, delivered}
 use Rattle.floor_room.specs.Room.{Room, broken_room, joined}
 use Rattle.floor_room.proofs.Ledgers.{allowed-open, opened}
 use Rattle.floor_hub.specs.declared.refusal.HubRefusal.{HubRefusal}
-use Rattle.floor_hub.specs.declared.refusal.HubRefusal.TheVariants.{NoConference, NoConnection, ByRoom}
+use Rattle.floor_hub.specs.declared.refusal.HubRefusal.TheVariants.{NoConnection, ByRoom}
 use Rattle.floor_hub.specs.declared.step.Served.{Served}
 use Rattle.floor_hub.specs.declared.connection.Connection.{Connection}
 use Rattle.floor_hub.specs.Connections.{SameConnections, connection_at}
 use Rattle.floor_hub.specs.Hub.{Hub, room_at}
 use Rattle.floor_hub.specs.World.{World}
 use Rattle.floor_hub.specs.StandsFor.{StandsFor}
-use Rattle.floor_hub.specs.Rooms.{AddsOwn, OneRoom, QueuesMore, RoomAfter, RoomAfterIn, RoomOf, attach_event, by_broken, by_memory, leave_event, refusal_in, serve_event, took_event}
-use Rattle.floor_hub.proofs.Here.{here}
+use Rattle.floor_hub.specs.Rooms.{AddsOwn, OneRoom, QueuesMore, RoomAfter, RoomAfterIn, RoomOf, attach_event, by_broken, by_memory, ended_or_none, leave_event, refusal_in, serve_event, took_event}
+use Rattle.floor_hub.proofs.Recalling.{here-now}
 use Rattle.floor_hub.specs.steps.Serving.{AttachFailsIn, EventIn, LeaveFailsIn, IsServable, LeavesIn, ServeFailsIn, ServedIn, ServesIn}
 
 true_false : true ≡ false → ⊥
@@ -360,7 +360,16 @@ module _ (shut_by why : Option HubRefusal) (own : Room → List Event) (c : ℕ)
     own = subst (λ (y : Option Room). RoomAfterIn shut_by why own y (room_at new c)) (sym is) (subst (RoomAfterIn shut_by why own (Some r)) (sym now) after);
   }
 
-module _ (c : ℕ) (e : Event) (old new : Hub) where
+-- a refusal of a conference without a room is neither want of memory nor that of a broken room
+calm : (b : Bool) → ◌≡◌ {A = Option HubRefusal} (Some (ended_or_none b)) by_memory → ⊥
+calm true e = cc
+calm false e = cc
+
+unbroken_said : (b : Bool) → ◌≡◌ {A = Option HubRefusal} (Some (ended_or_none b)) by_broken → ⊥
+unbroken_said true e = cc
+unbroken_said false e = cc
+
+module _ (c : ℕ) (e : Event) (old new : Hub) (forgotten : Bool) where
   event-at : (res : Result (Unit {0}) HubRefusal) (r s : Room) → OnOk res (Applied r s e) →
       IfErr res (λ x. (why : RoomRefusal) × (x ≡ ByRoom why) × IsRefusedBy {T = Unit {0}} (refusal r.ledger e) (Err why) × Left r s e why) → RoomAfter by_broken (refusal_in res) (e ∷ []) r s
   event-at (Ok v) r s ok err = room-took by_broken (e ∷ []) r s e refl ok
@@ -368,32 +377,32 @@ module _ (c : ℕ) (e : Event) (old new : Hub) where
 
   -- an act of the administrator
   pub event-room : (res : Result (Unit {0}) HubRefusal) (y : Option Room) → room_at old c ≡ y →
-      (room_at old c ≡ None → (res ≡ Err NoConference) × ((d : ℕ) → room_at new d ≡ room_at old d)) →
+      (room_at old c ≡ None → (res ≡ Err (ended_or_none forgotten)) × ((d : ℕ) → room_at new d ≡ room_at old d)) →
       ((r : Room) → room_at old c ≡ Some r → (s : Room) × (room_at new c ≡ Some s) × ((d : ℕ) → nat_eq c d ≡ false → room_at new d ≡ room_at old d) × OnOk res (Applied r s e)
       × IfErr res (λ x. (why : RoomRefusal) × (x ≡ ByRoom why) × IsRefusedBy {T = Unit {0}} (refusal r.ledger e) (Err why) × Left r s e why)) →
       OneRoom by_broken (refusal_in res) (λ (r : Room). e ∷ []) c old new
   event-room res None is absent there =
       let a = absent is in
-      subst (λ (x : Result (Unit {0}) HubRefusal). OneRoom by_broken (refusal_in x) (λ (r : Room). e ∷ []) c old new) (sym a.0) (one-none by_broken (Some NoConference) (λ (r : Room). e ∷ []) c old new is (λ w. cc) (λ w. cc) a.1)
+      subst (λ (x : Result (Unit {0}) HubRefusal). OneRoom by_broken (refusal_in x) (λ (r : Room). e ∷ []) c old new) (sym a.0) (one-none by_broken (Some (ended_or_none forgotten)) (λ (r : Room). e ∷ []) c old new is (calm forgotten) (unbroken_said forgotten) a.1)
   event-room res (Some r) is absent there =
       let t = there r is in
       one-at by_broken (refusal_in res) (λ (r : Room). e ∷ []) c old new r t.0 is t.1 t.2 (event-at res r t.0 t.3 t.4)
 
 -- an attach
-module _ (c user : ℕ) (old new : Hub) where
+module _ (c user : ℕ) (old new : Hub) (forgotten : Bool) where
   attach-at : (res : Result (Unit {0}) HubRefusal) (r s : Room) → OnOk res (Applied r s (Join user)) →
       IfErr res (λ x. (why : RoomRefusal) × (x ≡ ByRoom why) × AttachFailsIn r s user why) → RoomAfter by_broken (refusal_in res) (Join user ∷ []) r s
   attach-at (Ok v) r s ok err = room-took by_broken (Join user ∷ []) r s (Join user) refl ok
   attach-at (Err x) r s ok err = subst (λ (z : HubRefusal). RoomAfter by_broken (Some z) (Join user ∷ []) r s) (sym err.1) (room-attach-fails r s user err.0 err.2)
 
   pub attach-room : (res : Result (Unit {0}) HubRefusal) (y : Option Room) → room_at old c ≡ y →
-      (room_at old c ≡ None → (res ≡ Err NoConference) × ((d : ℕ) → room_at new d ≡ room_at old d)) →
+      (room_at old c ≡ None → (res ≡ Err (ended_or_none forgotten)) × ((d : ℕ) → room_at new d ≡ room_at old d)) →
       ((r : Room) → room_at old c ≡ Some r → (s : Room) × (room_at new c ≡ Some s) × ((d : ℕ) → nat_eq c d ≡ false → room_at new d ≡ room_at old d)
       × OnOk res (Applied r s (Join user)) × IfErr res (λ x. (why : RoomRefusal) × (x ≡ ByRoom why) × AttachFailsIn r s user why)) →
       OneRoom by_broken (refusal_in res) (attach_event user) c old new
   attach-room res None is absent there =
       let a = absent is in
-      subst (λ (x : Result (Unit {0}) HubRefusal). OneRoom by_broken (refusal_in x) (attach_event user) c old new) (sym a.0) (one-none by_broken (Some NoConference) (attach_event user) c old new is (λ w. cc) (λ w. cc) a.1)
+      subst (λ (x : Result (Unit {0}) HubRefusal). OneRoom by_broken (refusal_in x) (attach_event user) c old new) (sym a.0) (one-none by_broken (Some (ended_or_none forgotten)) (attach_event user) c old new is (calm forgotten) (unbroken_said forgotten) a.1)
   attach-room res (Some r) is absent there =
       let t = there r is in
       one-at by_broken (refusal_in res) (attach_event user) c old new r t.0 is t.1 t.2 (attach-at res r t.0 t.3 t.4)
@@ -401,7 +410,7 @@ module _ (c user : ℕ) (old new : Hub) where
 -- where a connection's room is
 pub room_there : (h : Hub) (w : World) → StandsFor h w → (number : ℕ) (x : Connection) → connection_at h.connections number ≡ Some x → (r : Room) × (room_at h x.conference ≡ Some r)
 room_there h w st number x is =
-    let at = here (room_at h) (connection_at h.connections) h.arrivals w number x st.stands is in
+    let at = here-now h w st number x is in
     (at.r, ap (room_at h) at.conference ∙ at.room)
 
 module _ (number : ℕ) (old new : Hub) (w : World) (st : StandsFor old w) where

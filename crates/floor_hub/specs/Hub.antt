@@ -1,17 +1,23 @@
 -- A hub, as contracts see it.
-use Rattle.std.specs.Prelude.{ℕ, List, nat_eq, Option}
+use Rattle.std.specs.Prelude.{ℕ, Bool, List, nat_eq, Option}
+use Rattle.std.specs.List.{list_any}
 use Rattle.std.specs.Map.{lookup}
 use Rattle.floor_room.specs.Room.{Room}
 use Rattle.floor_hub.specs.Connections.{Connections}
 
--- the rooms by conference; the live connections by number; how many arrivals there were; and the numbers of those that the last call
--- concerned which could concern anybody
+-- the rooms by conference; the live connections by number; how many arrivals there were; the numbers of those that the last call
+-- concerned which could concern anybody; and the conferences that were forgotten
 pub record Hub : Type 0 where
   pub rooms : List (ℕ × Room)
   pub connections : Connections
   pub arrivals : ℕ
   pub concerned : List ℕ
+  pub forgotten : List ℕ
 
 -- the room of a conference
 abbrev pub room_at : Hub → ℕ → Option Room
 room_at h c = lookup (nat_eq c) h.rooms
+
+-- the conference was forgotten
+abbrev pub is_forgotten : Hub → ℕ → Bool
+is_forgotten h c = list_any (nat_eq c) h.forgotten

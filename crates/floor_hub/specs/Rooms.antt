@@ -8,7 +8,7 @@ use Rattle.floor_machine.specs.declared.event.Event.{Event}
 use Rattle.floor_machine.specs.declared.event.Event.TheVariants.{Join, Message, Took, Leave}
 use Rattle.floor_machine.specs.Machine.{event_of_act}
 use Rattle.floor_machine.specs.Parcel.{Parcel}
-use Rattle.floor_machine.specs.declared.machine.Refusal.TheVariants.{Broken, Memory}
+use Rattle.floor_machine.specs.declared.machine.Refusal.TheVariants.{Broken, Ended, Memory}
 use Rattle.floor_room.specs.declared.refusal.RoomRefusal.TheVariants.{Refused as ByMachine}
 use Rattle.floor_room.specs.Ledger.{IsRefusedBy, closed, refusal}
 use Rattle.floor_room.specs.declared.refusal.RoomRefusal.{RoomRefusal}
@@ -16,11 +16,11 @@ use Rattle.floor_room.specs.Outbox.{Outbox}
 use Rattle.floor_room.specs.Room.{IsRoom, Room, new_room}
 use Rattle.floor_room.specs.Taking.{Gave, outbox_of}
 use Rattle.floor_hub.specs.declared.refusal.HubRefusal.{HubRefusal}
-use Rattle.floor_hub.specs.declared.refusal.HubRefusal.TheVariants.{NoConnection, ByRoom, Memory as NoMemory}
+use Rattle.floor_hub.specs.declared.refusal.HubRefusal.TheVariants.{NoConference, Forgotten, Running, NoConnection, ByRoom, Memory as NoMemory}
 use Rattle.floor_hub.specs.declared.connection.Connection.{Connection}
 use Rattle.floor_hub.specs.Concerned.{is_cut}
 use Rattle.floor_hub.specs.Connections.{Puts, SameConnections, connection_at}
-use Rattle.floor_hub.specs.Hub.{Hub, room_at}
+use Rattle.floor_hub.specs.Hub.{Hub, is_forgotten, room_at}
 
 -- nothing has changed
 pub record SameHub (old new : Hub) : Type 0 where
@@ -40,6 +40,16 @@ by_memory = Some (ByRoom (ByMachine Memory))
 -- what a broken room answers
 abbrev pub by_broken : Option HubRefusal
 by_broken = Some (ByRoom (ByMachine Broken))
+
+-- why a call for a conference that has no room is refused: it was forgotten, and so it has ended; or there is none
+abbrev pub ended_or_none : Bool → HubRefusal
+ended_or_none true = ByRoom (ByMachine Ended)
+ended_or_none false = NoConference
+
+-- why nothing is read of a conference that has no room: it was forgotten, or there is none
+abbrev pub forgotten_or_none : Bool → HubRefusal
+forgotten_or_none true = Forgotten
+forgotten_or_none false = NoConference
 
 -- what waited goes on to wait, and nothing was taken; who is new has had nothing taken
 abbrev pub QueuesMore : List Outbox → List Outbox → Type 0
@@ -102,8 +112,9 @@ abbrev pub RoomOf : Option HubRefusal → Option HubRefusal → (Connection → 
 RoomOf shut_by why own None old new = SameHub old new × (why ≢ by_memory) × (why ≢ by_broken)
 RoomOf shut_by why own (Some x) old new = OneRoom shut_by why (own x) x.conference old new
 
--- the conference had no room and has one now, and the others are as they were
+-- the conference had no room, wasn't forgotten and has one now, and the others are as they were
 pub record Opens (config : Configuration) (old new : Hub) : Type 0 where
+  pub fresh : is_forgotten old config.conference ≡ false
   pub absent : room_at old config.conference ≡ None
   pub room : room_at new config.conference ≡ Some (new_room config)
   pub others : (d : ℕ) → nat_eq config.conference d ≡ false → room_at new d ≡ room_at old d
@@ -161,3 +172,32 @@ TakenInto (Some x) result before after old new =
     MatchResult result
     (λ waited. (parcel : Option Parcel) × (waited ≡ is_some parcel) × (after ≡ before ++ bytes_in parcel) × TakenFrom x.conference x.n parcel old new)
     (λ r. (r ≡ NoMemory) × (after ≡ before) × SameHub old new)
+
+-- a live connection is of this conference
+abbrev pub IsAttended : ℕ → Hub → Type 0
+IsAttended conference h = (number : ℕ) × (x : Connection) × (connection_at h.connections number ≡ Some x) × (x.conference ≡ conference)
+
+-- the conference has ended, and no live connection is of it
+pub record IsOver (conference : ℕ) (h : Hub) : Type 0 where
+  pub room : Room
+  pub there : room_at h conference ≡ Some room
+  pub ended : closed room.ledger ≡ Some (ByMachine Ended)
+  pub nobody : ¬ IsAttended conference h
+
+-- The room of this conference is gone, and it counts as forgotten. All else is as it was.
+pub record Forgets (conference : ℕ) (old new : Hub) : Type 0 where
+  pub over : IsOver conference old
+  pub gone : room_at new conference ≡ None
+  pub forgotten : is_forgotten new conference ≡ true
+  pub rooms : (d : ℕ) → nat_eq conference d ≡ false → room_at new d ≡ room_at old d
+  pub others : (d : ℕ) → nat_eq conference d ≡ false → is_forgotten new d ≡ is_forgotten old d
+  pub connections : SameConnections old.connections new.connections
+  pub arrivals : new.arrivals ≡ old.arrivals
+
+-- why a conference isn't forgotten: it was before; there is none; it hasn't ended, or a live connection is of it; or memory was refused
+abbrev pub IsRemembered : ℕ → Hub → HubRefusal → Type 0
+IsRemembered conference h Forgotten = is_forgotten h conference ≡ true
+IsRemembered conference h NoConference = (is_forgotten h conference ≡ false) × (room_at h conference ≡ None)
+IsRemembered conference h Running = (r : Room) × (room_at h conference ≡ Some r) × ((closed r.ledger ≢ Some (ByMachine Ended)) ⊎ IsAttended conference h)
+IsRemembered conference h NoMemory = IsOver conference h
+IsRemembered conference h refusal = ⊥

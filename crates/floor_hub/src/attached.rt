@@ -1,7 +1,10 @@
 //! The live connections of one conference, and which of them a call names.
 
-ghost use Rattle.std.specs.Prelude.{◌≡◌, ◌≤◌, ◌<◌, ◌++◌, ◌∷◌, ◌==◌, ◌&&◌, [], not, filter, IfNone, IfSome, OnErr, OnOk, length, map, option_to_list, vec_capacity, vec_len};
+ghost use Rattle.std.specs.Prelude.{◌≡◌, ◌≢◌, true, false, Some, ◌≤◌, ◌<◌, ◌++◌, ◌∷◌, ◌==◌, ◌&&◌, [], not, filter, IfNone, IfSome, OnErr, OnOk, length, map, option_to_list, vec_capacity, vec_len};
 ghost use Rattle.std.specs.List.{list_any, slice_index_or};
+ghost use Rattle.floor_machine.specs.declared.machine.Refusal.TheVariants.{Ended};
+ghost use Rattle.floor_room.specs.Ledger.{closed};
+ghost use Rattle.floor_room.specs.declared.refusal.RoomRefusal.TheVariants.{Refused as ByMachine};
 ghost use Rattle.floor_hub.specs.Concerned.{AscendFrom, is_shut};
 ghost use Rattle.floor_hub.specs.declared.attached.Live.{Live as Listed};
 ghost use Rattle.floor_hub.specs.steps.Attached.{AddsNames, AreListed, IsBehind, IsIn, IsNaming, Names, cut_at, is_noted, marked, members_of, numbers_of, without};
@@ -254,5 +257,16 @@ pub(crate) fn is_shut(room: &Room) -> bool
     match room.closed() {
         None | Some(RoomRefusal::JournalFull) => false,
         Some(RoomRefusal::Refused(_)) => true,
+    }
+}
+
+/// Whether a conference has ended, and its room isn't broken off.
+pub(crate) fn has_ended(room: &Room) -> bool
+    ensures ended { result ≡ true → closed room.now.ledger ≡ Some (ByMachine Ended) }
+    ensures other { result ≡ false → closed room.now.ledger ≢ Some (ByMachine Ended) }
+{
+    match room.closed() {
+        Some(RoomRefusal::Refused(Refusal::Ended)) => true,
+        _ => false,
     }
 }

@@ -106,6 +106,15 @@ impl Concerned {
         }
     }
 
+    /// Gives the memory that a conference's live connections took back, of which there is none now.
+    pub(crate) fn forget(&mut self, conference: u32)
+        requires { live_in self.old conference ≡ [] }
+        ensures next { SameLive self.old self.new }
+        ensures numbers { self.new.numbers ≡ self.old.numbers }
+    {
+        let _attached = self.attached.swap_remove(&conference);
+    }
+
     /// Names those connections of a conference that a call concerned: none where the room was shut
     /// before, all where it is shut now, and else those of the members that were told something or are
     /// newly cut.

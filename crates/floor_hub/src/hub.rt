@@ -1,17 +1,18 @@
 //! All conferences at once: their rooms and their connections.
 
-ghost use Rattle.std.specs.Prelude.{◌≡◌, ◌++◌, ◌∷◌, [], false, length, ℕ, Err, nat_eq, IfErr, IfNone, IfOk, IfSome, MatchResult, None, Ok, OnErr, OnOk, Some};
+ghost use Rattle.std.specs.Prelude.{◌≡◌, ◌++◌, ◌∷◌, [], false, true, length, ℕ, Err, nat_eq, IfErr, IfNone, IfOk, IfSome, MatchResult, None, Ok, OnErr, OnOk, Some};
 ghost use Rattle.indexmap.specs.IndexMap.{get};
+ghost use Rattle.indexmap.specs.IndexSet.{contains};
 ghost use Rattle.floor_machine.specs.declared.event.Event.TheVariants.{Took as Takes};
 ghost use Rattle.floor_room.specs.Room.{IsRoom, Room as Kept};
 ghost use Rattle.floor_room.specs.Status.{IsStatus};
 ghost use Rattle.floor_hub.specs.Calls.{Fails, FailsGone, FailsSame, Turns, answer_of};
 ghost use Rattle.floor_hub.specs.Concerned.{Concerns, is_cut, waiting};
 ghost use Rattle.floor_hub.specs.Connections.{Puts, SameConnections, StayLive, connection_at};
-ghost use Rattle.floor_hub.specs.Hub.{room_at};
+ghost use Rattle.floor_hub.specs.Hub.{is_forgotten, room_at};
 ghost use Rattle.floor_hub.specs.Left.{LeftAt, LeftLeaving, LeftServing, LeftTaking};
 ghost use Rattle.floor_hub.specs.Members.{AreMembers, user_of};
-ghost use Rattle.floor_hub.specs.Rooms.{CutIs, IsRefusedIn, Joins, KeptOf, OneRoom, Opens, RoomOf, SameHub, TakenInto, TakenOf, admin_event, attach_event, by_broken, leave_event, refusal_in, serve_event, took_event};
+ghost use Rattle.floor_hub.specs.Rooms.{CutIs, Forgets, IsOver, IsRefusedIn, IsRemembered, Joins, KeptOf, OneRoom, Opens, RoomOf, SameHub, TakenInto, TakenOf, admin_event, attach_event, by_broken, ended_or_none, leave_event, refusal_in, serve_event, took_event};
 ghost use Rattle.floor_hub.specs.StandsFor.{StandsFor};
 ghost use Rattle.floor_hub.specs.World.{World, nothing};
 ghost use Rattle.floor_hub.specs.declared.step.Answer.TheVariants.{Attached, Done};
@@ -21,24 +22,26 @@ ghost use Rattle.floor_hub.specs.steps.Found.{AtConnection, AtRoom};
 ghost use Rattle.floor_hub.specs.steps.Running.{QueuedIn, first_bytes};
 ghost use Rattle.floor_hub.specs.steps.Serving.{AttachIn, LeaveOf, ServeOf, TakeOf, TookOf};
 
-use crate::attached::{Live, is_shut};
+use crate::attached::{Live, has_ended, is_shut};
 use crate::concerned::Concerned;
 use crate::connection::{ConnNo, Connection, Place};
 use crate::connections::Connections;
+use crate::forgotten::{ended_or_none, forgotten_or_none};
 use crate::gathering::{put_first, queued_to, user_of};
 use crate::refusal::HubRefusal;
 use crate::rooms::{admin_at, leave_room, open_at, serve_room, take_room, took_room};
 use crate::step::Served;
 use floor_room::{Act, Config, Event, Parcel, Refusal, Room, RoomRefusal, Status};
 use floor_wire::{Framer, Octets};
-use indexmap::IndexMap;
+use indexmap::{IndexMap, IndexSet};
 use std::alloc::{AllocError, Global};
 use std::marker::Model;
 
 /// All conferences. A conference is found by its number, a connection by its own; nothing that a
 /// call does grows with the other conferences or connections.
 ///
-/// - Conferences: `open`, `admin`; `status`, `journal`, `members` and `user_of` read.
+/// - Conferences: `open`, `admin`; `status`, `journal`, `members` and `user_of` read; `forget` gives the memory
+///   of one that has ended back.
 /// - Connections: `attach`, then `piece` and `serve` as bytes come, `take` as they are sent, `took`
 ///   once they were, and `leave` at the end. Whoever is more than 1,024 parcels behind is cut: it is
 ///   told nothing more, its messages are refused by `Cut`, and `is_cut` tells it.
@@ -56,6 +59,7 @@ pub struct Hub {
     concerned: Concerned,
     // Whom the last event told something, as its room says.
     told: Vec<u32>,
+    forgotten: IndexSet<u32>,
 }
 
 impl Model for Hub {
@@ -70,6 +74,7 @@ impl Model for Hub {
       connections = h.connections;
       arrivals = h.arrivals;
       concerned = h.concerned.numbers;
+      forgotten = h.forgotten.keys;
     } };
 
     ghost invariant = { λ h. IsKeptHub
@@ -78,6 +83,7 @@ impl Model for Hub {
           connections = h.connections;
           arrivals = h.arrivals;
           concerned = h.concerned.numbers;
+          forgotten = h.forgotten.keys;
         }
         h.concerned };
 }
@@ -86,6 +92,7 @@ impl Hub {
     /// No conference, and no connection. Takes no memory.
     pub fn new(alloc: Global) -> Self
         ensures value { StandsFor result nothing }
+        ensures remembered { result.forgotten ≡ [] }
     {
         Hub {
             rooms: IndexMap::new(alloc),
@@ -93,6 +100,7 @@ impl Hub {
             arrivals: 0,
             concerned: Concerned::new(alloc),
             told: Vec::new(alloc),
+            forgotten: IndexSet::new(alloc),
         }
     }
 
@@ -106,14 +114,15 @@ impl Hub {
         ensures connections { SameConnections self.old.connections self.new.connections }
         ensures left { OnErr result (SameHub self.old self.new) }
         ensures concerned { self.new.concerned ≡ self.old.concerned }
+        ensures forgotten { self.new.forgotten ≡ self.old.forgotten }
     {
-        open_at(alloc, &mut self.rooms, config)
+        open_at(alloc, &mut self.rooms, &self.forgotten, config)
     }
 
     /// Attaches a connection of a user to a conference, and gives its number. Refused by
     /// `NoConference`, else as the conference's room refuses the join: `Broken`, `Ended`,
-    /// `JournalFull`, `NoUser`, `Full`. After a `Memory` no connection was made, and the room is
-    /// broken off.
+    /// `JournalFull`, `NoUser`, `Full`. A conference that was forgotten has ended. After a `Memory` no
+    /// connection was made, and the room is broken off.
     pub fn attach(
         &mut self,
         alloc: Global,
@@ -131,11 +140,13 @@ impl Hub {
             × (x.conference ≡ conference)) }
         ensures joined { IfOk result (λ number. Joins conference number self.old self.new) }
         ensures concerned { Concerns self.old self.new }
+        ensures forgotten { self.new.forgotten ≡ self.old.forgotten }
     {
         let number = self.arrivals + 1;
         let joined = attach_at(
             alloc,
             &mut self.rooms,
+            &self.forgotten,
             &mut self.connections,
             &mut self.concerned,
             &mut self.told,
@@ -162,6 +173,7 @@ impl Hub {
         ensures connections { StayLive self.old.connections self.new.connections }
         ensures left { OnErr result (SameHub self.old self.new) }
         ensures concerned { self.new.concerned ≡ self.old.concerned }
+        ensures forgotten { self.new.forgotten ≡ self.old.forgotten }
     {
         push_at(&mut self.connections, number, bytes)
     }
@@ -179,6 +191,7 @@ impl Hub {
         ensures left { IfErr result (LeftServing number
             (connection_at self.old.connections number) self.old self.new) }
         ensures concerned { Concerns self.old self.new }
+        ensures forgotten { self.new.forgotten ≡ self.old.forgotten }
     {
         serve_at(
             &mut self.rooms,
@@ -207,6 +220,7 @@ impl Hub {
         ensures left { IfErr result (LeftTaking k
             (connection_at self.old.connections number) self.old self.new) }
         ensures concerned { Concerns self.old self.new }
+        ensures forgotten { self.new.forgotten ≡ self.old.forgotten }
     {
         took_at(
             &mut self.rooms,
@@ -231,6 +245,7 @@ impl Hub {
         ensures left { IfErr result (LeftLeaving number
             (connection_at self.old.connections number) self.old self.new) }
         ensures concerned { Concerns self.old self.new }
+        ensures forgotten { self.new.forgotten ≡ self.old.forgotten }
     {
         leave_at(
             &mut self.rooms,
@@ -243,8 +258,8 @@ impl Hub {
 
     /// Does what the administrator of a conference does. Refused by `NoConference`, else as the
     /// room refuses it: `Broken`, `Ended`, `JournalFull`, then `NoRequest`, or `OutOfRange`,
-    /// `DoubleUser`, `DoubleFloor`, `NoFloor`, `UnknownChair`. After a `Memory` the room is
-    /// broken off.
+    /// `DoubleUser`, `DoubleFloor`, `NoFloor`, `UnknownChair`. A conference that was forgotten has
+    /// ended. After a `Memory` the room is broken off.
     pub fn admin(&mut self, conference: u32, act: Act) -> Result<(), HubRefusal>
         ensures next { (w : World) → StandsFor self.old w → MatchResult result
             (λ _. Turns self.new w (Admin conference act) Done)
@@ -254,9 +269,11 @@ impl Hub {
         ensures connections { StayLive self.old.connections self.new.connections }
         ensures left { IfErr result (LeftAt (admin_event act) conference self.old self.new) }
         ensures concerned { Concerns self.old self.new }
+        ensures forgotten { self.new.forgotten ≡ self.old.forgotten }
     {
         admin_at(
             &mut self.rooms,
+            &self.forgotten,
             &mut self.concerned,
             &mut self.told,
             conference,
@@ -264,13 +281,61 @@ impl Hub {
         )
     }
 
-    /// How the room of a conference stands. Refused by `NoConference`. Takes no memory.
+    /// Gives the memory of a conference back that has ended and of which no connection is live; what stays
+    /// is its number. Behind it `open` is refused by `Used`, `attach` and `admin` by `Ended`, and
+    /// `status`, `journal`, `members`, `user_of` and a second `forget` by `Forgotten`. Refused by
+    /// `Forgotten`, by `NoConference`, and by `Running` where it hasn't ended or is broken off, or a
+    /// connection of it is live. After an error, `Memory` too, nothing has changed.
+    pub fn forget(&mut self, conference: u32) -> Result<(), HubRefusal>
+        ensures took { OnOk result (Forgets conference self.old self.new) }
+        ensures refused { IfErr result (IsRemembered conference self.old) }
+        ensures left { OnErr result (self.new ≡ self.old) }
+        ensures stands { (w : World) → StandsFor self.old w → StandsFor self.new w }
+        ensures concerned { self.new.concerned ≡ self.old.concerned }
+    {
+        match self.why_remembered(conference) {
+            Some(refusal) => return Err(refusal),
+            None => {}
+        }
+        match self.forgotten.insert(conference) {
+            Ok(_) => {}
+            Err(_) => return Err(HubRefusal::Memory),
+        }
+        let _room = self.rooms.swap_remove(&conference);
+        self.concerned.forget(conference);
+        Ok(())
+    }
+
+    /// Why a conference isn't forgotten, where that isn't for want of memory.
+    fn why_remembered(&self, conference: u32) -> Option<HubRefusal>
+        ensures none { IfNone result (IsOver conference self.now) }
+        ensures some { IfSome result (λ refusal. IsRemembered conference self.now refusal) }
+    {
+        match self.rooms.get(&conference) {
+            None => Some(forgotten_or_none(&self.forgotten, conference)),
+            Some(room) => {
+                if !has_ended(room) {
+                    return Some(HubRefusal::Running);
+                }
+                if self.concerned.live(conference).is_empty() {
+                    None
+                } else {
+                    Some(HubRefusal::Running)
+                }
+            }
+        }
+    }
+
+    /// How the room of a conference stands. Refused by `NoConference`, and by `Forgotten` where it had one.
+    /// Takes no memory.
     ///
     /// Each room keeps what was queued: a prefix of what its journal calls for where it is broken
     /// off, else all of it.
     pub fn status(&self, conference: u32) -> Result<Status, HubRefusal>
         ensures no_conference { room_at self.now conference ≡ None
-            → result ≡ Err HubRefusal.NoConference }
+            → is_forgotten self.now conference ≡ false → result ≡ Err HubRefusal.NoConference }
+        ensures forgotten { room_at self.now conference ≡ None
+            → is_forgotten self.now conference ≡ true → result ≡ Err HubRefusal.Forgotten }
         ensures found { (r : Kept) → room_at self.now conference ≡ Some r
             → MatchResult result (IsStatus r.ledger) (λ _. ⊥) }
         ensures kept { (r : Kept) → room_at self.now conference ≡ Some r → IsRoom r }
@@ -281,51 +346,59 @@ impl Hub {
                 let _journal = room.journal();
                 Ok(room.status())
             }
-            None => Err(HubRefusal::NoConference),
+            None => Err(forgotten_or_none(&self.forgotten, conference)),
         }
     }
 
     /// What happened in a conference so far, in order: the journal of its room, as it has it, so that
-    /// `add_lines` of floor_room gives its text by pieces. Refused by `NoConference`. Takes no memory.
+    /// `add_lines` of floor_room gives its text by pieces. Refused by `NoConference` and
+    /// `Forgotten`. Takes no memory.
     pub fn journal(&self, conference: u32) -> Result<&[Event], HubRefusal>
         ensures no_conference { room_at self.now conference ≡ None
-            → result ≡ Err HubRefusal.NoConference }
+            → is_forgotten self.now conference ≡ false → result ≡ Err HubRefusal.NoConference }
+        ensures forgotten { room_at self.now conference ≡ None
+            → is_forgotten self.now conference ≡ true → result ≡ Err HubRefusal.Forgotten }
         ensures found { (r : Kept) → room_at self.now conference ≡ Some r
             → MatchResult result (λ events. events.now ≡ r.ledger.journal) (λ _. ⊥) }
         ensures kept { (r : Kept) → room_at self.now conference ≡ Some r → IsRoom r }
     {
         match self.rooms.get(&conference) {
             Some(room) => Ok(room.journal()),
-            None => Err(HubRefusal::NoConference),
+            None => Err(forgotten_or_none(&self.forgotten, conference)),
         }
     }
 
     /// Who is in a conference now: its live connections, by ascending number and so by ascending n.
-    /// Refused by `NoConference`. Takes no memory.
+    /// Refused by `NoConference` and `Forgotten`. Takes no memory.
     pub fn members(&self, conference: u32) -> Result<&[Live], HubRefusal>
         ensures no_conference { room_at self.now conference ≡ None
-            → result ≡ Err HubRefusal.NoConference }
+            → is_forgotten self.now conference ≡ false → result ≡ Err HubRefusal.NoConference }
+        ensures forgotten { room_at self.now conference ≡ None
+            → is_forgotten self.now conference ≡ true → result ≡ Err HubRefusal.Forgotten }
         ensures found { (r : Kept) → room_at self.now conference ≡ Some r
             → MatchResult result (λ live. AreMembers self.now conference live.now) (λ _. ⊥) }
     {
         if self.rooms.contains_key(&conference) {
             Ok(self.concerned.live(conference))
         } else {
-            Err(HubRefusal::NoConference)
+            Err(forgotten_or_none(&self.forgotten, conference))
         }
     }
 
     /// The user that joined a conference as n, and None where nobody did, as the journal has it: it is
-    /// read from its start up to that Join. Refused by `NoConference`. Takes no memory.
+    /// read from its start up to that Join. Refused by `NoConference` and `Forgotten`. Takes no
+    /// memory.
     pub fn user_of(&self, conference: u32, n: u32) -> Result<Option<u16>, HubRefusal>
         ensures no_conference { room_at self.now conference ≡ None
-            → result ≡ Err HubRefusal.NoConference }
+            → is_forgotten self.now conference ≡ false → result ≡ Err HubRefusal.NoConference }
+        ensures forgotten { room_at self.now conference ≡ None
+            → is_forgotten self.now conference ≡ true → result ≡ Err HubRefusal.Forgotten }
         ensures found { (r : Kept) → room_at self.now conference ≡ Some r
             → result ≡ Ok (user_of r.ledger.journal n) }
     {
         match self.rooms.get(&conference) {
             Some(room) => Ok(user_of(room.journal(), n)),
-            None => Err(HubRefusal::NoConference),
+            None => Err(forgotten_or_none(&self.forgotten, conference)),
         }
     }
 
@@ -389,6 +462,7 @@ impl Hub {
         ensures kept { KeptOf (connection_at self.old.connections number) self.old }
         ensures stands { (w : World) → StandsFor self.old w → StandsFor self.new w }
         ensures concerned { self.new.concerned ≡ self.old.concerned }
+        ensures forgotten { self.new.forgotten ≡ self.old.forgotten }
     {
         take_at(&mut self.rooms, &self.connections, number)
     }
@@ -404,6 +478,7 @@ impl Hub {
         ensures kept { OnOk result (KeptOf (connection_at self.old.connections number) self.old) }
         ensures stands { (w : World) → StandsFor self.old w → StandsFor self.new w }
         ensures concerned { self.new.concerned ≡ self.old.concerned }
+        ensures forgotten { self.new.forgotten ≡ self.old.forgotten }
     {
         match self.put_first(number, buffer) {
             Ok(()) => {}
@@ -462,6 +537,7 @@ impl Hub {
 fn attach_at(
     alloc: Global,
     rooms: &mut IndexMap<u32, Room>,
+    forgotten: &IndexSet<u32>,
     connections: &mut Connections,
     concerned: &mut Concerned,
     told: &mut Vec<u32>,
@@ -473,7 +549,7 @@ fn attach_at(
     requires within { (r : Kept) → get nat_eq rooms.old conference ≡ Some r
         → AreWithin (live_in concerned.old conference) number (length r.outboxes) }
     ensures room { AtRoom (AttachIn conference user number connections.old connections.new)
-        (get nat_eq rooms.old) (get nat_eq rooms.new) conference result }
+        (ended_or_none (contains nat_eq forgotten.now conference)) (get nat_eq rooms.old) (get nat_eq rooms.new) conference result }
     ensures left { OnErr result (SameConnections connections.old connections.new) }
     ensures concerned { ConcernedBy
         (attached_to (live_in concerned.old conference) number result) told.new.items
@@ -497,7 +573,7 @@ fn attach_at(
         }
         None => {
             concerned.nobody();
-            Err(HubRefusal::NoConference)
+            Err(ended_or_none(forgotten, conference))
         }
     }
 }

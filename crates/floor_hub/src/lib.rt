@@ -8,6 +8,7 @@ mod attached;
 mod concerned;
 mod connection;
 mod connections;
+mod forgotten;
 mod gathering;
 mod hub;
 mod laws;

@@ -11,6 +11,10 @@ pub enum HubRefusal {
     Used,
     /// No conference has the number.
     NoConference,
+    /// The conference with the number was forgotten.
+    Forgotten,
+    /// The conference hasn't ended, or its room is broken off, or a connection of it is live.
+    Running,
     /// No live connection has the number.
     NoConnection,
     /// Memory was refused, and nothing has changed.
@@ -29,6 +33,8 @@ impl HubRefusal {
         match self {
             HubRefusal::Used => "Used",
             HubRefusal::NoConference => "NoConference",
+            HubRefusal::Forgotten => "Forgotten",
+            HubRefusal::Running => "Running",
             HubRefusal::NoConnection => "NoConnection",
             HubRefusal::Memory => "Memory",
             HubRefusal::ByRoom(refusal) => refusal.name(),

@@ -1,7 +1,8 @@
 //! The rooms of all conferences: each call is for one of them, and leaves the others.
 
-ghost use Rattle.std.specs.Prelude.{false, ◌≡◌, ◌≢◌, ◌⊎◌, ◌≤◌, ℕ, Ok, Err, nat_eq, IfErr, IfSome, IsErr, MatchResult, OnErr, OnOk, None, Option, Result, Some};
+ghost use Rattle.std.specs.Prelude.{false, true, ◌≡◌, ◌≢◌, ◌⊎◌, ◌≤◌, ℕ, Ok, Err, nat_eq, IfErr, IfSome, IsErr, MatchResult, OnErr, OnOk, None, Option, Result, Some};
 ghost use Rattle.indexmap.specs.IndexMap.{Updates, get};
+ghost use Rattle.indexmap.specs.IndexSet.{contains};
 ghost use Rattle.floor_machine.specs.Machine.{event_of_act};
 ghost use Rattle.floor_machine.specs.declared.event.Event.TheVariants.{Took};
 ghost use Rattle.floor_machine.specs.Parcel.{Parcel as Waiting};
@@ -9,6 +10,7 @@ ghost use Rattle.floor_room.specs.Room.{IsRoom, Room as Kept, new_room};
 ghost use Rattle.floor_room.specs.Taking.{Gave};
 ghost use Rattle.floor_room.specs.declared.outbox.NoMember.{NoMember};
 ghost use Rattle.floor_room.specs.declared.refusal.RoomRefusal.{RoomRefusal};
+ghost use Rattle.floor_hub.specs.Rooms.{ended_or_none};
 ghost use Rattle.floor_hub.specs.steps.Attached.{ConcernedBy, Tells, always, live_in, without};
 ghost use Rattle.floor_hub.specs.steps.Found.{AtRoom};
 ghost use Rattle.floor_hub.specs.steps.Serving.{EventIn, IsServable, LeaveFailsIn, LeavesIn, ServedIn};
@@ -16,17 +18,19 @@ ghost use Rattle.floor_hub.specs.steps.Serving.{EventIn, IsServable, LeaveFailsI
 use crate::attached::is_shut;
 use crate::concerned::Concerned;
 use crate::connection::{ConnNo, Connection};
+use crate::forgotten::ended_or_none;
 use crate::refusal::HubRefusal;
 use crate::step::Served;
 use floor_room::{Act, Config, Parcel, Refusal, Room, RoomRefusal};
 use floor_wire::Framer;
-use indexmap::IndexMap;
+use indexmap::{IndexMap, IndexSet};
 use std::alloc::Global;
 
 /// Makes the room of a conference that opens.
 pub(crate) fn open_at(
     alloc: Global,
     rooms: &mut IndexMap<u32, Room>,
+    forgotten: &IndexSet<u32>,
     config: Config,
 ) -> Result<(), HubRefusal>
     ensures range { config.conference ≤ 4294967295 }
@@ -35,13 +39,16 @@ pub(crate) fn open_at(
         × (get nat_eq rooms.new config.conference ≡ Some (new_room config))
         × ((d : ℕ) → nat_eq config.conference d ≡ false
         → get nat_eq rooms.new d ≡ get nat_eq rooms.old d))
-        (λ r. ((r ≡ HubRefusal.Memory) × (get nat_eq rooms.old config.conference ≡ None))
-        ⊎ ((r ≡ HubRefusal.Used) × (get nat_eq rooms.old config.conference ≢ None))) }
+        (λ r. ((r ≡ HubRefusal.Memory) × (get nat_eq rooms.old config.conference ≡ None)
+        × (contains nat_eq forgotten.now config.conference ≡ false))
+        ⊎ ((r ≡ HubRefusal.Used) × ((get nat_eq rooms.old config.conference ≢ None)
+        ⊎ (contains nat_eq forgotten.now config.conference ≡ true)))) }
+    ensures fresh { OnOk result (contains nat_eq forgotten.now config.conference ≡ false) }
     ensures left { OnErr result ((other : ℕ) → get nat_eq rooms.new other
         ≡ get nat_eq rooms.old other) }
 {
     let conference = config.conference();
-    if rooms.contains_key(&conference) {
+    if rooms.contains_key(&conference) || forgotten.contains(&conference) {
         return Err(HubRefusal::Used);
     }
     match Room::new(alloc, config) {
@@ -56,13 +63,14 @@ pub(crate) fn open_at(
 /// Does an act in the room of a conference.
 pub(crate) fn admin_at(
     rooms: &mut IndexMap<u32, Room>,
+    forgotten: &IndexSet<u32>,
     concerned: &mut Concerned,
     told: &mut Vec<u32>,
     conference: u32,
     act: Act,
 ) -> Result<(), HubRefusal>
     ensures room { AtRoom (EventIn (event_of_act act))
-        (get nat_eq rooms.old) (get nat_eq rooms.new) conference result }
+        (ended_or_none (contains nat_eq forgotten.now conference)) (get nat_eq rooms.old) (get nat_eq rooms.new) conference result }
     ensures concerned { ConcernedBy (always (live_in concerned.old conference)) told.new.items
         (get nat_eq rooms.old) (get nat_eq rooms.new) conference concerned.old concerned.new }
 {
@@ -75,7 +83,7 @@ pub(crate) fn admin_at(
         }
         None => {
             concerned.nobody();
-            Err(HubRefusal::NoConference)
+            Err(ended_or_none(forgotten, conference))
         }
     }
 }

@@ -10,11 +10,11 @@ use Rattle.floor_room.specs.Room.{Room}
 use Rattle.floor_hub.specs.declared.connection.Connection.{Connection}
 use Rattle.floor_hub.specs.declared.step.Step.{Step}
 use Rattle.floor_hub.specs.Connections.{connection_at}
-use Rattle.floor_hub.specs.Hub.{Hub, room_at}
+use Rattle.floor_hub.specs.Hub.{Hub, is_forgotten, room_at}
 use Rattle.floor_hub.specs.Laws.{EventsAlone}
 use Rattle.floor_hub.specs.Rooms.{taken_of}
 use Rattle.floor_hub.specs.Runs.{alone, configuration, events, events_in, run}
-use Rattle.floor_hub.specs.StandsFor.{RoomStands, StandsFor}
+use Rattle.floor_hub.specs.StandsFor.{ConferenceStands, StandsFor}
 use Rattle.floor_hub.specs.World.{Part, World, nothing}
 use Rattle.floor_loop.specs.Loop.{Loop, Outgoing}
 use Rattle.floor_loop.specs.Written.{IsOnItsWay, IsServing, Took, acknowledged, called_for, taken_bytes, written}
@@ -69,12 +69,13 @@ stands-all number w (c ∷ cs) first last st d = subst (StandsFor last.hub) (sym
 
 -- the room of a conference is what the steps come to, where it isn't broken off
 room-is : (h : Hub) (steps : List Step) (c : ℕ) (r : Room) → StandsFor h (run nothing steps) → room_at h c ≡ Some r → r.ledger.is_broken ≡ false → (configuration c steps ≡ Some r.ledger.config) × (events c steps ≡ r.ledger.journal)
-room-is h steps c r st is whole = by (room_at h c) ((run nothing steps).parts c) is (st.stands.of_rooms c)
+room-is h steps c r st is whole = by (is_forgotten h c) (room_at h c) ((run nothing steps).parts c) is (st.stands.conferences c)
   where
-    by : (z : Option Room) (p : Option Part) → z ≡ Some r → RoomStands z p → (option_map (λ q. q.config) p ≡ Some r.ledger.config) × (events_in p ≡ r.ledger.journal)
-    by None p e s = absurd (none-some r e)
-    by (Some q) None e s = absurd s
-    by (Some q) (Some p) e s =
+    by : (b : Bool) (z : Option Room) (p : Option Part) → z ≡ Some r → ConferenceStands b z p → (option_map (λ q. q.config) p ≡ Some r.ledger.config) × (events_in p ≡ r.ledger.journal)
+    by true z p e s = absurd (none-some r (sym s.0 ∙ e))
+    by false None p e s = absurd (none-some r e)
+    by false (Some q) None e s = absurd s
+    by false (Some q) (Some p) e s =
         let same : q ≡ r = some_is q r e in
         let t = subst (λ (z : Room). (z.ledger.config ≡ p.config) × (z.ledger.is_broken ≡ false → z.ledger.journal ≡ p.events)) same s in
         (ap Some (sym t.0), sym (t.1 whole))

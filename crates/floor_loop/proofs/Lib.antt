@@ -14,4 +14,5 @@ pub mod Attaching
 pub mod Calling
 pub mod Sparing
 pub mod Handing
+pub mod Forgetting
 pub mod Throwing

@@ -23,7 +23,7 @@ use Rattle.floor_loop.specs.Loop.{Attended, Loop, Outgoing, outgoing_at, outgoin
 use Rattle.floor_loop.specs.Written.{Acknowledges, IsOver, IsServing, IsSparedOrOver, IsTaken, Spares}
 use Rattle.floor_loop.specs.steps.Changed.{changed, whole_of}
 use Rattle.floor_loop.specs.steps.Moved.{IsSpared, OverStays, SameEnds, SameLedgers, WasLive, loop_of}
-use Rattle.floor_loop.specs.steps.Taken.{TakenFor, Took}
+use Rattle.floor_loop.specs.steps.Taken.{TakenFor}
 use Rattle.floor_loop.proofs.Altering.{look-here, look-other}
 use Rattle.floor_loop.proofs.Over.{from-ledgers, over-same}
 use Rattle.floor_loop.proofs.Stepping.{some-out}

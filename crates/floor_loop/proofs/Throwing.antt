@@ -17,10 +17,10 @@ use Rattle.floor_hub.specs.Rooms.{TakenFrom, TakenInto}
 use Rattle.floor_hub.specs.StandsFor.{StandsFor}
 use Rattle.floor_hub.specs.World.{World}
 use Rattle.floor_loop.specs.Done.{NoSteps, Then}
-use Rattle.floor_loop.specs.Loop.{Attended, Loop, Outgoing, outgoing_at, outgoing_in}
+use Rattle.floor_loop.specs.Loop.{Attended, Loop, Outgoing, outgoing_in}
 use Rattle.floor_loop.specs.Written.{Spares, Took, Wakes}
 use Rattle.floor_loop.specs.steps.Changed.{carrying, changed, wrote_of}
-use Rattle.floor_loop.specs.steps.Moved.{IsLoop, Moved, SameLedgers, WasLive, loop_of}
+use Rattle.floor_loop.specs.steps.Moved.{IsLoop, Moved, WasLive, loop_of}
 use Rattle.floor_loop.specs.steps.Taken.{TakenFor}
 use Rattle.floor_loop.specs.steps.Thrown.{Thrown}
 use Rattle.floor_loop.proofs.Calls.{moved-kept, moved-taken}

@@ -1,10 +1,10 @@
 //! A loop: a hub, and what is on its way to each of its connections.
 
-ghost use Rattle.std.specs.Prelude.{◌≡◌, ◌≢◌, ◌≤◌, ◌<◌, ℕ, [], Err, IfNone, IfOk, IfSome, IsSome, MatchResult, None, Ok, OnErr, OnOk, Some, drop, false, length, max, nat_eq, take};
+ghost use Rattle.std.specs.Prelude.{◌≡◌, ◌≢◌, ◌≤◌, ◌<◌, ℕ, [], Err, IfErr, IfNone, IfOk, IfSome, IsSome, MatchResult, None, Ok, OnErr, OnOk, Some, drop, false, true, length, max, nat_eq, take};
 ghost use Rattle.floor_hub.specs.Connections.{connection_at};
-ghost use Rattle.floor_hub.specs.Hub.{room_at};
+ghost use Rattle.floor_hub.specs.Hub.{is_forgotten, room_at};
 ghost use Rattle.floor_hub.specs.Members.{AreMembers, user_of};
-ghost use Rattle.floor_hub.specs.Rooms.{CutIs, Joins, OneRoom, Opens, admin_event, by_broken, refusal_in};
+ghost use Rattle.floor_hub.specs.Rooms.{CutIs, Forgets, IsRemembered, Joins, OneRoom, Opens, admin_event, by_broken, refusal_in};
 ghost use Rattle.floor_hub.specs.declared.connection.Connection.{Connection};
 ghost use Rattle.floor_hub.specs.declared.step.Step.TheVariants.{Admin, Attach, Leave, Open, Serve, Took as Takes};
 ghost use Rattle.floor_room.specs.Room.{Room};
@@ -32,7 +32,7 @@ const MAX_LEFT: u32 = 4_294_967_295;
 /// A hub, and what is on its way to each of its connections. Times are milliseconds; one that is earlier
 /// than the last counts as the last.
 ///
-/// - Conferences: `open`, `admin`; `status`, `journal`, `members` and `user_of` read.
+/// - Conferences: `open`, `admin`, `forget`; `status`, `journal`, `members` and `user_of` read.
 /// - Connections: `attach`; `read` as bytes come, and again without bytes while it says that more
 ///   wait; `ended` and `failed` at the end of the stream and of the socket; `leave` once the
 ///   connection is shut down.
@@ -106,21 +106,42 @@ impl Loop {
         attach(&mut self.hub, &mut self.attended, alloc, conference, user)
     }
 
-    /// How the room of a conference stands, as the hub tells it. Refused by `NoConference`.
+    /// Gives the memory of a conference back that has ended and of which no connection is live, as the hub
+    /// does.
+    pub fn forget(&mut self, conference: u32) -> Result<(), HubRefusal>
+        ensures steps { Steps NoSteps self.old.hub self.new.hub }
+        ensures took { TookNothing self.old self.new }
+        ensures forgot { OnOk result (Forgets conference self.old.hub self.new.hub) }
+        ensures refused { IfErr result (IsRemembered conference self.old.hub) }
+        ensures left { OnErr result (self.new ≡ self.old) }
+        ensures attended { self.new.attended ≡ self.old.attended }
+    {
+        self.hub.forget(conference)
+    }
+
+    /// How the room of a conference stands, as the hub tells it. Refused by `NoConference` and `Forgotten`.
     pub fn status(&self, conference: u32) -> Result<Status, HubRefusal>
         ensures no_conference { room_at self.now.hub conference ≡ None
+            → is_forgotten self.now.hub conference ≡ false
             → result ≡ Err HubRefusal.NoConference }
+        ensures forgotten { room_at self.now.hub conference ≡ None
+            → is_forgotten self.now.hub conference ≡ true
+            → result ≡ Err HubRefusal.Forgotten }
         ensures found { (r : Room) → room_at self.now.hub conference ≡ Some r
             → MatchResult result (IsStatus r.ledger) (λ _. ⊥) }
     {
         self.hub.status(conference)
     }
 
-    /// What happened in a conference so far, as the hub lends it. Refused by `NoConference`. Takes no
-    /// memory.
+    /// What happened in a conference so far, as the hub lends it. Refused by `NoConference` and
+    /// `Forgotten`. Takes no memory.
     pub fn journal(&self, conference: u32) -> Result<&[Event], HubRefusal>
         ensures no_conference { room_at self.now.hub conference ≡ None
+            → is_forgotten self.now.hub conference ≡ false
             → result ≡ Err HubRefusal.NoConference }
+        ensures forgotten { room_at self.now.hub conference ≡ None
+            → is_forgotten self.now.hub conference ≡ true
+            → result ≡ Err HubRefusal.Forgotten }
         ensures found { (r : Room) → room_at self.now.hub conference ≡ Some r
             → MatchResult result (λ events. events.now ≡ r.ledger.journal) (λ _. ⊥) }
     {
@@ -128,10 +149,14 @@ impl Loop {
     }
 
     /// Who is in a conference now: its live connections, as the hub lends them. Refused by
-    /// `NoConference`. Takes no memory.
+    /// `NoConference` and `Forgotten`. Takes no memory.
     pub fn members(&self, conference: u32) -> Result<&[Live], HubRefusal>
         ensures no_conference { room_at self.now.hub conference ≡ None
+            → is_forgotten self.now.hub conference ≡ false
             → result ≡ Err HubRefusal.NoConference }
+        ensures forgotten { room_at self.now.hub conference ≡ None
+            → is_forgotten self.now.hub conference ≡ true
+            → result ≡ Err HubRefusal.Forgotten }
         ensures found { (r : Room) → room_at self.now.hub conference ≡ Some r
             → MatchResult result (λ live. AreMembers self.now.hub conference live.now) (λ _. ⊥) }
     {
@@ -139,10 +164,14 @@ impl Loop {
     }
 
     /// The user that joined a conference as n, and None where nobody did, as the hub tells it. Refused by
-    /// `NoConference`. Takes no memory.
+    /// `NoConference` and `Forgotten`. Takes no memory.
     pub fn user_of(&self, conference: u32, n: u32) -> Result<Option<u16>, HubRefusal>
         ensures no_conference { room_at self.now.hub conference ≡ None
+            → is_forgotten self.now.hub conference ≡ false
             → result ≡ Err HubRefusal.NoConference }
+        ensures forgotten { room_at self.now.hub conference ≡ None
+            → is_forgotten self.now.hub conference ≡ true
+            → result ≡ Err HubRefusal.Forgotten }
         ensures found { (r : Room) → room_at self.now.hub conference ≡ Some r
             → result ≡ Ok (user_of r.ledger.journal n) }
     {

@@ -19,6 +19,8 @@ departure_at end.Failure = left.Reset
 departure_at (end.Refused (hub.ByRoom refusal)) = left.Message refusal
 departure_at (end.Refused hub.Used) = left.Memory
 departure_at (end.Refused hub.NoConference) = left.Memory
+departure_at (end.Refused hub.Forgotten) = left.Memory
+departure_at (end.Refused hub.Running) = left.Memory
 departure_at (end.Refused hub.NoConnection) = left.Memory
 departure_at (end.Refused hub.Memory) = left.Memory
 
@@ -38,6 +40,8 @@ departure_of phase.Running false is_stopping end = departure_by is_stopping end
 abbrev pub refused_by : HubRefusal → Refused
 refused_by hub.Used = refused.NoConference
 refused_by hub.NoConference = refused.NoConference
+refused_by hub.Forgotten = refused.NoConference
+refused_by hub.Running = refused.NoConference
 refused_by hub.NoConnection = refused.NoConference
 refused_by hub.Memory = refused.Memory
 refused_by (hub.ByRoom refusal) = refused.ByRoom refusal

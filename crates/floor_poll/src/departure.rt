@@ -55,8 +55,10 @@ pub fn refused_by(refusal: HubRefusal) -> Refused
     match refusal {
         HubRefusal::ByRoom(refusal) => Refused::ByRoom(refusal),
         HubRefusal::Memory => Refused::Memory,
-        HubRefusal::NoConference | HubRefusal::NoConnection | HubRefusal::Used => {
-            Refused::NoConference
-        }
+        HubRefusal::NoConference
+        | HubRefusal::Forgotten
+        | HubRefusal::Running
+        | HubRefusal::NoConnection
+        | HubRefusal::Used => Refused::NoConference,
     }
 }

@@ -230,7 +230,10 @@ fn refusal_of(refusal: HubRefusal) -> BoardRefusal
 {
     match refusal {
         HubRefusal::Used => BoardRefusal::Used,
-        HubRefusal::NoConference | HubRefusal::NoConnection => BoardRefusal::NoConference,
+        HubRefusal::NoConference
+        | HubRefusal::Forgotten
+        | HubRefusal::Running
+        | HubRefusal::NoConnection => BoardRefusal::NoConference,
         HubRefusal::Memory => BoardRefusal::Memory,
         HubRefusal::ByRoom(refusal) => BoardRefusal::ByRoom(refusal),
     }

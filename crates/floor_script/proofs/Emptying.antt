@@ -16,8 +16,8 @@ use Rattle.floor_room.specs.Room.{AreSent, IsRoom, IsSent, Room, parcels_to}
 use Rattle.floor_room.specs.Taking.{outbox_of}
 use Rattle.floor_hub.specs.declared.connection.Connection.{Connection}
 use Rattle.floor_hub.specs.Connections.{connection_at}
-use Rattle.floor_hub.specs.Hub.{Hub, room_at}
-use Rattle.floor_hub.specs.StandsFor.{ArrivalStands, NumberStands, RoomStands, live_at}
+use Rattle.floor_hub.specs.Hub.{Hub, is_forgotten, room_at}
+use Rattle.floor_hub.specs.StandsFor.{ArrivalStands, ConferenceStands, NumberStands, live_at}
 use Rattle.floor_hub.specs.World.{Arrival, Part, Place, World, place}
 use Rattle.floor_script.specs.Printed.{due_of, due_to, fast_of, is_fast, lines_to, printed_to, sent_line, sent_lines}
 use Rattle.floor_script.specs.State.{called_behind, called_for, count_at, most_at_once, printable, waits, waits_at, with_printed}
@@ -131,11 +131,12 @@ held_behind all o b h whole =
 some_is : (a b : Outbox) → ◌≡◌ {A = Option Outbox} (Some a) (Some b) → a ≡ b
 some_is a b e = cc
 
-in_room : (r : Option Room) (q : Option Part) (n printed : ℕ) (o : Outbox) → RoomStands r q → IsWhole r → ((s : Room) → r ≡ Some s → IsRoom s) → outbox_in r n ≡ Some o → taken_in r n ≡ printed →
+in_room : (b : Bool) (r : Option Room) (q : Option Part) (n printed : ℕ) (o : Outbox) → ConferenceStands b r q → IsWhole r → ((s : Room) → r ≡ Some s → IsRoom s) → outbox_in r n ≡ Some o → taken_in r n ≡ printed →
     option_map_or (λ (outbox : Outbox). outbox.held) (outbox_in r n) [] ≡ drop printed (called_for q n)
-in_room None q n printed o st whole is_room is count = absurd (none-some o is)
-in_room (Some r) None n printed o st whole is_room is count = absurd st
-in_room (Some r) (Some q) n printed o st whole is_room is count =
+in_room b None q n printed o st whole is_room is count = absurd (none-some o is)
+in_room true (Some r) q n printed o st whole is_room is count = absurd (none-some r (sym st.0))
+in_room false (Some r) None n printed o st whole is_room is count = absurd st
+in_room false (Some r) (Some q) n printed o st whole is_room is count =
     let sent : IsSent (parcels_to r.ledger.config r.ledger.journal n) o r.ledger.is_broken =
     sent_of r.ledger.config r.ledger.journal r.ledger.is_broken r.outboxes n o (is_room r refl).sent is in
     let taken : o.taken ≡ printed = sym (ap (λ (b : Option Outbox). option_map_or (λ (outbox : Outbox). outbox.taken) b 0) is) ∙ count in
@@ -158,7 +159,7 @@ held_waits hub w printed conference x (Some p) h st is_room placed there = by x 
     by (Some y) (Some a) st there =
         ap (λ (c : ℕ). option_map_or (λ (outbox : Outbox). outbox.held) (outbox_in (room_at hub c) y.n) []) st.0
         ∙ ap (λ (n : ℕ). option_map_or (λ (outbox : Outbox). outbox.held) (outbox_in (room_at hub p.conference) n) []) st.1
-        ∙ in_room (room_at hub p.conference) (w.parts p.conference) p.n (printed p.conference p.n) there.0 (h.stands.stands.of_rooms p.conference) (h.whole p.conference)
+        ∙ in_room (is_forgotten hub p.conference) (room_at hub p.conference) (w.parts p.conference) p.n (printed p.conference p.n) there.0 (h.stands.stands.conferences p.conference) (h.whole p.conference)
         (λ s e. is_room s (ap (room_at hub) (sym placed) ∙ e))
         (ap (λ (n : ℕ). outbox_in (room_at hub p.conference) n) (sym st.1) ∙ ap (λ (c : ℕ). outbox_in (room_at hub c) y.n) (sym st.0) ∙ there.1)
         (h.taken p.conference p.n)

@@ -20,10 +20,10 @@ use Rattle.floor_hub.specs.declared.step.Answer.TheVariants.{Done, Refused}
 use Rattle.floor_hub.specs.declared.step.Step.{Step}
 use Rattle.floor_hub.specs.declared.step.Step.TheVariants.{Open, Took}
 use Rattle.floor_hub.specs.Calls.{Fails, FailsGone, FailsSame, Turns}
-use Rattle.floor_hub.specs.Hub.{Hub, room_at}
+use Rattle.floor_hub.specs.Hub.{Hub, is_forgotten, room_at}
 use Rattle.floor_hub.specs.Names.{is_memory}
 use Rattle.floor_hub.specs.Rooms.{OneRoom, Opens, QueuesMore, RoomAfterIn, RoomOf, SameHub, by_broken, by_memory}
-use Rattle.floor_hub.specs.StandsFor.{RoomStands, StandsFor}
+use Rattle.floor_hub.specs.StandsFor.{ConferenceStands, RoomStands, StandsFor}
 use Rattle.floor_hub.specs.World.{Part, Place, World, numbered, offer, turn}
 use Rattle.floor_script.specs.Printed.{acknowledged}
 use Rattle.floor_script.specs.declared.waiting.Taken.{Taken}
@@ -184,9 +184,10 @@ unopened ps config (Some p) e = absurd (clash e)
     clash : ◌≡◌ {A = Answer} (Refused Used) Done → ⊥
     clash e = cc
 
-no_room : (r : Option Room) (q : Option Part) → q ≡ None → RoomStands r q → r ≡ None
-no_room None q e st = refl
-no_room (Some r) q e st = absurd (subst (RoomStands (Some r)) e st)
+no_room : (b : Bool) (r : Option Room) (q : Option Part) → q ≡ None → ConferenceStands b r q → r ≡ None
+no_room true r q e st = st.0
+no_room false None q e st = refl
+no_room false (Some r) q e st = absurd (subst (RoomStands (Some r)) e st)
 
 -- a conference was opened
 pub opened_did : (config : Configuration) (old new : Hub) → ((w : World) → StandsFor old w → Turns new w (Open config) Done) → Opens config old new → IsOpened config old new
@@ -198,7 +199,7 @@ opened_did config old new turns opens = record { next = λ w printed h. next w p
 
     was_none : (printed : ℕ → ℕ → ℕ) (w : World) → Holds old w printed → room_at old config.conference ≡ None
     was_none printed w h =
-        no_room (room_at old config.conference) (w.parts config.conference) (unopened w.places config (w.parts config.conference) (turns w h.stands).1) (h.stands.stands.of_rooms config.conference)
+        no_room (is_forgotten old config.conference) (room_at old config.conference) (w.parts config.conference) (unopened w.places config (w.parts config.conference) (turns w h.stands).1) (h.stands.stands.conferences config.conference)
 
     taken : (printed : ℕ → ℕ → ℕ) (w : World) → Holds old w printed → (d n : ℕ) (b : Bool) → nat_eq config.conference d ≡ b → taken_in (room_at new d) n ≡ printed d n
     taken printed w h d n true e =

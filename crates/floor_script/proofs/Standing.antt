@@ -12,8 +12,8 @@ use Rattle.floor_hub.specs.declared.step.Answer.{Answer}
 use Rattle.floor_hub.specs.declared.step.Answer.TheVariants.{Done, Attached as HasAttached, Nothing, Served, Refused}
 use Rattle.floor_hub.specs.declared.step.Step.{Step}
 use Rattle.floor_hub.specs.declared.step.Step.TheVariants as step
-use Rattle.floor_hub.specs.StandsFor.{RoomStands, StandsFor}
-use Rattle.floor_hub.specs.Hub.{Hub, room_at}
+use Rattle.floor_hub.specs.StandsFor.{ConferenceStands, StandsFor}
+use Rattle.floor_hub.specs.Hub.{Hub, is_forgotten, room_at}
 use Rattle.floor_room.specs.Room.{Room}
 use Rattle.floor_hub.specs.World.{Place, Turn, World, nothing, place, turn}
 use Rattle.floor_script.specs.Answered.{answer_line, behind, carried, conference_of, emptied, fast_in, lives_behind, pace_answer, readers, send, serve_all, serves_on, serves_taken, text_of, told, turned}
@@ -468,17 +468,18 @@ no_items : (conferences : List ℕ) → slice_get conferences 0 ≡ None → con
 no_items [] e = refl
 no_items (c ∷ conferences) e = cc
 
-empty_room : (r : Option Room) → RoomStands r None → r ≡ None
-empty_room None st = refl
-empty_room (Some r) st = absurd st
+empty_room : (b : Bool) (r : Option Room) → ConferenceStands b r None → r ≡ None
+empty_room true r st = st.0
+empty_room false None st = refl
+empty_room false (Some r) st = absurd st
 
 -- no conference is open, and nobody was attached
 pub stands_new : (c : Conferences) → StandsFor c.hub nothing → ((connection : ℕ) → attached.conference_at c.attached connection ≡ None) → ((conference : ℕ) → live_in c.attached conference ≡ []) → Stands c (begun [])
 stands_new c stands unattached unlive = record {
   holds = record {
     stands = stands;
-    whole = λ d. subst IsWhole (sym (empty_room (room_at c.hub d) (stands.stands.of_rooms d))) tt;
-    taken = λ d n. ap (λ (r : Option Room). taken_in r n) (empty_room (room_at c.hub d) (stands.stands.of_rooms d));
+    whole = λ d. subst IsWhole (sym (empty_room (is_forgotten c.hub d) (room_at c.hub d) (stands.stands.conferences d))) tt;
+    taken = λ d n. ap (λ (r : Option Room). taken_in r n) (empty_room (is_forgotten c.hub d) (room_at c.hub d) (stands.stands.conferences d));
   };
   conferences_are = no_items c.attached.conferences.items (unattached 1);
   lives = unlive;

@@ -16,14 +16,18 @@ const HELLO: &str = "200b0000 00000001 0001000a";
 const REQUEST: &str = "20010001 00000001 0001000a 04040001";
 
 /// It is granted at once.
-const GRANTED: &str = " 20040007 00000001 0001000a 1e1c0001 24080001 0a040300 22080001 0a040300 1c04000a 08044000";
+const GRANTED: &str =
+    " 20040007 00000001 0001000a 1e1c0001 24080001 0a040300 22080001 0a040300 1c04000a 08044000";
 
-/// Each call once: a request is answered and written, a stream ends, a socket fails, a conference is closed.
+/// Each call once: a request is answered and written, a stream ends, a socket fails, a conference is closed and
+/// forgotten.
 /// Lines begin with the time, in milliseconds.
 const EACH_CALL: &str = "\
 0 status > NoConference
+0 forget > NoConference
 0 open > ok
 0 open > Used
+0 forget > Running
 0 attach 99 > NoUser
 0 attach 10 > ok 1
 0 attach 11 > ok 2
@@ -68,7 +72,18 @@ const EACH_CALL: &str = "\
 10007 read 3 200b0000000000010001000a > Ended
 10007 close > Ended
 10007 attach 10 > Ended
-10007 read 9 200b0000000000010001000a > NoConnection";
+10007 read 9 200b0000000000010001000a > NoConnection
+10007 forget > Running
+10008 leave 3 > ok
+10008 status > 1 members 8 events
+10008 forget > ok
+10008 forget > Forgotten
+10008 status > Forgotten
+10008 open > Used
+10008 attach 10 > Ended
+10008 close > Ended
+10008 ready > none
+10008 next_due > none";
 
 /// What a call answers that gives nothing.
 fn push_done(text: &mut String, done: Result<(), HubRefusal>) -> Result<(), AllocError> {
@@ -141,6 +156,7 @@ fn answer(alloc: Global, served: &mut Loop, line: &str) -> Result<String, AllocE
         "attach" => attach(alloc, served, read_u16(rest).unwrap_or(0), now, &mut text)?,
         "status" => status(served, &mut text)?,
         "close" => push_done(&mut text, served.admin(1, Act::Close, now))?,
+        "forget" => push_done(&mut text, served.forget(1))?,
         "ready" => push_number(&mut text, served.ready())?,
         "due" => push_number(&mut text, served.due(now))?,
         "next_due" => push_number(&mut text, served.next_due())?,
@@ -164,7 +180,12 @@ fn on(
         "read" => read(served, number, &bytes(alloc, last)?, now, text),
         "writing" => write!(text, "{}", served.writing(number).len()),
         "wrote" => {
-            wrote(served, number, usize::from(read_u16(last).unwrap_or(0)), now);
+            wrote(
+                served,
+                number,
+                usize::from(read_u16(last).unwrap_or(0)),
+                now,
+            );
             text.push_str("ok")
         }
         "until" => push_number(text, served.until(number)),
@@ -274,7 +295,7 @@ fn cut(alloc: Global) -> Result<String, AllocError> {
 
 #[test]
 fn each_call_answers_as_its_line_says(rt: HostRuntime) {
-    assert_told(&rt, run(rt.alloc(), EACH_CALL), "48 cases");
+    assert_told(&rt, run(rt.alloc(), EACH_CALL), "61 cases");
 }
 
 #[test]

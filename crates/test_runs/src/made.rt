@@ -1,11 +1,12 @@
 //! Cases that are made by code, and what no case says: what is acknowledged by the calls of a hub,
-//! readers and writers that fail, interleavings, refusals of the hub that no line meets, and how its
-//! conferences stand.
+//! readers and writers that fail, a conference that is forgotten, interleavings, refusals of the hub that no
+//! line meets, and how its conferences stand.
 
 mod acknowledgements;
 mod conferences;
 mod cuts;
 mod faults;
+mod forgotten;
 mod interleavings;
 mod limits;
 mod long_messages;
@@ -22,6 +23,7 @@ pub fn run_made<W: Write>(alloc: Global, output: &mut W) -> Result<(), Fault> {
     print_count(output, "conferences", conferences::run(alloc)?)?;
     print_count(output, "cuts", cuts::run(alloc)?)?;
     print_count(output, "faults", faults::run(alloc)?)?;
+    print_count(output, "forgotten", forgotten::run(alloc)?)?;
     print_count(output, "interleavings", interleavings::run(alloc)?)?;
     print_count(output, "limits", limits::run(alloc)?)?;
     print_count(output, "long_messages", long_messages::run(alloc)?)?;

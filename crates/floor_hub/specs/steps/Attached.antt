@@ -12,7 +12,7 @@ use Rattle.floor_hub.specs.declared.refusal.HubRefusal.{HubRefusal}
 use Rattle.floor_hub.specs.Connections.{connection_at}
 use Rattle.floor_hub.specs.Hub.{Hub, room_at}
 use Rattle.floor_hub.specs.StandsFor.{Stood}
-use Rattle.floor_hub.specs.Concerned.{AscendFrom, is_cut, is_shut}
+use Rattle.floor_hub.specs.Concerned.{AscendFrom, is_shut}
 pub use Rattle.floor_hub.specs.Members.{EachOf, IsKnown, Stands}
 
 -- the live connections of each conference, and whom the last call concerned

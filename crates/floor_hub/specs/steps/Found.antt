@@ -3,12 +3,12 @@ use Rattle.std.specs.Prelude.{◌≡◌, ℕ, nat_eq, false, Option, Some, None,
 use Rattle.floor_room.specs.Room.{Room}
 use Rattle.floor_hub.specs.declared.connection.Connection.{Connection}
 use Rattle.floor_hub.specs.declared.refusal.HubRefusal.{HubRefusal}
-use Rattle.floor_hub.specs.declared.refusal.HubRefusal.TheVariants.{NoConference, NoConnection}
+use Rattle.floor_hub.specs.declared.refusal.HubRefusal.TheVariants.{NoConnection}
 use Rattle.floor_hub.specs.Connections.{Connections, Puts, SameConnections, connection_at}
 
--- Without a room of this conference the call is refused, and no room has changed. Else its room has done so, and every other is as it was.
-pub record AtRoom {T : Type 0} (Did : Room → Room → Result T HubRefusal → Type 0) (rooms now : ℕ → Option Room) (c : ℕ) (result : Result T HubRefusal) : Type 0 where
-  pub absent : rooms c ≡ None → (result ≡ Err NoConference) × ((d : ℕ) → now d ≡ rooms d)
+-- Without a room of this conference the call is refused so, and no room has changed. Else its room has done so, and every other is as it was.
+pub record AtRoom {T : Type 0} (Did : Room → Room → Result T HubRefusal → Type 0) (gone : HubRefusal) (rooms now : ℕ → Option Room) (c : ℕ) (result : Result T HubRefusal) : Type 0 where
+  pub absent : rooms c ≡ None → (result ≡ Err gone) × ((d : ℕ) → now d ≡ rooms d)
   pub there : (r : Room) → rooms c ≡ Some r →
       (s : Room) × (now c ≡ Some s) × ((d : ℕ) → nat_eq c d ≡ false → now d ≡ rooms d) × Did r s result
 

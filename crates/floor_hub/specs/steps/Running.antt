@@ -31,9 +31,9 @@ QueuedIn r n result = 1 ≤ n → n ≤ length (conference_of r.ledger).members 
 abbrev pub place_of : Place → world.Place
 place_of p = record { conference = p.conference; n = p.n }
 
--- no room is broken off, and from none anything was taken
+-- no room is broken off, from none anything was taken, and no conference was forgotten
 abbrev pub AreWhole : Hub → Type 0
-AreWhole h = (c : ℕ) (r : Room) → room_at h c ≡ Some r → (r.ledger.is_broken ≡ false) × AreUntaken r.outboxes
+AreWhole h = ((c : ℕ) (r : Room) → room_at h c ≡ Some r → (r.ledger.is_broken ≡ false) × AreUntaken r.outboxes) × (h.forgotten ≡ [])
 
 -- the hub stands for the world, these are its places, and all that was queued still waits
 pub record IsRunning (h : Hub) (arrived : List Place) (w : World) : Type 0 where

@@ -14,4 +14,4 @@ returns-in-Ok c =
     subst (λ (x : Act). (places : List Place) → Goes c.args.hub.now c.admin.new.self places places (Admin c.args.conference x) c.done.result) c.in-Ok.ensures.value
     (λ places. further c.args.hub.now c.admin.new.self (Admin c.args.conference c.in-Ok.copy) (λ v. Done)
     (λ w. Fails c.admin.new.self w (Admin c.args.conference c.in-Ok.copy)) c.admin.result c.done.result places (λ v. tt) c.done.ensures.value c.admin.ensures.next
-    (λ w. fails c.admin.new.self w (Admin c.args.conference c.in-Ok.copy)) (whole_one _ (refusal_in c.admin.result) _ c.args.conference c.args.hub.now c.admin.new.self c.admin.ensures.room))
+    (λ w. fails c.admin.new.self w (Admin c.args.conference c.in-Ok.copy)) (whole_one _ (refusal_in c.admin.result) _ c.args.conference c.args.hub.now c.admin.new.self c.admin.ensures.room c.admin.ensures.forgotten))

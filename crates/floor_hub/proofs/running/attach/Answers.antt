@@ -17,9 +17,9 @@ returns-in-Ok-push c =
     subst (λ (ps : List Place). Goes c.args.hub.now c.attach.new.self c.args.places.now.items ps (Attach c.args.conference c.args.user) (Ok (Attached c.in-Ok.number)))
     (sym c.in-Ok-push.ensures.items)
     (attached c.args.hub.now c.attach.new.self c.args.conference c.args.user c.in-Ok.number c.in-Some.place c.args.places.now.items x.0 c.in-Ok.ensures.next
-    (whole_one by_broken None _ c.args.conference c.args.hub.now c.attach.new.self c.in-Ok.ensures.room (λ w. none-some (ByRoom (ByMachine Memory)) w)) x.1 x.2 x.3)
+    (whole_one by_broken None _ c.args.conference c.args.hub.now c.attach.new.self c.in-Ok.ensures.room c.attach.ensures.forgotten (λ w. none-some (ByRoom (ByMachine Memory)) w)) x.1 x.2 x.3)
 
 pub returns-in-Err : goal.returns-in-Err
 returns-in-Err c =
     unattached c.args.hub.now c.attach.new.self (Attach c.args.conference c.args.user) c.in-Err.refusal c.refused.result c.args.places.now.items c.refused.ensures.value c.in-Err.ensures.next
-    (whole_one by_broken (Some c.in-Err.refusal) _ c.args.conference c.args.hub.now c.attach.new.self c.in-Err.ensures.room)
+    (whole_one by_broken (Some c.in-Err.refusal) _ c.args.conference c.args.hub.now c.attach.new.self c.in-Err.ensures.room c.attach.ensures.forgotten)

@@ -9,4 +9,4 @@ use Rattle.floor_hub.proofs.running.leave.Goals as goal
 pub returns : goal.returns
 returns c = λ places. further c.args.hub.now c.leave.new.self (Leave c.args.number) (λ v. Done)
     (λ w. FailsGone c.leave.new.self w (Leave c.args.number)) c.leave.result c.done.result places (λ v. tt) c.done.ensures.value c.leave.ensures.next
-    (λ w. fails_gone c.leave.new.self w (Leave c.args.number)) (whole_of _ (refusal_in c.leave.result) _ (connection_at c.args.hub.now.connections c.args.number) c.args.hub.now c.leave.new.self c.leave.ensures.room)
+    (λ w. fails_gone c.leave.new.self w (Leave c.args.number)) (whole_of _ (refusal_in c.leave.result) _ (connection_at c.args.hub.now.connections c.args.number) c.args.hub.now c.leave.new.self c.leave.ensures.room c.leave.ensures.forgotten)

@@ -12,7 +12,7 @@ use Rattle.floor_hub.proofs.running.run.Goals as goal
 pub loop-item-init : goal.loop-item-init
 loop-item-init c = (
   nothing,
-  subst (λ (ps : List Place). IsRunning c.new-hub.result ps nothing) (sym c.new-places.ensures.items) (starts c.new-hub.result c.new-hub.ensures.value),
+  subst (λ (ps : List Place). IsRunning c.new-hub.result ps nothing) (sym c.new-places.ensures.items) (starts c.new-hub.result c.new-hub.ensures.value c.new-hub.ensures.remembered),
   ap (λ (xs : List Answer). xs ++ answers nothing c.args.steps.now) c.new-answers.ensures.items,
   refl,
 )

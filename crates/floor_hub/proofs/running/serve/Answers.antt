@@ -14,4 +14,4 @@ found Message = tt
 pub returns : goal.returns
 returns c = λ places. further c.args.hub.now c.serve.new.self (Serve c.args.number) answer_of
     (λ w. Fails c.serve.new.self w (Serve c.args.number)) c.serve.result c.served.result places found c.served.ensures.value c.serve.ensures.next
-    (λ w. fails c.serve.new.self w (Serve c.args.number)) (whole_of _ (refusal_in c.serve.result) _ (connection_at c.args.hub.now.connections c.args.number) c.args.hub.now c.serve.new.self c.serve.ensures.room)
+    (λ w. fails c.serve.new.self w (Serve c.args.number)) (whole_of _ (refusal_in c.serve.result) _ (connection_at c.args.hub.now.connections c.args.number) c.args.hub.now c.serve.new.self c.serve.ensures.room c.serve.ensures.forgotten)

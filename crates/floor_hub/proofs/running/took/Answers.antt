@@ -9,4 +9,4 @@ use Rattle.floor_hub.proofs.running.took.Goals as goal
 pub returns : goal.returns
 returns c = λ places. further c.args.hub.now c.took.new.self (Took c.args.number c.args.k) (λ v. Done)
     (λ w. Fails c.took.new.self w (Took c.args.number c.args.k)) c.took.result c.done.result places (λ v. tt) c.done.ensures.value c.took.ensures.next
-    (λ w. fails c.took.new.self w (Took c.args.number c.args.k)) (whole_of _ (refusal_in c.took.result) _ (connection_at c.args.hub.now.connections c.args.number) c.args.hub.now c.took.new.self c.took.ensures.room)
+    (λ w. fails c.took.new.self w (Took c.args.number c.args.k)) (whole_of _ (refusal_in c.took.result) _ (connection_at c.args.hub.now.connections c.args.number) c.args.hub.now c.took.new.self c.took.ensures.room c.took.ensures.forgotten)

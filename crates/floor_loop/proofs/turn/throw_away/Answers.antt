@@ -1,5 +1,4 @@
 use Rattle.floor_loop.specs.steps.Moved.{loop_of}
-use Rattle.floor_loop.specs.steps.Thrown.{Thrown}
 use Rattle.floor_loop.proofs.Throwing.{thrown-both, thrown-none}
 use Rattle.floor_loop.proofs.turn.throw_away.Goals as goal
 

@@ -15,7 +15,7 @@ use Rattle.floor_hub.specs.declared.refusal.HubRefusal.TheVariants.{ByRoom}
 use Rattle.floor_hub.specs.declared.step.Step.TheVariants.{Admin}
 use Rattle.floor_hub.specs.declared.step.Answer.TheVariants.{Done}
 use Rattle.floor_hub.specs.Connections.{SameConnections, StayLive, connection_at}
-use Rattle.floor_hub.specs.Hub.{Hub, room_at}
+use Rattle.floor_hub.specs.Hub.{Hub, is_forgotten, room_at}
 use Rattle.floor_hub.specs.Left.{LeftAt}
 use Rattle.floor_hub.specs.Rooms.{OneRoom, admin_event, by_broken, refusal_in}
 use Rattle.floor_hub.specs.StandsFor.{StandsFor, Stood}
@@ -23,6 +23,9 @@ use Rattle.floor_hub.specs.Calls.{IsWant, Fails, Turns}
 use Rattle.floor_hub.specs.World.{turn, World}
 use Rattle.floor_hub.proofs.Closing.{ended, good, stood}
 use Rattle.floor_hub.proofs.Outboxes.{grows-one, keeps-outboxes, were-same}
+use Rattle.floor_hub.proofs.Forgetting.{event-ended}
+use Rattle.floor_hub.proofs.Recalling.{Remembers, recalled, recalled-room, recalls, remembers, still-gone}
+use Rattle.floor_hub.specs.steps.Serving.{EventIn}
 use Rattle.floor_hub.proofs.hub.Hub.admin.Goals as goal
 use Rattle.floor_hub.proofs.Attaching.{place-same}
 use Rattle.floor_hub.proofs.Naming.{Named, moves-by, named-at}
@@ -30,24 +33,29 @@ use Rattle.floor_hub.proofs.Moving.{event-went}
 use Rattle.floor_hub.specs.Concerned.{Concerns}
 
 abbrev old : goal.After-admin_at → Hub
-old c = record { rooms = c.self.inside.rooms.entries; connections = c.self.inside.connections; arrivals = c.self.inside.arrivals; concerned = c.self.inside.concerned.numbers }
+old c = record { rooms = c.self.inside.rooms.entries; connections = c.self.inside.connections; arrivals = c.self.inside.arrivals; concerned = c.self.inside.concerned.numbers; forgotten = c.self.inside.forgotten.keys }
 
 abbrev new : goal.After-admin_at → Hub
-new c = record { rooms = c.admin_at.new.rooms.entries; connections = c.self.inside.connections; arrivals = c.self.inside.arrivals; concerned = c.admin_at.new.concerned.numbers }
-
-turns : (c : goal.After-admin_at) (w : World) → StandsFor (old c) w → MatchResult c.admin_at.result (λ v. Turns (new c) w (Admin c.args.conference c.args.act) (Done)) (λ r. Fails (new c) w (Admin c.args.conference c.args.act) r)
-turns c w st =
-    let g = good (old c) w st in
-    ended (new c) w w (Admin c.args.conference c.args.act) (IsWant (turn w (Admin c.args.conference c.args.act)).answer) (λ v. Done) tt g g c.admin_at.result
-    (admin_acted (room_at (old c)) (room_at (new c)) (connection_at c.self.inside.connections) c.self.inside.arrivals w c.args.conference c.args.act st.stands c.admin_at.result
-    (acted (room_at (old c)) (room_at (new c)) (connection_at c.self.inside.connections) c.self.inside.arrivals w c.args.conference (event_of_act c.args.act) (quiet-act c.args.act) st.stands
-    c.admin_at.result (room_at (old c) c.args.conference) refl c.admin_at.ensures.room.absent
-    (λ r is. let t = c.admin_at.ensures.room.there r is in (t.0, t.1, t.2, t.3.0, t.3.1))))
+new c = record { rooms = c.admin_at.new.rooms.entries; connections = c.self.inside.connections; arrivals = c.self.inside.arrivals; concerned = c.admin_at.new.concerned.numbers; forgotten = c.self.inside.forgotten.keys }
 
 room : (c : goal.After-admin_at) → OneRoom by_broken (refusal_in c.admin_at.result) (admin_event c.args.act) c.args.conference (old c) (new c)
 room c =
-    event-room c.args.conference (event_of_act c.args.act) (old c) (new c) c.admin_at.result (room_at (old c) c.args.conference) refl c.admin_at.ensures.room.absent
+    event-room c.args.conference (event_of_act c.args.act) (old c) (new c) (is_forgotten (old c) c.args.conference) c.admin_at.result (room_at (old c) c.args.conference) refl c.admin_at.ensures.room.absent
     (λ r is. let t = c.admin_at.ensures.room.there r is in (t.0, t.1, t.2, t.3.0, t.3.1))
+
+remember : (c : goal.After-admin_at) (w : World) → StandsFor (old c) w → Remembers (old c) (new c)
+remember c w st =
+    remembers (old c) (new c) w st refl (λ d e. still-gone by_broken (refusal_in c.admin_at.result) (admin_event c.args.act) c.args.conference (old c) (new c) (room c) d)
+    (were-same (old c).connections (new c).connections (λ k. refl))
+
+turns : (c : goal.After-admin_at) (w : World) → StandsFor (old c) w → MatchResult c.admin_at.result (λ v. Turns (new c) w (Admin c.args.conference c.args.act) (Done)) (λ r. Fails (new c) w (Admin c.args.conference c.args.act) r)
+turns c w st =
+    let at = recalled-room (EventIn (event_of_act c.args.act)) (old c) (new c) w st c.args.conference c.admin_at.result (event-ended (event_of_act c.args.act)) c.admin_at.ensures.room in
+    ended (old c) (new c) w w st (remember c w st) (Admin c.args.conference c.args.act) (IsWant (turn w (Admin c.args.conference c.args.act)).answer) (λ v. Done) tt (good (old c) w st) c.admin_at.result
+    (admin_acted (recalled (old c) (old c) w) (recalled (old c) (new c) w) (connection_at c.self.inside.connections) c.self.inside.arrivals w c.args.conference c.args.act (recalls (old c) w st) c.admin_at.result
+    (acted (recalled (old c) (old c) w) (recalled (old c) (new c) w) (connection_at c.self.inside.connections) c.self.inside.arrivals w c.args.conference (event_of_act c.args.act) (quiet-act c.args.act) (recalls (old c) w st)
+    c.admin_at.result (recalled (old c) (old c) w c.args.conference) refl at.absent
+    (λ r is. let t = at.there r is in (t.0, t.1, t.2, t.3.0, t.3.1))))
 
 still_stood : (c : goal.After-admin_at) → Stood (new c)
 still_stood c =
@@ -93,5 +101,5 @@ same c (Err x) = λ k. refl
 pub returns-clause-left : goal.returns-clause-left
 returns-clause-left c =
     subst (λ h. IfErr c.admin_at.result (LeftAt (admin_event c.args.act) c.args.conference h (new c))) c.self.view_is
-    (left-at (admin_event c.args.act) (event_of_act c.args.act) c.args.conference (old c) (new c) (λ r. refl) refl c.admin_at.result (room_at (old c) c.args.conference) refl c.admin_at.ensures.room.absent
+    (left-at (admin_event c.args.act) (event_of_act c.args.act) c.args.conference (old c) (new c) (λ r. refl) refl (is_forgotten (old c) c.args.conference) c.admin_at.result (room_at (old c) c.args.conference) refl c.admin_at.ensures.room.absent
     (λ r is. let t = c.admin_at.ensures.room.there r is in (t.0, t.1, t.2, fails c r t.0 c.admin_at.result t.3.1)) (same c c.admin_at.result))

@@ -1,14 +1,13 @@
-use Rattle.std.proofs.Common.{◌≡◌, ◌≢◌, ℕ, ◌+◌, ◌≤◌, [], Some, None, arith, length, refl, sym, subst}
+use Rattle.std.proofs.Common.{◌≡◌, ◌≢◌, ℕ, Bool, true, false, ◌+◌, ◌≤◌, [], Some, None, arith, length, refl, sym, subst}
 use Rattle.std.specs.Prelude.{Ok, Err, Option, Result}
 use Rattle.floor_hub.specs.declared.refusal.HubRefusal.{HubRefusal}
-use Rattle.floor_hub.specs.declared.refusal.HubRefusal.TheVariants.{NoConference}
 use Rattle.floor_hub.specs.declared.step.Step.TheVariants.{Attach}
 use Rattle.floor_hub.specs.declared.step.Answer.TheVariants.{Attached}
 use Rattle.floor_hub.specs.Connections.{connection_at}
 use Rattle.floor_hub.specs.declared.connection.Connection.{Connection}
-use Rattle.floor_hub.specs.Hub.{Hub, room_at}
+use Rattle.floor_hub.specs.Hub.{Hub, is_forgotten, room_at}
 use Rattle.floor_hub.specs.Left.{LeftAt}
-use Rattle.floor_hub.specs.Rooms.{Joins, OneRoom, attach_event, by_broken}
+use Rattle.floor_hub.specs.Rooms.{Joins, OneRoom, attach_event, by_broken, ended_or_none}
 use Rattle.floor_hub.specs.StandsFor.{HasOutbox, HaveOutboxes, StandsFor, Stood}
 use Rattle.floor_hub.specs.Calls.{IsWant, Fails, Turns}
 use Rattle.floor_hub.specs.World.{turn, World}
@@ -20,6 +19,9 @@ use Rattle.floor_hub.proofs.RoomSteps.{attach-room}
 use Rattle.floor_room.specs.Ledger.{conference_of}
 use Rattle.floor_room.specs.Room.{Room}
 use Rattle.floor_hub.proofs.Outboxes.{grows-one, has-joined, keeps-outboxes, were-same}
+use Rattle.floor_hub.proofs.Forgetting.{attach-ended}
+use Rattle.floor_hub.proofs.Recalling.{Remembers, forgotten-gone, recalled, recalled-room, recalls, remembers, remembers-joined, still-gone}
+use Rattle.floor_hub.specs.steps.Serving.{AttachIn}
 use Rattle.floor_hub.proofs.hub.Hub.attach.Goals as goal
 use Rattle.floor_hub.proofs.Attaching.{last-untaken, next-is-free, place-same, within}
 use Rattle.floor_hub.specs.steps.Attached.{live_in}
@@ -35,37 +37,55 @@ overflow_add-number c =
 
 pub attach_at-joined-requires : goal.attach_at-joined-requires
 attach_at-joined-requires c =
-    let h : Hub = record { rooms = c.self.inside.rooms.entries; connections = c.self.inside.connections; arrivals = c.self.inside.arrivals; concerned = c.self.inside.concerned.numbers } in
+    let h : Hub = record { rooms = c.self.inside.rooms.entries; connections = c.self.inside.connections; arrivals = c.self.inside.arrivals; concerned = c.self.inside.concerned.numbers; forgotten = c.self.inside.forgotten.keys } in
     record {
       fresh = next-is-free h c.self.invariant.stood.0 c.self.invariant.stood.1;
       within = λ r is. within h c.self.invariant.stood.0 (live_in c.self.inside.concerned) c.self.invariant.stood.1 c.self.invariant.stood.2 c.self.invariant.attached c.args.conference r is;
     }
 
 abbrev old_ok : goal.After-self-1 → Hub
-old_ok c = record { rooms = c.self.inside.rooms.entries; connections = c.self.inside.connections; arrivals = c.self.inside.arrivals; concerned = c.self.inside.concerned.numbers }
+old_ok c = record { rooms = c.self.inside.rooms.entries; connections = c.self.inside.connections; arrivals = c.self.inside.arrivals; concerned = c.self.inside.concerned.numbers; forgotten = c.self.inside.forgotten.keys }
 
 abbrev new_ok : goal.After-self-1 → Hub
-new_ok c = record { rooms = c.attach_at-joined.new.rooms.entries; connections = c.attach_at-joined.new.connections; arrivals = c.self.inside.arrivals + 1; concerned = c.attach_at-joined.new.concerned.numbers }
-
-turns_ok : (c : goal.After-self-1) (w : World) → StandsFor (old_ok c) w → Turns (new_ok c) w (Attach c.args.conference c.args.user) (Attached (c.self.inside.arrivals + 1))
-turns_ok c w st =
-    let g = good (old_ok c) w st in
-    ended {T = Unit {0}} (new_ok c) w w (Attach c.args.conference c.args.user) (IsWant (turn w (Attach c.args.conference c.args.user)).answer) (λ v. Attached (c.self.inside.arrivals + 1)) tt g g (Ok tt)
-    (attach_result (room_at (old_ok c)) (room_at (new_ok c)) (connection_at c.self.inside.connections) (connection_at c.attach_at-joined.new.connections) c.self.inside.arrivals w
-    c.args.conference c.args.user st.stands st.kept (Ok tt) (room_at (old_ok c) c.args.conference) refl c.in-Ok.ensures.room.absent c.in-Ok.ensures.left
-    (λ r is. let t = c.in-Ok.ensures.room.there r is in (t.0, t.1, t.2, (t.3.0.0, (t.3.0.1.here, t.3.0.1.others)), tt)))
+new_ok c = record { rooms = c.attach_at-joined.new.rooms.entries; connections = c.attach_at-joined.new.connections; arrivals = c.self.inside.arrivals + 1; concerned = c.attach_at-joined.new.concerned.numbers; forgotten = c.self.inside.forgotten.keys }
 
 room_ok : (c : goal.After-self-1) → OneRoom by_broken None (attach_event c.args.user) c.args.conference (old_ok c) (new_ok c)
 room_ok c =
-    attach-room c.args.conference c.args.user (old_ok c) (new_ok c) (Ok tt) (room_at (old_ok c) c.args.conference) refl c.in-Ok.ensures.room.absent
+    attach-room c.args.conference c.args.user (old_ok c) (new_ok c) (is_forgotten (old_ok c) c.args.conference) (Ok tt) (room_at (old_ok c) c.args.conference) refl c.in-Ok.ensures.room.absent
     (λ r is. let t = c.in-Ok.ensures.room.there r is in (t.0, t.1, t.2, t.3.0.0, tt))
 
-ok_err : ◌≡◌ {A = Result (Unit {0}) HubRefusal} (Ok tt) (Err NoConference) → ⊥
-ok_err e = cc
+ok_err : (b : Bool) → ◌≡◌ {A = Result (Unit {0}) HubRefusal} (Ok tt) (Err (ended_or_none b)) → ⊥
+ok_err b e = cc
+
+-- who has joined is of a conference that wasn't forgotten
+fresh : (c : goal.After-self-1) (w : World) → StandsFor (old_ok c) w → is_forgotten (old_ok c) c.args.conference ≡ false
+fresh c w st = by (is_forgotten (old_ok c) c.args.conference) refl
+  where
+    by : (b : Bool) → is_forgotten (old_ok c) c.args.conference ≡ b → is_forgotten (old_ok c) c.args.conference ≡ false
+    by false e = e
+    by true e = absurd (ok_err (is_forgotten (old_ok c) c.args.conference) (c.in-Ok.ensures.room.absent (forgotten-gone (old_ok c) w st c.args.conference e).0).0)
+
+remember_ok : (c : goal.After-self-1) (w : World) → StandsFor (old_ok c) w → Remembers (old_ok c) (new_ok c)
+remember_ok c w st = by (room_at (old_ok c) c.args.conference) refl
+  where
+    by : (y : Option Room) → room_at (old_ok c) c.args.conference ≡ y → Remembers (old_ok c) (new_ok c)
+    by None is = absurd (ok_err (is_forgotten (old_ok c) c.args.conference) (c.in-Ok.ensures.room.absent is).0)
+    by (Some r) is =
+        remembers-joined (old_ok c) (new_ok c) w st refl (λ d e. still-gone by_broken None (attach_event c.args.user) c.args.conference (old_ok c) (new_ok c) (room_ok c) d)
+        (c.self.inside.arrivals + 1) (record { conference = c.args.conference; n = length (conference_of r.ledger).members + 1; held = [] }) (c.in-Ok.ensures.room.there r is).3.0.1 (fresh c w st)
+
+turns_ok : (c : goal.After-self-1) (w : World) → StandsFor (old_ok c) w → Turns (new_ok c) w (Attach c.args.conference c.args.user) (Attached (c.self.inside.arrivals + 1))
+turns_ok c w st =
+    let at = recalled-room (AttachIn c.args.conference c.args.user (c.self.inside.arrivals + 1) c.self.inside.connections c.attach_at-joined.new.connections) (old_ok c) (new_ok c) w st c.args.conference (Ok tt)
+    (attach-ended c.args.conference c.args.user (c.self.inside.arrivals + 1) c.self.inside.connections c.attach_at-joined.new.connections) c.in-Ok.ensures.room in
+    ended {T = Unit {0}} (old_ok c) (new_ok c) w w st (remember_ok c w st) (Attach c.args.conference c.args.user) (IsWant (turn w (Attach c.args.conference c.args.user)).answer) (λ v. Attached (c.self.inside.arrivals + 1)) tt (good (old_ok c) w st) (Ok tt)
+    (attach_result (recalled (old_ok c) (old_ok c) w) (recalled (old_ok c) (new_ok c) w) (connection_at c.self.inside.connections) (connection_at c.attach_at-joined.new.connections) c.self.inside.arrivals w
+    c.args.conference c.args.user (recalls (old_ok c) w st) st.kept (Ok tt) (recalled (old_ok c) (old_ok c) w c.args.conference) refl at.absent c.in-Ok.ensures.left
+    (λ r is. let t = at.there r is in (t.0, t.1, t.2, (t.3.0.0, (t.3.0.1.here, t.3.0.1.others)), tt)))
 
 -- who has joined has an outbox, the last of its room
 has_outboxes : (c : goal.After-self-1) (y : Option Room) → room_at (old_ok c) c.args.conference ≡ y → HaveOutboxes (new_ok c)
-has_outboxes c None is = absurd (ok_err (c.in-Ok.ensures.room.absent is).0)
+has_outboxes c None is = absurd (ok_err (is_forgotten (old_ok c) c.args.conference) (c.in-Ok.ensures.room.absent is).0)
 has_outboxes c (Some r) is =
     let t = c.in-Ok.ensures.room.there r is in
     let n : ℕ = length (conference_of r.ledger).members + 1 in
@@ -81,7 +101,7 @@ still_stood_ok c =
     (has_outboxes c (room_at (old_ok c) c.args.conference) refl)
 
 there : (c : goal.After-self-1) → room_at (old_ok c) c.args.conference ≢ None
-there c none = ok_err (c.in-Ok.ensures.room.absent none).0
+there c none = ok_err (is_forgotten (old_ok c) c.args.conference) (c.in-Ok.ensures.room.absent none).0
 
 named_ok : (c : goal.After-self-1) → Named c.attach_at-joined.new.concerned (old_ok c) (new_ok c)
 named_ok c =
@@ -124,7 +144,7 @@ returns-in-Ok-clause-room c =
 -- the connection that was made
 made : (c : goal.After-self-1) (y : Option Room) → room_at (old_ok c) c.args.conference ≡ y →
     (x : Connection) × (connection_at (new_ok c).connections (c.self.inside.arrivals + 1) ≡ Some x) × (x.conference ≡ c.args.conference)
-made c None is = absurd (ok_err (c.in-Ok.ensures.room.absent is).0)
+made c None is = absurd (ok_err (is_forgotten (old_ok c) c.args.conference) (c.in-Ok.ensures.room.absent is).0)
 made c (Some r) is =
     let t = c.in-Ok.ensures.room.there r is in
     (record { conference = c.args.conference; n = length (conference_of r.ledger).members + 1; held = [] }, t.3.0.1.here, refl)
@@ -133,23 +153,30 @@ pub returns-in-Ok-clause-found : goal.returns-in-Ok-clause-found
 returns-in-Ok-clause-found c = made c (room_at (old_ok c) c.args.conference) refl
 
 abbrev old_err : goal.In-Err → Hub
-old_err c = record { rooms = c.self.inside.rooms.entries; connections = c.self.inside.connections; arrivals = c.self.inside.arrivals; concerned = c.self.inside.concerned.numbers }
+old_err c = record { rooms = c.self.inside.rooms.entries; connections = c.self.inside.connections; arrivals = c.self.inside.arrivals; concerned = c.self.inside.concerned.numbers; forgotten = c.self.inside.forgotten.keys }
 
 abbrev new_err : goal.In-Err → Hub
-new_err c = record { rooms = c.attach_at-joined.new.rooms.entries; connections = c.attach_at-joined.new.connections; arrivals = c.self.inside.arrivals; concerned = c.attach_at-joined.new.concerned.numbers }
-
-turns_err : (c : goal.In-Err) (w : World) → StandsFor (old_err c) w → Fails (new_err c) w (Attach c.args.conference c.args.user) c.in-Err.refusal
-turns_err c w st =
-    let g = good (old_err c) w st in
-    ended {T = Unit {0}} (new_err c) w w (Attach c.args.conference c.args.user) (IsWant (turn w (Attach c.args.conference c.args.user)).answer) (λ v. Attached (c.self.inside.arrivals + 1)) tt g g (Err c.in-Err.refusal)
-    (attach_result (room_at (old_err c)) (room_at (new_err c)) (connection_at c.self.inside.connections) (connection_at c.attach_at-joined.new.connections) c.self.inside.arrivals w
-    c.args.conference c.args.user st.stands st.kept (Err c.in-Err.refusal) (room_at (old_err c) c.args.conference) refl c.in-Err.ensures.room.absent c.in-Err.ensures.left
-    (λ r is. let t = c.in-Err.ensures.room.there r is in (t.0, t.1, t.2, t.3.0, t.3.1)))
+new_err c = record { rooms = c.attach_at-joined.new.rooms.entries; connections = c.attach_at-joined.new.connections; arrivals = c.self.inside.arrivals; concerned = c.attach_at-joined.new.concerned.numbers; forgotten = c.self.inside.forgotten.keys }
 
 room_err : (c : goal.In-Err) → OneRoom by_broken (Some c.in-Err.refusal) (attach_event c.args.user) c.args.conference (old_err c) (new_err c)
 room_err c =
-    attach-room c.args.conference c.args.user (old_err c) (new_err c) (Err c.in-Err.refusal) (room_at (old_err c) c.args.conference) refl c.in-Err.ensures.room.absent
+    attach-room c.args.conference c.args.user (old_err c) (new_err c) (is_forgotten (old_err c) c.args.conference) (Err c.in-Err.refusal) (room_at (old_err c) c.args.conference) refl c.in-Err.ensures.room.absent
     (λ r is. let t = c.in-Err.ensures.room.there r is in (t.0, t.1, t.2, t.3.0, t.3.1))
+
+remember_err : (c : goal.In-Err) (w : World) → StandsFor (old_err c) w → Remembers (old_err c) (new_err c)
+remember_err c w st =
+    remembers (old_err c) (new_err c) w st refl (λ d e. still-gone by_broken (Some c.in-Err.refusal) (attach_event c.args.user) c.args.conference (old_err c) (new_err c) (room_err c) d)
+    (were-same (old_err c).connections (new_err c).connections c.in-Err.ensures.left)
+
+turns_err : (c : goal.In-Err) (w : World) → StandsFor (old_err c) w → Fails (new_err c) w (Attach c.args.conference c.args.user) c.in-Err.refusal
+turns_err c w st =
+    let at = recalled-room (AttachIn c.args.conference c.args.user (c.self.inside.arrivals + 1) c.self.inside.connections c.attach_at-joined.new.connections) (old_err c) (new_err c) w st c.args.conference (Err c.in-Err.refusal)
+    (attach-ended c.args.conference c.args.user (c.self.inside.arrivals + 1) c.self.inside.connections c.attach_at-joined.new.connections) c.in-Err.ensures.room in
+    ended {T = Unit {0}} (old_err c) (new_err c) w w st (remember_err c w st) (Attach c.args.conference c.args.user) (IsWant (turn w (Attach c.args.conference c.args.user)).answer) (λ v. Attached (c.self.inside.arrivals + 1)) tt (good (old_err c) w st)
+    (Err c.in-Err.refusal)
+    (attach_result (recalled (old_err c) (old_err c) w) (recalled (old_err c) (new_err c) w) (connection_at c.self.inside.connections) (connection_at c.attach_at-joined.new.connections) c.self.inside.arrivals w
+    c.args.conference c.args.user (recalls (old_err c) w st) st.kept (Err c.in-Err.refusal) (recalled (old_err c) (old_err c) w c.args.conference) refl at.absent c.in-Err.ensures.left
+    (λ r is. let t = at.there r is in (t.0, t.1, t.2, t.3.0, t.3.1)))
 
 still_stood_err : (c : goal.In-Err) → Stood (new_err c)
 still_stood_err c =
@@ -181,5 +208,5 @@ returns-in-Err-clause-room c =
 pub returns-in-Err-clause-left : goal.returns-in-Err-clause-left
 returns-in-Err-clause-left c =
     subst (λ h. LeftAt (attach_event c.args.user) c.args.conference h (new_err c) c.in-Err.refusal) c.self.view_is
-    (left-attach c.args.user c.args.conference (old_err c) (new_err c) c.in-Err.refusal refl (room_at (old_err c) c.args.conference) refl c.in-Err.ensures.room.absent
+    (left-attach c.args.user c.args.conference (old_err c) (new_err c) (is_forgotten (old_err c) c.args.conference) c.in-Err.refusal refl (room_at (old_err c) c.args.conference) refl c.in-Err.ensures.room.absent
     (λ r is. let t = c.in-Err.ensures.room.there r is in (t.0, t.1, t.2, t.3.1)) c.in-Err.ensures.left)

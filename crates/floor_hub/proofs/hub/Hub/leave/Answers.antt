@@ -13,7 +13,7 @@ use Rattle.floor_hub.specs.declared.step.Step.TheVariants.{Leave}
 use Rattle.floor_hub.specs.declared.step.Answer.TheVariants.{Done}
 use Rattle.floor_hub.specs.Connections.{Puts, connection_at}
 use Rattle.floor_hub.specs.declared.connection.Connection.{Connection}
-use Rattle.floor_hub.specs.steps.Serving.{LeaveFailsIn, LeavesIn}
+use Rattle.floor_hub.specs.steps.Serving.{LeaveFailsIn, LeaveOf, LeavesIn}
 use Rattle.floor_hub.specs.Hub.{Hub, room_at}
 use Rattle.floor_hub.specs.Left.{LeftLeaving}
 use Rattle.floor_hub.specs.Rooms.{RoomOf, leave_event, refusal_in}
@@ -21,7 +21,8 @@ use Rattle.floor_hub.specs.StandsFor.{StandsFor, Stood}
 use Rattle.floor_hub.specs.Calls.{FailsGone, Turns}
 use Rattle.floor_hub.specs.World.{IsIdle, World, turn}
 use Rattle.floor_hub.proofs.Closing.{ended, good, good_next, stood}
-use Rattle.floor_hub.proofs.Outboxes.{grows-of, keeps-outboxes, outbox-room, were-of}
+use Rattle.floor_hub.proofs.Outboxes.{WasThere, grows-of, keeps-outboxes, outbox-room, were-of}
+use Rattle.floor_hub.proofs.Recalling.{Remembers, recalled, recalled-connection, recalls, remembers, still-gone-of}
 use Rattle.floor_hub.proofs.hub.Hub.leave.Goals as goal
 use Rattle.floor_hub.specs.declared.step.Answer.{Answer}
 use Rattle.floor_hub.proofs.Naming.{Named, moves-by, named-left}
@@ -29,10 +30,10 @@ use Rattle.floor_hub.proofs.Moving.{leave-went}
 use Rattle.floor_hub.specs.Concerned.{Concerns}
 
 abbrev old : goal.After-leave_at → Hub
-old c = record { rooms = c.self.inside.rooms.entries; connections = c.self.inside.connections; arrivals = c.self.inside.arrivals; concerned = c.self.inside.concerned.numbers }
+old c = record { rooms = c.self.inside.rooms.entries; connections = c.self.inside.connections; arrivals = c.self.inside.arrivals; concerned = c.self.inside.concerned.numbers; forgotten = c.self.inside.forgotten.keys }
 
 abbrev new : goal.After-leave_at → Hub
-new c = record { rooms = c.leave_at.new.rooms.entries; connections = c.leave_at.new.connections; arrivals = c.self.inside.arrivals; concerned = c.leave_at.new.concerned.numbers }
+new c = record { rooms = c.leave_at.new.rooms.entries; connections = c.leave_at.new.connections; arrivals = c.self.inside.arrivals; concerned = c.leave_at.new.concerned.numbers; forgotten = c.self.inside.forgotten.keys }
 
 abbrev Want : Answer → HubRefusal → Type 0
 Want answer r = (r ≡ ByRoom (ByMachine Memory)) × (¬ IsIdle answer)
@@ -49,27 +50,35 @@ there : (c : goal.After-leave_at) (x : Connection) → connection_at (old c).con
     × OnOk c.leave_at.result (LeavesIn r s x.n) × IfErr c.leave_at.result (λ y. (why : RoomRefusal) × (y ≡ ByRoom why) × LeaveFailsIn r s x.n why)
 there c x is r room = let t = c.leave_at.ensures.connection.there x is r room in (t.0, t.2, t.3, t.5.1, t.5.2)
 
-turns : (c : goal.After-leave_at) (w : World) → StandsFor (old c) w → MatchResult c.leave_at.result (λ v. Turns (new c) w (Leave c.args.number) (Done)) (λ r. FailsGone (new c) w (Leave c.args.number) r)
-turns c w st =
-    let g = good (old c) w st in
-    ended (new c) w (turn w (Leave c.args.number)).world (Leave c.args.number) (Want (turn w (Leave c.args.number)).answer) (λ v. Done) tt g (good_next w (Leave c.args.number) tt g) c.leave_at.result
-    (leave_result (room_at (old c)) (room_at (new c)) (connection_at c.self.inside.connections) (connection_at c.leave_at.new.connections) c.self.inside.arrivals w c.args.number st.stands st.kept
-    c.leave_at.result (connection_at c.self.inside.connections c.args.number) refl c.leave_at.ensures.connection.absent
-    (λ x is. let t = gone c x is in (t.here, t.others)) (there c))
-
 room : (c : goal.After-leave_at) → RoomOf None (refusal_in c.leave_at.result) leave_event (connection_at (old c).connections c.args.number) (old c) (new c)
 room c =
     leave-room c.args.number (old c) (new c) c.self.invariant.stood.0 c.self.invariant.stood.1 c.leave_at.result (connection_at c.self.inside.connections c.args.number) refl c.leave_at.ensures.connection.absent refl
     (there c)
+
+-- each live connection was there
+were : (c : goal.After-leave_at) (k : ℕ) → WasThere (connection_at (old c).connections k) (connection_at (new c).connections k)
+were c = were-of (old c).connections (new c).connections c.args.number (connection_at (old c).connections c.args.number) refl (λ absent. (c.leave_at.ensures.connection.absent absent).2)
+    (λ x there. (None, tt, gone c x there))
+
+remember : (c : goal.After-leave_at) (w : World) → StandsFor (old c) w → Remembers (old c) (new c)
+remember c w st =
+    remembers (old c) (new c) w st refl (λ d e. still-gone-of None (refusal_in c.leave_at.result) leave_event (connection_at (old c).connections c.args.number) (old c) (new c) (room c) d) (were c)
+
+turns : (c : goal.After-leave_at) (w : World) → StandsFor (old c) w → MatchResult c.leave_at.result (λ v. Turns (new c) w (Leave c.args.number) (Done)) (λ r. FailsGone (new c) w (Leave c.args.number) r)
+turns c w st =
+    let g = good (old c) w st in
+    let at = recalled-connection LeaveOf (old c) (new c) w st c.args.number c.leave_at.result c.leave_at.ensures.connection in
+    ended (old c) (new c) w (turn w (Leave c.args.number)).world st (remember c w st) (Leave c.args.number) (Want (turn w (Leave c.args.number)).answer) (λ v. Done) tt (good_next w (Leave c.args.number) tt g) c.leave_at.result
+    (leave_result (recalled (old c) (old c) w) (recalled (old c) (new c) w) (connection_at c.self.inside.connections) (connection_at c.leave_at.new.connections) c.self.inside.arrivals w c.args.number (recalls (old c) w st) st.kept
+    c.leave_at.result (connection_at c.self.inside.connections c.args.number) refl at.absent
+    (λ x is. let t = gone c x is in (t.here, t.others)) (λ x is r room. let t = at.there x is r room in (t.0, t.2, t.3, t.5.1, t.5.2)))
 
 still_stood : (c : goal.After-leave_at) → Stood (new c)
 still_stood c =
     let w = c.self.invariant.stood.0 in
     stood (new c) w (turn w (Leave c.args.number)).world (Leave c.args.number) (Want (turn w (Leave c.args.number)).answer) (λ v. Done) c.leave_at.result (turns c w c.self.invariant.stood.1)
     (keeps-outboxes (old c) (new c) (grows-of None (refusal_in c.leave_at.result) leave_event (connection_at (old c).connections c.args.number) (old c) (new c) (room c))
-    (were-of (old c).connections (new c).connections c.args.number (connection_at (old c).connections c.args.number) refl (λ absent. (c.leave_at.ensures.connection.absent absent).2)
-    (λ x there. (None, tt, gone c x there)))
-    c.self.invariant.stood.2)
+    (were c) c.self.invariant.stood.2)
 
 named : (c : goal.After-leave_at) → Named c.leave_at.new.concerned (old c) (new c)
 named c =

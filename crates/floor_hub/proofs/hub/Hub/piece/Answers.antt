@@ -12,25 +12,19 @@ use Rattle.floor_hub.specs.Calls.{FailsSame, Turns}
 use Rattle.floor_hub.specs.World.{IsIdle, turn, World}
 use Rattle.floor_hub.proofs.Closing.{ended, good, stood}
 use Rattle.floor_hub.proofs.Outboxes.{WasThere, grows-same, keeps-outboxes, were-of, were-same}
+use Rattle.floor_hub.proofs.Recalling.{Remembers, recalled, recalls, remembers}
 use Rattle.floor_hub.proofs.hub.Hub.piece.Goals as goal
 use Rattle.floor_hub.specs.declared.step.Answer.{Answer}
 use Rattle.floor_hub.proofs.Attaching.{attached-same, place-same, places-of}
 
 abbrev old : goal.After-push_at → Hub
-old c = record { rooms = c.self.inside.rooms.entries; connections = c.self.inside.connections; arrivals = c.self.inside.arrivals; concerned = c.self.inside.concerned.numbers }
+old c = record { rooms = c.self.inside.rooms.entries; connections = c.self.inside.connections; arrivals = c.self.inside.arrivals; concerned = c.self.inside.concerned.numbers; forgotten = c.self.inside.forgotten.keys }
 
 abbrev new : goal.After-push_at → Hub
-new c = record { rooms = c.self.inside.rooms.entries; connections = c.push_at.new.connections; arrivals = c.self.inside.arrivals; concerned = c.self.inside.concerned.numbers }
+new c = record { rooms = c.self.inside.rooms.entries; connections = c.push_at.new.connections; arrivals = c.self.inside.arrivals; concerned = c.self.inside.concerned.numbers; forgotten = c.self.inside.forgotten.keys }
 
 abbrev Want : Answer → HubRefusal → Type 0
 Want answer r = (r ≡ NoMemory) × (¬ IsIdle answer)
-
-turns : (c : goal.After-push_at) (w : World) → StandsFor (old c) w → MatchResult c.push_at.result (λ v. Turns (new c) w (Piece c.args.number c.args.bytes.now) (Done)) (λ r. FailsSame (new c) w (Piece c.args.number c.args.bytes.now) r)
-turns c w st =
-    let g = good (old c) w st in
-    ended (new c) w w (Piece c.args.number c.args.bytes.now) (Want (turn w (Piece c.args.number c.args.bytes.now)).answer) (λ v. Done) tt g g c.push_at.result
-    (piece_result (room_at (old c)) c.self.inside.connections c.push_at.new.connections c.self.inside.arrivals w c.args.number c.args.bytes.now c.push_at.result
-    (connection_at c.self.inside.connections c.args.number) refl st.stands c.push_at.ensures.absent c.push_at.ensures.there c.push_at.ensures.left)
 
 were : (c : goal.After-push_at) (res : Result (Unit {0}) HubRefusal) → c.push_at.result ≡ res → (k : ℕ) → WasThere (connection_at (old c).connections k) (connection_at (new c).connections k)
 were c (Err r) is = were-same (old c).connections (new c).connections (subst (λ (z : Result (Unit {0}) HubRefusal). OnErr z (SameConnections (old c).connections (new c).connections)) is c.push_at.ensures.left)
@@ -45,6 +39,15 @@ were c (Ok v) is = were-of (old c).connections (new c).connections c.args.number
   where
     ok_err : (v : Unit {0}) → ◌≡◌ {A = Result (Unit {0}) HubRefusal} (Ok v) (Err NoConnection) → ⊥
     ok_err v e = cc
+
+remember : (c : goal.After-push_at) (w : World) → StandsFor (old c) w → Remembers (old c) (new c)
+remember c w st = remembers (old c) (new c) w st refl (λ d e none. none) (were c c.push_at.result refl)
+
+turns : (c : goal.After-push_at) (w : World) → StandsFor (old c) w → MatchResult c.push_at.result (λ v. Turns (new c) w (Piece c.args.number c.args.bytes.now) (Done)) (λ r. FailsSame (new c) w (Piece c.args.number c.args.bytes.now) r)
+turns c w st =
+    ended (old c) (new c) w w st (remember c w st) (Piece c.args.number c.args.bytes.now) (Want (turn w (Piece c.args.number c.args.bytes.now)).answer) (λ v. Done) tt (good (old c) w st) c.push_at.result
+    (piece_result (recalled (old c) (old c) w) c.self.inside.connections c.push_at.new.connections c.self.inside.arrivals w c.args.number c.args.bytes.now c.push_at.result
+    (connection_at c.self.inside.connections c.args.number) refl (recalls (old c) w st) c.push_at.ensures.absent c.push_at.ensures.there c.push_at.ensures.left)
 
 still_stood : (c : goal.After-push_at) → Stood (new c)
 still_stood c =

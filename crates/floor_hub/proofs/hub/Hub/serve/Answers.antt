@@ -13,7 +13,9 @@ use Rattle.floor_hub.specs.StandsFor.{StandsFor, Stood}
 use Rattle.floor_hub.specs.Calls.{IsWant, Fails, Turns, answer_of}
 use Rattle.floor_hub.specs.World.{turn, World}
 use Rattle.floor_hub.proofs.Closing.{ended, good, stood}
-use Rattle.floor_hub.proofs.Outboxes.{grows-of, keeps-outboxes, outbox-room, were-of}
+use Rattle.floor_hub.proofs.Outboxes.{WasThere, grows-of, keeps-outboxes, outbox-room, were-of}
+use Rattle.floor_hub.proofs.Recalling.{Remembers, recalled, recalled-connection, recalls, remembers, still-gone-of}
+use Rattle.floor_hub.specs.steps.Serving.{ServeOf}
 use Rattle.floor_hub.proofs.hub.Hub.serve.Goals as goal
 use Rattle.floor_hub.proofs.Attaching.{places-of}
 use Rattle.floor_hub.proofs.Naming.{Named, moves-by, named-of-one}
@@ -21,10 +23,10 @@ use Rattle.floor_hub.proofs.Moving.{served-went}
 use Rattle.floor_hub.specs.Concerned.{Concerns}
 
 abbrev old : goal.After-serve_at → Hub
-old c = record { rooms = c.self.inside.rooms.entries; connections = c.self.inside.connections; arrivals = c.self.inside.arrivals; concerned = c.self.inside.concerned.numbers }
+old c = record { rooms = c.self.inside.rooms.entries; connections = c.self.inside.connections; arrivals = c.self.inside.arrivals; concerned = c.self.inside.concerned.numbers; forgotten = c.self.inside.forgotten.keys }
 
 abbrev new : goal.After-serve_at → Hub
-new c = record { rooms = c.serve_at.new.rooms.entries; connections = c.serve_at.new.connections; arrivals = c.self.inside.arrivals; concerned = c.serve_at.new.concerned.numbers }
+new c = record { rooms = c.serve_at.new.rooms.entries; connections = c.serve_at.new.connections; arrivals = c.self.inside.arrivals; concerned = c.serve_at.new.concerned.numbers; forgotten = c.self.inside.forgotten.keys }
 
 -- what stands under the number afterwards
 served : (c : goal.After-serve_at) (x : Connection) (y : Option Connection) (rest : List ℕ) → Puts (old c).connections (new c).connections c.args.number y →
@@ -32,30 +34,37 @@ served : (c : goal.After-serve_at) (x : Connection) (y : Option Connection) (res
     Puts (old c).connections (new c).connections c.args.number (Some (record { conference = x.conference; n = x.n; held = rest }))
 served c x y rest puts is = subst (Puts (old c).connections (new c).connections c.args.number) is puts
 
-turns : (c : goal.After-serve_at) (w : World) → StandsFor (old c) w → MatchResult c.serve_at.result (λ v. Turns (new c) w (Serve c.args.number) (answer_of v)) (λ r. Fails (new c) w (Serve c.args.number) r)
-turns c w st =
-    let g = good (old c) w st in
-    ended (new c) w w (Serve c.args.number) (IsWant (turn w (Serve c.args.number)).answer) (λ v. answer_of v) tt g g c.serve_at.result
-    (serve_result (room_at (old c)) (room_at (new c)) (connection_at c.self.inside.connections) (connection_at c.serve_at.new.connections) c.self.inside.arrivals w c.args.number st.stands st.kept
-    c.serve_at.result (connection_at c.self.inside.connections c.args.number) refl c.serve_at.ensures.connection.absent
-    (λ x is r room. let t = c.serve_at.ensures.connection.there x is r room in (t.0, t.5.0, t.2, t.3, t.4.here ∙ t.5.1, t.4.others, t.5.2)))
-
 room : (c : goal.After-serve_at) → RoomOf by_broken (refusal_in c.serve_at.result) serve_event (connection_at (old c).connections c.args.number) (old c) (new c)
 room c =
     serve-room c.args.number (old c) (new c) c.self.invariant.stood.0 c.self.invariant.stood.1 c.serve_at.result (connection_at c.self.inside.connections c.args.number) refl c.serve_at.ensures.connection.absent refl
     (λ x is r room. let t = c.serve_at.ensures.connection.there x is r room in (t.0, t.5.0, t.2, t.3, t.5.2))
+
+-- each live connection was there
+were : (c : goal.After-serve_at) (k : ℕ) → WasThere (connection_at (old c).connections k) (connection_at (new c).connections k)
+were c = were-of (old c).connections (new c).connections c.args.number (connection_at (old c).connections c.args.number) refl (λ none. (c.serve_at.ensures.connection.absent none).2)
+    (λ x there.
+    let r = outbox-room (room_at (old c) x.conference) x.n (c.self.invariant.stood.2 c.args.number x there) in
+    let t = c.serve_at.ensures.connection.there x there r.0 r.1 in
+    (Some (record { conference = x.conference; n = x.n; held = t.5.0 }), (refl, refl), served c x t.1 t.5.0 t.4 t.5.1))
+
+remember : (c : goal.After-serve_at) (w : World) → StandsFor (old c) w → Remembers (old c) (new c)
+remember c w st =
+    remembers (old c) (new c) w st refl (λ d e. still-gone-of by_broken (refusal_in c.serve_at.result) serve_event (connection_at (old c).connections c.args.number) (old c) (new c) (room c) d) (were c)
+
+turns : (c : goal.After-serve_at) (w : World) → StandsFor (old c) w → MatchResult c.serve_at.result (λ v. Turns (new c) w (Serve c.args.number) (answer_of v)) (λ r. Fails (new c) w (Serve c.args.number) r)
+turns c w st =
+    let at = recalled-connection ServeOf (old c) (new c) w st c.args.number c.serve_at.result c.serve_at.ensures.connection in
+    ended (old c) (new c) w w st (remember c w st) (Serve c.args.number) (IsWant (turn w (Serve c.args.number)).answer) (λ v. answer_of v) tt (good (old c) w st) c.serve_at.result
+    (serve_result (recalled (old c) (old c) w) (recalled (old c) (new c) w) (connection_at c.self.inside.connections) (connection_at c.serve_at.new.connections) c.self.inside.arrivals w c.args.number (recalls (old c) w st) st.kept
+    c.serve_at.result (connection_at c.self.inside.connections c.args.number) refl at.absent
+    (λ x is r room. let t = at.there x is r room in (t.0, t.5.0, t.2, t.3, t.4.here ∙ t.5.1, t.4.others, t.5.2)))
 
 still_stood : (c : goal.After-serve_at) → Stood (new c)
 still_stood c =
     let w = c.self.invariant.stood.0 in
     stood (new c) w w (Serve c.args.number) (IsWant (turn w (Serve c.args.number)).answer) (λ v. answer_of v) c.serve_at.result (turns c w c.self.invariant.stood.1)
     (keeps-outboxes (old c) (new c) (grows-of by_broken (refusal_in c.serve_at.result) serve_event (connection_at (old c).connections c.args.number) (old c) (new c) (room c))
-    (were-of (old c).connections (new c).connections c.args.number (connection_at (old c).connections c.args.number) refl (λ none. (c.serve_at.ensures.connection.absent none).2)
-    (λ x there.
-    let r = outbox-room (room_at (old c) x.conference) x.n (c.self.invariant.stood.2 c.args.number x there) in
-    let t = c.serve_at.ensures.connection.there x there r.0 r.1 in
-    (Some (record { conference = x.conference; n = x.n; held = t.5.0 }), (refl, refl), served c x t.1 t.5.0 t.4 t.5.1)))
-    c.self.invariant.stood.2)
+    (were c) c.self.invariant.stood.2)
 
 -- each connection stays where it is
 places : (c : goal.After-serve_at) (k : ℕ) → SamePlace (connection_at (old c).connections k) (connection_at (new c).connections k)

@@ -12,20 +12,16 @@ use Rattle.floor_hub.specs.World.{World}
 use Rattle.floor_hub.proofs.Closing.{good, stands_good}
 use Rattle.floor_hub.proofs.Given.{take_stands}
 use Rattle.floor_hub.proofs.Outboxes.{given-ok, grows-taken, keeps-outboxes, outbox-room, were-same}
+use Rattle.floor_hub.proofs.Recalling.{Remembers, recalled, recalled-connection, recalls, remembers, still-gone-taken}
+use Rattle.floor_hub.specs.steps.Serving.{TakeOf}
 use Rattle.floor_hub.proofs.hub.Hub.take.Goals as goal
 use Rattle.floor_hub.proofs.Naming.{known-taken}
 
 abbrev old : goal.After-take_at → Hub
-old c = record { rooms = c.self.inside.rooms.entries; connections = c.self.inside.connections; arrivals = c.self.inside.arrivals; concerned = c.self.inside.concerned.numbers }
+old c = record { rooms = c.self.inside.rooms.entries; connections = c.self.inside.connections; arrivals = c.self.inside.arrivals; concerned = c.self.inside.concerned.numbers; forgotten = c.self.inside.forgotten.keys }
 
 abbrev new : goal.After-take_at → Hub
-new c = record { rooms = c.take_at.new.rooms.entries; connections = c.self.inside.connections; arrivals = c.self.inside.arrivals; concerned = c.self.inside.concerned.numbers }
-
-still : (c : goal.After-take_at) (w : World) → StandsFor (old c) w → StandsFor (new c) w
-still c w st = stands_good (new c) w (good (old c) w st)
-    (take_stands (room_at (old c)) (room_at (new c)) (connection_at c.self.inside.connections) c.self.inside.arrivals w c.args.number st.stands
-    (connection_at c.self.inside.connections c.args.number) refl (λ e. (c.take_at.ensures.connection.absent e).1)
-    (λ x is r room. let t = c.take_at.ensures.connection.there x is r room in (t.0, t.2, t.3, t.5.1.1.same)))
+new c = record { rooms = c.take_at.new.rooms.entries; connections = c.self.inside.connections; arrivals = c.self.inside.arrivals; concerned = c.self.inside.concerned.numbers; forgotten = c.self.inside.forgotten.keys }
 
 taken : (c : goal.After-take_at) (y : Option Connection) → connection_at (old c).connections c.args.number ≡ y → TakenOf y c.take_at.result (old c) (new c)
 taken c None is = let a = c.take_at.ensures.connection.absent is in (a.0, record { rooms = a.1; connections = a.2; arrivals = refl })
@@ -46,6 +42,20 @@ taken c (Some x) is =
         arrivals = refl;
       },
     )
+
+remember : (c : goal.After-take_at) (w : World) → StandsFor (old c) w → Remembers (old c) (new c)
+remember c w st =
+    remembers (old c) (new c) w st refl
+    (λ d e. still-gone-taken (connection_at (old c).connections c.args.number) c.take_at.result (old c) (new c) (taken c (connection_at (old c).connections c.args.number) refl) d)
+    (were-same (old c).connections (new c).connections (λ k. refl))
+
+still : (c : goal.After-take_at) (w : World) → StandsFor (old c) w → StandsFor (new c) w
+still c w st =
+    let at = recalled-connection TakeOf (old c) (new c) w st c.args.number c.take_at.result c.take_at.ensures.connection in
+    stands_good (old c) (new c) w w st (remember c w st) (good (old c) w st)
+    (take_stands (recalled (old c) (old c) w) (recalled (old c) (new c) w) (connection_at c.self.inside.connections) c.self.inside.arrivals w c.args.number (recalls (old c) w st)
+    (connection_at c.self.inside.connections c.args.number) refl (λ e. (at.absent e).1)
+    (λ x is r room. let t = at.there x is r room in (t.0, t.2, t.3, t.5.1.1.same)))
 
 queued : (c : goal.After-take_at) → HaveOutboxes (new c)
 queued c =

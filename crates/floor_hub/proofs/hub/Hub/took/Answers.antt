@@ -20,10 +20,11 @@ use Rattle.floor_hub.specs.Left.{LeftTaking}
 use Rattle.floor_hub.specs.Rooms.{IsRefusedIn, RoomOf, by_broken, refusal_in, took_event}
 use Rattle.floor_hub.specs.StandsFor.{StandsFor, Stood}
 use Rattle.floor_hub.specs.Calls.{IsWant, Fails, Turns}
-use Rattle.floor_hub.specs.steps.Serving.{EventIn}
+use Rattle.floor_hub.specs.steps.Serving.{EventIn, TookOf}
 use Rattle.floor_hub.specs.World.{turn, World}
 use Rattle.floor_hub.proofs.Closing.{ended, good, stood}
 use Rattle.floor_hub.proofs.Outboxes.{grows-of, keeps-outboxes, outbox-room, were-same}
+use Rattle.floor_hub.proofs.Recalling.{Remembers, recalled, recalled-connection, recalls, remembers, still-gone-of}
 use Rattle.floor_hub.proofs.hub.Hub.took.Goals as goal
 use Rattle.floor_room.specs.Ledger.{refusal}
 use Rattle.floor_hub.proofs.Attaching.{place-same}
@@ -32,27 +33,32 @@ use Rattle.floor_hub.proofs.Moving.{event-went}
 use Rattle.floor_hub.specs.Concerned.{Concerns}
 
 abbrev old : goal.After-took_at → Hub
-old c = record { rooms = c.self.inside.rooms.entries; connections = c.self.inside.connections; arrivals = c.self.inside.arrivals; concerned = c.self.inside.concerned.numbers }
+old c = record { rooms = c.self.inside.rooms.entries; connections = c.self.inside.connections; arrivals = c.self.inside.arrivals; concerned = c.self.inside.concerned.numbers; forgotten = c.self.inside.forgotten.keys }
 
 abbrev new : goal.After-took_at → Hub
-new c = record { rooms = c.took_at.new.rooms.entries; connections = c.self.inside.connections; arrivals = c.self.inside.arrivals; concerned = c.took_at.new.concerned.numbers }
+new c = record { rooms = c.took_at.new.rooms.entries; connections = c.self.inside.connections; arrivals = c.self.inside.arrivals; concerned = c.took_at.new.concerned.numbers; forgotten = c.self.inside.forgotten.keys }
 
 there : (c : goal.After-took_at) (x : Connection) → connection_at (old c).connections c.args.number ≡ Some x → (r : Room) → room_at (old c) x.conference ≡ Some r →
     (s : Room) × (room_at (new c) x.conference ≡ Some s) × ((d : ℕ) → nat_eq x.conference d ≡ false → room_at (new c) d ≡ room_at (old c) d) × EventIn (Takes x.n c.args.k) r s c.took_at.result
 there c x is r room = let t = c.took_at.ensures.connection.there x is r room in (t.0, t.2, t.3, t.5.1)
 
-turns : (c : goal.After-took_at) (w : World) → StandsFor (old c) w → MatchResult c.took_at.result (λ v. Turns (new c) w (Took c.args.number c.args.k) Done) (λ r. Fails (new c) w (Took c.args.number c.args.k) r)
-turns c w st =
-    let g = good (old c) w st in
-    ended (new c) w w (Took c.args.number c.args.k) (IsWant (turn w (Took c.args.number c.args.k)).answer) (λ v. Done) tt g g c.took_at.result
-    (took_result (room_at (old c)) (room_at (new c)) (connection_at c.self.inside.connections) c.self.inside.arrivals w c.args.number c.args.k st.stands
-    c.took_at.result (connection_at c.self.inside.connections c.args.number) refl
-    (λ none. let a = c.took_at.ensures.connection.absent none in (a.0, a.1)) (there c))
-
 room : (c : goal.After-took_at) → RoomOf by_broken (refusal_in c.took_at.result) (took_event c.args.k) (connection_at (old c).connections c.args.number) (old c) (new c)
 room c =
     took-room c.args.number (old c) (new c) c.self.invariant.stood.0 c.self.invariant.stood.1 c.args.k c.took_at.result (connection_at c.self.inside.connections c.args.number) refl
     c.took_at.ensures.connection.absent refl (there c)
+
+remember : (c : goal.After-took_at) (w : World) → StandsFor (old c) w → Remembers (old c) (new c)
+remember c w st =
+    remembers (old c) (new c) w st refl (λ d e. still-gone-of by_broken (refusal_in c.took_at.result) (took_event c.args.k) (connection_at (old c).connections c.args.number) (old c) (new c) (room c) d)
+    (were-same (old c).connections (new c).connections (λ k. refl))
+
+turns : (c : goal.After-took_at) (w : World) → StandsFor (old c) w → MatchResult c.took_at.result (λ v. Turns (new c) w (Took c.args.number c.args.k) Done) (λ r. Fails (new c) w (Took c.args.number c.args.k) r)
+turns c w st =
+    let at = recalled-connection (TookOf c.args.k) (old c) (new c) w st c.args.number c.took_at.result c.took_at.ensures.connection in
+    ended (old c) (new c) w w st (remember c w st) (Took c.args.number c.args.k) (IsWant (turn w (Took c.args.number c.args.k)).answer) (λ v. Done) tt (good (old c) w st) c.took_at.result
+    (took_result (recalled (old c) (old c) w) (recalled (old c) (new c) w) (connection_at c.self.inside.connections) c.self.inside.arrivals w c.args.number c.args.k (recalls (old c) w st)
+    c.took_at.result (connection_at c.self.inside.connections c.args.number) refl
+    (λ none. let a = at.absent none in (a.0, a.1)) (λ x is r room. let t = at.there x is r room in (t.0, t.2, t.3, t.5.1)))
 
 still_stood : (c : goal.After-took_at) → Stood (new c)
 still_stood c =
