@@ -32,14 +32,19 @@ def configuration(conferences, users, first_port=FIRST_PORT):
     return ''.join(text), bindings
 
 
-class Server:
-    """A floord or a floorhub that runs, pinned to processors where they are given, under limits of the system
-    (`resource.RLIMIT_NOFILE` to a number, and the like) and with variables of the environment
-    where they are."""
+def name_of(program):
+    """The name by which a server tells of itself, a floord or a floorhub."""
+    return 'floorhub' if os.path.basename(program).startswith('floorhub') else 'floord'
 
-    def __init__(self, floord, text, processors=None, limits=None, variables=None):
+
+class Server:
+    """A floord or a floorhub that runs, pinned to processors where they are given, with words before its
+    configuration, under limits of the system (`resource.RLIMIT_NOFILE` to a number, and the like) and with
+    variables of the environment where they are."""
+
+    def __init__(self, floord, text, processors=None, limits=None, variables=None, words=()):
         # Whether it serves by event loops.
-        self.by_loops = os.path.basename(floord).startswith('floorhub')
+        self.by_loops = name_of(floord) == 'floorhub'
         handle, self.path = tempfile.mkstemp(suffix='.toml')
         with os.fdopen(handle, 'w') as file:
             file.write(text)
@@ -49,7 +54,7 @@ class Server:
             for kind, value in (limits or {}).items():
                 resource.setrlimit(kind, (value, value))
         self.process = subprocess.Popen(
-            pinned + [os.path.abspath(floord), self.path],
+            pinned + [os.path.abspath(floord), *words, self.path],
             stdin=subprocess.PIPE, stdout=subprocess.PIPE, preexec_fn=limit,
             env={**os.environ, **(variables or {})})
         self.pid = self.process.pid
