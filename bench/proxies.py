@@ -1,8 +1,8 @@
 #!/usr/bin/env python3
-"""The proxies of examples/ before a server: ./proxies.py FLOORD [PROXY ..]
+"""The proxies of examples/ before a server: ./proxies.py SERVER [PROXY ..]
 
 Each of haproxy, nginx and stunnel (all, or those that are named) is started on its file of examples/, with
-certificates made here by openssl in the place of those that the file names, before a floord on
+certificates made here by openssl in the place of those that the file names, before a server on
 examples/conferences.toml; the ports of these files have to be free. Then each user is answered, as nobody
 else; whoever has no certificate, another's, one of another authority or of no user is ended unheard; what is
 beyond the bound on connections is ended, and what is within it goes on; and the sockets to the users have
