@@ -42,6 +42,8 @@ AHEAD = 900
 GONE = 10
 # So many seconds a slow peer takes nothing, and then reads on.
 PAUSE = 40
+# What a Hello that is waited for and its acknowledgement take of memory, for each of both.
+EVENT = 78
 
 
 class Failed(Exception):
@@ -663,7 +665,9 @@ def unread_again(case):
         clients = crowd(case)
         clients[3].sendall(message(FLOOR_QUERY, 1, 1, 13, floors(1, 2, 3, 4)) * 1500)
         case.wait_for(3, 192)
-        fulls.append(case.server.held()['VmRSS'])
+        # By loops that takes 10 seconds each, in which conference 2's journal grows.
+        others = int(case.server.ask('status 2').split()[7])
+        fulls.append(case.server.held()['VmRSS'] - others * EVENT // 1024)
         for client in clients:
             reset(client)
         case.wait_for(0)
