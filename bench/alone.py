@@ -1,7 +1,7 @@
 #!/usr/bin/env python3
 """A conference of a script is answered as if it were alone.
 
-    bench/alone.py FLOORSIM [FIRST [COUNT]]
+    bench/alone.py FLOORSIM [FIRST [COUNT [SERVER]]]
 
 Makes COUNT scripts (200 if absent) of 150 lines over three conferences, one for each seed from FIRST (0 if
 absent) on: connections that come and leave, messages of every kind, cut anywhere and malformed ones among
@@ -10,13 +10,26 @@ is run whole, and then once for each conference with that conference's lines alo
 numbers that they have there. What the conference's lines print is to be the same. What all scripts print has
 to reach grants, queues, each refusal and so on, three times each. Prints how many lines were compared;
 status 1 where something differs or isn't reached.
+
+With a SERVER, a floord or a floorhub of one loop, each script is then played over sockets, its three conferences
+beside each other: what floorsim prints behind a conference's line where it is alone, the connections have to hear
+behind that line, and nothing else. A message is served there as soon as it is whole. Each line of an administrator
+has to have that answer, and in the end each connection leaves.
 """
 import random
+import socket
 import subprocess
 import sys
+import threading
+import time
+
+from server import Server, connect, hear, name_of
 
 CONFERENCES = 3
 LINES = 150
+# A conference has a hundred ports of the server from here on: a user's, and one at which nobody is let in.
+FIRST_PORT, SPARE = 8400, 99
+DEADLINE = 20
 
 # A message for each line. #c, #t and #u are the conference, a transaction and the user of the connection; #f,
 # #r, #b, #p and #v a floor, a request, a beneficiary, a priority and a verdict.
@@ -80,10 +93,15 @@ MARK = 'refused NoConference\n'
 VERDICTS = (0x0200, 0x0300, 0x0400, 0x0700)
 
 
+def port_of(conference, user):
+    return FIRST_PORT + 100 * (conference - 1) + user
+
+
 def configuration(conference):
-    return ('[[conference]]\nid = %d\nlimit = 2\n'
-            'user = [{ id = 10 }, { id = 11 }, { id = 12 }, { id = 13, proxy = true }]\n'
-            'floor = [{ id = 1 }, { id = 2, chair = 12 }, { id = 3, room = 2 }]\n' % conference)
+    return ('[[conference]]\nid = %d\nlimit = 2\nuser = [%s]\n'
+            'floor = [{ id = 1 }, { id = 2, chair = 12 }, { id = 3, room = 2 }]\n' % (conference, ', '.join(
+                '{ id = %d, port = %d, proxy = %s }' % (user, port_of(conference, user), str(user == 13).lower())
+                for user in (10, 11, 12, 13))))
 
 
 class Script:
@@ -222,8 +240,137 @@ def compare(floorsim, seed):
     return answers
 
 
+class Played:
+    """A conference of a script, over the sockets of a server."""
+
+    def __init__(self, floorsim, script, conference, ask):
+        self.conference = conference
+        self.ask = ask
+        self.clients = {}
+        self.is_closed = False
+        self.wrong = None
+        self.compared = 0
+        self.lines = []
+        staying = {}
+        for it, front, place, rest in script.lines:
+            if it == conference and front != 'serve':
+                number = None if place is None else script.connections[place]['number']
+                self.lines.append(('send' if front == 'piece' else front, number, rest))
+                if front == 'leave':
+                    staying.pop(number, None)
+                elif number:
+                    staying[number] = True
+        self.lines += [('leave', number, '') for number in staying]
+        self.answers = [it.splitlines() for it in printed(floorsim, text_of([conference], self.lines))]
+
+    def play(self):
+        try:
+            for (front, number, rest), answer in zip(self.lines, self.answers):
+                self.do(front.split(), number, rest, answer)
+                self.compared += 1
+        except (Exception, SystemExit) as fault:
+            self.wrong = 'line %d, %s: %r' % (self.compared + 1, self.lines[self.compared], fault)
+
+    def do(self, words, number, rest, answer):
+        refusal = answer[0].split()[1] if answer and answer[0].startswith('refused') else None
+        if words[0] == 'attach':
+            self.attach(words, refusal, answer)
+        elif words[0] == 'send' and not refusal:
+            self.clients[number].sendall(bytes.fromhex(rest))
+        elif words[0] == 'leave' and not refusal and not self.is_closed:
+            client = self.clients.pop(number)
+            client.shutdown(socket.SHUT_WR)
+            self.ends(client)
+            self.wait()
+        elif words[0] not in ('send', 'leave'):
+            self.administer(words, refusal)
+        self.hear(answer)
+
+    def attach(self, words, refusal, answer):
+        if not refusal:
+            client = connect(port_of(self.conference, int(words[2])))
+            client.settimeout(DEADLINE)
+            self.clients[int(answer[0].split()[1])] = client
+            self.wait()
+        elif refusal == 'Ended' and words[2] == '10':
+            try:
+                connect(port_of(self.conference, 10)).close()
+                assert False, 'somebody listens for a closed conference'
+            except ConnectionRefusedError:
+                pass
+
+    def administer(self, words, refusal):
+        if words[0] == 'user':
+            port = port_of(self.conference, SPARE if refusal else int(words[2]))
+            rest = words[5:] if words[3:4] == ['port'] else words[3:]
+            if rest[:1] == ['proxy']:
+                rest = rest[1:] if rest[1:2] != ['port'] else rest[3:]
+                rest = ['proxy', 'port', str(port), *rest]
+            else:
+                rest = ['port', str(port), *rest]
+            words = words[:3] + rest
+        got = self.ask(' '.join(words))
+        assert got == 'error %s' % refusal if refusal else got.startswith('ok '), got
+        if words[0] == 'close' and not refusal:
+            for client in self.clients.values():
+                self.ends(client)
+            self.clients = {}
+            self.is_closed = True
+
+    def ends(self, client):
+        heard = client.recv(65536)
+        assert not heard, '%s is heard at the end' % heard.hex()
+        client.close()
+
+    def wait(self):
+        """Waits until so many are members as are connected."""
+        wanted = 'conference %d members %d ' % (self.conference, len(self.clients))
+        end = time.monotonic() + DEADLINE
+        while not self.ask('status %d' % self.conference).startswith(wanted):
+            assert time.monotonic() < end, 'the status is never "%s"' % wanted
+            time.sleep(0.0005)
+
+    def hear(self, answer):
+        told = {}
+        for line in answer:
+            first, _, rest = line.partition(' ')
+            if first not in ('attached', 'refused'):
+                told[int(first)] = told.get(int(first), b'') + bytes.fromhex(rest)
+        for number, wanted in told.items():
+            heard = hear(self.clients[number], len(wanted))
+            assert heard == wanted, '%d heard %s, not %s' % (number, heard.hex(), wanted.hex())
+
+
+def play(program, floorsim, seed):
+    """Plays a script over a server, all its conferences beside each other."""
+    script = Script(seed)
+    text = ''.join(configuration(it) for it in range(1, CONFERENCES + 1))
+    server = Server(program, text, words=('--loops', '1') if name_of(program) == 'floorhub' else ())
+    turn = threading.Lock()
+
+    def ask(line):
+        with turn:
+            return server.ask(line)
+    played = [Played(floorsim, script, conference, ask) for conference in range(1, CONFERENCES + 1)]
+    threads = [threading.Thread(target=one.play) for one in played]
+    for thread in threads:
+        thread.start()
+    for thread in threads:
+        thread.join()
+    for one in played:
+        if one.wrong:
+            server.process.kill()
+            sys.exit('seed %d, conference %d: %s' % (seed, one.conference, one.wrong))
+    report, status = server.stop()
+    if status or not report.startswith('ok stopped '):
+        sys.exit('seed %d: the report is %s, status %d' % (seed, report, status))
+    return sum(one.compared for one in played)
+
+
 def main():
-    floorsim, first, count = sys.argv[1], *(int(it) for it in (sys.argv[2:] + ['0', '200'][len(sys.argv) - 2:]))
+    if len(sys.argv) < 2:
+        sys.exit(__doc__)
+    floorsim, first, count = sys.argv[1], *(int(it) for it in (sys.argv[2:4] + ['0', '200'][len(sys.argv[2:4]):]))
     lines = []
     for seed in range(first, first + count):
         for answer in compare(floorsim, seed):
@@ -232,6 +379,9 @@ def main():
         if sum(part in line for line in lines) < 3:
             sys.exit('%s is reached fewer than three times' % name)
     print('%d scripts, %d printed lines: each conference is answered as if it were alone' % (count, len(lines)))
+    if len(sys.argv) > 4:
+        done = sum(play(sys.argv[4], floorsim, seed) for seed in range(first, first + count))
+        print('%d lines of them over sockets: likewise' % done)
 
 
 if __name__ == '__main__':

@@ -1,5 +1,5 @@
 #!/usr/bin/env python3
-"""What connections leave behind: ./churn.py FLOORD [TURNS [AT ONCE]]
+"""What connections leave behind: ./churn.py SERVER [TURNS [AT ONCE]]
 
 Connects to one port, waits for the HelloAck and closes, so many times (1,000), so many at once (1),
 then does nothing for a second, and looks at the server; three times over. Then stops it, and says

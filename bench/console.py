@@ -1,5 +1,5 @@
 #!/usr/bin/env python3
-"""The administrator's lines while clients flood: ./console.py FLOORD
+"""The administrator's lines while clients flood: ./console.py SERVER
 
 Four clients flood two conferences. Meanwhile come `open`, `close` and `revoke`, each of them twice,
 in all 90 orders, the k-th of which is cut off by `stop` after k mod 7 lines: each line has the

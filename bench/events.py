@@ -1,5 +1,5 @@
 #!/usr/bin/env python3
-"""What a message and a conference take of memory: ./events.py FLOORD [MESSAGES]
+"""What a message and a conference take of memory: ./events.py SERVER [MESSAGES]
 
 One connection sends so many Hellos (200,000), 500 at once, and reads every answer: what each takes
 has its share of the acknowledgements. And a server opens 1,000 conferences of 4 users without ports.

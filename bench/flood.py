@@ -1,5 +1,5 @@
 #!/usr/bin/env python3
-"""Whether a flooded conference keeps another waiting: ./flood.py FLOORD [CONNECTIONS]
+"""Whether a flooded conference keeps another waiting: ./flood.py SERVER [CONNECTIONS]
 
 Times Hellos of one conference, one after another: while nothing else is sent; while so many
 connections (8) of another conference send pipelined Hellos as fast as they are answered; and while

@@ -11,9 +11,11 @@ and the server's memory, threads and descriptors: before, at most, after. Status
 failed.
 """
 import multiprocessing
+import os
 import random
 import resource
 import select
+import signal
 import socket
 import struct
 import sys
@@ -40,6 +42,8 @@ AHEAD = 900
 GONE = 10
 # So many seconds a slow peer takes nothing, and then reads on.
 PAUSE = 40
+# What a Hello that is waited for and its acknowledgement take of memory, for each of both.
+EVENT = 78
 
 
 class Failed(Exception):
@@ -569,12 +573,12 @@ def resets(case):
     return '%d connections reset before, in and behind messages and answers: each has left' % points
 
 
-def crowd(case):
+def crowd(case, users=USERS):
     """256 requests: each of four users asks 16 times for each of four floors, with a long text.
     Their connections, which leave what they are told unread."""
     text = attribute(messages.INFO, b'x' * 62)
     clients = []
-    for user in USERS:
+    for user in users:
         client = case.member(user)
         clients.append(client)
         for floor in (1, 2, 3, 4):
@@ -661,7 +665,9 @@ def unread_again(case):
         clients = crowd(case)
         clients[3].sendall(message(FLOOR_QUERY, 1, 1, 13, floors(1, 2, 3, 4)) * 1500)
         case.wait_for(3, 192)
-        fulls.append(case.server.held()['VmRSS'])
+        # By loops that takes 10 seconds each, in which conference 2's journal grows.
+        others = int(case.server.ask('status 2').split()[7])
+        fulls.append(case.server.held()['VmRSS'] - others * EVENT // 1024)
         for client in clients:
             reset(client)
         case.wait_for(0)
@@ -909,8 +915,16 @@ def full_while_blocked(case):
     return 'those that send once more are gone after %.1f s, though they never read' % took
 
 
+def used_in(case, seconds):
+    """Which part of a processor the server takes for so many seconds."""
+    before = case.server.seen()['processor']
+    time.sleep(seconds)
+    return (case.server.seen()['processor'] - before) / seconds
+
+
 def beyond_descriptors(case):
     """More connections than there are descriptors: 40 for the whole server."""
+    idle = used_in(case, 2)
     clients = [(case.connect(USERS[k % 4]), USERS[k % 4]) for k in range(50)]
     for client, user in clients:
         client.sendall(hello(1, user))
@@ -920,9 +934,10 @@ def beyond_descriptors(case):
     # A port takes two, and a third while it waits for a connection; conference 2 has one.
     if not 40 - 4 - 3 * 5 <= len(served) <= 40 - 4 - 2 * 5:
         raise Failed('%d connections are served' % len(served))
-    used = case.server.seen()['processor']
-    time.sleep(2)
-    used = (case.server.seen()['processor'] - used) / 2
+    used = used_in(case, 2)
+    # An accept that fails is tried again without haste.
+    if used > idle + 0.05:
+        raise Failed('%.1f%% of a processor, and %.1f%% before anybody waited' % (100 * used, 100 * idle))
     for client, user in served:
         case.hear(client, ack(1, user))
         case.exchange(client, hello(2, user), ack(2, user), 1)
@@ -935,8 +950,8 @@ def beyond_descriptors(case):
         client.close()
     case.seats += 50
     case.events += 3 * 50
-    return ('%d are served; %d more wait, at %.1f%% of a processor, and are served when those '
-            'have left' % (len(served), len(waiting), 100 * used))
+    return ('%d are served; %d more wait, at %.1f%% of a processor (%.1f%% before), and are served when '
+            'those have left' % (len(served), len(waiting), 100 * used, 100 * idle))
 
 
 def beyond_addresses(case):
@@ -1019,6 +1034,174 @@ def beyond_memory(case):
             'blocked peers are gone after %.1f s; the report says so' % (count, took))
 
 
+# So many client processes are killed, so many of them at a time. Their marks stand apart from other transactions.
+KILLED, AT_ONCE, FIRST_MARK = 300, 4, 100
+# What one does until it is killed; the floor that it watches is asked for and given back all the while.
+STATES = ('connecting', 'in a header', 'in a message', 'asking', 'told', 'not reading', 'told and not reading',
+          'half closed')
+WATCHED = 9
+
+
+def stream_of(state, mark):
+    """What a client sends in such a state, each message with its mark as the transaction."""
+    def text(primitive, payload=b''):
+        return message(primitive, 1, mark, USERS[mark % 3], payload)
+    if state == 'in a message':
+        return text(HELLO, attribute(100, bytes(250)) * 1040)
+    if state in ('told', 'told and not reading'):
+        return text(FLOOR_QUERY, floors(WATCHED))
+    if state in ('not reading', 'half closed'):
+        return text(FLOOR_QUERY, floors(1, 2, 3, 4)) * 60
+    if state == 'asking':
+        return (text(HELLO) + text(FLOOR_REQUEST, floors(8)) + text(FLOOR_QUERY, floors(1))) * 48
+    return text(HELLO)
+
+
+def be_killed(state, mark, at, pipe):
+    """A client that comes to its state, says so, and stays in it until it is killed."""
+    if state == 'connecting':
+        pipe.send(state)
+    try:
+        client = connect(port_of(USERS[mark % 3]), narrow=state.endswith('not reading') or state == 'half closed')
+        come_to(state, client, stream_of(state, mark), at, pipe)
+    except OSError:
+        pass  # 64 were members already
+    time.sleep(DEADLINE)
+
+
+def come_to(state, client, stream, at, pipe):
+    if state == 'in a header':
+        client.sendall(stream[:at % 11 + 1])
+    elif state == 'in a message':
+        stream = stream[:at % len(stream)]
+        for k in range(0, len(stream), 5000):
+            client.sendall(stream[k:k + 5000])
+    elif state in ('not reading', 'half closed'):
+        client.setblocking(False)
+        client.send(stream)
+        if state == 'half closed':
+            client.shutdown(socket.SHUT_WR)
+    elif state != 'asking':
+        client.sendall(stream)
+    pipe.send(state)
+    while state == 'told':
+        client.recv(65536)
+    while state == 'asking':
+        client.sendall(stream[:192])
+        stream = stream[192:] + stream[:192]
+        client.recv(65536)
+
+
+def kill_one(state, mark, chance):
+    """Starts a client, and kills it by SIGKILL once it is in its state, or sooner."""
+    ours, theirs = multiprocessing.Pipe(False)
+    client = multiprocessing.Process(target=be_killed, args=(state, mark, chance.randrange(1 << 30), theirs), daemon=True)
+    client.start()
+    theirs.close()
+    if chance.random() < 0.7:
+        ours.poll(DEADLINE)
+    time.sleep(chance.choice((0, 0.001, 0.005, 0.02, 0.1)) * chance.random())
+    os.kill(client.pid, signal.SIGKILL)
+    client.join()
+    ours.close()
+
+
+def kill_some(seed, some):
+    """Kills one client after another."""
+    chance = random.Random(seed)
+    for mark, state in some:
+        kill_one(state, mark, chance)
+
+
+def ask_until(driver, is_over):
+    """Asks for the floor that is watched and gives it back, again and again; how often."""
+    turns = 0
+    while not is_over.is_set():
+        driver.sendall(message(FLOOR_REQUEST, 1, 1, 13, floors(WATCHED)))
+        request = struct.unpack('>H', hear_messages(driver, 1)[14:16])[0]
+        driver.sendall(message(FLOOR_RELEASE, 1, 1, 13, number(FLOOR_REQUEST_ID, request)))
+        hear_messages(driver, 1)
+        turns += 1
+        time.sleep(0.001)
+    return turns
+
+
+def killed_in_journal(case, states):
+    """Sees that the journal has of each member a front of what a client sends in its state, and one leave.
+    Counts the members and the events. How many have sent what, and the messages of the others."""
+    sent, left, others, counts = {}, [], [], {}
+    for line in case.server.journal(1, DEADLINE)[:-1]:
+        _, kind, number_, *rest = line.split()
+        if kind == 'took':
+            continue
+        case.events += 1
+        if kind == 'join':
+            case.seats += 1
+            sent[str(case.seats)] = []
+        elif kind == 'leave':
+            left.append(number_)
+        else:
+            sent[number_].append(bytes.fromhex(rest[0]))
+    if sorted(left) != sorted(sent):
+        raise Failed('of %d members %d have left' % (len(sent), len(left)))
+    for member, texts in sent.items():
+        state = 'nothing'
+        if texts:
+            mark = struct.unpack('>H', texts[0][8:10])[0]
+            if mark not in states:
+                others.append(texts)
+                continue
+            state = states[mark]
+            whole = stream_of(state, mark) * (1 + len(texts) if state == 'asking' else 1)
+            if not whole.startswith(b''.join(texts)):
+                raise Failed('member %s sent %s, as no client does' % (member, texts[-1][:40].hex()))
+        counts[state] = counts.get(state, 0) + 1
+    return counts, others
+
+
+def killed(case):
+    """Client processes that are killed (SIGKILL) at any moment, beside others that are answered."""
+    members = crowd(case, USERS[:2])
+    driver = case.member(13)
+    case.exchange(driver, hello(1, 13), ack(1, 13))
+    case.wait_for_members(3, 128)
+    held = case.server.held()
+    states = {mark: STATES[mark % len(STATES)] for mark in range(FIRST_MARK, FIRST_MARK + KILLED)}
+    marks = list(states.items())
+    random.Random(8855).shuffle(marks)
+    is_over, asked = threading.Event(), []
+    asking = threading.Thread(target=lambda: asked.append(ask_until(driver, is_over)), daemon=True)
+    asking.start()
+    began = time.monotonic()
+    killers = [multiprocessing.Process(target=kill_some, args=(seed, marks[seed::AT_ONCE]))
+               for seed in range(AT_ONCE)]
+    for killer in killers:
+        killer.start()
+    for killer in killers:
+        killer.join(DEADLINE)
+        if killer.exitcode != 0:
+            raise Failed('a client was not killed')
+    took = time.monotonic() - began
+    gone = wait_until_gone(case, held)
+    is_over.set()
+    asking.join(DEADLINE)
+    if not asked or not case.status().startswith('conference 1 members 3 '):
+        raise Failed('%d asked; the status is "%s"' % (len(asked), case.status()))
+    for client in members + [driver]:
+        reset(client)
+    case.wait_for(0)
+    case.seats = case.events = 0
+    counts, others = killed_in_journal(case, states)
+    if [len(texts) for texts in others] != [64, 64, 1 + 2 * asked[0]]:
+        raise Failed('the others sent %s messages' % [len(texts) for texts in others])
+    if any(counts.get(state, 0) < KILLED // len(STATES) // 3 for state in ('asking', 'told', 'not reading')):
+        raise Failed('so many were killed in each state: %s' % counts)
+    return ('%d killed in %.1f s, while %d requests were granted and given back; %.1f s later threads and '
+            'descriptors are what they were; members by what they were at: %s' % (
+                len(states), took, asked[0], gone,
+                ', '.join('%s %d' % pair for pair in sorted(counts.items()))))
+
+
 def main():
     if len(sys.argv) < 2:
         raise SystemExit(__doc__)
@@ -1055,6 +1238,7 @@ CASES = (
     (two_peers, {}),
     (connect_and_leave, {}),
     (resets, {}),
+    (killed, {}),
     (slow, {}),
     (unread, {}),
     (unread_again, {'variables': {'MALLOC_ARENA_MAX': '1'}}),

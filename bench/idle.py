@@ -1,10 +1,12 @@
 #!/usr/bin/env python3
-"""What idle connections cost: ./idle.py FLOORD [CONNECTIONS [SECONDS]]
+"""What idle connections cost: ./idle.py SERVER [CONNECTIONS [SECONDS]]
 
-Connects so many clients (500) to 16 conferences, waits for each one's HelloAck, and then looks for
-so many seconds (10) at the server: its processor time, and what each connection takes of memory,
-threads, descriptors and mappings.
+Connects so many clients (500) to 16 conferences or more, 60 to each, waits for each one's HelloAck, and
+then looks for so many seconds (10) at the server: its processor time, and what each connection takes of
+memory, threads, descriptors and mappings. Where the system has no descriptors for four ports of each
+conference beside them, each has one.
 """
+import resource
 import sys
 import time
 
@@ -17,7 +19,8 @@ def main():
     count = int(sys.argv[2]) if len(sys.argv) > 2 else 500
     seconds = float(sys.argv[3]) if len(sys.argv) > 3 else 10
     conferences = max(16, -(-count // 60))
-    text, bindings = configuration(conferences, 4)
+    descriptors = resource.getrlimit(resource.RLIMIT_NOFILE)[0]
+    text, bindings = configuration(conferences, 4 if count + 4 * conferences + 100 < descriptors else 1)
     server = Server(sys.argv[1], text)
     before = server.seen()
     clients = []

@@ -1,5 +1,5 @@
 #!/usr/bin/env python3
-"""Who waits for a journal? ./journal.py FLOORD [EVENTS]
+"""Who waits for a journal? ./journal.py SERVER [EVENTS]
 
 A conference gets so many events (1,000,000). One of its clients sends a Hello, waits for its answer, and
 sends the next: for five seconds, and then while the console prints the conference's journal. Prints how

@@ -1,6 +1,6 @@
-// A meeting of four users in headless Chromium, over the page, a floorweb and a floord:
+// A meeting of four users in headless Chromium, over the page, a floorweb and a server, a floord or a floorhub:
 //
-//     node --experimental-websocket meeting.mjs FLOORD FLOORWEB FOLDER [PICTURES]
+//     node --experimental-websocket meeting.mjs SERVER FLOORWEB FOLDER [PICTURES]
 //
 // (Node 22 needs no word for its WebSocket.) It wants `chromium` in the path, and the ports of
 // examples/browsers.toml. What each page shows is compared step by step: hands, queue, decisions with their
@@ -17,7 +17,7 @@ import { tmpdir } from "node:os";
 import { dirname, join } from "node:path";
 import { fileURLToPath } from "node:url";
 
-const [floordPath, floorwebPath, folder, pictures] = process.argv.slice(2);
+const [serverPath, floorwebPath, folder, pictures] = process.argv.slice(2);
 const config = join(dirname(fileURLToPath(import.meta.url)), "../examples/browsers.toml");
 const tokens = Object.fromEntries(
   [...readFileSync(config, "utf8").matchAll(/^name = "(.*?)"[^[]*?^token = "(.*?)"/gms)].map(([, name, token]) => [name, token]),
@@ -37,12 +37,12 @@ async function start(path, ...words) {
   return program;
 }
 
-/** Has the administrator of a floord say a line, which has to be answered so. */
-async function order(floord, line, answer) {
-  const from = floord.printed.length;
-  floord.stdin.write(`${line}\n`);
-  for (let turn = 0; turn < 100 && !floord.printed.includes("\n", from); turn++) await sleep(50);
-  const told = floord.printed.slice(from).split("\n")[0];
+/** Has the administrator of a server say a line, which has to be answered so. */
+async function order(server, line, answer) {
+  const from = server.printed.length;
+  server.stdin.write(`${line}\n`);
+  for (let turn = 0; turn < 100 && !server.printed.includes("\n", from); turn++) await sleep(50);
+  const told = server.printed.slice(from).split("\n")[0];
   if (told !== answer) throw new Error(`${line}: ${told}`);
   steps++;
 }
@@ -313,7 +313,7 @@ function audit() {
   return wrong;
 }
 
-async function meet(floord, gateway) {
+async function meet(server, gateway) {
   const [ann, ben, cid, dee] = await Promise.all(["Ann", "Ben", "Cid", "Dee"].map((name) => Tab.open(name)));
   const all = [ann, ben, cid, dee];
   for (const tab of all) {
@@ -336,13 +336,13 @@ async function meet(floord, gateway) {
   await ann.audit("a text that is too long");
 
   // Hands are raised, with a text and a priority; the chair sees them in order. A server that is slow is waited for.
-  floord.kill("SIGSTOP");
+  server.kill("SIGSTOP");
   await ann.fill("Microphone", "info", "Budget: two questions");
   await ann.press("Microphone", "Raise hand");
   await ann.says("Microphone", ".hand", "Asking …");
   await ann.says("Microphone", ".standing", "Asking …");
   await ann.picture("asking");
-  floord.kill("SIGCONT");
+  server.kill("SIGCONT");
   await ann.shows("The chair hasn't decided yet");
   await ben.fill("Microphone", "priority", "3");
   await ben.fill("Microphone", "info", "A correction to the minutes");
@@ -419,11 +419,11 @@ async function meet(floord, gateway) {
   await ann.shows("Microphone: the floor was taken back: Time");
   await ben.shows("Give the floor back");
   const number = await ben.value("document.querySelector('.entry.me').dataset.request");
-  floord.stdin.write(`revoke 1 ${number}\n`);
+  server.stdin.write(`revoke 1 ${number}\n`);
   await ben.shows("Screen: the floor was taken back.");
   await ann.shows("Screen: you have the floor.");
 
-  await change(floord, all);
+  await change(server, all);
 
   // What is refused has its name of RFC 8855, by which the page finds its sentence.
   const refused = await cid.value(`(async () => {
@@ -485,7 +485,7 @@ async function meet(floord, gateway) {
   await ben.says("Microphone", ".hand", "Lower hand");
 
   // A meeting that has ended says so, and nothing is tried again but by a press.
-  await order(floord, "close 1", "ok closed 1");
+  await order(server, "close 1", "ok closed 1");
   for (const tab of all) await tab.shows("The meeting has ended", 20_000);
   await ann.focus("The meeting has ended");
   await ann.hides("Raise hand");
@@ -538,8 +538,8 @@ async function looks([ann, ben, cid, dee]) {
 }
 
 /** A user and a floor more, another chair, and none for a while: of these the pages' file knows nothing. */
-async function change(floord, [ann, ben, cid, dee]) {
-  await order(floord, "user 1 14 port 7214 name Eve", "ok user 1 14");
+async function change(server, [ann, ben, cid, dee]) {
+  await order(server, "user 1 14 port 7214 name Eve", "ok user 1 14");
   const eve = await Client.open(7214, 14);
   eve.ask(eve.bfcp.floorRequest({ floors: [1], info: "By phone" }));
   await dee.shows("Eve raises a hand");
@@ -548,7 +548,7 @@ async function change(floord, [ann, ben, cid, dee]) {
   await dee.type("Later");
   await dee.key("Enter", 13);
   await eve.until("Denied", "Later");
-  await order(floord, "floor 1 3", "ok floor 1 3");
+  await order(server, "floor 1 3", "ok floor 1 3");
   eve.ask(eve.bfcp.floorRequest({ floors: [2, 3] }));
   await ann.until(`[...document.querySelectorAll(".queue .who")].some((one) => one.textContent === "Eve")`, "Eve in a queue");
   await ann.press("Screen", "Give the floor back");
@@ -558,20 +558,20 @@ async function change(floord, [ann, ben, cid, dee]) {
 
   await ben.press("Microphone", "Raise hand");
   await dee.until(`[...document.querySelectorAll(".pending .who")].some((one) => one.textContent === "Ben")`, "Ben's hand");
-  await order(floord, "chair 1 1 12", "ok chair 1 1");
+  await order(server, "chair 1 1 12", "ok chair 1 1");
   await dee.press("Microphone", "Give the floor to Ben");
   await dee.shows("You may not do this: somebody else decides here.");
   await dee.picture("refused", false);
   await dee.until("document.querySelector('#alert').hidden", "that it goes by itself", 20_000);
   await dee.shows("You may not do this: somebody else decides here.");
-  await order(floord, "chair 1 1 13", "ok chair 1 1");
+  await order(server, "chair 1 1 13", "ok chair 1 1");
   await dee.press("Microphone", "Give the floor to Ben");
   await ben.shows("You have the floor.");
   await cid.press("Microphone", "Raise hand");
   await cid.shows("The chair hasn't decided yet");
-  await order(floord, "chair 1 1", "ok chair 1 1");
+  await order(server, "chair 1 1", "ok chair 1 1");
   await cid.shows("You are 1st in the queue");
-  await order(floord, "chair 1 1 13", "ok chair 1 1");
+  await order(server, "chair 1 1 13", "ok chair 1 1");
   await ben.press("Microphone", "Give the floor back");
   await cid.shows("You have the floor.");
   await cid.press("Microphone", "Give the floor back");
@@ -581,7 +581,7 @@ async function change(floord, [ann, ben, cid, dee]) {
 }
 
 const profile = mkdtempSync(join(tmpdir(), "chromium-"));
-const floord = await start(floordPath, config);
+const server = await start(serverPath, config);
 let gateway = await start(floorwebPath, ADDRESS, config, folder);
 const browser = spawn("chromium", [
   "--headless=new", "--no-sandbox", "--disable-gpu", "--disable-dev-shm-usage", "--no-first-run",
@@ -594,7 +594,7 @@ try {
     if (await fetch(`http://127.0.0.1:${DEBUGGING}/json/version`).then(() => true, () => false)) break;
     await sleep(100);
   }
-  gateway = await meet(floord, gateway);
+  gateway = await meet(server, gateway);
   console.log(`${steps} steps as they should be`);
 } catch (error) {
   console.log(`FAILED behind ${steps} steps: ${error.stack}`);
@@ -605,7 +605,7 @@ try {
   browser.kill();
   await gone;
   gateway.stdin.end();
-  floord.stdin.end();
+  server.stdin.end();
   await sleep(1_000);
   rmSync(profile, { recursive: true, force: true });
   process.exit(status);

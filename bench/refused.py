@@ -1,10 +1,10 @@
 #!/usr/bin/env python3
-"""Refuses allocations in turn: ./refused.py FLOORD FLOORC [EVERY]
+"""Refuses allocations in turn: ./refused.py SERVER FLOORC [EVERY]
 
 Builds refused.c, and runs both programs with one allocation refused, and with all from one on: the
 first, the second, and so on (with EVERY, each so manieth) up to as many as a run makes. floorc
-talks to a peer that answers what floord answers; floord is driven through its console, and by a
-client. A run has to end by itself; what it prints has to be a beginning of what it prints where
+talks to a peer that answers what a server answers; the server, a floord or a floorhub, is driven through
+its console, and by a client. A run has to end by itself; what it prints has to be a beginning of what it prints where
 nothing is refused, but that a conference may be broken off, which every later answer then says;
 where it ends early, its status is 1 and standard error has the fault's name; its report is never
 Mismatch. Prints how many runs ended how. Status 1 where one did otherwise.
@@ -21,7 +21,7 @@ import time
 
 from messages import (FLOOR_RELEASE, FLOOR_REQUEST, FLOOR_REQUEST_ID, FLOOR_STATUS, GRANTED, HELLO,
                       RELEASED, floor_request_status, floors, hello_ack, message, number)
-from server import hear
+from server import hear, name_of
 
 PORT = 7990
 CONFIGURATION = '''[[conference]]
@@ -36,6 +36,7 @@ id = 2
 [[conference.user]]
 id = 10
 ''' % PORT
+OF_PORT = 'port %d of user 10 of conference 1: ' % PORT
 FLOOR_STATUS_OF_NONE = message(FLOOR_STATUS, 1, 2, 10)
 # A Hello, a FloorRequest for floor 1 and its FloorRelease, and what they are answered.
 ASKED = (message(HELLO, 1, 1, 10), message(FLOOR_REQUEST, 1, 2, 10, floors(1)),
@@ -101,11 +102,12 @@ def run_floorc(floorc, folder, refused):
 
 
 class Driven:
-    """A floord with its console."""
+    """A server with its console."""
 
-    def __init__(self, floord, folder, refused):
+    def __init__(self, program, folder, refused):
+        self.name = name_of(program)
         self.process = subprocess.Popen(
-            [floord, os.path.join(folder, 'refused.toml')], stdin=subprocess.PIPE,
+            [program, os.path.join(folder, 'refused.toml')], stdin=subprocess.PIPE,
             stdout=subprocess.PIPE, stderr=subprocess.PIPE, env=environment(folder, refused))
         self.held = b''
 
@@ -115,7 +117,7 @@ class Driven:
         while b'\n' not in self.held:
             left = end - time.monotonic()
             if left <= 0 or not select.select([self.process.stdout], [], [], left)[0]:
-                raise Wrong('floord prints nothing')
+                raise Wrong('%s prints nothing' % self.name)
             piece = os.read(self.process.stdout.fileno(), 65536)
             if not piece:
                 return None
@@ -135,7 +137,7 @@ class Driven:
         try:
             _, errors = self.process.communicate(timeout=SECONDS)
         except subprocess.TimeoutExpired:
-            raise Wrong('floord does not end')
+            raise Wrong('%s does not end' % self.name)
         return self.process.returncode, errors.decode()
 
 
@@ -159,9 +161,9 @@ def talk():
     return heard
 
 
-def run_floord(floord, folder, refused):
-    """How a run of floord ended."""
-    driven = Driven(floord, folder, refused)
+def run_server(program, folder, refused):
+    """How a run of a server ended."""
+    driven = Driven(program, folder, refused)
     try:
         return drive(driven)
     finally:
@@ -203,10 +205,14 @@ def drive(driven):
     status, errors = driven.end()
     if status == 0 and not errors:
         return 'well, but that a client was shut down' if unserved else 'well'
-    if status != 1 or errors not in ('floord: Memory\n', 'floord: Broken\n',
-                                     'floord: CannotListen\n', 'floord: CannotRead\n'):
-        raise Wrong('floord ends with %d and %r' % (status, errors))
-    return errors.split()[1]
+    # Before the name there may be a line that says where.
+    *lines, last = errors.splitlines() or ['']
+    if status != 1 or last not in [
+            '%s: %s' % (driven.name, fault) for fault in ('Memory', 'Broken', 'CannotListen', 'CannotRead')]:
+        raise Wrong('%s ends with %d and %r' % (driven.name, status, errors))
+    if len(lines) > 1 or any('refused.toml: ' not in line and not line.startswith(OF_PORT) for line in lines):
+        raise Wrong('%s tells %r' % (driven.name, lines))
+    return last.split()[1]
 
 
 def try_all(name, run, program, folder, every):
@@ -241,7 +247,8 @@ def main():
         with open(os.path.join(folder, 'refused.toml'), 'w') as file:
             file.write(CONFIGURATION)
         wrong = try_all('floorc', run_floorc, os.path.abspath(sys.argv[2]), folder, every)
-        wrong += try_all('floord', run_floord, os.path.abspath(sys.argv[1]), folder, every)
+        server = os.path.abspath(sys.argv[1])
+        wrong += try_all(name_of(server), run_server, server, folder, every)
     raise SystemExit(1 if wrong else 0)
 
 

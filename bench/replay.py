@@ -1,16 +1,18 @@
 #!/usr/bin/env python3
-"""Does the server send what its journal calls for? ./replay.py FLOORD FLOORSIM [SEED [ROUNDS [STEPS]]]
+"""Does the server send what its journal calls for? ./replay.py SERVER FLOORSIM [SEED [ROUNDS [STEPS]]]
 
-Random clients with a seed (1) play against floord: they ask, chair, watch, send nonsense, cut their
-messages anywhere, read late or never, leave, are cut off, while an administrator revokes, adds users
-and floors, gives floors other chairs or none, and closes. In each conference some greet without ever
+Random clients with a seed (1) play against a floord or a floorhub: they ask, chair, watch, send nonsense,
+cut their messages anywhere, read late or never, leave, are cut off, while an administrator revokes, adds
+users and floors, gives floors other chairs or none, and closes. In each conference some greet without ever
 reading, until they are more than 1,024 messages behind and the server cuts them. Then the console prints
 each conference's journal. The journal has to hold what each connection sent, in its order; and floorsim,
 which runs it as a script from the configuration with which the conference was opened, has to print for
 each connection the bytes that it heard: all of them where it ended in order, else a beginning of them.
 An acknowledgement is no line of a script, which acknowledges all that it prints: so there nobody is
-cut, and who is cut by the server has heard a beginning of what is printed. Of the latter there has to
-be one in each round: the journal has more than 1,024 messages for it that it never acknowledged.
+cut. Who is cut by the server, and at which event, is counted by what is printed for each line and by the
+journal's acknowledgements: from that event on nothing is called for, and no message of such a member is
+an event. Of these there has to be one in each round. And whoever read to the end of its stream has heard
+at least as many messages as were acknowledged for it.
 So many rounds (3), each with the next seed; in rounds of less than 6,000 STEPS nobody greets so. A
 difference is printed with its seed, conference, connection and place, and the script is kept; then the
 status is 1.
@@ -47,8 +49,10 @@ CUTTING_STEPS = 6000
 DEADLINE = 60
 # A greeter sends so many Hellos at each of so many steps. Of their answers its sockets hold some 2,000.
 BURST, BURSTS = 200, 40
-# Who comes to be so many messages behind is cut.
-BEHIND = 1025
+# Whom an event would bring to be more messages behind is told nothing by it, and is cut.
+MAX_BEHIND = 1024
+# A line of a script behind each other line, and what it prints: no conference has this number.
+MARKER, MARK = 'attach 0 0', 'refused NoConference'
 
 
 def port_of(conference, user):
@@ -103,6 +107,7 @@ class Peer:
         self.is_deaf = chance.random() < 0.15
         self.goes_on = True
         self.how = 'in order'
+        self.has_ended = False
         self.socket = connect(port_of(conference, user), narrow)
         self.socket.setblocking(False)
         self.nonsense = messages.hostile(chance, conference, user)
@@ -126,6 +131,7 @@ class Peer:
             return
         self.heard += piece
         if not piece:
+            self.has_ended = True
             if self.goes_on:
                 self.how = 'cut off'
             self.socket.close()
@@ -242,7 +248,7 @@ class Peer:
 
     def result(self):
         return (self.conference, self.user, self.mark, whole(self.stream[:self.flushed]),
-                bytes(self.heard), self.how)
+                bytes(self.heard), self.how, self.has_ended)
 
 
 class Greeter(Peer):
@@ -306,87 +312,132 @@ class Difference(Exception):
     """What the journal, the clients and floorsim have otherwise."""
 
 
-def script_of(conference, lines):
-    """The journal as a script, each member's user and messages, and how many it acknowledged."""
-    script = []
-    users = []
-    sent = collections.defaultdict(list)
-    taken = collections.Counter()
-    for place, line in enumerate(lines[:-1], 1):
-        words = line.split()
-        if words[0] != str(place):
-            raise Difference('place %d of the journal is "%s"' % (place, line))
-        if words[1] == 'join':
-            users.append(int(words[2]))
-            script.append('attach %d %s' % (conference, words[2]))
-        elif words[1] == 'message':
-            sent[int(words[2])].append(bytes.fromhex(words[3]))
-            script.append('send %s %s' % (words[2], words[3]))
-        elif words[1] == 'took':
-            taken[int(words[2])] += int(words[3])
-        elif words[1] == 'leave':
-            script.append('leave %s' % words[2])
-        elif words[1] == 'revoke':
-            script.append('revoke %d %s' % (conference, words[2]))
-        elif words[1] == 'user':
-            name = '' if words[4] == '-' else ' name ' + bytes.fromhex(words[4]).decode()
-            script.append('user %d %s%s%s' % (conference, words[2], ' proxy' if words[3] == '1' else '', name))
-        elif words[1] == 'floor':
-            chair = '' if words[4] == '-' else ' chair ' + words[4]
-            script.append('floor %d %s room %s%s' % (conference, words[2], words[3], chair))
-        elif words[1] == 'chair':
-            script.append('chair %d %s %s' % (conference, words[2], words[3].replace('-', '')))
-        elif words[1] != 'close':
-            raise Difference('place %d of the journal is "%s"' % (place, line))
+class Journal:
+    """A conference's journal as a script, and what stands in it of each member."""
+
+    def __init__(self, conference, lines):
+        self.script = []
+        self.users = []
+        self.sent = collections.defaultdict(list)
+        # For each line (member, count): who acknowledged how many messages, or who sent one, or nothing.
+        self.took = []
+        self.senders = []
+        for place, line in enumerate(lines[:-1], 1):
+            words = line.split()
+            if words[0] != str(place):
+                raise Difference('place %d of the journal is "%s"' % (place, line))
+            self.add(conference, words[1:])
+        if lines[-1] != 'end %d' % (len(lines) - 1):
+            raise Difference('%d events end by "%s"' % (len(lines) - 1, lines[-1]))
+
+    def add(self, conference, words):
+        took = sender = line = None
+        if words[0] == 'took':
+            took = int(words[1]), int(words[2])
+        elif words[0] == 'message':
+            sender = int(words[1])
+            self.sent[sender].append(bytes.fromhex(words[2]))
+            line = 'send %s %s' % (words[1], words[2])
+        elif words[0] == 'join':
+            self.users.append(int(words[1]))
+            line = 'attach %d %s' % (conference, words[1])
+        elif words[0] == 'leave':
+            line = 'leave %s' % words[1]
+        elif words[0] == 'revoke':
+            line = 'revoke %d %s' % (conference, words[1])
+        elif words[0] == 'user':
+            name = '' if words[3] == '-' else ' name ' + bytes.fromhex(words[3]).decode()
+            line = 'user %d %s%s%s' % (conference, words[1], ' proxy' if words[2] == '1' else '', name)
+        elif words[0] == 'floor':
+            chair = '' if words[3] == '-' else ' chair ' + words[3]
+            line = 'floor %d %s room %s%s' % (conference, words[1], words[2], chair)
+        elif words[0] == 'chair':
+            line = 'chair %d %s %s' % (conference, words[1], words[2].replace('-', ''))
+        elif words[0] == 'close':
+            line = 'close %d' % conference
         else:
-            script.append('close %d' % conference)
-    if lines[-1] != 'end %d' % (len(lines) - 1):
-        raise Difference('%d events end by "%s"' % (len(lines) - 1, lines[-1]))
-    return script, users, sent, taken
+            raise Difference('the journal has "%s"' % ' '.join(words))
+        if line:
+            self.script.append(line)
+        self.took.append(took)
+        self.senders.append(sender)
+
+    def text(self, configuration):
+        return configuration + '---\n' + '\n'.join(self.script) + '\n'
+
+    def printed(self, floorsim, configuration):
+        """What floorsim prints for each member behind each line of the script: (member, message) pairs."""
+        marked = configuration + '---\n' + ''.join('%s\n%s\n' % (line, MARKER) for line in self.script)
+        done = subprocess.run([os.path.abspath(floorsim)], input=marked.encode(),
+                              stdout=subprocess.PIPE, timeout=600)
+        if done.returncode:
+            raise Difference('floorsim ends with status %d' % done.returncode)
+        behind = [[]]
+        attached = 0
+        for line in done.stdout.decode().split('\n'):
+            first, _, rest = line.partition(' ')
+            if line == MARK:
+                behind.append([])
+            elif first == 'attached':
+                attached += 1
+                if rest != str(attached):
+                    raise Difference('floorsim prints "%s"' % line)
+            elif first in ('refused', 'error', 'nothing'):
+                raise Difference('floorsim prints "%s": the journal is none' % line)
+            elif first:
+                behind[-1].append((int(first), bytes.fromhex(rest)))
+        if attached != len(self.users) or len(behind) != len(self.script) + 1:
+            raise Difference('%d members are %d attached, %d lines are %d' % (
+                len(self.users), attached, len(self.script), len(behind) - 1))
+        return behind
+
+    def told(self, printed):
+        """What each member was told, who was cut, and how many messages each acknowledged."""
+        told = collections.defaultdict(list)
+        taken = collections.Counter()
+        cut = set()
+        printed = iter(printed)
+        for took, sender in zip(self.took, self.senders):
+            if took:
+                taken[took[0]] += took[1]
+                if taken[took[0]] > len(told[took[0]]):
+                    raise Difference('member %d was told %d messages and acknowledged %d' % (
+                        took[0], len(told[took[0]]), taken[took[0]]))
+                continue
+            if sender in cut:
+                raise Difference('a message of member %d, which is cut, is an event' % sender)
+            due = collections.defaultdict(list)
+            for n, text in next(printed):
+                due[n].append(text)
+            for n, texts in due.items():
+                if n in cut:
+                    continue
+                if len(told[n]) - taken[n] + len(texts) > MAX_BEHIND:
+                    cut.add(n)
+                else:
+                    told[n] += texts
+        return told, cut, taken
 
 
-def printed_for(floorsim, text, members):
-    """What floorsim prints for each member."""
-    done = subprocess.run([os.path.abspath(floorsim)], input=text.encode(),
-                          stdout=subprocess.PIPE, timeout=600)
-    if done.returncode:
-        raise Difference('floorsim ends with status %d' % done.returncode)
-    told = collections.defaultdict(list)
-    attached = 0
-    for line in done.stdout.decode().split('\n'):
-        first, _, rest = line.partition(' ')
-        if first == 'attached':
-            attached += 1
-            if rest != str(attached):
-                raise Difference('floorsim prints "%s"' % line)
-        elif first in ('refused', 'error', 'nothing'):
-            raise Difference('floorsim prints "%s": the journal is none' % line)
-        elif first:
-            told[int(first)].append(bytes.fromhex(rest))
-    if attached != members:
-        raise Difference('%d members are %d attached' % (members, attached))
-    return told
-
-
-def compare(conference, users, sent, taken, told, peers, counts):
+def compare(conference, journal, printed, peers, counts):
     """Compares the journal and what it calls for with what each connection sent and heard."""
     by_mark = {peer[2]: peer for peer in peers}
+    told, cut, taken = journal.told(printed)
+    sent = journal.sent
     silent = []
-    for n, user in enumerate(users, 1):
+    for n, user in enumerate(journal.users, 1):
         counts['members'] += 1
         if not sent[n]:
             silent.append((user, b''.join(told[n])))
             continue
-        _, of, mark, messages_, heard, how = by_mark.pop(sent[n][0][14:22], [None] * 6)
+        _, of, mark, messages_, heard, how, has_ended = by_mark.pop(sent[n][0][14:22], [None] * 7)
         if mark is None:
             raise Difference('member %d is no connection that was made' % n)
         if of != user:
             raise Difference('member %d is user %d, and was %d' % (n, user, of))
         if sent[n] != messages_[:len(sent[n])]:
             raise Difference('member %d sent something else than the journal has' % n)
-        # More was called for than it was told, unless the server cut it.
-        is_cut = len(told[n]) - taken[n] >= BEHIND
-        if is_cut:
+        if n in cut:
             how = 'no end' if how == 'no end' else 'by the server'
         if conference == CONFERENCES and how == 'in order':
             # Its conference was closed, perhaps before it had heard all.
@@ -402,16 +453,16 @@ def compare(conference, users, sent, taken, told, peers, counts):
                       min(len(heard), len(wanted)))
             raise Difference('member %d, byte %d of %d: %s is heard, %s is called for' % (
                 n, at, len(wanted), heard[at:at + 32].hex(), wanted[at:at + 32].hex()))
-        if is_cut and len(heard) == len(wanted):
-            raise Difference('member %d has %d messages, of which it acknowledged %d, and is not cut' % (
-                n, len(told[n]), taken[n]))
+        if has_ended and len(whole(heard)) < taken[n]:
+            raise Difference('member %d heard %d messages, and %d were acknowledged' % (
+                n, len(whole(heard)), taken[n]))
         counts[how] += 1
         counts['bytes'] += len(heard)
-        if is_cut:
+        if n in cut:
             counts['bytes of cut'] += len(heard)
         for text in told[n]:
             counts['primitive %d' % text[1]] += 1
-    for _, user, _, _, heard, how in by_mark.values():
+    for _, user, _, _, heard, how, _ in by_mark.values():
         # Cut off before its first message was taken: a member that sent nothing, or none.
         counts['cut off early'] += 1
         if how == 'in order' and conference != CONFERENCES:
@@ -483,12 +534,11 @@ def round_of(floord, floorsim, seed, steps):
         events = 0
         for conference in range(1, CONFERENCES + 1):
             where = 'seed %d, conference %d' % (seed, conference)
-            journal = server.journal(conference)
-            script, users, sent, taken = script_of(conference, journal)
-            events += len(journal) - 1
-            script = texts[conference - 1] + '---\n' + '\n'.join(script) + '\n'
-            told = printed_for(floorsim, script, len(users))
-            compare(conference, users, sent, taken, told,
+            lines = server.journal(conference)
+            journal = Journal(conference, lines)
+            events += len(lines) - 1
+            script = journal.text(texts[conference - 1])
+            compare(conference, journal, journal.printed(floorsim, texts[conference - 1]),
                     [peer for peer in peers if peer[0] == conference], counts)
         where = 'seed %d' % seed
         report = server.stop()
@@ -503,7 +553,7 @@ def round_of(floord, floorsim, seed, steps):
         if script:
             handle, path = tempfile.mkstemp(suffix='.script')
             with os.fdopen(handle, 'w') as file:
-                file.write(script if isinstance(script, str) else '\n'.join(script))
+                file.write(script)
             where += ' (%s)' % path
         raise SystemExit('FAILED: %s: %s' % (where, fault))
 

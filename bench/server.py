@@ -32,6 +32,11 @@ def configuration(conferences, users, first_port=FIRST_PORT):
     return ''.join(text), bindings
 
 
+def name_of(program):
+    """The name by which a server tells of itself, a floord or a floorhub."""
+    return 'floorhub' if os.path.basename(program).startswith('floorhub') else 'floord'
+
+
 class Server:
     """A floord or a floorhub that runs, pinned to processors where they are given, under limits of the system
     (`resource.RLIMIT_NOFILE` to a number, and the like), with variables of the environment and with further
@@ -39,7 +44,7 @@ class Server:
 
     def __init__(self, floord, text, processors=None, limits=None, variables=None, words=(), errors=None):
         # Whether it serves by event loops.
-        self.by_loops = os.path.basename(floord).startswith('floorhub')
+        self.by_loops = name_of(floord) == 'floorhub'
         handle, self.path = tempfile.mkstemp(suffix='.toml')
         with os.fdopen(handle, 'w') as file:
             file.write(text)

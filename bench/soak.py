@@ -1,5 +1,5 @@
 #!/usr/bin/env python3
-"""A long run: ./soak.py FLOORD [EVENTS [SECONDS]]
+"""A long run: ./soak.py SERVER [EVENTS [SECONDS]]
 
 At least so many events (5,000,000) beside acknowledgements, over 100 conferences. Each has 64 live
 connections for a while, then 8; it has 256 ongoing requests, the last in position 255, and is

@@ -1,5 +1,5 @@
 #!/usr/bin/env python3
-"""What do peers that never read cost a server? ./unread.py FLOORD [SECONDS [MOST]]
+"""What do peers that never read cost a server? ./unread.py SERVER [SECONDS [MOST]]
 
 A conference with the longest answers that there are: 256 requests, each for the same eight floors, with
 names of 30 bytes and a text of 62, so that one FloorQuery is answered by eight messages of some 56 kB.

@@ -1,11 +1,11 @@
 #!/usr/bin/env python3
-"""A gateway for browsers, tried over sockets: ./web.py FLOORD FLOORWEB FOLDER [GROUP ..]
+"""A gateway for browsers, tried over sockets: ./web.py SERVER FLOORWEB FOLDER [GROUP ..]
 
-Starts a floord and a floorweb of its own and runs each group of tries (or those that are named):
-starts, heads, sockets, floods, many, unread, proxy (which wants nginx and openssl), service, refused (which
-wants a C compiler), ends. Each try has the answer that it wants: a status of HTTP, a close code of
-WebSocket (RFC 6455, section 7.4.1), or what is in the frames. Prints a line for each that fails, and
-how many passed; status 1 where one failed.
+Starts a server, a floord or a floorhub, and a floorweb of its own and runs each group of tries (or those
+that are named): starts, heads, sockets, floods, many, unread, proxy (which wants nginx and openssl),
+service, refused (which wants a C compiler), ends. Each try has the answer that it wants: a status of HTTP,
+a close code of WebSocket (RFC 6455, section 7.4.1), or what is in the frames. Prints a line for each that
+fails, and how many passed; status 1 where one failed.
 """
 import base64
 import collections
@@ -126,6 +126,17 @@ class Gateway:
             rows = dict(line.split(':', 1) for line in file if ':' in line)
         return (int(rows['VmRSS'].split()[0]), int(rows['Threads']),
                 len(os.listdir('/proc/%d/fd' % pid)))
+
+    def at_rest(self):
+        """What it uses once the last of the tries before has let go."""
+        since, seen = time.monotonic(), self.use()
+        while time.monotonic() - since < 3:
+            time.sleep(0.1)
+            now = self.use()
+            if now[1:] != seen[1:]:
+                since = time.monotonic()
+            seen = now
+        return seen
 
     def freed(self, before, seconds):
         """Waits until its threads and descriptors are as they were, and gives them."""
@@ -586,13 +597,13 @@ def ends(program, folder, floord_path, floord, gateway):
         browser.primitive()
     floord.process.kill()
     floord.process.wait()
-    check('floord is killed', [browser.ends() for browser in browsers], [1001] * 4)
+    check('the server is killed', [browser.ends() for browser in browsers], [1001] * 4)
     check('nobody is there', Browser(token_of(1, 10)).ends(), NO_SERVER)
     check('the page is', status_of(ask(get('/'))), 200)
     back = Server(floord_path, configuration(), limits={resource.RLIMIT_NOFILE: 4_096})
     browser = Browser(token_of(1, 10))
     browser.send(2, message(HELLO))
-    check('floord is back', browser.primitive(), HELLO_ACK)
+    check('the server is back', browser.primitive(), HELLO_ACK)
     browser.close()
     back.process.kill()
     back.process.wait()
@@ -602,7 +613,7 @@ def ends(program, folder, floord_path, floord, gateway):
 
 def floods(floord, gateway):
     """Each is cut, nobody else notices, and nothing of it stays."""
-    before = gateway.use()
+    before = gateway.at_rest()
     deaf = Browser(token_of(5, 10))
     deaf.stream.settimeout(5)
     try:
@@ -918,9 +929,7 @@ def service(program, folder):
 # Many
 
 def many(program, folder, gateway, count=500):
-    # Until the last of the tries before has let go.
-    time.sleep(3)
-    before = gateway.use()
+    before = gateway.at_rest()
     began = time.monotonic()
     browsers = []
     for n in range(count):
