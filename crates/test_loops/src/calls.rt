@@ -53,7 +53,7 @@ pub fn attach(serving: &mut Loop, alloc: Global, user: u16) -> Result<ConnNo, En
 
 /// Hands in what came from a connection, and says whether more may wait.
 pub fn read(serving: &mut Loop, number: ConnNo, bytes: &[u8]) -> Result<bool, Ended> {
-    match serving.read(number, bytes, 0) {
+    match serving.read(number, bytes, 64, 0) {
         Ok(more) => Ok(more),
         Err(_) => Err(Ended),
     }
