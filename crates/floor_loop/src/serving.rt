@@ -23,9 +23,6 @@ use floor_hub::{Act, Config, ConnNo, Event, Hub, HubRefusal, Live, Place, Status
 use std::alloc::Global;
 use std::marker::Model;
 
-/// How many messages of a connection are served in a turn: our choice, so that nobody starves.
-const MAX_TURN: u32 = 64;
-
 /// How many messages a connection may have left when its peer ends its stream: more than memory holds.
 const MAX_LEFT: u32 = 4_294_967_295;
 
@@ -205,13 +202,22 @@ impl Loop {
         self.hub.held_len(number)
     }
 
-    /// Takes bytes that came from a connection, serves its whole messages, 64 at most, and says whether
+    /// Takes bytes that came from a connection, serves its whole messages, `most` at most, and says whether
     /// more may wait. Refused as the hub refuses the bytes or a message; where it refuses a message the
     /// connection is to be shut down.
-    pub fn read(&mut self, number: ConnNo, bytes: &[u8], now: u64) -> Result<bool, HubRefusal>
-        ensures steps { Steps (Reads number bytes.now 64) self.old.hub self.new.hub }
+    ///
+    /// Whoever reads decides how many messages of one connection are served before another's: a message may
+    /// take a hundred thousand times as long as another.
+    pub fn read(
+        &mut self,
+        number: ConnNo,
+        bytes: &[u8],
+        most: u32,
+        now: u64,
+    ) -> Result<bool, HubRefusal>
+        ensures steps { Steps (Reads number bytes.now most) self.old.hub self.new.hub }
         ensures handed { OnOk result
-            (Steps (Hands number bytes.now 64) self.old.hub self.new.hub) }
+            (Steps (Hands number bytes.now most) self.old.hub self.new.hub) }
         ensures took { TookNothing self.old self.new }
         ensures woke { Wakes self.old self.new }
         ensures refused { OnErr result (IsEnded self.new.attended number) }
@@ -220,7 +226,7 @@ impl Loop {
             → IsSparedOrOver self.old self.new k }
     {
         self.attended.pass(now);
-        read_turn(&mut self.hub, &mut self.attended, number, bytes, MAX_TURN)
+        read_turn(&mut self.hub, &mut self.attended, number, bytes, most)
     }
 
     /// Does what the administrator of a conference does, as the hub does.

@@ -1,3 +1,4 @@
 -- What a reader has to believe, in the order of reading.
 pub mod Departures
 pub mod Refusals
+pub mod Doors

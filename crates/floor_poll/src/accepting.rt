@@ -1,23 +1,24 @@
-//! Who connects to a port is accepted, and joins its conference.
+//! Who connects to a port is accepted, and joins its conference; and so does who comes by a door.
 
+use crate::arrival::Arrival;
 use crate::connection::Connection;
 use crate::departure::refused_by;
+use crate::mailbox::Mailbox;
+use crate::port::{Accepted, accept};
 use crate::worker::Worker;
 use floor_loop::ConnNo;
 use floor_server::{Entry, Peer, Refused, UserPort};
 use mio::net::TcpStream;
 use mio::{Interest, Token};
-use std::io::ErrorKind;
 use std::mem;
-use std::net::SocketAddr;
 use std::sync::Wait;
 use std::time::Clock;
 
 /// How many are accepted at a port before others are served.
-const MAX_ACCEPTS: u32 = 64;
+pub const MAX_ACCEPTS: u32 = 64;
 
 /// How long a port waits where an accept failed, as it does without a descriptor left, in milliseconds.
-const ACCEPT_AGAIN_MILLIS: u64 = 100;
+pub const ACCEPT_AGAIN_MILLIS: u64 = 100;
 
 impl<R: Clock + Wait + Copy + Drop> Worker<R> {
     /// Accepts who waits at a port, 64 at most at a time. Where an accept fails the port is looked at again after
@@ -27,27 +28,19 @@ impl<R: Clock + Wait + Copy + Drop> Worker<R> {
             let Some(port) = self.ports.get(&number) else {
                 return;
             };
-            match port.listener.accept() {
-                Ok((stream, address)) => {
+            match accept(&port.listener) {
+                Accepted::Stream(stream, own) => {
                     let to = port.place;
                     self.set_failing(number, false);
-                    self.attach(
-                        stream,
-                        Peer {
-                            to,
-                            port: address.port(),
-                        },
-                    );
+                    self.attach(stream, Peer { to, port: own });
                 }
-                Err(error) => match error.kind() {
-                    ErrorKind::WouldBlock => return,
-                    ErrorKind::Interrupted | ErrorKind::ConnectionAborted => {}
-                    _ => {
-                        self.set_failing(number, true);
-                        self.look_again(number, ACCEPT_AGAIN_MILLIS);
-                        return;
-                    }
-                },
+                Accepted::Nobody => return,
+                Accepted::Gone => {}
+                Accepted::Failure => {
+                    self.set_failing(number, true);
+                    self.look_again(number, ACCEPT_AGAIN_MILLIS);
+                    return;
+                }
             }
         }
         self.look_again(number, 0);
@@ -105,22 +98,51 @@ impl<R: Clock + Wait + Copy + Drop> Worker<R> {
         }
     }
 
+    /// Lets those in who have come by a door.
+    pub fn enter_all(&mut self, mailbox: &Mailbox) {
+        let rt = self.rt;
+        for _ in 0..mailbox.waiting(&rt) {
+            match mailbox.next_arrival(&rt) {
+                Some(arrival) => self.enter(arrival),
+                None => return,
+            }
+        }
+    }
+
+    /// Lets one in who has come by a door, and serves what came behind the header.
+    fn enter(&mut self, arrival: Arrival) {
+        if self.is_stopping {
+            return;
+        }
+        let peer = arrival.peer;
+        match self.join(peer.to) {
+            Ok(number) => {
+                let Arrival { stream, header, .. } = arrival;
+                self.add(number, stream, peer);
+                self.serve_bytes(number, header.rest());
+            }
+            Err(cause) => self.tell(&Entry::RefusedAtDoor {
+                door: arrival.door,
+                peer: peer.port,
+                cause,
+            }),
+        }
+    }
+
     /// Has whoever connects to this port join its conference, with a place there and room here.
     fn join(&mut self, to: UserPort) -> Result<ConnNo, Refused> {
         self.reserve()?;
         let Some(places) = self.conferences.get_mut(&to.conference) else {
             return Err(Refused::NoConference);
         };
-        if let Err(unserved) = places.take() {
-            return Err(Refused::by_table(unserved));
-        }
+        places.take(to.user)?;
         match self
             .hub
             .attach(self.alloc, to.conference, to.user, self.now)
         {
             Ok(number) => Ok(number),
             Err(refusal) => {
-                places.give_back();
+                places.give_back(to.user);
                 Err(refused_by(refusal))
             }
         }

@@ -10,9 +10,8 @@ use mio::net::TcpStream;
 use std::io::{ErrorKind, Read, Write};
 use std::net::Shutdown;
 
-/// How often what has come is read and thrown away, 4 KiB at a time, before a socket is closed: more than the
-/// system keeps of one. A close with unread bytes
-/// resets.
+/// How often what has come is read and thrown away before a socket is closed: by 4 KiB at a time that is more
+/// than the system keeps of one.
 const MAX_LAST_READS: u32 = 4_096;
 
 /// A connection of a member.
@@ -28,8 +27,12 @@ pub struct Connection {
     pub is_half_closed: bool,
     /// Whether messages may wait that a turn has left over.
     pub has_more: bool,
+    /// Whether its last turn took long, so that the next one begins with one message.
+    pub is_long: bool,
     /// Whether the socket takes nothing at present.
     pub is_blocked: bool,
+    /// Whether the socket has failed: once what it has sent is served it is shut down.
+    pub has_failed: bool,
     /// Whether it stands among those that are to be served.
     pub is_queued: bool,
     /// How its reading ended, if it did.
@@ -72,7 +75,9 @@ impl Connection {
             is_readable: false,
             is_half_closed: false,
             has_more: false,
+            is_long: false,
             is_blocked: false,
+            has_failed: false,
             is_queued: false,
             end: None,
         }
@@ -84,21 +89,15 @@ impl Connection {
         ensures within { (count : ℕ) → result ≡ Came count → count ≤ length buffer.new }
     {
         let room = buffer.len();
-        match self.stream.read(buffer) {
-            Ok(0) => Found::End,
-            Ok(count) => {
-                self.is_readable = self.is_half_closed || count == room;
-                Found::Bytes(count)
+        let found = read_once(&mut self.stream, buffer);
+        match found {
+            Found::Bytes(count) => {
+                self.is_readable = self.is_half_closed || count == room || count == 0;
             }
-            Err(error) => match error.kind() {
-                ErrorKind::WouldBlock => {
-                    self.is_readable = false;
-                    Found::Nothing
-                }
-                ErrorKind::Interrupted => Found::Nothing,
-                _ => Found::Failure,
-            },
+            Found::Nothing => self.is_readable = false,
+            Found::End | Found::Failure => {}
         }
+        found
     }
 
     /// Writes once.
@@ -121,15 +120,30 @@ impl Connection {
             },
         }
     }
+}
 
-    /// Shuts its socket down, both ways.
-    pub fn shut_down(&mut self, buffer: &mut [u8]) {
-        for _ in 0..MAX_LAST_READS {
-            match self.stream.read(buffer) {
-                Ok(0) | Err(_) => break,
-                Ok(_) => {}
-            }
-        }
-        let _outcome = self.stream.shutdown(Shutdown::Both);
+/// Reads once. It gives no byte where a signal came between.
+pub fn read_once(stream: &mut TcpStream, buffer: &mut [u8]) -> Found
+    ensures within { (count : ℕ) → result ≡ Came count → count ≤ length buffer.new }
+{
+    match stream.read(buffer) {
+        Ok(0) => Found::End,
+        Ok(count) => Found::Bytes(count),
+        Err(error) => match error.kind() {
+            ErrorKind::WouldBlock => Found::Nothing,
+            ErrorKind::Interrupted => Found::Bytes(0),
+            _ => Found::Failure,
+        },
     }
+}
+
+/// Shuts a socket down, both ways, once what has come is read: a close with unread bytes resets.
+pub fn shut_down(stream: &mut TcpStream, buffer: &mut [u8]) {
+    for _ in 0..MAX_LAST_READS {
+        match stream.read(buffer) {
+            Ok(0) | Err(_) => break,
+            Ok(_) => {}
+        }
+    }
+    let _outcome = stream.shutdown(Shutdown::Both);
 }

@@ -7,9 +7,14 @@
 #![tactic(auto)]
 
 mod accepting;
+mod arrival;
 mod connection;
 mod departure;
+mod doors;
+mod elapsed;
+mod header;
 mod lines;
+mod log;
 mod mailbox;
 mod opening;
 mod owners;

@@ -1,10 +1,14 @@
-//! What the first thread asks of a loop, one thing after another, and what the loop answers.
+//! What the first thread asks of a loop, one thing after another, and what the loop answers; and who comes to
+//! it by a door.
 
+use crate::arrival::Arrival;
 use crate::port::Port;
 use floor_config::Config;
 use floor_console::BoardRefusal;
 use floor_loop::{Act, Status, User};
 use mio::Waker;
+use std::alloc::{AllocError, Global};
+use std::collections::VecDeque;
 use std::sync::{Mutex, Wait};
 use std::thread::Parker;
 
@@ -72,23 +76,25 @@ pub struct Report {
     pub broken: Option<u32>,
 }
 
-/// Where the first thread and a loop meet. What is asked waits until the loop takes it, and the answer until
-/// the first thread does.
+/// Where the first thread and the doors meet a loop. What is asked waits until the loop takes it, the answer
+/// until the first thread does, and who comes by a door until the loop lets it in.
 #[derive(Drop)]
 pub struct Mailbox {
     asked: Mutex<Option<Asked>>,
     answer: Mutex<Option<Answer>>,
     answered: Parker,
+    arrivals: Mutex<VecDeque<Arrival>>,
     waker: Waker,
 }
 
 impl Mailbox {
-    /// Nothing is asked. The waker ends the loop's waiting.
-    pub fn new(waker: Waker) -> Mailbox {
+    /// Nothing is asked, and nobody comes. The waker ends the loop's waiting. Takes no memory.
+    pub fn new(alloc: Global, waker: Waker) -> Mailbox {
         Mailbox {
             asked: Mutex::new(None),
             answer: Mutex::new(None),
             answered: Parker::new(),
+            arrivals: Mutex::new(VecDeque::new(alloc)),
             waker,
         }
     }
@@ -120,5 +126,24 @@ impl Mailbox {
     pub fn reply<R: Wait>(&self, rt: &R, answer: Answer) {
         *self.answer.lock(rt) = Some(answer);
         self.answered.unpark();
+    }
+    /// Hands over who has come by a door. After an error nobody was, and its connection is closed.
+    pub fn bring<R: Wait>(&self, rt: &R, arrival: Arrival) -> Result<(), AllocError> {
+        match self.arrivals.lock(rt).push_back(arrival) {
+            Ok(()) => {}
+            Err(_) => return Err(AllocError),
+        }
+        let _woken = self.waker.wake();
+        Ok(())
+    }
+
+    /// How many wait who have come by a door.
+    pub fn waiting<R: Wait>(&self, rt: &R) -> usize {
+        self.arrivals.lock(rt).len()
+    }
+
+    /// The first of those who wait.
+    pub fn next_arrival<R: Wait>(&self, rt: &R) -> Option<Arrival> {
+        self.arrivals.lock(rt).pop_front()
     }
 }

@@ -48,7 +48,7 @@ impl<R: Clock + Wait + Copy + Drop> Worker<R> {
     /// Opens a conference with its ports. Where it is refused they are given back.
     fn open(&mut self, config: Config, ports: Vec<Port>) -> Result<(), BoardRefusal> {
         let conference = config.conference();
-        let mut places = Places::new(Vec::new(self.alloc));
+        let mut places = Places::new(self.alloc, config.connections());
         let outcome = self.open_with(&mut places, config, ports);
         match outcome {
             Ok(()) => {
@@ -69,7 +69,9 @@ impl<R: Clock + Wait + Copy + Drop> Worker<R> {
     ) -> Result<(), BoardRefusal> {
         self.conferences.reserve(1)?;
         for port in ports {
-            self.take_in(places, port)?;
+            places.reserve()?;
+            let number = self.take_in(port)?;
+            places.add(number)?;
         }
         match self.hub.open(self.alloc, config) {
             Ok(()) => Ok(()),
@@ -77,9 +79,10 @@ impl<R: Clock + Wait + Copy + Drop> Worker<R> {
         }
     }
 
-    /// Takes in a port that is listened on, with room for what is kept of it, and is told of who connects.
-    fn take_in(&mut self, places: &mut Places, port: Port) -> Result<(), BoardRefusal> {
-        self.reserve_port(places)?;
+    /// Takes in a port that is listened on, with room for what is kept of it, and is told of who connects. Gives
+    /// its number.
+    fn take_in(&mut self, port: Port) -> Result<u64, BoardRefusal> {
+        self.reserve_port()?;
         let number = self.last_port.saturating_add(2);
         let place = port.place;
         let mut port = port;
@@ -91,15 +94,13 @@ impl<R: Clock + Wait + Copy + Drop> Worker<R> {
         }
         self.last_port = number;
         let _added = self.ports.insert(number, port);
-        let _added = places.add(number);
         self.tell(&Entry::Listens(place));
-        Ok(())
+        Ok(number)
     }
 
     /// Takes room for one port more.
-    fn reserve_port(&mut self, places: &mut Places) -> Result<(), AllocError> {
+    fn reserve_port(&mut self) -> Result<(), AllocError> {
         let count = self.ports.len().saturating_add(1);
-        places.reserve()?;
         self.ports.reserve(1)?;
         self.waiting.reserve(count)
     }
@@ -111,15 +112,17 @@ impl<R: Clock + Wait + Copy + Drop> Worker<R> {
         user: User,
         port: Option<Port>,
     ) -> Result<(), BoardRefusal> {
-        let mut places = Places::new(Vec::new(self.alloc));
-        if let Some(port) = port {
-            self.take_in(&mut places, port)?;
+        let Some(port) = port else {
+            return self.add_to(conference, user);
+        };
+        if let Some(places) = self.conferences.get_mut(&conference) {
+            places.reserve()?;
         }
+        let number = self.take_in(port)?;
         let outcome = self.add_to(conference, user);
-        match (outcome, places.take_last()) {
-            (Ok(()), Some(number)) => self.keep_port(conference, number),
-            (Err(_), Some(number)) => self.close_port(number),
-            (_, None) => {}
+        match outcome {
+            Ok(()) => self.keep_port(conference, number),
+            Err(_) => self.close_port(number),
         }
         outcome
     }
@@ -130,7 +133,7 @@ impl<R: Clock + Wait + Copy + Drop> Worker<R> {
         self.admin(conference, Act::AddUser(user))
     }
 
-    /// Keeps a port with its conference.
+    /// Keeps a port with its conference, which has room for it.
     fn keep_port(&mut self, conference: u32, number: u64) {
         if let Some(places) = self.conferences.get_mut(&conference) {
             let _added = places.add(number);

@@ -1,8 +1,7 @@
 //! Which loop has which conference.
 
-ghost use Rattle.std.specs.Prelude.{◌≡◌, ◌<◌, ℕ, false, nat_eq, None, OnErr, OnOk, Some};
-ghost use Rattle.std.specs.Map.{lookup};
-ghost use Rattle.indexmap.specs.IndexMap.{get};
+ghost use Rattle.std.specs.Prelude.{◌≡◌, ◌<◌, ◌%◌, ℕ, false, nat_eq, None, OnErr, OnOk, Some};
+ghost use Rattle.indexmap.specs.IndexMap.{get, index_map_len, index_of_by};
 
 use indexmap::IndexMap;
 use std::alloc::{AllocError, Global};
@@ -36,12 +35,16 @@ impl Owners {
     }
 
     /// The place of a conference in the order of opening.
-    pub fn order(&self, conference: u32) -> Option<usize> {
+    pub fn order(&self, conference: u32) -> Option<usize>
+        ensures value { result ≡ index_of_by (nat_eq conference) self.now.places }
+    {
         self.places.get_index_of(&conference)
     }
 
     /// The loop that the next conference is given to: the first of those that have the fewest.
     pub fn next(&self) -> usize
+        ensures value { 0 < self.now.loops
+            → result ≡ index_map_len self.now.places % self.now.loops }
         ensures within { 0 < self.now.loops → result < self.now.loops }
     {
         self.places.len().checked_rem(self.loops).unwrap_or(0)

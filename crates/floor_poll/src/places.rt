@@ -1,69 +1,125 @@
-//! How many connections a conference has, and its ports.
+//! Whose connections a conference has, and its ports.
 
-ghost use Rattle.std.specs.Prelude.{◌≡◌, ◌++◌, ◌∷◌, ◌<◌, ◌≤◌, ◌+◌, ◌-◌, [], OnErr, OnOk};
+ghost use Rattle.std.specs.Prelude.{◌≡◌, ◌++◌, ◌∷◌, ◌<◌, ◌≤◌, ◌↔◌, ◌⊎◌, [], ℕ, Err, filter, length, nat_eq, None, OnErr, OnOk, position, remove, Some};
+ghost use Rattle.floor_server.specs.declared.departure.Refused.{Refused as Cause};
+ghost use Rattle.floor_server.specs.declared.departure.Refused.TheVariants.{Connections, Memory, UserConnections};
 
-use floor_listen::{MAX_CONNECTIONS, Unserved};
+use floor_listen::MAX_CONNECTIONS;
+use floor_server::Refused;
 use std::alloc::{AllocError, Global};
 use std::mem;
 
-/// The connections of a conference, by their number, and its ports.
+/// The connections of a conference, each by its user, and its ports.
 #[derive(Drop)]
 pub struct Places {
-    taken: usize,
+    users: Vec<u16>,
+    /// How many of them may be one user's.
+    most: u16,
     ports: Vec<u64>,
 }
 
 impl Places {
-    /// No connection, and these ports.
-    pub fn new(ports: Vec<u64>) -> Places
-        ensures taken { result.taken ≡ 0 }
-        ensures ports { result.ports ≡ ports }
+    /// No connection and no port. One user may have so many connections. Takes no memory.
+    pub fn new(alloc: Global, most: u16) -> Places
+        ensures users { result.users.items ≡ [] }
+        ensures most { result.most ≡ most }
+        ensures ports { result.ports.items ≡ [] }
     {
-        Places { taken: 0, ports }
-    }
-
-    /// Takes a place for a connection. Refused by `Full` where 128 are taken; then nothing has changed.
-    pub fn take(&mut self) -> Result<(), Unserved>
-        ensures took { OnOk result ((self.old.taken < MAX_CONNECTIONS)
-            × (self.new.taken ≡ self.old.taken + 1)) }
-        ensures left { OnErr result ((MAX_CONNECTIONS ≤ self.old.taken) × (self.new ≡ self.old)) }
-        ensures ports { self.new.ports ≡ self.old.ports }
-    {
-        if MAX_CONNECTIONS <= self.taken {
-            return Err(Unserved::Full);
+        Places {
+            users: Vec::new(alloc),
+            most,
+            ports: Vec::new(alloc),
         }
-        self.taken += 1;
-        Ok(())
     }
 
-    /// Gives a place back.
-    pub fn give_back(&mut self)
-        ensures taken { self.new.taken ≡ self.old.taken - 1 }
+    /// Takes a place for a connection of a user. Refused by `UserConnections` where the user has as many as
+    /// one may have, then by `Connections` where 128 places are taken, then by `Memory`; then nothing has
+    /// changed.
+    pub fn take(&mut self, user: u16) -> Result<(), Refused>
+        ensures took { OnOk result ((length (filter (nat_eq user) self.old.users.items) < self.old.most)
+            × (length self.old.users.items < MAX_CONNECTIONS)
+            × (self.new.users.items ≡ self.old.users.items ++ user ∷ [])) }
+
+        ensures user_connections { result ≡ Err UserConnections
+            ↔ self.old.most ≤ length (filter (nat_eq user) self.old.users.items) }
+        ensures connections { result ≡ Err Connections
+            → MAX_CONNECTIONS ≤ length self.old.users.items }
+        ensures others { (cause : Cause) → result ≡ Err cause
+            → (cause ≡ UserConnections) ⊎ ((cause ≡ Connections) ⊎ (cause ≡ Memory)) }
+
+        ensures left { OnErr result (self.new.users.items ≡ self.old.users.items) }
+        ensures most { self.new.most ≡ self.old.most }
         ensures ports { self.new.ports ≡ self.old.ports }
     {
-        self.taken = self.taken.saturating_sub(1);
+        if usize::from(self.most) <= count_of(self.users.as_slice(), user) {
+            return Err(Refused::UserConnections);
+        }
+        if MAX_CONNECTIONS <= self.users.len() {
+            return Err(Refused::Connections);
+        }
+        match self.users.push(user) {
+            Ok(()) => Ok(()),
+            Err(_) => Err(Refused::Memory),
+        }
+    }
+
+    /// Gives the place of a connection of a user back, where it has one.
+    pub fn give_back(&mut self, user: u16)
+        ensures found { (place : ℕ) → position (nat_eq user) self.old.users.items ≡ Some place
+            → self.new.users.items ≡ remove self.old.users.items place }
+        ensures none { position (nat_eq user) self.old.users.items ≡ None
+            → self.new.users.items ≡ self.old.users.items }
+        ensures most { self.new.most ≡ self.old.most }
+        ensures ports { self.new.ports ≡ self.old.ports }
+    {
+        if let Some(place) = place_of(self.users.as_slice(), user) {
+            let _user = self.users.remove(place);
+        }
     }
 
     /// Takes room for a port more.
-    pub fn reserve(&mut self) -> Result<(), AllocError> {
+    pub fn reserve(&mut self) -> Result<(), AllocError>
+        ensures users { self.new.users ≡ self.old.users }
+        ensures most { self.new.most ≡ self.old.most }
+        ensures ports { self.new.ports.items ≡ self.old.ports.items }
+    {
         self.ports.reserve(1)
     }
 
-    /// Adds a port, for which room was taken; without it the port is given back.
-    pub fn add(&mut self, port: u64) -> Result<(), AllocError> {
+    /// Adds a port. With room for it no memory is taken; after an error nothing has changed.
+    pub fn add(&mut self, port: u64) -> Result<(), AllocError>
+        ensures users { self.new.users ≡ self.old.users }
+        ensures most { self.new.most ≡ self.old.most }
+        ensures took { OnOk result (self.new.ports.items ≡ self.old.ports.items ++ port ∷ []) }
+        ensures left { OnErr result (self.new.ports.items ≡ self.old.ports.items) }
+    {
         match self.ports.push(port) {
             Ok(()) => Ok(()),
             Err(_) => Err(AllocError),
         }
     }
 
-    /// Gives the port out that was added last.
-    pub fn take_last(&mut self) -> Option<u64> {
-        self.ports.pop()
-    }
-
     /// Gives its ports out.
-    pub fn take_ports(&mut self, alloc: Global) -> Vec<u64> {
+    pub fn take_ports(&mut self, alloc: Global) -> Vec<u64>
+        ensures users { self.new.users ≡ self.old.users }
+        ensures most { self.new.most ≡ self.old.most }
+        ensures given { result.items ≡ self.old.ports.items }
+        ensures left { self.new.ports.items ≡ [] }
+    {
         mem::replace(&mut self.ports, Vec::new(alloc))
     }
+}
+
+/// How many of these are this user.
+fn count_of(users: &[u16], user: u16) -> usize
+    ensures value { result ≡ length (filter (nat_eq user) users.now) }
+{
+    users.iter().filter(|other| user == **other).count()
+}
+
+/// The first place at which this user stands.
+fn place_of(users: &[u16], user: u16) -> Option<usize>
+    ensures value { result ≡ position (nat_eq user) users.now }
+{
+    users.iter().position(|other| user == *other)
 }

@@ -2,8 +2,9 @@
 
 use floor_listen::listening_address;
 use floor_server::UserPort;
-use mio::net::TcpListener;
+use mio::net::{TcpListener, TcpStream};
 use std::io;
+use std::io::ErrorKind;
 use std::net::{Net, SocketAddr};
 
 /// A port that is listened on.
@@ -20,12 +21,41 @@ pub struct Port {
 impl Port {
     /// Listens on a user's port of 127.0.0.1.
     pub fn open<R: Net>(rt: &R, place: UserPort) -> io::Result<Port> {
-        let address = SocketAddr::V4(listening_address(place.port));
         Ok(Port {
-            listener: TcpListener::bind(rt, address)?,
+            listener: listen(rt, place.port)?,
             place,
             is_failing: false,
             is_waiting: false,
         })
+    }
+}
+
+/// What an accept found.
+#[derive(Drop)]
+pub enum Accepted {
+    /// Who has connected, by this port of its own.
+    Stream(TcpStream, u16),
+    /// Nobody.
+    Nobody,
+    /// Somebody who has gone again: the next may wait.
+    Gone,
+    /// Nobody can be accepted at present, as without a descriptor left.
+    Failure,
+}
+
+/// Listens on a port of 127.0.0.1.
+pub fn listen<R: Net>(rt: &R, port: u16) -> io::Result<TcpListener> {
+    TcpListener::bind(rt, SocketAddr::V4(listening_address(port)))
+}
+
+/// Accepts who waits at a port.
+pub fn accept(listener: &TcpListener) -> Accepted {
+    match listener.accept() {
+        Ok((stream, address)) => Accepted::Stream(stream, address.port()),
+        Err(error) => match error.kind() {
+            ErrorKind::WouldBlock => Accepted::Nobody,
+            ErrorKind::Interrupted | ErrorKind::ConnectionAborted => Accepted::Gone,
+            _ => Accepted::Failure,
+        },
     }
 }

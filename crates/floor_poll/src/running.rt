@@ -2,7 +2,7 @@
 
 use crate::lines::answer_lines;
 use crate::server::Server;
-use floor_console::Board;
+use floor_console::{Board, BoardRefusal};
 use floor_listen::{Ending, ServerFault, ended};
 use floor_server::{
     Log, Program, Task, Words, check_configuration, ending_of_words, fault_of_opening,
@@ -51,7 +51,16 @@ pub fn run<
     let ending = match read_words(alloc, words, program) {
         Ok(words) => match words.task {
             Task::Serve => serve(rt, alloc, &words, input, output, errors, sink),
-            Task::Check => check_configuration(&rt, alloc, program, words.path.as_str(), output),
+            Task::Check => {
+                check_configuration(
+                    &rt,
+                    alloc,
+                    program,
+                    words.path.as_str(),
+                    &words.doors,
+                    output,
+                )
+            }
         },
         Err(fault) => ending_of_words(fault, output, errors),
     };
@@ -89,15 +98,7 @@ where
     let Ok(mut server) = Server::start(rt, alloc, loops_of(&rt, words.loops), &log) else {
         return Ending::Fault(ServerFault::Memory);
     };
-    let served = converse(
-        rt,
-        alloc,
-        &mut server,
-        words.path.as_str(),
-        input,
-        output,
-        errors,
-    );
+    let served = converse(rt, alloc, &mut server, words, &log, input, output, errors);
     // Whatever went wrong, no thread is left behind.
     let outcome = match server.outcome() {
         Some(outcome) => outcome,
@@ -120,12 +121,13 @@ fn end_log<R: Wait>(rt: &R, log: &Option<Arc<Log, Global>>) {
     }
 }
 
-/// Opens the conferences of a file, and answers the administrator's lines.
+/// Opens the conferences of a file and the doors, and answers the administrator's lines.
 fn converse<R, I: Read, O: Write, E: Write>(
     rt: R,
     alloc: Global,
     server: &mut Server<R>,
-    path: &str,
+    words: &Words,
+    log: &Option<Arc<Log, Global>>,
     input: &mut I,
     output: &mut O,
     errors: &mut E,
@@ -133,12 +135,25 @@ fn converse<R, I: Read, O: Write, E: Write>(
 where
     R: Net + Files + AllocGlobal + Clock + Threads + Wait + Copy + Drop + Send + 'static,
 {
-    let opened = server.open_file(path);
+    let opened = open(server, words, log);
     tell(errors, server.take_told());
     match opened {
-        Ok(_) => {}
+        Ok(()) => {}
         Err(refusal) => return Err(fault_of_opening(refusal)),
     }
     print(output, "ready\n")?;
     answer_lines(rt, alloc, server, input, output, errors)
+}
+
+/// Opens the conferences of a file, and then the doors to them.
+fn open<R>(
+    server: &mut Server<R>,
+    words: &Words,
+    log: &Option<Arc<Log, Global>>,
+) -> Result<(), BoardRefusal>
+where
+    R: Net + Files + AllocGlobal + Clock + Threads + Wait + Copy + Drop + Send + 'static,
+{
+    let _count = server.open_file(words.path.as_str())?;
+    server.open_doors(&words.doors, log)
 }

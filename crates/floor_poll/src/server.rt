@@ -1,19 +1,21 @@
 //! The server as its administrator sees it: the loops, and which of them has which conference.
 
+use crate::doors::{Gate, Listening, Ways, serve_doors};
+use crate::log::share;
 use crate::mailbox::{Answer, Asked, Mailbox, Report};
 use crate::owners::Owners;
-use crate::port::Port;
+use crate::port::{Port, listen};
 use crate::worker::{Room, WAKER, serve};
 use floor_config::Config;
 use floor_console::{Board, BoardRefusal, Floor, StopRefusal, Stopped, Text, User};
 use floor_loop::{Act, Status};
 use floor_room::add_end;
-use floor_server::{Log, PortFault, Reason, UserPort, configurations, read_text};
+use floor_server::{Door, Log, PortFault, Reason, UserPort, configurations, read_text};
 use mio::{Poll, Waker};
 use std::alloc::{AllocError, Global};
 use std::net::Net;
 use std::rt::Files;
-use std::sync::{Arc, Wait};
+use std::sync::{Arc, Mutex, Wait};
 use std::thread;
 use std::thread::{JoinHandle, Threads};
 use std::time::Clock;
@@ -24,7 +26,8 @@ pub struct Server<R> {
     rt: R,
     alloc: Global,
     loops: Vec<Serving>,
-    owners: Owners,
+    owners: Arc<Mutex<Owners>, Global>,
+    doors: Option<ServingDoors>,
     outcome: Option<Result<Stopped, StopRefusal>>,
     /// What a person has yet to be told of the last refusal.
     told: Option<String>,
@@ -34,6 +37,13 @@ pub struct Server<R> {
 #[derive(Drop)]
 struct Serving {
     mailbox: Arc<Mailbox, Global>,
+    thread: JoinHandle<()>,
+}
+
+/// The doors, which run.
+#[derive(Drop)]
+struct ServingDoors {
+    gate: Arc<Gate, Global>,
     thread: JoinHandle<()>,
 }
 
@@ -52,7 +62,8 @@ where
             rt,
             alloc,
             loops: Vec::with_capacity(alloc, loops)?,
-            owners: Owners::new(alloc, loops),
+            owners: owners_of(alloc, loops)?,
+            doors: None,
             outcome: None,
             told: None,
         };
@@ -67,6 +78,113 @@ where
         }
         Ok(server)
     }
+
+    /// Opens the doors. Refused by `CannotListen` where one can't be had, and by `Memory`; then there is none.
+    pub fn open_doors(
+        &mut self,
+        doors: &[Door],
+        log: &Option<Arc<Log, Global>>,
+    ) -> Result<(), BoardRefusal> {
+        if doors.is_empty() {
+            return Ok(());
+        }
+        let listening = match self.listen_at(doors) {
+            Ok(listening) => listening,
+            Err(reason) => return Err(self.refuse(reason)),
+        };
+        let ways = self.ways()?;
+        self.doors = Some(start_doors(self.rt, self.alloc, log, listening, ways)?);
+        Ok(())
+    }
+
+    /// Listens on the port of each door.
+    fn listen_at(&self, doors: &[Door]) -> Result<Vec<Listening>, Reason> {
+        let mut listening = Vec::new(self.alloc);
+        for door in doors {
+            let one = match listen(&self.rt, door.port) {
+                Ok(listener) => Listening::new(listener, *door),
+                Err(error) => return Err(PortFault::System(error).at_door(self.alloc, *door)),
+            };
+            if listening.push(one).is_err() {
+                return Err(only(BoardRefusal::Memory));
+            }
+        }
+        Ok(listening)
+    }
+
+    /// Where those go who come by a door.
+    fn ways(&self) -> Result<Ways, AllocError> {
+        let mut loops = Vec::with_capacity(self.alloc, self.loops.len())?;
+        for one in self.loops.iter() {
+            loops.push(Arc::try_clone(&one.mailbox)?)?;
+        }
+        Ok(Ways {
+            owners: Arc::try_clone(&self.owners)?,
+            loops,
+        })
+    }
+}
+
+/// Which loop has which conference, where none is there yet.
+fn owners_of(alloc: Global, loops: usize) -> Result<Arc<Mutex<Owners>, Global>, AllocError> {
+    match Arc::new(alloc, Mutex::new(Owners::new(alloc, loops))) {
+        Ok(owners) => Ok(owners),
+        Err(_) => Err(AllocError),
+    }
+}
+
+/// Starts the doors.
+fn start_doors<R>(
+    rt: R,
+    alloc: Global,
+    log: &Option<Arc<Log, Global>>,
+    listening: Vec<Listening>,
+    ways: Ways,
+) -> Result<ServingDoors, AllocError>
+where
+    R: Net + Clock + Threads + Wait + Copy + Drop + Send + 'static,
+{
+    let (poll, waker) = poll_of(&rt)?;
+    let (gate, theirs) = gates(alloc, waker)?;
+    let log = share(log)?;
+    let thread = start_door_thread(rt, alloc, poll, log, listening, ways, theirs)?;
+    Ok(ServingDoors { gate, thread })
+}
+
+/// What ends the doors, the first thread's and theirs.
+fn gates(
+    alloc: Global,
+    waker: Waker,
+) -> Result<(Arc<Gate, Global>, Arc<Gate, Global>), AllocError> {
+    match Arc::new(alloc, Gate::new(waker)) {
+        Ok(ours) => {
+            let theirs = Arc::try_clone(&ours)?;
+            Ok((ours, theirs))
+        }
+        Err(_) => Err(AllocError),
+    }
+}
+
+/// Has the doors served by a thread of their own.
+fn start_door_thread<R>(
+    rt: R,
+    alloc: Global,
+    poll: Poll,
+    log: Option<Arc<Log, Global>>,
+    listening: Vec<Listening>,
+    ways: Ways,
+    gate: Arc<Gate, Global>,
+) -> Result<JoinHandle<()>, AllocError>
+where
+    R: Clock + Threads + Wait + Copy + Drop + Send + 'static,
+{
+    let room = Room::new(alloc)?;
+    match thread::spawn(&rt, move || {
+        serve_doors(rt, alloc, poll, log, room, listening, ways, &gate)
+    }) {
+        Ok(thread) => Ok(thread),
+        Err(_) => Err(AllocError),
+    }
 }
 
 /// Starts a loop.
@@ -76,7 +194,7 @@ where
 {
     let (poll, waker) = poll_of(&rt)?;
     let (mailbox, theirs) = mailboxes(alloc, waker)?;
-    let log = share_log(log)?;
+    let log = share(log)?;
     let thread = start_thread(rt, alloc, poll, log, theirs)?;
     Ok(Serving { mailbox, thread })
 }
@@ -97,20 +215,12 @@ fn mailboxes(
     alloc: Global,
     waker: Waker,
 ) -> Result<(Arc<Mailbox, Global>, Arc<Mailbox, Global>), AllocError> {
-    match Arc::new(alloc, Mailbox::new(waker)) {
+    match Arc::new(alloc, Mailbox::new(alloc, waker)) {
         Ok(ours) => {
             let theirs = Arc::try_clone(&ours)?;
             Ok((ours, theirs))
         }
         Err(_) => Err(AllocError),
-    }
-}
-
-/// The log once more, where there is one.
-fn share_log(log: &Option<Arc<Log, Global>>) -> Result<Option<Arc<Log, Global>>, AllocError> {
-    match log {
-        Some(log) => Ok(Some(Arc::try_clone(log)?)),
-        None => Ok(None),
     }
 }
 
@@ -181,17 +291,17 @@ impl<R: Net + Files + AllocGlobal + Clock + Threads + Wait + Drop> Server<R> {
     /// Opens one conference, in the loop whose turn it is.
     fn open_one(&mut self, config: Config) -> Result<(), BoardRefusal> {
         let conference = config.conference();
-        if self.owners.get(conference).is_some() {
+        if self.owner(conference).is_some() {
             return Err(BoardRefusal::Used);
         }
-        self.owners.reserve()?;
+        self.owners.lock(&self.rt).reserve()?;
         let ports = match self.listen_all(&config) {
             Ok(ports) => ports,
             Err(reason) => return Err(self.refuse(reason)),
         };
-        let place = self.owners.next();
+        let place = self.owners.lock(&self.rt).next();
         match self.ask_at(place, Asked::Open { config, ports }) {
-            Some(Answer::Done(Ok(()))) => Ok(self.owners.add(conference, place)?),
+            Some(Answer::Done(Ok(()))) => { Ok(self.owners.lock(&self.rt).add(conference, place)?) }
             Some(Answer::Done(Err(refusal))) => Err(refusal),
             _ => Err(BoardRefusal::Memory),
         }
@@ -228,7 +338,7 @@ impl<R: Net + Files + AllocGlobal + Clock + Threads + Wait + Drop> Server<R> {
 
     /// Adds a user, whose port is listened on first, where there is one. The conference is looked for before that.
     fn add(&mut self, conference: u32, user: User) -> Result<(), BoardRefusal> {
-        if self.owners.get(conference).is_none() {
+        if self.owner(conference).is_none() {
             return Err(BoardRefusal::NoConference);
         }
         let port = match user.port {
@@ -248,6 +358,11 @@ impl<R: Net + Files + AllocGlobal + Clock + Threads + Wait + Drop> Server<R> {
         )
     }
 
+    /// The place of the loop that has a conference, if it was ever opened.
+    fn owner(&self, conference: u32) -> Option<usize> {
+        self.owners.lock(&self.rt).get(conference)
+    }
+
     /// Asks a loop, and waits for its answer.
     fn ask_at(&self, place: usize, asked: Asked) -> Option<Answer> {
         let one = self.loops.get(place)?;
@@ -257,7 +372,7 @@ impl<R: Net + Files + AllocGlobal + Clock + Threads + Wait + Drop> Server<R> {
 
     /// Asks the loop of a conference, and waits for its answer.
     fn ask(&self, conference: u32, asked: Asked) -> Result<Answer, BoardRefusal> {
-        let Some(place) = self.owners.get(conference) else {
+        let Some(place) = self.owner(conference) else {
             return Err(BoardRefusal::NoConference);
         };
         match self.ask_at(place, asked) {
@@ -320,6 +435,14 @@ impl<R: Net + Files + AllocGlobal + Clock + Threads + Wait + Drop> Server<R> {
         }
     }
 
+    /// Ends the doors, where there are some, and waits until their thread has ended.
+    fn end_doors(&mut self) {
+        if let Some(doors) = self.doors.take() {
+            doors.gate.end(&self.rt);
+            doors.thread.join(&self.rt);
+        }
+    }
+
     /// Has all loops end, beside each other, and gives what they had together.
     fn stop_all(&self) -> Result<Stopped, StopRefusal> {
         for one in self.loops.iter() {
@@ -345,7 +468,8 @@ impl<R: Net + Files + AllocGlobal + Clock + Threads + Wait + Drop> Server<R> {
     fn first(&self, broken: Option<u32>, report: Report) -> Option<u32> {
         match (broken, report.broken) {
             (Some(one), Some(other)) => {
-                if self.owners.order(other) < self.owners.order(one) {
+                let owners = self.owners.lock(&self.rt);
+                if owners.order(other) < owners.order(one) {
                     Some(other)
                 } else {
                     Some(one)
@@ -413,6 +537,8 @@ impl<R: Net + Files + AllocGlobal + Clock + Threads + Wait + Drop> Board for Ser
     }
 
     fn stop(&mut self) -> Result<Stopped, StopRefusal> {
+        // Behind the doors nobody comes to a loop that ends.
+        self.end_doors();
         let outcome = self.stop_all();
         self.outcome = Some(outcome);
         outcome

@@ -1,12 +1,23 @@
 //! A connection's turn: what came is read and served, what is queued is written, and who is to be shut down is.
 
-use crate::connection::{Connection, Found, Written};
+use crate::connection::{Connection, Found, Written, shut_down};
 use crate::departure::{End, departure_of};
 use crate::worker::Worker;
 use floor_loop::{ConnNo, HubRefusal, Loop};
 use floor_room::Phase;
 use std::sync::Wait;
-use std::time::Clock;
+use std::time::{Clock, Instant};
+
+/// How many messages of a connection a turn begins with.
+const FIRST: u32 = 2;
+
+/// How many are served between two looks at the clock, and how often they are.
+const GROUP: u32 = 8;
+
+const MAX_GROUPS: u32 = 7;
+
+/// How long a turn takes until no further messages are served, in microseconds.
+const MAX_TURN_MICROS: u128 = 1_000;
 
 impl<R: Clock + Wait + Copy + Drop> Worker<R> {
     /// Has a connection served, each once. There is room for each since it was accepted; without it the
@@ -49,7 +60,7 @@ impl<R: Clock + Wait + Copy + Drop> Worker<R> {
             return;
         }
         if connection.has_more {
-            let served = self.hub.read(number, &[], self.now);
+            let served = self.serve_messages(number, 0);
             self.go_on(number, served);
         } else if connection.is_readable {
             let found = connection.read(self.buffer.as_mut_slice());
@@ -61,7 +72,7 @@ impl<R: Clock + Wait + Copy + Drop> Worker<R> {
     fn serve_found(&mut self, number: ConnNo, found: Found) {
         match found {
             Found::Bytes(count) => {
-                let served = hand_in(&mut self.hub, number, &self.buffer, count, self.now);
+                let served = self.serve_messages(number, count);
                 self.go_on(number, served);
             }
             Found::Nothing => self.go_on(number, Ok(false)),
@@ -77,6 +88,51 @@ impl<R: Clock + Wait + Copy + Drop> Worker<R> {
         }
     }
 
+    /// Hands in the first so many bytes of the buffer, and serves messages of a connection: 58 at most, and no
+    /// further ones once that took a millisecond, since one message may take a hundred thousand times as long as
+    /// another. Says whether more may wait.
+    fn serve_messages(&mut self, number: ConnNo, count: usize) -> Result<bool, HubRefusal> {
+        let begun = Instant::now(&self.rt).ok();
+        let first = self.first_of(number);
+        let mut more = hand_in(&mut self.hub, number, &self.buffer, count, first, self.now)?;
+        let mut is_long = false;
+        for _ in 0..MAX_GROUPS {
+            if !more {
+                break;
+            }
+            is_long = took_long(&self.rt, begun);
+            if is_long {
+                break;
+            }
+            more = self.hub.read(number, &[], GROUP, self.now)?;
+        }
+        self.note_long(number, is_long);
+        Ok(more)
+    }
+
+    /// With how many messages a turn begins: with one where the last turn took long.
+    fn first_of(&self, number: ConnNo) -> u32 {
+        match self.connections.get(&number) {
+            Some(connection) if connection.is_long => 1,
+            _ => FIRST,
+        }
+    }
+
+    fn note_long(&mut self, number: ConnNo, is_long: bool) {
+        if let Some(connection) = self.connections.get_mut(&number) {
+            connection.is_long = is_long;
+        }
+    }
+
+    /// Serves bytes that came from a connection in front of what its socket has.
+    pub fn serve_bytes(&mut self, number: ConnNo, bytes: &[u8]) {
+        if bytes.is_empty() {
+            return;
+        }
+        let served = self.hub.read(number, bytes, FIRST, self.now);
+        self.go_on(number, served);
+    }
+
     /// Has a connection served again, where more is to be served.
     fn go_on(&mut self, number: ConnNo, served: Result<bool, HubRefusal>) {
         let Some(connection) = self.connections.get_mut(&number) else {
@@ -88,8 +144,22 @@ impl<R: Clock + Wait + Copy + Drop> Worker<R> {
                 if more || connection.is_readable {
                     self.queue(number);
                 }
+                if !more && self.has_failed(number) {
+                    self.hub.failed(number, self.now);
+                }
             }
-            Err(refusal) => self.note_end(number, End::Refused(refusal)),
+            Err(refusal) => {
+                connection.has_more = false;
+                self.note_end(number, End::Refused(refusal));
+            }
+        }
+    }
+
+    /// Whether the socket of a connection has failed.
+    fn has_failed(&self, number: ConnNo) -> bool {
+        match self.connections.get(&number) {
+            Some(connection) => connection.has_failed,
+            None => false,
         }
     }
 
@@ -116,6 +186,9 @@ impl<R: Clock + Wait + Copy + Drop> Worker<R> {
         let Some(connection) = self.connections.get_mut(&number) else {
             return;
         };
+        if connection.has_failed && connection.has_more {
+            return;
+        }
         connection.is_blocked = false;
         for _ in 0..u64::MAX {
             match write_once(&mut self.hub, connection, number, self.now) {
@@ -124,6 +197,11 @@ impl<R: Clock + Wait + Copy + Drop> Worker<R> {
                 Written::Nothing => return,
                 Written::Failure => {
                     connection.end = connection.end.or(Some(End::Failure));
+                    connection.has_failed = true;
+                    if connection.has_more {
+                        // What it has sent is served turn by turn before it is shut down.
+                        return;
+                    }
                     self.hub.failed(number, self.now);
                     break;
                 }
@@ -151,9 +229,10 @@ impl<R: Clock + Wait + Copy + Drop> Worker<R> {
         let connection = self.connections.swap_remove(&number);
         if let Some(mut connection) = connection {
             self.tell_left(number, &connection);
-            connection.shut_down(self.buffer.as_mut_slice());
-            if let Some(places) = self.conferences.get_mut(&connection.peer.to.conference) {
-                places.give_back();
+            shut_down(&mut connection.stream, self.buffer.as_mut_slice());
+            let to = connection.peer.to;
+            if let Some(places) = self.conferences.get_mut(&to.conference) {
+                places.give_back(to.user);
             }
         }
         let _left = self.hub.leave(number, self.now);
@@ -185,14 +264,23 @@ fn write_once(hub: &mut Loop, connection: &mut Connection, number: ConnNo, now: 
     written
 }
 
-/// Hands the first so many bytes of a buffer in, as they came from a connection.
+/// Hands the first so many bytes of a buffer in, as they came from a connection, and serves so many messages.
 fn hand_in(
     hub: &mut Loop,
     number: ConnNo,
     buffer: &Vec<u8>,
     count: usize,
+    most: u32,
     now: u64,
 ) -> Result<bool, HubRefusal> {
     let bytes = buffer.as_slice().get(..count).unwrap_or(&[]);
-    hub.read(number, bytes, now)
+    hub.read(number, bytes, most, now)
+}
+
+/// Whether a turn that began then has taken long.
+fn took_long<R: Clock>(rt: &R, begun: Option<Instant>) -> bool {
+    match (begun, Instant::now(rt)) {
+        (Some(begun), Ok(now)) => MAX_TURN_MICROS <= now.duration_since(begun).as_micros(),
+        _ => false,
+    }
 }

@@ -1,6 +1,8 @@
 //! A loop's thread: it waits for its sockets, and for what the first thread asks.
 
 use crate::connection::Connection;
+use crate::elapsed::Elapsed;
+use crate::log::tell;
 use crate::mailbox::{Answer, Mailbox, Report};
 use crate::places::Places;
 use crate::port::Port;
@@ -14,7 +16,7 @@ use std::alloc::{AllocError, Global};
 use std::collections::VecDeque;
 use std::sync::{Arc, Wait};
 use std::thread;
-use std::time::{Clock, Duration, Instant};
+use std::time::{Clock, Duration};
 
 /// The token of the mailbox's waker. Ports have the odd ones above it, connections the even ones: twice their
 /// number.
@@ -27,7 +29,7 @@ const MAX_EVENTS: usize = 1_024;
 const READ_LEN: usize = 4_096;
 
 /// How long a loop rests that can't wait for its sockets, in milliseconds.
-const REST_MILLIS: u64 = 10;
+pub const REST_MILLIS: u64 = 10;
 
 /// The conferences of a loop, their ports and their connections.
 #[derive(Drop)]
@@ -51,7 +53,7 @@ pub struct Worker<R> {
     pub log: Option<Arc<Log, Global>>,
     pub is_stopping: bool,
     pub joined: usize,
-    begun: Option<Instant>,
+    elapsed: Elapsed,
     /// How late it is, in milliseconds since the loop began.
     pub now: u64,
 }
@@ -65,8 +67,8 @@ impl<R: Clock + Drop> Worker<R> {
         log: Option<Arc<Log, Global>>,
         buffer: Vec<u8>,
     ) -> Worker<R> {
-        let begun = Instant::now(&rt).ok();
         Worker {
+            elapsed: Elapsed::begin(&rt),
             rt,
             alloc,
             poll,
@@ -82,16 +84,14 @@ impl<R: Clock + Drop> Worker<R> {
             log,
             is_stopping: false,
             joined: 0,
-            begun,
             now: 0,
         }
     }
 
     /// Looks at the clock.
     fn look(&mut self) {
-        if let (Some(begun), Ok(now)) = (self.begun, Instant::now(&self.rt)) {
-            let millis = now.duration_since(begun).as_millis();
-            self.now = u64::try_from(millis).unwrap_or(u64::MAX);
+        if let Some(millis) = self.elapsed.millis(&self.rt) {
+            self.now = millis;
         }
     }
 
@@ -150,6 +150,7 @@ impl<R: Clock + Wait + Copy + Drop> Worker<R> {
             self.accept_again();
             self.serve_turns();
             if is_asked {
+                self.enter_all(mailbox);
                 self.answer(mailbox);
             }
             self.end_due();
@@ -194,10 +195,7 @@ impl<R: Clock + Wait + Copy + Drop> Worker<R> {
 impl<R: Wait + Clock + Drop> Worker<R> {
     /// Tells the log, where there is one.
     pub fn tell(&self, entry: &Entry) {
-        match &self.log {
-            Some(log) => log.tell(&self.rt, entry),
-            None => {}
-        }
+        tell(&self.rt, &self.log, entry);
     }
 }
 
@@ -205,8 +203,8 @@ impl<R: Wait + Clock + Drop> Worker<R> {
 /// into.
 #[derive(Drop)]
 pub struct Room {
-    events: Events<Global>,
-    buffer: Vec<u8>,
+    pub events: Events<Global>,
+    pub buffer: Vec<u8>,
 }
 
 impl Room {

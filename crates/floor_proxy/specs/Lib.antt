@@ -5,3 +5,4 @@ pub mod steps
 pub mod Header
 pub mod Laws
 pub mod Examples
+pub mod UniqueId

@@ -30,10 +30,10 @@ use crate::tlv::find_value;
 pub const MAX_HEADER: usize = 1_024;
 
 /// What each header begins with.
-const SIGNATURE: [u8; 12] = *b"\r\n\r\n\0\r\nQUIT\n";
+pub(crate) const SIGNATURE: [u8; 12] = *b"\r\n\r\n\0\r\nQUIT\n";
 
 /// How many bytes stand before the addresses.
-const HEAD_LEN: usize = 16;
+pub(crate) const HEAD_LEN: usize = 16;
 
 /// What a header's Length says at most.
 const MAX_LENGTH: usize = 1_008;
@@ -42,7 +42,7 @@ const MAX_LENGTH: usize = 1_008;
 const LOCAL: u8 = 0x20;
 
 /// Version 2, and the command PROXY: somebody has connected to the proxy.
-const PROXY: u8 = 0x21;
+pub(crate) const PROXY: u8 = 0x21;
 
 /// The type of the TLV that says what is known of a TLS session (PP2_TYPE_SSL).
 const SESSION: u8 = 0x20;
@@ -51,7 +51,7 @@ const SESSION: u8 = 0x20;
 const CERTIFICATE_NAME: u8 = 0x22;
 
 /// The type of the TLV that has an identifier of the connection (PP2_TYPE_UNIQUE_ID).
-const UNIQUE_ID: u8 = 0x05;
+pub(crate) const UNIQUE_ID: u8 = 0x05;
 
 /// How many bytes of what is known of a TLS session stand before its TLVs.
 const SESSION_LEN: usize = 5;

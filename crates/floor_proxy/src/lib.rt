@@ -13,6 +13,7 @@ mod laws;
 mod name;
 mod refusal;
 mod tlv;
+mod unique_id;
 
 pub use header::{MAX_HEADER, NamedBy, ProxyRead, read_proxy};
 pub use laws::{
@@ -20,3 +21,4 @@ pub use laws::{
     values_are_read_back,
 };
 pub use refusal::ProxyRefusal;
+pub use unique_id::unique_id_header;

@@ -14,6 +14,9 @@ use std::alloc::{AllocError, Global};
 use std::collections::VecDeque;
 use std::marker::Model;
 
+/// For how many parcels an outbox keeps room once nothing waits: our choice.
+const MAX_KEPT: usize = 64;
+
 /// Nobody has joined under the number.
 #[derive(Clone, Copy, Debug, PartialEq, Eq)]
 pub struct NoMember;
@@ -67,6 +70,9 @@ impl Outbox {
     {
         let parcel = self.held.pop_front()?;
         self.taken += 1;
+        if self.held.is_empty() && MAX_KEPT < self.held.capacity() {
+            self.held.shrink_to_fit();
+        }
         Some(parcel)
     }
 }

@@ -2,6 +2,7 @@
 use Rattle.std.specs.Prelude.{ℕ, List, codes}
 use Rattle.floor_listen.specs.declared.connections.Unserved.{Unserved}
 use Rattle.floor_listen.specs.declared.connections.Unserved.TheVariants as table
+use Rattle.floor_proxy.specs.Names.{name_of as name_of_proxy}
 use Rattle.floor_room.specs.Names.{name_of}
 use Rattle.floor_server.specs.declared.departure.Departure.{Departure}
 use Rattle.floor_server.specs.declared.departure.Departure.TheVariants as left
@@ -15,6 +16,9 @@ refused_by_table table.Memory = refused.Memory
 
 -- what a person is told of a connection that doesn't join
 abbrev pub name_of_refused : Refused → List ℕ
+name_of_refused refused.NoHeader = codes "NoHeader"
+name_of_refused (refused.ByHeader refusal) = name_of_proxy refusal
+name_of_refused refused.UserConnections = codes "UserConnections"
 name_of_refused refused.Connections = codes "Connections"
 name_of_refused refused.NoConference = codes "NoConference"
 name_of_refused (refused.ByRoom refusal) = name_of refusal

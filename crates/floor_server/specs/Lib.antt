@@ -2,3 +2,4 @@ pub mod Words
 pub mod Console
 pub mod Faults
 pub mod Departures
+pub mod Doors

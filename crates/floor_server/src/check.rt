@@ -1,5 +1,6 @@
 //! A configuration that is checked and not served.
 
+use crate::entry::Door;
 use crate::fault::fault_of_opening;
 use crate::lines::print;
 use crate::reason::{PortFault, Reason, configurations, read_text};
@@ -15,14 +16,14 @@ use std::rt::Files;
 /// How many live members a conference has at most, all of whom one user may be.
 const ALL_MEMBERS: u16 = 64;
 
-/// Reads and checks a file as a start does, tries each port, and prints each fault with its name, and as
-/// a warning each key that says nothing, and once `conference.connections` where the program doesn't go by
-/// it. It ends by the first fault, if there is one.
+/// Reads and checks a file as a start of the program does, tries each port and each door, and prints each
+/// fault with its name, and as a warning each key that says nothing, and once `conference.connections` where
+/// the program doesn't go by it. It ends by the first fault, if there is one.
 pub fn check_configuration<
     R: Net<Listener = TcpListener, Stream = TcpStream> + Files + AllocGlobal,
     O: Write,
->(rt: &R, alloc: Global, program: &Program, path: &str, output: &mut O) -> Ending {
-    match check_file(rt, alloc, program, path, output) {
+>(rt: &R, alloc: Global, program: &Program, path: &str, doors: &[Door], output: &mut O) -> Ending {
+    match check_file(rt, alloc, program, path, doors, output) {
         Ok(None) => Ending::InOrder,
         Ok(Some(fault)) | Err(fault) => Ending::Fault(fault),
     }
@@ -34,6 +35,7 @@ fn check_file<R: Net<Listener = TcpListener, Stream = TcpStream> + Files + Alloc
     alloc: Global,
     program: &Program,
     path: &str,
+    doors: &[Door],
     output: &mut O,
 ) -> Result<Option<ServerFault>, ServerFault> {
     let text = match read_text(rt, alloc, path) {
@@ -43,11 +45,21 @@ fn check_file<R: Net<Listener = TcpListener, Stream = TcpStream> + Files + Alloc
     warn(alloc, path, text.as_str(), output)?;
     match configurations(alloc, path, text.as_str()) {
         Ok(configs) => {
-            warn_of_connections(alloc, program, path, &configs, output)?;
-            check_ports(rt, alloc, &configs, output)
+            if !program.by_loops && configs.iter().any(is_bounded) {
+                let line = format!(in alloc; "warning: {path}: connections is ignored\n")?;
+                print(output, line.as_str())?;
+            }
+            let of_users = check_ports(rt, alloc, &configs, output)?;
+            let of_doors = check_doors(rt, alloc, doors, output)?;
+            Ok(of_users.or(of_doors))
         }
         Err(reason) => tell(alloc, output, &reason),
     }
+}
+
+/// Whether a user may have fewer connections than the conference has members: else the key says nothing.
+fn is_bounded(config: &Config) -> bool {
+    config.connections() < ALL_MEMBERS
 }
 
 /// Prints the keys that say nothing.
@@ -63,25 +75,6 @@ fn warn<O: Write>(
             Some(line) => format!(in alloc; "warning: {path}: line {line}: {place} is ignored\n")?,
             None => format!(in alloc; "warning: {path}: {place} is ignored\n")?,
         };
-        print(output, line.as_str())?;
-    }
-    Ok(())
-}
-
-/// Prints that `conference.connections` says nothing, where a conference asks for a bound by it and the
-/// program has none.
-fn warn_of_connections<O: Write>(
-    alloc: Global,
-    program: &Program,
-    path: &str,
-    configs: &[Config],
-    output: &mut O,
-) -> Result<(), ServerFault> {
-    let has_bound = configs
-        .iter()
-        .any(|config| config.connections() < ALL_MEMBERS);
-    if has_bound && !program.bounds_connections {
-        let line = format!(in alloc; "warning: {path}: connections is ignored\n")?;
         print(output, line.as_str())?;
     }
     Ok(())
@@ -126,6 +119,27 @@ fn check_port<R: Net<Listener = TcpListener, Stream = TcpStream>, O: Write>(
             )
         }
     }
+}
+
+/// Tries each door, and gives it back. The first fault is given, each is printed.
+fn check_doors<R: Net<Listener = TcpListener, Stream = TcpStream>, O: Write>(
+    rt: &R,
+    alloc: Global,
+    doors: &[Door],
+    output: &mut O,
+) -> Result<Option<ServerFault>, ServerFault> {
+    let mut first = None;
+    for door in doors {
+        match TcpListener::bind(rt, listening_address(door.port)) {
+            Ok(_listener) => {}
+            Err(error) => {
+                let reason = PortFault::System(error).at_door(alloc, *door);
+                let found = tell(alloc, output, &reason)?;
+                first = first.or(found);
+            }
+        }
+    }
+    Ok(first)
 }
 
 /// Prints a fault with its name, and gives it.

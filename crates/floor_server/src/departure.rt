@@ -5,10 +5,17 @@ ghost use Rattle.floor_server.specs.Departures.{name_of_departure, name_of_refus
 
 use floor_console::RoomRefusal;
 use floor_listen::Unserved;
+use floor_proxy::ProxyRefusal;
 
 /// Why a connection doesn't join its conference.
 #[derive(Clone, Copy, Debug, PartialEq, Eq)]
 pub enum Refused {
+    /// What came at a door is a front of a header at most, and its time or its stream is over.
+    NoHeader,
+    /// What came at a door isn't a header that says who it is.
+    ByHeader(ProxyRefusal),
+    /// The user has as many connections as one may have.
+    UserConnections,
     /// The conference has 128 connections.
     Connections,
     /// The conference isn't open yet.
@@ -37,6 +44,9 @@ impl Refused {
         ensures value { result.now ≡ name_of_refused self.now }
     {
         match self {
+            Refused::NoHeader => "NoHeader",
+            Refused::ByHeader(refusal) => refusal.name(),
+            Refused::UserConnections => "UserConnections",
             Refused::Connections => "Connections",
             Refused::NoConference => "NoConference",
             Refused::ByRoom(refusal) => refusal.name(),

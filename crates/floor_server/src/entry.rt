@@ -1,5 +1,8 @@
 //! What the log tells: a line for what becomes of a conference, a port or a connection.
 
+ghost use Rattle.std.specs.Prelude.{◌≡◌};
+ghost use Rattle.floor_server.specs.Doors.{name_of_door};
+
 use crate::departure::{Departure, Refused};
 use std::alloc::{AllocError, Global};
 
@@ -26,6 +29,20 @@ pub enum Entry {
     CannotAccept(UserPort),
     /// It accepts connections again.
     Accepts(UserPort),
+    /// A door is listened on.
+    DoorListens(Door),
+    /// It isn't any more.
+    DoorEnded(Door),
+    /// It can't accept connections.
+    DoorCannotAccept(Door),
+    /// It accepts connections again.
+    DoorAccepts(Door),
+    /// A connection at a door joins no conference. `peer` is its own port; 0 where the system doesn't tell.
+    RefusedAtDoor {
+        door: Door,
+        peer: u16,
+        cause: Refused,
+    },
     /// A connection has joined its conference as member n.
     Joined {
         peer: Peer,
@@ -42,6 +59,36 @@ pub enum Entry {
         n: u32,
         departure: Departure,
     },
+}
+
+/// A port that is no user's.
+#[derive(Clone, Copy, Debug, PartialEq, Eq)]
+pub struct Door {
+    pub entry: Entrance,
+    pub port: u16,
+}
+
+/// Who is let in at a door.
+#[derive(Clone, Copy, Debug, PartialEq, Eq)]
+pub enum Entrance {
+    /// Who the certificate names that a proxy has checked.
+    ByCertificate,
+    /// Who the unique-id names that a proxy or a gateway gives.
+    ById,
+    /// Nobody: whoever looks whether the server lives.
+    Health,
+}
+
+impl Door {
+    /// What a person is told that it is. Takes no memory.
+    pub fn name(&self) -> &'static str
+        ensures value { result.now ≡ name_of_door self.now.entry }
+    {
+        match self.entry {
+            Entrance::ByCertificate | Entrance::ById => "door",
+            Entrance::Health => "health",
+        }
+    }
 }
 
 /// The port of a user of a conference.
@@ -72,6 +119,14 @@ impl Entry {
             Entry::Ended(port) => of_port(alloc, port, "ended"),
             Entry::CannotAccept(port) => of_port(alloc, port, "cannot accept"),
             Entry::Accepts(port) => of_port(alloc, port, "accepts again"),
+            Entry::DoorListens(door) => of_door(alloc, door, "listens"),
+            Entry::DoorEnded(door) => of_door(alloc, door, "ended"),
+            Entry::DoorCannotAccept(door) => of_door(alloc, door, "cannot accept"),
+            Entry::DoorAccepts(door) => of_door(alloc, door, "accepts again"),
+            Entry::RefusedAtDoor { door, peer, cause } => {
+                let told = format!(in alloc; "peer {peer} refused {}", cause.name())?;
+                of_door(alloc, door, told.as_str())
+            }
             Entry::Joined { peer, n } => of_member(alloc, peer, *n, "joined"),
             Entry::Refused { peer, cause } => {
                 let told = format!(in alloc; "refused {}", cause.name())?;
@@ -88,6 +143,10 @@ impl Entry {
 fn of_port(alloc: Global, at: &UserPort, told: &str) -> Result<String, AllocError> {
     let (conference, user, port) = (at.conference, at.user, at.port);
     format!(in alloc; "conference {conference} user {user} port {port} {told}")
+}
+
+fn of_door(alloc: Global, door: &Door, told: &str) -> Result<String, AllocError> {
+    format!(in alloc; "{} {} {told}", door.name(), door.port)
 }
 
 fn of_peer(alloc: Global, peer: &Peer, told: &str) -> Result<String, AllocError> {

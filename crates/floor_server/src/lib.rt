@@ -19,11 +19,12 @@ mod words;
 
 pub use check::check_configuration;
 pub use departure::{Departure, Refused};
-pub use entry::{Entry, Peer, UserPort};
+pub use entry::{Door, Entrance, Entry, Peer, UserPort};
 pub use fault::{fault_of_opening, fault_of_stop};
 pub use floor_config::{Config, ConfigFault};
 pub use floor_console::{BoardRefusal, Command, ConsoleFault, RoomRefusal, StopRefusal};
 pub use floor_listen::{Ending, ServerFault, Unserved};
+pub use floor_proxy::ProxyRefusal;
 pub use lines::{next_command, print, tell};
 pub use log::Log;
 pub use reason::{PortFault, Reason, configurations, read_text};

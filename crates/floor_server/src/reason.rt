@@ -4,6 +4,7 @@ ghost use Rattle.std.specs.Prelude.{◌≡◌};
 ghost use Rattle.std.specs.IoError.{error_kind};
 ghost use Rattle.floor_server.specs.Faults.{refusal_of_configuration, refusal_of_port, refusal_of_reading};
 
+use crate::entry::{Door, Entrance};
 use floor_config::{Config, ConfigFault, read_configs};
 use floor_console::BoardRefusal;
 use floor_diagnosis::diagnose;
@@ -48,20 +49,29 @@ impl PortFault {
 
     /// Why the port of a user isn't listened on.
     pub fn reason(&self, alloc: Global, conference: u32, user: u16, port: u16) -> Reason {
+        let place = format!(in alloc; "port {port} of user {user} of conference {conference}");
+        self.of_place(alloc, place)
+    }
+
+    /// Why a door isn't listened on.
+    pub fn at_door(&self, alloc: Global, door: Door) -> Reason {
+        let word = match door.entry {
+            Entrance::ByCertificate => "--door",
+            Entrance::ById => "--door-by-id",
+            Entrance::Health => "--health",
+        };
+        self.of_place(alloc, format!(in alloc; "port {} of {word}", door.port))
+    }
+
+    fn of_place(&self, alloc: Global, place: Result<String, AllocError>) -> Reason {
         Reason {
             refusal: self.refusal(),
-            line: self.line(alloc, conference, user, port).ok(),
+            line: self.line(alloc, place).ok(),
         }
     }
 
-    fn line(
-        &self,
-        alloc: Global,
-        conference: u32,
-        user: u16,
-        port: u16,
-    ) -> Result<String, AllocError> {
-        let place = format!(in alloc; "port {port} of user {user} of conference {conference}")?;
+    fn line(&self, alloc: Global, place: Result<String, AllocError>) -> Result<String, AllocError> {
+        let place = place?;
         let place = place.as_str();
         match self {
             PortFault::System(error) => format!(in alloc; "{place}: {error}"),

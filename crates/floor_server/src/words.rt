@@ -1,9 +1,10 @@
 //! The words that a program is called with.
 
+use crate::entry::{Door, Entrance};
 use clap::builder::ValueParser;
 use clap::error::ErrorKind;
-use clap::{Arg, ArgAction, Command, Error};
-use std::alloc::Global;
+use clap::{Arg, ArgAction, ArgMatches, Command, Error};
+use std::alloc::{AllocError, Global};
 
 /// The version, and the logic that the programs are proved with.
 const VERSION: &str = "0.1.0 (logic dac8208d650f15bf)";
@@ -48,10 +49,9 @@ pub struct Program {
     pub name: &'static str,
     /// What it does, a sentence of its help.
     pub about: &'static str,
-    /// Whether `--loops <n>` is one of its words.
-    pub has_loops: bool,
-    /// Whether it serves no more connections of a user at once than `conference.connections` says.
-    pub bounds_connections: bool,
+    /// Whether it serves by event loops, so that `--loops`, `--door`, `--door-by-id` and `--health` are
+    /// of its words, and goes by `conference.connections`.
+    pub by_loops: bool,
 }
 
 /// What the program is to do with a configuration.
@@ -74,6 +74,8 @@ pub struct Words {
     /// How many event loops are asked for, 1 to 64; `None` where nothing is said of them, or the program has
     /// no such word.
     pub loops: Option<u8>,
+    /// The doors that are asked for.
+    pub doors: Vec<Door>,
 }
 
 /// Why the words ask for nothing.
@@ -103,7 +105,23 @@ fn parsed(alloc: Global, words: &[String], program: &Program) -> Result<Words, E
         path: String::from_str(alloc, path)?,
         has_log: matches.get_flag("log"),
         loops: matches.get_one::<u8>("loops"),
+        doors: doors_of(alloc, &matches)?,
     })
+}
+
+/// The doors that the words ask for.
+fn doors_of(alloc: Global, matches: &ArgMatches) -> Result<Vec<Door>, AllocError> {
+    let mut doors = Vec::with_capacity(alloc, 3)?;
+    for (name, entry) in [
+        ("door", Entrance::ByCertificate),
+        ("door-by-id", Entrance::ById),
+        ("health", Entrance::Health),
+    ] {
+        if let Some(port) = matches.get_one::<u16>(name) {
+            doors.push(Door { entry, port })?;
+        }
+    }
+    Ok(doors)
 }
 
 /// The words that a program has.
@@ -126,12 +144,35 @@ fn command<'a>(alloc: Global, program: &Program) -> Result<Command<'a>, Error> {
         .after_help(LINES)
         .arg(check)?
         .arg(log)?;
-    let command = if program.has_loops {
-        command.arg(loops(alloc))?
+    let command = if program.by_loops {
+        with_doors(alloc, command.arg(loops(alloc))?)?
     } else {
         command
     };
     Ok(command.arg(config)?)
+}
+
+/// The words of a program that has doors.
+fn with_doors<'a>(alloc: Global, command: Command<'a>) -> Result<Command<'a>, Error> {
+    let by_certificate = port(alloc, "door").help(
+        "A port for all users: a proxy says in front of the first message whose certificate it has checked",
+    );
+    let by_id = port(alloc, "door-by-id").help(
+        "A port for all users: a proxy or a gateway says in front of the first message who it is by a unique-id",
+    );
+    let health = port(alloc, "health").help(
+        "A port at which whoever connects is let go at once: it says that the server lives",
+    );
+    Ok(command.arg(by_certificate)?.arg(by_id)?.arg(health)?)
+}
+
+/// A port.
+fn port<'a>(alloc: Global, name: &'a str) -> Arg<'a> {
+    Arg::new(alloc, name)
+        .long(name)
+        .value_name("port")
+        .action(ArgAction::Set)
+        .value_parser(ValueParser::unsigned(1, u64::from(u16::MAX)))
 }
 
 /// How many loops there are.

@@ -25,8 +25,7 @@ use std::time::Clock;
 const FLOORD: Program = Program {
     name: "floord",
     about: "Serves the floors of conferences (BFCP, RFC 8855), and reads an administrator's lines.",
-    has_loops: false,
-    bounds_connections: false,
+    by_loops: false,
 };
 
 /// Does what the words ask for: serves a configuration until `input` says `stop` or ends, or checks one.
@@ -96,13 +95,14 @@ where
                 path,
                 has_log,
                 loops: _,
+                doors,
             },
         ) => match task {
             Task::Serve => {
                 let shared = Shared::new(alloc, gate, log_of(rt, alloc, has_log, sink));
                 serve(rt, alloc, path.as_str(), input, output, errors, shared)
             }
-            Task::Check => check_configuration(&rt, alloc, &FLOORD, path.as_str(), output),
+            Task::Check => check_configuration(&rt, alloc, &FLOORD, path.as_str(), &doors, output),
         },
         Err(fault) => ending_of_words(fault, output, errors),
     };

@@ -30,7 +30,6 @@ strip front (Err fault) e is = is
 carries : (e : ParticipantsFault) (found all : Found) → Fails e found → (found ≡ Err e → all ≡ Err e) → Fails e all
 carries (faults.Config f) found all h k = k h
 carries (faults.WeakToken c u) found all h k = k h
-carries (faults.MissingPort c u) found all h k = k h
 carries (faults.DoubleToken c u) found all h k = k h
 carries faults.NoToken found all h k = k h
 carries faults.Memory found all h k = tt

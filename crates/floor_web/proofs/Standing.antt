@@ -40,17 +40,20 @@ each_all P read (x ∷ xs) (item v vs) bs is say =
 
 -- a user of a conference with this number, who has a strong token
 abbrev IsOf : ℕ → User → Bearer → Type 0
-IsOf c u b = HasStrongToken b × (b.conference ≡ c) × (b.user ≡ u.id) × (u.port ≡ Some b.port)
+IsOf c u b = HasStrongToken b × (b.conference ≡ c) × (b.user ≡ u.id) × (u.port ≡ b.port)
 
-at_port_all : (c : ℕ) (u : User) (t : List ℕ) (p : Option ℕ) (bs : List Bearer) → spec.is_strong t ≡ true → u.port ≡ p → spec.at_port c u t p ≡ Ok bs → All (IsOf c u) bs
-at_port_all c u t None bs strong port is = absurd (true≢false (sym (ap is_found is)))
-at_port_all c u t (Some p) bs strong port is =
+abbrev alone : ℕ → User → List ℕ → Found
+alone c u t = Ok (record { token = t; conference = c; user = u.id; port = u.port } ∷ [])
+
+with_strong : (c : ℕ) (u : User) (t : List ℕ) (bs : List Bearer) → spec.is_strong t ≡ true
+    → alone c u t ≡ Ok bs → All (IsOf c u) bs
+with_strong c u t bs strong is =
     subst (λ (l : List Bearer). All (IsOf c u) l) (ap found_in is)
-    (All-cons (IsOf c u) (record { token = t; conference = c; user = u.id; port = p }) [] (strong, refl, refl, port) (All-nil (IsOf c u)))
+    (All-cons (IsOf c u) (record { token = t; conference = c; user = u.id; port = u.port }) [] (strong, refl, refl, refl) (All-nil (IsOf c u)))
 
 if_strong_all : (c : ℕ) (u : User) (t : List ℕ) (s : Bool) (bs : List Bearer) → spec.is_strong t ≡ s
-    → (if s then spec.at_port c u t u.port else Err (WeakToken c u.id)) ≡ Ok bs → All (IsOf c u) bs
-if_strong_all c u t true bs strong is = at_port_all c u t u.port bs strong refl is
+    → (if s then alone c u t else Err (WeakToken c u.id)) ≡ Ok bs → All (IsOf c u) bs
+if_strong_all c u t true bs strong is = with_strong c u t bs strong is
 if_strong_all c u t false bs strong is = absurd (true≢false (sym (ap is_found is)))
 
 with_token_all : (c : ℕ) (u : User) (o : Option (List ℕ)) (bs : List Bearer) → spec.with_token c u o ≡ Ok bs → All (IsOf c u) bs

@@ -12,25 +12,24 @@ use Rattle.floor_config.specs.Names as names
 use Rattle.floor_config.specs.Reading as config
 use Rattle.floor_web.specs.declared.participants.Participant.{Participant}
 use Rattle.floor_web.specs.declared.participants.ParticipantsFault.{ParticipantsFault}
-use Rattle.floor_web.specs.declared.participants.ParticipantsFault.TheVariants.{Config, WeakToken, MissingPort, DoubleToken, NoToken, Memory}
+use Rattle.floor_web.specs.declared.participants.ParticipantsFault.TheVariants.{Config, WeakToken, DoubleToken, NoToken, Memory}
 
 -- the name of a fault
 abbrev pub name_of : ParticipantsFault → List ℕ
 name_of (Config fault) = names.name_of fault
 name_of (WeakToken conference user) = codes "WeakToken"
-name_of (MissingPort conference user) = codes "MissingPort"
 name_of (DoubleToken conference user) = codes "DoubleToken"
 name_of NoToken = codes "NoToken"
 name_of Memory = codes "Memory"
 
 -- ---- whom a token stands for
 
--- whoever has the token is this user of this conference, at this port
+-- whoever has the token is this user of this conference, at this port where the user has one
 pub record Bearer : Type 0 where
   pub token : List ℕ
   pub conference : ℕ
   pub user : ℕ
-  pub port : ℕ
+  pub port : Option ℕ
 
 abbrev pub bearer : Participant → Bearer
 bearer p = record { token = string_bytes p.token; conference = p.conference; user = p.user; port = p.port }
@@ -63,15 +62,12 @@ AllDiffer found = AllPairs (λ (a : Bearer) (b : Bearer). a.token ≢ b.token) f
 abbrev pub Found : Type 0
 Found = Result (List Bearer) ParticipantsFault
 
--- the user at the port, who needs one
-abbrev pub at_port : (conference : ℕ) → User → (token : List ℕ) → Option ℕ → Found
-at_port conference u token None = Err (MissingPort conference u.id)
-at_port conference u token (Some port) = Ok (record { token = token; conference = conference; user = u.id; port = port } ∷ [])
-
 -- the user with a token, which has to be strong
 abbrev pub with_token : (conference : ℕ) → User → Option (List ℕ) → Found
 with_token conference u None = Err (WeakToken conference u.id)
-with_token conference u (Some token) = if is_strong token then at_port conference u token u.port else Err (WeakToken conference u.id)
+with_token conference u (Some token) = if is_strong token
+    then Ok (record { token = token; conference = conference; user = u.id; port = u.port } ∷ [])
+    else Err (WeakToken conference u.id)
 
 -- the user by what stands at `token`; without it none
 abbrev pub at_token : (conference : ℕ) → User → Option Data → Found
@@ -137,7 +133,7 @@ abbrev pub of_document : Option Members → Result (List Configuration) ConfigFa
 of_document None configs = Err (Config Fault.Syntax)
 of_document (Some document) configs = with_configs document configs
 
--- The users of a configuration's text who have a token, in its order: the server reads the text as these conferences, and each has a strong token, a port, and another token than the others.
+-- The users of a configuration's text who have a token, in its order: the server reads the text as these conferences, and each has a strong token, and another one than the others.
 unfoldable pub reading : List ℕ → Found
 reading text = of_document (parse_document text) (config.reading text)
 
@@ -153,7 +149,7 @@ Gives (Err fault) found = Fails fault found
 
 -- ---- what that means
 
--- The server's configuration has this user, with this port, in a conference of this number.
+-- The server's configuration has this user, with this port or none, in a conference of this number.
 pub record IsUserOf (text : List ℕ) (b : Bearer) : Type 0 where
   pub configs : List Configuration
   pub conference : Configuration
@@ -163,4 +159,4 @@ pub record IsUserOf (text : List ℕ) (b : Bearer) : Type 0 where
   pub has_user : Contains conference.users user
   pub number : b.conference ≡ conference.conference
   pub id : b.user ≡ user.id
-  pub port : user.port ≡ Some b.port
+  pub port : user.port ≡ b.port

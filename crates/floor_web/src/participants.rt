@@ -11,7 +11,7 @@
 //! The file is the floor control server's own, which ignores `token`, and `title` of a floor and of
 //! a conference. It is refused here for whatever the server refuses it for.
 
-ghost use Rattle.std.specs.Prelude.{◌≡◌, ◌<◌, ◌==◌, All, IfOk, Ok, bytes_eq, find, length, option_and_then, option_map, string_bytes};
+ghost use Rattle.std.specs.Prelude.{◌≡◌, ◌<◌, ◌==◌, All, IfOk, Ok, bytes_eq, find, is_none, length, option_and_then, option_map, string_bytes};
 ghost use Rattle.std.specs.List.{list_any};
 ghost use Rattle.std.specs.Option.{option_copied};
 ghost use Rattle.floor_web.specs.Participants as spec;
@@ -39,14 +39,14 @@ pub struct Participant {
     pub conference: u32,
     /// The User ID.
     pub user: u16,
-    /// The user's port of the floor control server.
-    pub port: u16,
+    /// The user's port of the floor control server, where the user has one.
+    pub port: Option<u16>,
     /// What the user's page is told of the meeting, as JSON.
     pub meeting: String,
 }
 
 /// Why no participants are read. The first that applies is told: the configuration's own fault; then
-/// the first user's whose token is weak or who has no port; then a token that stands twice.
+/// the first user's whose token is weak; then a token that stands twice.
 #[derive(Clone, Copy, Debug, PartialEq, Eq)]
 pub enum ParticipantsFault {
     /// The server refuses the configuration.
@@ -54,8 +54,6 @@ pub enum ParticipantsFault {
     /// The token of this user is no text, shorter than 22 characters, or has others than letters,
     /// digits, `-` and `_`.
     WeakToken { conference: u32, user: u16 },
-    /// This user has a token and no port.
-    MissingPort { conference: u32, user: u16 },
     /// A user behind this one has the same token.
     DoubleToken { conference: u32, user: u16 },
     /// No user has a token.
@@ -72,7 +70,6 @@ impl ParticipantsFault {
         match self {
             ParticipantsFault::Config(fault) => fault.name(),
             ParticipantsFault::WeakToken { .. } => "WeakToken",
-            ParticipantsFault::MissingPort { .. } => "MissingPort",
             ParticipantsFault::DoubleToken { .. } => "DoubleToken",
             ParticipantsFault::NoToken => "NoToken",
             ParticipantsFault::Memory => "Memory",
@@ -122,6 +119,15 @@ impl Participants {
             .find(|participant| participant.token.as_bytes() == token)
     }
 
+    /// The first who has no port.
+    pub fn first_without_port(&self) -> Option<&Participant>
+        ensures found { option_copied result ≡ find (λ p. is_none p.port) self.now }
+    {
+        self.participants
+            .iter()
+            .find(|participant| participant.port.is_none())
+    }
+
     /// How many there are.
     pub fn len(&self) -> usize
         ensures value { result ≡ length self.now }
@@ -138,7 +144,7 @@ impl Participants {
 }
 
 /// The users of a configuration who have a token. Else `Config` with the configuration's own fault;
-/// `WeakToken` or `MissingPort` of the first such user; `DoubleToken`; `NoToken` where none has one.
+/// `WeakToken` of the first such user; `DoubleToken`; `NoToken` where none has one.
 #[tactic(auto, unfolding(crate::specs::Participants::reading))]
 pub fn read_participants(alloc: Global, text: &str) -> Result<Participants, ParticipantsFault>
     ensures value { spec.Gives result (spec.reading text.now) }
@@ -233,18 +239,12 @@ fn add_user(
             user: user.id,
         });
     };
-    let Some(port) = user.port else {
-        return Err(ParticipantsFault::MissingPort {
-            conference: number,
-            user: user.id,
-        });
-    };
     let meeting = meeting_text(alloc, config, user, conference)?;
     participants.push(Participant {
         token: String::from_str(alloc, token)?,
         conference: number,
         user: user.id,
-        port,
+        port: user.port,
         meeting,
     })?;
     Ok(())

@@ -15,8 +15,7 @@ use std::process::ExitCode;
 const PROGRAM: Program = Program {
     name: "floorhub",
     about: "Serves the floors of conferences (BFCP, RFC 8855) by event loops, and reads an administrator's lines.",
-    has_loops: true,
-    bounds_connections: true,
+    by_loops: true,
 };
 
 fn main(rt: HostRuntime) -> ExitCode {

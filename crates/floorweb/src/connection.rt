@@ -5,6 +5,7 @@ use crate::gateway::Gateway;
 use crate::head::{HeadEnd, read_head};
 use crate::pair::{Pair, WRITE_SECONDS, linger};
 use crate::unserved::Unserved;
+use floor_proxy::unique_id_header;
 use floor_web::{
     Asked, End, Kind, Participant, Reading, Refusal, Relay, read_request, refuse, serve, welcome,
 };
@@ -167,7 +168,7 @@ fn send_last<R: Clock>(rt: &R, mut stream: &TcpStream, bytes: &[u8]) {
     }
 }
 
-/// Connects to the participant's port, and then makes the connection a WebSocket.
+/// Connects to the server as the participant, and then makes the connection a WebSocket.
 fn connect<R>(
     rt: R,
     alloc: Global,
@@ -187,18 +188,15 @@ where
         + Send
         + 'static,
 {
-    let address = SocketAddr::from((Ipv4Addr::LOCALHOST, participant.port));
-    let wait = Duration::from_secs(CONNECT_SECONDS);
-    let server = match TcpStream::connect_timeout(&rt, &address, wait) {
-        Ok(server) => server,
-        Err(error) if error.kind() == ErrorKind::ConnectionRefused => {
+    let server = match reach(&rt, alloc, gateway.door, participant)? {
+        Reached::Server(server) => server,
+        Reached::Nobody => {
             return lack_server(&rt, alloc, gateway, participant, &stream, accept);
         }
-        Err(_) => {
+        Reached::Failure => {
             return answer_refusal(&rt, alloc, gateway, &stream, Refusal::BadGateway, false);
         }
     };
-    prepare(&server);
     // All memory is had before the browser is told that it has a WebSocket.
     let welcome = welcome(alloc, accept)?;
     let pair = Arc::new(alloc, Pair::new(alloc, stream, server))?;
@@ -226,6 +224,43 @@ where
     let end = pair.part(&rt);
     gateway.tell(&rt, &Entry::Left(place, end.unwrap_or(End::Gone)));
     Ok(())
+}
+
+/// What came of connecting to the server.
+#[derive(Drop)]
+enum Reached {
+    Server(TcpStream),
+    /// Nobody listens there.
+    Nobody,
+    /// It can't be connected to.
+    Failure,
+}
+
+/// Connects to the participant's port of the server; or to its door, and says who it is.
+fn reach<R: Net<Listener = TcpListener, Stream = TcpStream>>(
+    rt: &R,
+    alloc: Global,
+    door: Option<u16>,
+    participant: &Participant,
+) -> Result<Reached, Unserved> {
+    let Some(port) = door.or(participant.port) else {
+        return Ok(Reached::Failure);
+    };
+    let address = SocketAddr::from((Ipv4Addr::LOCALHOST, port));
+    let wait = Duration::from_secs(CONNECT_SECONDS);
+    let mut server = match TcpStream::connect_timeout(rt, &address, wait) {
+        Ok(server) => server,
+        Err(error) if error.kind() == ErrorKind::ConnectionRefused => return Ok(Reached::Nobody),
+        Err(_) => return Ok(Reached::Failure),
+    };
+    prepare(&server);
+    if door.is_some() {
+        let header = unique_id_header(alloc, participant.conference, participant.user)?;
+        if server.write_all(header.as_slice()).is_err() {
+            return Ok(Reached::Failure);
+        }
+    }
+    Ok(Reached::Server(server))
 }
 
 /// Makes the connection a WebSocket, and closes it by the code for a server that isn't there.

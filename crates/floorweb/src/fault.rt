@@ -10,6 +10,8 @@ pub enum GatewayFault {
     CannotRead,
     /// The configuration is refused, or its tokens are.
     Participants(ParticipantsFault),
+    /// A user has a token and no port, and there is no door.
+    MissingPort,
     /// The page's folder has no `index.html`.
     NoPage,
     /// The address can't be listened on, or no thread is left for it.
@@ -26,6 +28,7 @@ impl GatewayFault {
         match self {
             GatewayFault::CannotRead => "CannotRead",
             GatewayFault::Participants(fault) => fault.name(),
+            GatewayFault::MissingPort => "MissingPort",
             GatewayFault::NoPage => "NoPage",
             GatewayFault::CannotListen => "CannotListen",
             GatewayFault::CannotWrite => "CannotWrite",

@@ -28,6 +28,8 @@ pub struct Gateway {
     pub participants: Participants,
     pub pages: Pages,
     pub origins: Origins,
+    /// The server's door by id, where all come by it.
+    pub door: Option<u16>,
     log: Option<Arc<Log, Global>>,
     running: AtomicUsize,
     is_ending: AtomicBool,
@@ -52,9 +54,13 @@ impl Gateway {
             config,
             folder,
             origins,
+            door,
             has_log: _,
         } = words;
         let participants = participants_of(rt, alloc, config.as_str(), errors)?;
+        if door.is_none() {
+            check_ports(&participants, config.as_str(), errors)?;
+        }
         let pages = read_pages(rt, alloc, folder.as_str(), errors)?;
         if pages.find(b"index.html").is_none() {
             let _outcome = writeln!(errors, "{folder}: there is no index.html in it");
@@ -65,6 +71,7 @@ impl Gateway {
             participants,
             pages,
             origins: Origins { listed: origins },
+            door,
             log,
             running: AtomicUsize::new(0),
             is_ending: AtomicBool::new(false),
@@ -164,6 +171,25 @@ where
     }
 }
 
+/// Whether each participant has a port. The first who has none is told.
+fn check_ports<E: Write>(
+    participants: &Participants,
+    path: &str,
+    errors: &mut E,
+) -> Result<(), GatewayFault> {
+    match participants.first_without_port() {
+        None => Ok(()),
+        Some(found) => {
+            let (conference, user) = (found.conference, found.user);
+            let _outcome = writeln!(
+                errors,
+                "{path}: conference {conference}, user {user}: who has a token needs a port"
+            );
+            Err(GatewayFault::MissingPort)
+        }
+    }
+}
+
 /// Tells what is wrong with a configuration, and where.
 fn tell_place<E: Write>(errors: &mut E, path: &str, fault: ParticipantsFault) {
     let _outcome = match fault {
@@ -173,10 +199,6 @@ fn tell_place<E: Write>(errors: &mut E, path: &str, fault: ParticipantsFault) {
         ParticipantsFault::WeakToken { conference, user } => writeln!(
             errors,
             "{path}: conference {conference}, user {user}: a token is a text of at least 22 letters, digits, - and _"
-        ),
-        ParticipantsFault::MissingPort { conference, user } => writeln!(
-            errors,
-            "{path}: conference {conference}, user {user}: who has a token needs a port"
         ),
         ParticipantsFault::DoubleToken { conference, user } => writeln!(
             errors,

@@ -1,5 +1,6 @@
 //! The words that the program is called with.
 
+use clap::builder::ValueParser;
 use clap::error::ErrorKind;
 use clap::{Arg, ArgAction, ArgMatches, Command, Error};
 use std::alloc::Global;
@@ -18,6 +19,8 @@ pub struct Words {
     pub folder: String,
     /// The origins that are allowed by name.
     pub origins: Vec<String>,
+    /// The server's door by id, where all are to come by it; else each comes by the user's own port.
+    pub door: Option<u16>,
     /// Whether each connection that joins, is refused or leaves is told.
     pub has_log: bool,
 }
@@ -54,6 +57,7 @@ fn parsed(alloc: Global, words: &[String]) -> Result<Words, Error> {
         config: text(alloc, &matches, "config")?,
         folder: text(alloc, &matches, "folder")?,
         origins,
+        door: matches.get_one::<u16>("door-by-id"),
         has_log: matches.get_flag("log"),
     })
 }
@@ -74,6 +78,16 @@ fn command<'a>(alloc: Global) -> Result<Command<'a>, Error> {
                 .long("origin")
                 .action(ArgAction::Append)
                 .help("An origin whose pages may connect, as https://meet.example.com."),
+        )?
+        .arg(
+            Arg::new(alloc, "door-by-id")
+                .long("door-by-id")
+                .value_name("port")
+                .action(ArgAction::Set)
+                .value_parser(ValueParser::unsigned(1, u64::from(u16::MAX)))
+                .help(
+                    "The server's door by id: all users come by it, and need no port of their own.",
+                ),
         )?
         .arg(
             Arg::new(alloc, "log")

@@ -2,5 +2,6 @@
 
 mod clients;
 mod console;
+mod doors;
 mod endings;
 mod logged;

@@ -133,7 +133,7 @@ fn read(
     now: u64,
     text: &mut String,
 ) -> Result<(), AllocError> {
-    match served.read(number, piece, now) {
+    match served.read(number, piece, 64, now) {
         Ok(more) => write!(text, "ok {more}"),
         Err(refusal) => text.push_str(refusal.name()),
     }
@@ -232,7 +232,7 @@ fn events(served: &Loop) -> u32 {
 /// the last.
 fn byte_by_byte(alloc: Global) -> Result<String, AllocError> {
     let mut served = joined(alloc)?;
-    let _read = served.read(1, &bytes(alloc, REQUEST)?, 1);
+    let _read = served.read(1, &bytes(alloc, REQUEST)?, 64, 1);
     let _given = served.ready();
     let before = events(&served);
     let mut taken = Vec::new(alloc);
@@ -261,11 +261,11 @@ fn flood(alloc: Global) -> Result<String, AllocError> {
     for _ in 0..1_000 {
         flood.extend_from_slice(&hello)?;
     }
-    let mut more = served.read(1, &flood, 1);
+    let mut more = served.read(1, &flood, 64, 1);
     let mut turns = 1u32;
     while more == Ok(true) && turns < 1_000 {
         turns = turns.saturating_add(1);
-        more = served.read(1, &[], 1);
+        more = served.read(1, &[], 64, 1);
     }
     let mut text = String::new(alloc);
     write!(text, "{turns} turns, {} events", events(&served))?;
@@ -278,7 +278,7 @@ fn cut(alloc: Global) -> Result<String, AllocError> {
     let hello = bytes(alloc, HELLO)?;
     let mut asked = 0u32;
     while served.until(1) == None && asked < 3_000 {
-        let _read = served.read(1, &hello, 5);
+        let _read = served.read(1, &hello, 64, 5);
         asked = asked.saturating_add(1);
     }
     let mut text = String::new(alloc);

@@ -129,12 +129,12 @@ fn carry_out(
 
 /// Hands in what came from a connection, and reads on while more may wait.
 fn receive(serving: &mut Loop, connection: ConnNo, bytes: &[u8]) -> Result<(), HubRefusal> {
-    let mut more = serving.read(connection, bytes, 0)?;
+    let mut more = serving.read(connection, bytes, 64, 0)?;
     for _ in 0..MAX_TIMES {
         if !more {
             break;
         }
-        more = serving.read(connection, &[], 0)?;
+        more = serving.read(connection, &[], 64, 0)?;
     }
     Ok(())
 }

@@ -36,12 +36,12 @@ fn push_participant(
     match participants.find(token.as_bytes()) {
         None => told.push_str("nobody\n"),
         Some(found) => {
-            let (conference, user, port) = (found.conference, found.user, found.port);
-            let meeting = found.meeting.as_str();
-            write!(
-                told,
-                "conference {conference} user {user} port {port}\n{meeting}\n"
-            )
+            let (conference, user) = (found.conference, found.user);
+            write!(told, "conference {conference} user {user}")?;
+            if let Some(port) = found.port {
+                write!(told, " port {port}")?;
+            }
+            write!(told, "\n{}\n", found.meeting.as_str())
         }
     }
 }
@@ -50,7 +50,6 @@ fn push_fault(told: &mut String, fault: ParticipantsFault) -> Result<(), AllocEr
     told.push_str(fault.name())?;
     match fault {
         ParticipantsFault::WeakToken { conference, user }
-        | ParticipantsFault::MissingPort { conference, user }
         | ParticipantsFault::DoubleToken { conference, user } => {
             write!(told, " conference {conference} user {user}\n")
         }

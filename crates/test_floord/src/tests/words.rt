@@ -57,15 +57,13 @@ fn a_file_that_is_absent_cannot_be_read(rt: HostRuntime) -> Result<(), Fail> {
 const LOOPING: Program = Program {
     name: "looping",
     about: "Serves by loops.",
-    has_loops: true,
-    bounds_connections: true,
+    by_loops: true,
 };
 
 const PLAIN: Program = Program {
     name: "plain",
     about: "Serves.",
-    has_loops: false,
-    bounds_connections: false,
+    by_loops: false,
 };
 
 /// Words, and the loops that they ask for or the first line of why they are refused: of a program with loops

@@ -55,8 +55,7 @@ where
     let program = Program {
         name: "floorhub",
         about: "",
-        has_loops: true,
-        bounds_connections: true,
+        by_loops: true,
     };
     run(
         rt,

@@ -29,19 +29,19 @@ first c = moved-kept (old c) (mid c) refl (keeps c)
 later : (c : goal.After-read_turn) → IsLoop (mid c)
 later c = loop-moves NoSteps (old c) (mid c) (first c) c.self.invariant
 
-moved : (c : goal.After-read_turn) → Moved (Reads c.args.number c.args.bytes.now 64) (old c) (new c)
-moved c = moved-behind (Reads c.args.number c.args.bytes.now 64) (old c) (mid c) (new c) (first c) c.read_turn.ensures.moved
+moved : (c : goal.After-read_turn) → Moved (Reads c.args.number c.args.bytes.now c.args.most) (old c) (new c)
+moved c = moved-behind (Reads c.args.number c.args.bytes.now c.args.most) (old c) (mid c) (new c) (first c) c.read_turn.ensures.moved
 
 woke : (c : goal.After-read_turn) → Wakes (old c) (new c)
 woke c =
-    wakes-both NoSteps (Reads c.args.number c.args.bytes.now 64) (old c) (mid c) (new c) (first c) c.read_turn.ensures.moved (later c).serving
+    wakes-both NoSteps (Reads c.args.number c.args.bytes.now c.args.most) (old c) (mid c) (new c) (first c) c.read_turn.ensures.moved (later c).serving
     (wakes-same (old c) (mid c) (λ d. refl) (stays-kept (outgoing_in c.self.inside.attended) (outgoing_in c.pass.new.self) (keeps c))) (c.read_turn.ensures.woke (later c))
 
 pub invariant_of-self : goal.invariant_of-self
-invariant_of-self c = loop-moves (Reads c.args.number c.args.bytes.now 64) (old c) (new c) (moved c) c.self.invariant
+invariant_of-self c = loop-moves (Reads c.args.number c.args.bytes.now c.args.most) (old c) (new c) (moved c) c.self.invariant
 
 pub returns-clause-steps : goal.returns-clause-steps
-returns-clause-steps c = subst (λ (l : Loop). Steps (Reads c.args.number c.args.bytes.now 64) l.hub (new c).hub) c.self.view_is (moved c).steps
+returns-clause-steps c = subst (λ (l : Loop). Steps (Reads c.args.number c.args.bytes.now c.args.most) l.hub (new c).hub) c.self.view_is (moved c).steps
 
 pub returns-clause-took : goal.returns-clause-took
 returns-clause-took c = subst (λ (l : Loop). TookNothing l (new c)) c.self.view_is ((moved c).took c.self.invariant)
@@ -50,7 +50,7 @@ pub returns-clause-woke : goal.returns-clause-woke
 returns-clause-woke c = subst (λ (l : Loop). Wakes l (new c)) c.self.view_is (woke c)
 
 pub returns-clause-handed : goal.returns-clause-handed
-returns-clause-handed c = subst (λ (l : Loop). OnOk c.read_turn.result (Steps (Hands c.args.number c.args.bytes.now 64) l.hub (new c).hub)) c.self.view_is c.read_turn.ensures.handed
+returns-clause-handed c = subst (λ (l : Loop). OnOk c.read_turn.result (Steps (Hands c.args.number c.args.bytes.now c.args.most) l.hub (new c).hub)) c.self.view_is c.read_turn.ensures.handed
 
 found : (c : goal.After-read_turn) (k : ℕ) (o : Outgoing) → outgoing_in c.self.inside.attended k ≡ Some o → (p : Outgoing) × (outgoing_in c.pass.new.self k ≡ Some p) × (p.ends ≡ o.ends)
 found c = passed-found c.self.inside.attended c.pass.new.self (ap (λ (z : Attended). z.outgoing) c.pass.ensures.next)
