@@ -2,13 +2,12 @@
 """Peers that mean no good: ./hostile.py SERVER [CASE ..]
 
 Runs each case (or those that are named) against a floord or a floorhub of its own, whose conference 1 the case
-may do to what it likes. Meanwhile a Hello of conference 2 is answered all the while, each within
-DEADLINE. Every answer is compared with what messages.py has for it; at the end of a case the events
-in the conference's journal that are no acknowledgements, the report of `stop` and its status are
-what the case did, and threads and descriptors are what they were. (Acknowledgements depend on how
-often a writer finds nothing waiting.) Prints what was answered, the times of conference 2's Hellos,
-and the server's memory, threads and descriptors: before, at most, after. Status 1 where a case
-failed.
+may do to what it likes; those at a door want a floorhub, and are left out before a floord. Meanwhile a Hello of
+conference 2 is answered all the while, each within DEADLINE. Every answer is compared with what messages.py has
+for it; at the end of a case the events in the conference's journal that are no acknowledgements, the report of
+`stop` and its status are what the case did, and threads and descriptors are what they were. (Acknowledgements
+depend on how often a writer finds nothing waiting.) Prints what was answered, the times of conference 2's
+Hellos, and the server's memory, threads and descriptors: before, at most, after. Status 1 where a case failed.
 """
 import multiprocessing
 import os
@@ -19,18 +18,21 @@ import signal
 import socket
 import struct
 import sys
+import tempfile
 import threading
 import time
 
 import messages
 from messages import (FLOOR_QUERY, FLOOR_RELEASE, FLOOR_REQUEST, FLOOR_REQUEST_ID, GRANTED, HELLO,
                       attribute, floor_request_status, floors, hello_ack, message, number)
-from server import Server, connect, hear
+from server import Server, connect, hear, name_of, proxy_header
 
 DEADLINE = 120
 FIRST_PORT = 7700
 USERS = (10, 11, 12, 13)
 OTHER_PORT = FIRST_PORT + len(USERS)
+DOOR, HEALTH = OTHER_PORT + 1, OTHER_PORT + 2
+DOORS = ('--door', str(DOOR), '--health', str(HEALTH))
 CONFERENCE = messages.Conference(1, messages.WORKED.users, range(1, 10))
 FLOOD = 100_000
 MAX_EVENTS = 2_000_000
@@ -107,8 +109,11 @@ def greet_all_the_while(pipe):
 class Case:
     """A server, the connection of conference 2, and what the report will have to say."""
 
-    def __init__(self, floord, limits=None, variables=None):
-        self.server = Server(floord, configuration(), limits=limits, variables=variables)
+    def __init__(self, floord, limits=None, variables=None, words=()):
+        # What a server with a log tells.
+        self.log = tempfile.TemporaryFile('w+')
+        self.server = Server(floord, configuration(), limits=limits, variables=variables, words=words,
+                             errors=self.log if '--log' in words else None)
         # Without threads for connections, whose members leave when their connections end.
         self.by_loops = self.server.by_loops
         self.seats = 0
@@ -1202,6 +1207,95 @@ def killed(case):
                 ', '.join('%s %d' % pair for pair in sorted(counts.items()))))
 
 
+# How long a connection at a door has for its header.
+HEADER = 5
+
+
+def door_peers(chance):
+    """What peers at a door send that aren't let in: a name of each kind and what the log says of it, its texts,
+    and whether they are ended at once."""
+    named = proxy_header('1.10')
+    rows = [chance.randbytes(chance.randint(1, 2000)) for _ in range(100)]
+    return (
+        ('nothing', 'NoHeader', [b''] * 500, False),
+        ('half a header', 'NoHeader', [named[:1 + k % (len(named) - 1)] for k in range(100)], False),
+        ('version 1', 'BadHeader', [b'PROXY TCP4 127.0.0.1 127.0.0.1 1 2\r\n'] * 100, True),
+        # The first byte of a header is another.
+        ('bytes at random', 'BadHeader', [b'\x20' + row for row in rows], True),
+        ('nobody of the conference', 'NoUser', [proxy_header('1.99') + hello()] * 100, True),
+    )
+
+
+def door_member(case, user):
+    """Who is let in at the door, and is answered."""
+    client = connect(DOOR)
+    client.settimeout(DEADLINE)
+    case.seats += 1
+    case.events += 2
+    case.exchange(client, proxy_header('1.%d' % user) + hello(1, user), ack(1, user))
+    return client
+
+
+def at_the_door(case):
+    """A door: 500 that say nothing, 100 with half a header, 300 that are refused, and 100 that reset."""
+    began, waiting, wanted = time.monotonic(), [], {}
+    for kind, refusal, texts, is_at_once in door_peers(random.Random(8855)):
+        clients = [connect(DOOR) for _ in texts]
+        for client, text in zip(clients, texts):
+            client.sendall(text)
+        wanted[refusal] = wanted.get(refusal, 0) + len(texts)
+        waiting += [(kind, client, is_at_once) for client in clients]
+    for k in range(100):
+        client = connect(DOOR)
+        client.sendall(proxy_header('1.10')[:k % 16])
+        reset(client)
+    wanted['NoHeader'] += 100
+    came = time.monotonic() - began
+    members = [door_member(case, user) for user in USERS]
+    answered = time.monotonic() - began - came
+    for kind, client, is_at_once in sorted(waiting, key=lambda row: not row[2]):
+        client.settimeout(2 * HEADER)
+        ended(client)
+        took = time.monotonic() - began
+        if (took > came + 1) if is_at_once else not HEADER - 0.1 < took < came + HEADER + 1:
+            raise Failed('%s is ended after %.1f s' % (kind, took))
+        client.close()
+    for _ in range(1000):
+        connect(HEALTH).close()
+    for user, client in zip(USERS, members):
+        case.exchange(client, hello(2, user), ack(2, user))
+        client.close()
+    time.sleep(0.5)
+    case.log.seek(0)
+    heard = {}
+    for line in case.log.read().splitlines():
+        if ' door %d ' % DOOR in line and ' refused ' in line:
+            name = line.rsplit(' ', 1)[1]
+            heard[name] = heard.get(name, 0) + 1
+    if heard != wanted:
+        raise Failed('the log says %s, not %s' % (heard, wanted))
+    return ('1,000 came in %.1f s; then four were let in and answered in %.0f ms; the others were ended, at once or '
+            'after %d s; the log says %s; 1,000 probes are no events' % (
+                came, 1000 * answered, HEADER, ', '.join('%s %d' % row for row in sorted(wanted.items()))))
+
+
+def door_beyond_descriptors(case):
+    """More connections at a door than there are descriptors, that say nothing: 40 for the whole server."""
+    idle = used_in(case, 2)
+    clients = [connect(DOOR) for _ in range(60)]
+    used = used_in(case, 2)
+    if used > idle + 0.05:
+        raise Failed('%.1f%% of a processor, and %.1f%% before anybody waited' % (100 * used, 100 * idle))
+    began = time.monotonic()
+    member = door_member(case, 10)
+    took = time.monotonic() - began
+    for client in clients:
+        client.close()
+    member.close()
+    return 'at %.1f%% of a processor (%.1f%% before); who came behind them is answered after %.1f s' % (
+        100 * used, 100 * idle, took)
+
+
 def main():
     if len(sys.argv) < 2:
         raise SystemExit(__doc__)
@@ -1210,6 +1304,8 @@ def main():
     for body, how in CASES:
         name = body.__name__
         if chosen and name not in chosen:
+            continue
+        if '--door' in how.get('words', ()) and name_of(sys.argv[1]) != 'floorhub':
             continue
         print('%s: %s' % (name, body.__doc__.split('\n')[0]), flush=True)
         case = Case(sys.argv[1], **how)
@@ -1254,6 +1350,8 @@ CASES = (
                         'variables': {'MALLOC_ARENA_MAX': '1'}}),
     (beyond_memory, {'limits': {resource.RLIMIT_AS: 600 << 20},
                      'variables': {'MALLOC_ARENA_MAX': '1'}}),
+    (at_the_door, {'words': DOORS + ('--log',)}),
+    (door_beyond_descriptors, {'limits': {resource.RLIMIT_NOFILE: 40}, 'words': DOORS}),
 )
 
 

@@ -27,7 +27,7 @@ import sys
 import tempfile
 import time
 
-from server import Server, configuration, greet, hear, hello
+from server import Server, configuration, greet, hear, hello, proxy_header
 
 EXAMPLES = pathlib.Path(__file__).resolve().parent.parent / 'examples'
 # The name of each user of conference 1, its number, and its own port before stunnel.
@@ -266,14 +266,6 @@ def try_optional(folder, log):
     return wrong
 
 
-def header(name):
-    """The header of a certificate's name, as HAProxy writes it."""
-    name = b'\x22\x00' + bytes([len(name)]) + name.encode()
-    session = bytes.fromhex('0700000000210007544c5376312e33') + name
-    tlvs = bytes.fromhex('7f0000017f000001d6161edd2000') + bytes([len(session)]) + session
-    return bytes.fromhex('0d0a0d0a000d0a515549540a211100') + bytes([len(tlvs)]) + tlvs
-
-
 def ends_in(client):
     """After how many seconds a connection is ended; None where it isn't within ten."""
     start = time.monotonic()
@@ -289,7 +281,7 @@ def ends_in(client):
 def try_door(server, log):
     """What stands at the door itself, in any pieces."""
     print('the door', flush=True)
-    wrong, ann = 0, header('1.10')
+    wrong, ann = 0, proxy_header('1.10')
     for at in range(len(ann) + 13):
         with socket.create_connection(('127.0.0.1', DOOR), 5) as client:
             client.settimeout(8)
@@ -333,14 +325,14 @@ def try_many(log, bound):
         for _ in range(64):
             clients.append(socket.create_connection(('127.0.0.1', DOOR), 5))
             clients[-1].settimeout(8)
-            clients[-1].sendall(header('1.10'))
+            clients[-1].sendall(proxy_header('1.10'))
             time.sleep(0.01)
         count = sum(answered(client, 1, 10) for client in clients)
         wrong = claim(count == bound, f'of 64 connections of ann {bound} are answered')
         wrong += claim(refused(log, before) == ['UserConnections'] * (64 - bound), 'and the log says UserConnections')
         with socket.create_connection(('127.0.0.1', DOOR), 5) as bridge:
             bridge.settimeout(8)
-            bridge.sendall(header('1.12'))
+            bridge.sendall(proxy_header('1.12'))
             return wrong + claim(answered(bridge, 1, 12), 'another user finds room')
     finally:
         for client in clients:

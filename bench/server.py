@@ -16,6 +16,15 @@ def hello(conference, transaction, user):
     return struct.pack('>BBHIHH', 0x20, 11, 0, conference, transaction, user)
 
 
+def proxy_header(name):
+    """The header that says at a door who comes, by a certificate's name, as HAProxy writes it (version 2 of the
+    PROXY protocol)."""
+    name = b'\x22\x00' + bytes([len(name)]) + name.encode()
+    session = bytes.fromhex('0700000000210007544c5376312e33') + name
+    tlvs = bytes.fromhex('7f0000017f000001d6161edd2000') + bytes([len(session)]) + session
+    return bytes.fromhex('0d0a0d0a000d0a515549540a211100') + bytes([len(tlvs)]) + tlvs
+
+
 def configuration(conferences, users, first_port=FIRST_PORT):
     """The text of a configuration, and (port, conference, user) of each user, conferences in turn."""
     text = []

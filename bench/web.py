@@ -3,7 +3,7 @@
 
 Starts a server, a floord or a floorhub, and a floorweb of its own and runs each group of tries (or those
 that are named): starts, heads, sockets, floods, many, unread, proxy (which wants nginx and openssl),
-service, refused (which wants a C compiler), ends. Each try has the answer that it wants: a status of HTTP,
+service, refused (which wants a C compiler), door (before a floorhub), ends. Each try has the answer that it wants: a status of HTTP,
 a close code of WebSocket (RFC 6455, section 7.4.1), or what is in the frames. Prints a line for each that
 fails, and how many passed; status 1 where one failed.
 """
@@ -146,9 +146,9 @@ class Gateway:
         return self.use()[1:]
 
 
-def connect(narrow=False):
+def connect(narrow=False, port=PORT):
     """A connection; of what a narrow one doesn't read the sockets hold some 100 kB."""
-    stream = server.connect(PORT, narrow)
+    stream = server.connect(port, narrow)
     stream.settimeout(90)
     return stream
 
@@ -228,8 +228,8 @@ def number_of(told):
 class Browser:
     """A WebSocket whose handshake is done."""
 
-    def __init__(self, token, request=None, behind=b'', narrow=False):
-        self.stream = connect(narrow)
+    def __init__(self, token, request=None, behind=b'', narrow=False, port=PORT):
+        self.stream = connect(narrow, port)
         self.stream.sendall((request or upgrade('/bfcp/' + token)) + behind)
         got = b''
         while b'\r\n\r\n' not in got:
@@ -926,6 +926,58 @@ def service(program, folder):
               ['joined conference 8 user 10', 'left conference 8 user 10: ServerGone'])
 
 
+# A door
+
+# How many connections of one user the server of this group serves.
+BOUND = 3
+
+
+def door(program, folder, server_path):
+    """Users without ports, who come by a door of floorhub; a floord has none."""
+    if server.name_of(server_path) != 'floorhub':
+        return
+    at = PORT + 4
+    text = ''.join(
+        '[[conference]]\nid = %d\nconnections = %d\n%s[[conference.floor]]\nid = 1\n' % (conference, BOUND, ''.join(
+            '[[conference.user]]\nid = %d\ntoken = "%s"\n' % (user, token_of(conference, user)) for user in (10, 11)))
+        for conference in (1, 2))
+    words = ('--door-by-id', str(at))
+    hub = Server(server_path, text, words=words)
+    gateway = Gateway(program, folder, text + LOST_USERS, *words, '--log', address='127.0.0.1:%d' % (PORT + 5)).ready()
+
+    def browser(conference, user):
+        one = Browser(token_of(conference, user), port=PORT + 5)
+        one.send(2, message(HELLO, conference=conference, user=user))
+        return one
+    before = gateway.at_rest()
+    ann, ben, other = browser(1, 10), browser(1, 11), browser(2, 10)
+    check('door: each is answered', [one.primitive() for one in (ann, ben, other)], [HELLO_ACK] * 3)
+    ann.send(2, message(HELLO, user=11))
+    check('door: nobody is another', ann.primitive(), ERROR)
+    ben.send(2, message(FLOOR_QUERY, user=11, payload=FLOOR_ID_1))
+    check('door: a floor is watched', ben.primitive(), FLOOR_STATUS)
+    ann.send(2, message(FLOOR_REQUEST, payload=FLOOR_ID_1))
+    check('door: a floor is granted, and who watches it is told', (ann.primitive(), ben.primitive()), (4, FLOOR_STATUS))
+    more = [browser(1, 10) for _ in range(BOUND - 1)]
+    check('door: more browsers of one user', [one.primitive() for one in more], [HELLO_ACK] * (BOUND - 1))
+    check('door: one too many', browser(1, 10).ends(), 1001)
+    check('door: nobody of the configuration', Browser(token_of(99, 1), port=PORT + 5).ends(), 1001)
+    check('door: they are members', hub.ask('status 1'), 'conference 1 members 4 ongoing 1 events 11 open')
+    check('door: the meeting ends', hub.ask('close 1'), 'ok closed 1')
+    check('door: its browsers are told', [one.ends() for one in [ann, ben] + more], [1001] * 4)
+    check('door: nobody comes to it again', browser(1, 10).ends(), 1001)
+    other.send(2, message(HELLO, conference=2, transaction=2))
+    check('door: the other goes on', other.primitive(), HELLO_ACK)
+    check('door: the server stops', hub.stop()[1], 0)
+    check('door: its browser is told', other.ends(), 1001)
+    check('door: nobody is there', Browser(token_of(2, 10), port=PORT + 5).ends(), NO_SERVER)
+    check('door: all freed', gateway.freed(before, 10), before[1:])
+    status, _, errors = gateway.end()
+    rows = [line.split(' ', 1)[1] for line in errors.splitlines()]
+    check('door: the log', (status, rows.count('left conference 1 user 10: ServerGone'),
+                            rows[-1:]), (0, BOUND + 2, ['no server for conference 2 user 10']))
+
+
 # Many
 
 def many(program, folder, gateway, count=500):
@@ -996,7 +1048,7 @@ def main():
         raise SystemExit(__doc__)
     floord_path, program, folder = sys.argv[1:4]
     groups = sys.argv[4:] or ['starts', 'heads', 'sockets', 'floods', 'many', 'unread', 'proxy', 'service', 'refused',
-                              'ends']
+                              'door', 'ends']
     resource.setrlimit(resource.RLIMIT_NOFILE, (8_192, 8_192))
     if 'starts' in groups:
         starts(program, folder)
@@ -1014,6 +1066,8 @@ def main():
         service(program, folder)
     if 'refused' in groups:
         refused(program, folder)
+    if 'door' in groups:
+        door(program, folder, floord_path)
     if 'many' in groups:
         many(program, folder, gateway)
     if 'unread' in groups:
