@@ -949,6 +949,11 @@ def door(program, folder, server_path):
         one = Browser(token_of(conference, user), port=PORT + 5)
         one.send(2, message(HELLO, conference=conference, user=user))
         return one
+
+    def end_of(one):
+        end = one.ends()
+        one.close()
+        return end
     before = gateway.at_rest()
     ann, ben, other = browser(1, 10), browser(1, 11), browser(2, 10)
     check('door: each is answered', [one.primitive() for one in (ann, ben, other)], [HELLO_ACK] * 3)
@@ -960,17 +965,17 @@ def door(program, folder, server_path):
     check('door: a floor is granted, and who watches it is told', (ann.primitive(), ben.primitive()), (4, FLOOR_STATUS))
     more = [browser(1, 10) for _ in range(BOUND - 1)]
     check('door: more browsers of one user', [one.primitive() for one in more], [HELLO_ACK] * (BOUND - 1))
-    check('door: one too many', browser(1, 10).ends(), 1001)
-    check('door: nobody of the configuration', Browser(token_of(99, 1), port=PORT + 5).ends(), 1001)
-    check('door: they are members', hub.ask('status 1'), 'conference 1 members 4 ongoing 1 events 11 open')
+    check('door: one too many', end_of(browser(1, 10)), 1001)
+    check('door: nobody of the configuration', end_of(Browser(token_of(99, 1), port=PORT + 5)), 1001)
+    check('door: they are members', hub.ask('status 1').split(' events')[0], 'conference 1 members 4 ongoing 1')
     check('door: the meeting ends', hub.ask('close 1'), 'ok closed 1')
-    check('door: its browsers are told', [one.ends() for one in [ann, ben] + more], [1001] * 4)
-    check('door: nobody comes to it again', browser(1, 10).ends(), 1001)
+    check('door: its browsers are told', [end_of(one) for one in [ann, ben] + more], [1001] * 4)
+    check('door: nobody comes to it again', end_of(browser(1, 10)), 1001)
     other.send(2, message(HELLO, conference=2, transaction=2))
     check('door: the other goes on', other.primitive(), HELLO_ACK)
     check('door: the server stops', hub.stop()[1], 0)
-    check('door: its browser is told', other.ends(), 1001)
-    check('door: nobody is there', Browser(token_of(2, 10), port=PORT + 5).ends(), NO_SERVER)
+    check('door: its browser is told', end_of(other), 1001)
+    check('door: nobody is there', end_of(Browser(token_of(2, 10), port=PORT + 5)), NO_SERVER)
     check('door: all freed', gateway.freed(before, 10), before[1:])
     status, _, errors = gateway.end()
     rows = [line.split(' ', 1)[1] for line in errors.splitlines()]
