@@ -1,27 +1,27 @@
 -- The requests that an event ended are such as can be shown.
-use Rattle.std.proofs.Common.{◌≡◌, ℕ, suc, ◌+◌, Bool, true, false, cond, List, [], ◌∷◌, map, Option, Some, None, refl, sym, subst, ◌∙◌, ap, arith}
+use Rattle.std.proofs.Common.{◌≡◌, ℕ, suc, ◌+◌, Bool, true, false, cond, List, [], ◌∷◌, map, Option, Some, None, sym, subst, ap, arith}
 use Rattle.std.specs.Prelude.{◌==◌, All, IfSome}
 use Rattle.std.proofs.lemmas.List.Elements.{All-nil, All-cons, All-map}
 use Rattle.floor_config.specs.Configuration.{Configuration}
 use Rattle.floor_config.specs.declared.floors.Floor.{Floor}
+use Rattle.floor_queue.specs.declared.request.New.{New}
 use Rattle.floor_queue.specs.declared.request.Request.{Request}
 use Rattle.floor_queue.specs.Queue.{IsQueue, IsReason, first_request, with_reason}
 use Rattle.floor_message.specs.declared.status.RequestStatus.{RequestStatus}
+use Rattle.floor_message.specs.declared.verdicts.Verdict.{Verdict}
 use Rattle.floor_machine.specs.declared.course.Course.{Course}
 use Rattle.floor_machine.specs.declared.course.Ended.{Ended}
-use Rattle.floor_machine.specs.declared.decision.Change.{Change as Decided}
-use Rattle.floor_machine.specs.declared.decision.Change.TheVariants as to
+use Rattle.floor_machine.specs.declared.decision.EndedBy.{EndedBy}
 use Rattle.floor_machine.specs.declared.conference.State.{State}
-use Rattle.floor_machine.specs.declared.event.Event.TheVariants.{Leave, Revoke}
+use Rattle.floor_machine.specs.declared.event.Event.TheVariants.{Leave}
 use Rattle.floor_machine.specs.Conference.{Conference, user_of}
 use Rattle.floor_machine.specs.Shown.{Entry, entry_of}
-use Rattle.floor_machine.specs.Change.{Change, change, leaving, ends_without, ending, ends_at, dismissed, decided_at, reasoned_among}
+use Rattle.floor_machine.specs.Change.{Change, change, leaving, ends_without, ends_at, decided_at, reasoned, reasoned_among}
 use Rattle.floor_machine.specs.steps.Telling.{entry_of_ended}
-use Rattle.floor_machine.specs.steps.Deciding.{MayChange, change_adding, change_by}
-use Rattle.floor_machine.specs.steps.Ending.{ending_by}
+use Rattle.floor_machine.specs.steps.Deciding.{change_adding, change_words}
+use Rattle.floor_machine.specs.steps.Ending.{change_ending, ending_by}
 use Rattle.floor_machine.specs.steps.Serving.{IsChanged, ended_of}
 use Rattle.floor_machine.specs.steps.Fitting.{AreFit, IsFit}
-use Rattle.floor_machine.proofs.Entries.{ended_of-entries}
 use Rattle.floor_machine.proofs.Changing.{ended_of-decided, none-ended-added}
 
 -- what holds of all ongoing requests holds of those that end
@@ -58,16 +58,22 @@ reasoned_fit floors k None rs fits h = h
 reasoned_fit floors k (Some reason) rs fits h =
     All-map (IsFit floors) (with_reason k reason) rs (λ i d within. with_fit floors k reason _ fits (h i d within))
 
-decided_all : (s : Conference) (n : ℕ) (c : Decided) → MayChange s c → All (IsFit s.config.floors) s.ongoing → All (λ e. IsFit s.config.floors e.request) (ended_of (change_by s n c).entries)
-decided_all s n to.Nothing may h = none_all (IsFit s.config.floors) (ended_of (map entry_of s.ongoing)) (ended_of-entries s.ongoing)
-decided_all s n (to.Add new) may h =
-    none_all (IsFit s.config.floors) (ended_of (change_adding s new).entries) (none-ended-added s.ongoing (first_request s.config.floors (s.given + 1) new))
-decided_all s n (to.End request by reason) may h =
-    ending_all (IsFit s.config.floors) (ends_at request (ending_by by)) (reasoned_among request reason s.ongoing) (reasoned_fit s.config.floors request reason s.ongoing may.1 h)
-decided_all s n (to.Words request verdicts reason) may h =
+-- of a request that is added none ends
+pub fit-added : (s : Conference) (new : New) → All (λ e. IsFit s.config.floors e.request) (ended_of (change_adding s new).entries)
+fit-added s new = none_all (IsFit s.config.floors) (ended_of (change_adding s new).entries) (none-ended-added s.ongoing (first_request s.config.floors (s.given + 1) new))
+
+-- the one that ends is an ongoing one
+pub fit-ended : (s : Conference) (request : ℕ) (by : EndedBy) (reason : Option (List ℕ)) → IfSome reason IsReason → All (IsFit s.config.floors) s.ongoing →
+    All (λ e. IsFit s.config.floors e.request) (ended_of (change_ending (reasoned s request reason) request by).entries)
+fit-ended s request by reason fits h =
+    ending_all (IsFit s.config.floors) (ends_at request (ending_by by)) (reasoned_among request reason s.ongoing) (reasoned_fit s.config.floors request reason s.ongoing fits h)
+
+-- of verdicts that leave words none ends
+pub fit-words : (s : Conference) (request : ℕ) (verdicts : List (ℕ × Verdict)) (reason : Option (List ℕ)) →
+    All (λ e. IsFit s.config.floors e.request) (ended_of (change_words (reasoned s request reason) request verdicts).entries)
+fit-words s request verdicts reason =
     let qs = reasoned_among request reason s.ongoing in
     none_all (IsFit s.config.floors) (ended_of (map (λ r. entry_of (decided_at request verdicts r)) qs)) (ended_of-decided request verdicts qs)
-decided_all s n (to.Watch floors) may h = none_all (IsFit s.config.floors) (ended_of (map entry_of s.ongoing)) (ended_of-entries s.ongoing)
 
 -- where the entries that ended are ones that could be added, so are those that the course has noted
 noted_addable : (floors : List Floor) (ended : List Ended) (es : List Entry) → map entry_of_ended ended ≡ es → All (λ e. IsFit floors e.request) es → AreFit floors ended
@@ -81,37 +87,15 @@ queue_addable t queue =
     let Q : List Floor → Type 0 = λ fs. All (λ r. IsFit fs r) t.requests.ongoing in
     subst Q t.same_floors (λ i d within. record { addable = queue.addable i d within; reason = queue.reasons i d within })
 
--- those of them that end are, too
-pub ending_addable : (s : Conference) (ends : Request → Option RequestStatus) (ended : List Ended) → All (λ r. IsFit s.config.floors r) s.ongoing →
-    map entry_of_ended ended ≡ ended_of (ending s ends) → AreFit s.config.floors ended
-ending_addable s ends ended h same =
-    noted_addable s.config.floors ended (ended_of (ending s ends)) same (ending_all (λ r. IsFit s.config.floors r) ends s.ongoing h)
-
--- those that such a change ended, by the configuration that it leaves
-pub changed_addable : (s t : Conference) (c : Change) (ends : Request → Option RequestStatus) (course : Course) → All (λ r. IsFit s.config.floors r) s.ongoing →
-    IsChanged s c t course → c.entries ≡ ending s ends → AreFit t.config.floors course.ended.items
-changed_addable s t c ends course h changed same =
+-- those that a change ended, by the configuration that it leaves
+pub addable : (s t : Conference) (c : Change) (course : Course) → All (λ e. IsFit s.config.floors e.request) (ended_of c.entries) → IsChanged s c t course → AreFit t.config.floors course.ended.items
+addable s t c course h changed =
     let Q : List Floor → Type 0 = λ fs. AreFit fs course.ended.items in
-    subst Q (sym (ap (λ (k : Configuration). k.floors) changed.config))
-    (ending_addable s ends course.ended.items h (changed.made.ended ∙ ap (λ (es : List Entry). ended_of es) same))
+    subst Q (sym (ap (λ (k : Configuration). k.floors) changed.config)) (noted_addable s.config.floors course.ended.items (ended_of c.entries) changed.made.ended h)
 
--- those that a leave ended
+-- so those that a leave ended
 pub left_addable : (s t : Conference) (n : ℕ) (course : Course) → All (λ r. IsFit s.config.floors r) s.ongoing →
     IsChanged s (change s (Leave n)) t course → AreFit t.config.floors course.ended.items
 unfolding change
 left_addable s t n course h changed =
-    changed_addable s t (change s (Leave n)) (ends_without (map (leaving n) s.members) (user_of s n)) course h changed refl
-
--- the one that a revoke ended
-pub revoked_addable : (s t : Conference) (request : ℕ) (course : Course) → All (λ r. IsFit s.config.floors r) s.ongoing →
-    IsChanged s (change s (Revoke request)) t course → AreFit t.config.floors course.ended.items
-unfolding change
-revoked_addable s t request course h changed = changed_addable s t (change s (Revoke request)) (ends_at request dismissed) course h changed refl
-
--- those that a decision ended, by the configuration that the change leaves
-pub decided_addable : (s t : Conference) (n : ℕ) (c : Decided) (course : Course) → MayChange s c → All (λ r. IsFit s.config.floors r) s.ongoing →
-    IsChanged s (change_by s n c) t course → AreFit t.config.floors course.ended.items
-decided_addable s t n c course may h changed =
-    let Q : List Floor → Type 0 = λ fs. AreFit fs course.ended.items in
-    subst Q (sym (ap (λ (k : Configuration). k.floors) changed.config))
-    (noted_addable s.config.floors course.ended.items (ended_of (change_by s n c).entries) changed.made.ended (decided_all s n c may h))
+    addable s t (change s (Leave n)) course (ending_all (IsFit s.config.floors) (ends_without (map (leaving n) s.members) (user_of s n)) s.ongoing h) changed

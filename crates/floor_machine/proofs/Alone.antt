@@ -12,40 +12,36 @@ use Rattle.floor_message.specs.declared.code.ErrorCode.{ErrorCode}
 use Rattle.floor_message.specs.declared.tell.Tell.TheVariants.{FloorRequestStatus}
 use Rattle.floor_machine.specs.declared.event.Event.{Event}
 use Rattle.floor_machine.specs.declared.event.Event.TheVariants.{Message}
-use Rattle.floor_machine.specs.declared.decision.Change.{Change as Decided}
-use Rattle.floor_machine.specs.declared.decision.Decision.{Decision}
+use Rattle.floor_machine.specs.declared.decision.Change.TheVariants as to
 use Rattle.floor_machine.specs.declared.member.Member.{Member}
 use Rattle.floor_machine.specs.Conference.{Conference, binding, member_with, opening, user_of}
-use Rattle.floor_machine.specs.Change.{change, settled}
+use Rattle.floor_machine.specs.Change.{change, no_change, settled}
 use Rattle.floor_machine.specs.Checks.{refusal}
 use Rattle.floor_machine.specs.Journal.{parcel, told_from}
 use Rattle.floor_machine.specs.Outgoing.{Outgoing, notice, outgoing_bytes}
 use Rattle.floor_machine.specs.Parcel.{Parcel}
 use Rattle.floor_machine.specs.Reachable.{LeavesAlone, Sent, but_for, is_unaccepted, uncounted}
 use Rattle.floor_machine.specs.Reply.{floor_status_tell, reply}
-use Rattle.floor_machine.specs.steps.Deciding.{accepted, changes_requests, decision_of, members_by, refused_by}
+use Rattle.floor_machine.specs.steps.Deciding.{accepted, change_by, decision_of, refused_by}
 use Rattle.floor_machine.specs.Told.{Changed, changed_floors, changed_requests, is_told, reply_to, due, due_to}
 use Rattle.floor_machine.proofs.Found.{and_left}
-use Rattle.floor_machine.proofs.Kept.{IsKept, event-kept, settled-message}
-use Rattle.floor_machine.proofs.Quiet.{floors-kept, requests-kept, still}
+use Rattle.floor_machine.proofs.Kept.{kept-nothing, next-kept, still-kept}
+use Rattle.floor_machine.proofs.Quiet.{IsStill, floors-kept, requests-kept}
+use Rattle.floor_machine.proofs.Served.{change-decided}
 use Rattle.floor_machine.proofs.Counted.{counted-quiet}
 use Rattle.floor_machine.proofs.Sent.{sent_is_told, told-nothing}
 use Rattle.floor_machine.specs.Next.{counted, next}
 use Rattle.floor_machine.proofs.Telling.{due-member}
 
--- what isn't accepted changes no request and no member
-record ChangesNothing (members : List Member) (n : ℕ) (c : Decided) : Type 0 where
-  requests : changes_requests c ≡ false
-  members_kept : members_by members n c ≡ members
-
-unaccepted : (s : Conference) (n user : ℕ) (a : Answer) → is_unaccepted s user a ≡ true → ChangesNothing s.members n (decision_of s user a).change
-unaccepted s n user unanswered h = record { requests = refl; members_kept = refl }
-unaccepted s n user (refused code details) h = record { requests = refl; members_kept = refl }
+-- what isn't accepted changes nothing
+unaccepted : (s : Conference) (n user : ℕ) (a : Answer) → is_unaccepted s user a ≡ true → (decision_of s n user a).change ≡ to.Nothing
+unaccepted s n user unanswered h = refl
+unaccepted s n user (refused code details) h = refl
 unaccepted s n user (asks a) h = by (refusal s user a) h
   where
-    by : (o : Option ErrorCode) → is_some o ≡ true → ChangesNothing s.members n (option_map_or refused_by o (accepted user a)).change
+    by : (o : Option ErrorCode) → is_some o ≡ true → (option_map_or refused_by o (accepted n user a)).change ≡ to.Nothing
     by None h = cc
-    by (Some code) h = record { requests = refl; members_kept = refl }
+    by (Some code) h = refl
 
 -- the live member with a number has it
 found_number : (ms : List Member) (k : ℕ) (m : Member) → member_with ms k ≡ Some m → m.n ≡ k
@@ -98,12 +94,12 @@ pub leaves_alone : (s : Conference) (n : ℕ) (bytes : List ℕ) → settle s.co
     is_unaccepted s (user_of s n) (ask bytes (binding s n)) ≡ true → LeavesAlone s n bytes
 leaves_alone s n bytes is_settled ascending refused_is =
     let e : Event = Message n bytes in
-    let j : Decision = decision_of s (user_of s n) (ask bytes (binding s n)) in
-    let nothing : ChangesNothing s.members n j.change = unaccepted s n (user_of s n) (ask bytes (binding s n)) refused_is in
-    let k : IsKept s (members_by s.members n j.change) (change s e) = event-kept s n bytes j refl nothing.requests in
-    let unmoved : settled s e ≡ s = sym (settled-message s n bytes j refl nothing.requests is_settled) ∙ ap (λ (ms : List Member). record s { members = ms }) nothing.members_kept in
+    let nothing : change s e ≡ no_change s =
+    change-decided s n bytes (ask bytes (binding s n)) refl ∙ ap (change_by s) (unaccepted s n (user_of s n) (ask bytes (binding s n)) refused_is) in
+    let kept : IsStill s e = still-kept s e (no_change s) s nothing (kept-nothing s is_settled) in
+    let unmoved : settled s e ≡ s = sym (next-kept s e (no_change s) s nothing (kept-nothing s is_settled)) in
     let silent : (i : ℕ) → i ≢ n → due s e i ≡ [] = λ i other. due-member s e i refl
-    ∙ due-found s n bytes i (member_with (settled s e).members i) refl other (requests-kept s e (still s e refl k.entries is_settled) ascending) (floors-kept s e (still s e refl k.entries is_settled)) in
+    ∙ due-found s n bytes i (member_with (settled s e).members i) refl other (requests-kept s e kept ascending) (floors-kept s e kept) in
     record {
       next = but-for-counted s e n silent ∙ ap (but_for n) unmoved;
       told = λ i other. told-nothing s e i (silent i other);

@@ -4,7 +4,6 @@ use Rattle.std.specs.Prelude.{◌==◌, All, filter}
 use Rattle.std.specs.List.{list_any}
 use Rattle.std.specs.Option.{option_map_or}
 use Rattle.std.proofs.lemmas.List.Elements.{All-nil, All-cons, All-head, All-tail, All-append}
-use Rattle.floor_queue.specs.Queue.{Queue, after_settle}
 use Rattle.floor_message.specs.declared.head.Head.{Head}
 use Rattle.floor_message.specs.declared.tell.Tell.{Tell}
 use Rattle.floor_message.specs.declared.tell.Tell.TheVariants.{FloorRequestStatus}
@@ -17,10 +16,9 @@ use Rattle.floor_machine.specs.declared.member.Member.{Member}
 use Rattle.floor_machine.specs.steps.Outcomes.{FloorUpdate}
 use Rattle.floor_machine.specs.declared.replied.Replied.{Replied}
 use Rattle.floor_machine.specs.declared.tell.changed.Update.{Update}
-use Rattle.floor_machine.specs.declared.conference.State.{State}
 use Rattle.floor_machine.specs.Conference.{Conference, member_with}
-use Rattle.floor_machine.specs.Change.{change, settled, shown}
-use Rattle.floor_machine.specs.steps.Serving.{is_telling, IsMade, conference_of, ended_of, is_rising, numbers_in, with_requests}
+use Rattle.floor_machine.specs.Change.{settled, shown}
+use Rattle.floor_machine.specs.steps.Serving.{is_telling, ended_of, is_rising, numbers_in}
 use Rattle.floor_machine.specs.Fitting.{ToldFits}
 use Rattle.floor_machine.specs.Next.{keeps_up, told}
 use Rattle.floor_message.specs.Fits.{TellFits}
@@ -31,7 +29,7 @@ use Rattle.floor_machine.specs.steps.Telling.{answered, answered_to, entry_of_en
 use Rattle.floor_machine.specs.Told.{Changed, changed_floors, changed_requests, floor_notices, request_notices, is_told, reply_to, due, due_to}
 use Rattle.floor_machine.proofs.Watched.{picked_through, watched-found}
 use Rattle.floor_machine.proofs.Telling.{due-member, update_for}
-use Rattle.floor_machine.proofs.Served.{ended-shown, floors-message, numbers-shown, settled-state, updates-message}
+use Rattle.floor_machine.proofs.Served.{floors-message, updates-message}
 
 -- what holds of all items, made into what follows from it, holds of those that are picked
 picked_all : {A B : Type 0} (P : A → Type 0) (Q : B → Type 0) (f : A → B) (p : A → Bool) (xs : List A) → ((x : A) → P x → Q (f x)) → All P xs → All Q (map f (filter p xs))
@@ -99,16 +97,6 @@ served-shown s e t course o telling is same numbers rising before replied reply 
     let fs = ap (λ (x : Conference). filter (is_watched_by x.members) (floor_updates course.before.items (infos_of x.config x.ongoing) x.config.floors)) is
     ∙ ap (filter (is_watched_by (settled s e).members)) (floors-message s e course.before.items before) in
     due-shown s e o telling replied reply (subst AreUpdatesShown us requests) (subst AreFloorsShown fs floors)
-
--- the same for an event without a reply
-pub changed-shown : (s : Conference) (e : Event) (t : State) (course : Course) (q : Queue) → is_telling e ≡ true → ((k : ℕ) → reply_to s e k ≡ []) →
-    IsMade s (change s e) (conference_of t) course → course.before.items ≡ infos s → q ≡ after_settle t.requests →
-    AreUpdatesShown (updates t.config q.ongoing course.ended.items course.before.items course.numbers.items) →
-    AreFloorsShown (filter (is_watched_by t.members) (floor_updates course.before.items (infos_of t.config q.ongoing) t.config.floors)) → IsToldShown s e
-changed-shown s e t course q telling unsent changed before is_settled =
-    served-shown s e (with_requests (conference_of t) q) course None telling (settled-state s e (change s e) t course q refl changed is_settled)
-    (ended-shown s e (change s e) (conference_of t) course refl changed) (numbers-shown s e (change s e) (conference_of t) course refl changed) changed.rising before
-    (λ k. sym (unsent k)) tt
 
 -- a close tells nobody anything
 pub close-shown : (s : Conference) → IsToldShown s Close

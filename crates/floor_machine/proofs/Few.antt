@@ -42,13 +42,13 @@ use Rattle.floor_machine.specs.Amount.{MessageIsShort}
 use Rattle.floor_machine.specs.Conference.{Conference, binding, member_with, opening, user_of}
 use Rattle.floor_machine.specs.Shown.{Entry, entry_of, info_of, ongoing_of}
 use Rattle.floor_machine.specs.Checks.{first_of, refusal, when}
-use Rattle.floor_machine.specs.Change.{asked_change, change, decided_at, dismissed, ending, ends_at, ends_without, entries_after, is_final, leaving, IsLawful, message_change, queue_of, settled, no_change, reasoned, reasoned_among, released, shown}
+use Rattle.floor_machine.specs.Change.{Change, asked_change, change, decided_at, dismissed, ending, ends_at, ends_without, entries_after, is_final, leaving, IsLawful, message_change, queue_of, settled, no_change, reasoned, reasoned_among, released, shown}
 use Rattle.floor_machine.specs.Same.{same_infos}
 use Rattle.floor_machine.specs.Reply.{answer_tells, floor_answers, floor_status_tell, headed, infos, infos_on, reply, reply_tells, request_answer}
 use Rattle.floor_machine.specs.Outgoing.{Outgoing, notice, outgoing_bytes}
 use Rattle.floor_machine.specs.Told.{Changed, changed_floors, changed_of, changed_requests, floor_notices, is_changed, is_sender, is_told, reply_to, request_notices, due, due_to}
 use Rattle.floor_machine.specs.Journal.{after_from, told_from, IsLawfulFrom}
-use Rattle.floor_machine.specs.steps.Deciding.{MayServe, accepted, decision_of, members_by, refused_by}
+use Rattle.floor_machine.specs.steps.Deciding.{MayServe, accepted, change_by, decision_of, refused_by}
 use Rattle.floor_machine.specs.steps.Serving.{is_telling, is_rising, numbers_in}
 use Rattle.floor_machine.specs.Next.{keeps_up, next, told}
 use Rattle.floor_machine.proofs.Acts.{numbers-chaired}
@@ -59,8 +59,8 @@ use Rattle.floor_machine.proofs.AskedOnce.{asked_once}
 use Rattle.floor_machine.proofs.Changing.{numbers-added, numbers_in-decided, rising-next, rising-numbers}
 use Rattle.floor_machine.proofs.Entries.{entry_with, filter-number, numbers_in-entries, numbers_in-settled}
 use Rattle.floor_machine.proofs.Found.{and_left, and_right}
-use Rattle.floor_machine.proofs.Kept.{IsKept, event-kept}
 use Rattle.floor_machine.proofs.Quiet.{floors-kept, requests-kept, still}
+use Rattle.floor_machine.proofs.Served.{change-decided}
 use Rattle.floor_machine.proofs.Reachable.{Keeps, SettlesOnce, keeps-after, keeps-next, keeps-opening}
 use Rattle.floor_machine.proofs.Reasoned.{numbers-reasoned}
 use Rattle.floor_machine.proofs.Telling.{due-member}
@@ -246,12 +246,13 @@ sum-queried : (s : Conference) (n : ℕ) (bytes : List ℕ) (floors : List ℕ) 
     Keeps s → length s.config.floors ≤ 32 → Sum s (Message n bytes) (length (floor_answers (settled s (Message n bytes)) floors))
 sum-queried s n bytes floors is none k most =
     let e : Event = Message n bytes in
-    let j : Decision = accepted (user_of s n) (FloorQuery floors) in
-    let heard : j ≡ decision_of s (user_of s n) (ask bytes (binding s n)) =
-    ap (λ (o : Option ErrorCode). option_map_or refused_by o j) none ∙ ap (decision_of s (user_of s n)) (sym is) in
-    let kept : IsKept s (members_by s.members n j.change) (change s e) = event-kept s n bytes j heard refl in
-    let no_requests : length (changed_requests s e) ≡ 0 = ap (λ (cs : List Changed). length cs) (requests-kept s e (still s e refl kept.entries k.settled) k.queue.ascending) in
-    let no_floors : length (changed_floors s e) ≡ 0 = ap (λ (fs : List Floor). length fs) (floors-kept s e (still s e refl kept.entries k.settled)) in
+    let j : Decision = accepted n (user_of s n) (FloorQuery floors) in
+    let heard : j ≡ decision_of s n (user_of s n) (ask bytes (binding s n)) =
+    ap (λ (o : Option ErrorCode). option_map_or refused_by o j) none ∙ ap (decision_of s n (user_of s n)) (sym is) in
+    let entries : (change s e).entries ≡ map entry_of s.ongoing =
+    ap (λ (c : Change). c.entries) (change-decided s n bytes (ask bytes (binding s n)) refl ∙ ap (λ (d : Decision). change_by s d.change) (sym heard)) in
+    let no_requests : length (changed_requests s e) ≡ 0 = ap (λ (cs : List Changed). length cs) (requests-kept s e (still s e refl entries k.settled) k.queue.ascending) in
+    let no_floors : length (changed_floors s e) ≡ 0 = ap (λ (fs : List Floor). length fs) (floors-kept s e (still s e refl entries k.settled)) in
     let known : list_all (is_floor s.config.floors) floors ≡ true = queried-floors s (user_of s n) floors none in
     omega (
       arith,

@@ -25,6 +25,7 @@ use Rattle.floor_machine.specs.Change.{IsLawful, change, queue_of, settled}
 use Rattle.floor_machine.specs.Next.{counted, next}
 use Rattle.floor_machine.specs.Reachable.{GrowsAlone, is_growth}
 use Rattle.floor_machine.specs.Told.{due, reply_to}
+use Rattle.floor_machine.specs.steps.Frame.{IsKept}
 use Rattle.floor_machine.specs.steps.Serving.{is_telling}
 use Rattle.floor_machine.proofs.Counted.{counted-quiet}
 use Rattle.floor_machine.proofs.Found.{and_left, and_right}
@@ -125,22 +126,22 @@ next-quiet : (s : Conference) (e : Event) → ((n : ℕ) → due s e n ≡ []) �
 unfolding next
 next-quiet s e quiet = ap (λ (ms : List Member). record (settled s e) { members = ms }) (counted-all-quiet s e quiet (settled s e).members)
 
-pub next-still : (s : Conference) (e : Event) → is_telling e ≡ true → ((n : ℕ) → reply_to s e n ≡ []) → is_ascending s.ongoing ≡ true → IsStill s e → (change s e).given ≡ s.given → (change s e).is_open ≡ s.is_open →
+next-still : (s : Conference) (e : Event) → is_telling e ≡ true → ((n : ℕ) → reply_to s e n ≡ []) → is_ascending s.ongoing ≡ true → IsStill s e → (change s e).given ≡ s.given → (change s e).is_open ≡ s.is_open →
     (change s e).members ≡ s.members → next s e ≡ record s { config = (change s e).config }
 next-still s e telling unsent ascending still given opened members =
     next-quiet s e (due-unsent s e telling unsent still ascending)
     ∙ sym (settled-still s e still given opened)
     ∙ ap (λ (ms : List Member). record s { config = (change s e).config; members = ms }) members
 
--- so of a user whom no request involves
-pub next-stranger : (s : Conference) (user : User) → is_ascending s.ongoing ≡ true → IsStill s (AddUser user) → next s (AddUser user) ≡ record s { config = with_user s.config user }
+-- so a user whom no request involves keeps each request as it is shown
+pub kept-stranger : (s : Conference) (user : User) (t : Conference) → IsStill s (AddUser user) → t ≡ record s { config = with_user s.config user } → IsKept s (change s (AddUser user)) t
 unfolding change
-next-stranger s user ascending still = next-still s (AddUser user) refl (λ n. refl) ascending still refl refl refl
+kept-stranger s user t still same = record { entries = still.entries; settled = still.settled; infos = still.infos; given = refl; is_open = refl; next = same }
 
--- and of a floor
-pub next-floor : (s : Conference) (floor : Floor) → is_ascending s.ongoing ≡ true → IsStill s (AddFloor floor) → next s (AddFloor floor) ≡ record s { config = with_floor s.config floor }
+-- and so does a floor
+pub kept-floor : (s : Conference) (floor : Floor) (t : Conference) → IsStill s (AddFloor floor) → t ≡ record s { config = with_floor s.config floor } → IsKept s (change s (AddFloor floor)) t
 unfolding change
-next-floor s floor ascending still = next-still s (AddFloor floor) refl (λ n. refl) ascending still refl refl refl
+kept-floor s floor t still same = record { entries = still.entries; settled = still.settled; infos = still.infos; given = refl; is_open = refl; next = same }
 
 -- what is shown and settled by the configuration after it
 pub infos-stranger-after : (s : Conference) (user : User) → IsStill s (AddUser user) → map (info (with_user s.config user) s.ongoing) s.ongoing ≡ infos s

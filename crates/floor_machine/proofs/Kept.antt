@@ -1,101 +1,132 @@
--- A message that changes no request: the conference after it, and the parcels that it calls for.
-use Rattle.std.proofs.Common.{◌≡◌, ℕ, true, false, List, [], map, Some, refl, sym, ap, subst, ◌∙◌}
+-- An event that gives no course: the conference after it, and the parcels that it calls for.
+use Rattle.std.proofs.Common.{◌≡◌, ℕ, Bool, true, false, cond, List, [], ◌∷◌, ◌++◌, map, Option, None, refl, sym, ap, subst, ◌∙◌}
 use Rattle.std.proofs.lemmas.List.Elements.{All-nil}
-use Rattle.std.specs.Prelude.{filter}
+use Rattle.std.specs.Prelude.{filter, option_map}
+use Rattle.std.specs.List.{flat_map}
 use Rattle.floor_config.specs.declared.floors.Floor.{Floor}
 use Rattle.floor_queue.specs.Order.{settle}
 use Rattle.floor_queue.specs.Queue.{is_ascending}
-use Rattle.floor_message.specs.Ask.{ask}
 use Rattle.floor_message.specs.Shown.{IsShown}
-use Rattle.floor_message.specs.Head.{response_head}
-use Rattle.floor_machine.specs.declared.event.Event.{Event}
-use Rattle.floor_machine.specs.declared.event.Event.TheVariants.{Message}
-use Rattle.floor_machine.specs.declared.decision.Change.{Change as Decided}
-use Rattle.floor_machine.specs.declared.decision.Change.TheVariants as to
+use Rattle.floor_machine.specs.declared.conference.State.{State}
 use Rattle.floor_machine.specs.declared.decision.Decision.{Decision}
+use Rattle.floor_machine.specs.declared.decision.Sender.{Sender}
+use Rattle.floor_machine.specs.declared.event.Event.{Event}
+use Rattle.floor_machine.specs.declared.event.Event.TheVariants.{Close}
 use Rattle.floor_machine.specs.declared.member.Member.{Member}
-use Rattle.floor_machine.specs.steps.Outcomes.{FloorUpdate}
 use Rattle.floor_machine.specs.declared.replied.Replied.{Replied}
 use Rattle.floor_machine.specs.declared.tell.changed.Update.{Update}
-use Rattle.floor_machine.specs.Conference.{Conference, binding, user_of, is_numbered_from}
-use Rattle.floor_machine.specs.Shown.{Entry, entry_of}
-use Rattle.floor_machine.specs.Change.{Change, change, settled, shown}
-use Rattle.floor_machine.specs.steps.Fitting.{AreFloorsShown, AreUpdatesShown, IsReplyShown, IsToldShown}
-use Rattle.floor_machine.specs.steps.Counting.{due_parcels}
+use Rattle.floor_machine.specs.Conference.{Conference, is_numbered_from}
+use Rattle.floor_machine.specs.Shown.{Entry, info}
+use Rattle.floor_machine.specs.Change.{Change, change, no_change, settled, shown}
+use Rattle.floor_machine.specs.Journal.{parcel}
+use Rattle.floor_machine.specs.Outgoing.{Outgoing}
+use Rattle.floor_machine.specs.Parcel.{Parcel}
 use Rattle.floor_machine.specs.Reply.{infos}
-use Rattle.floor_machine.specs.steps.Deciding.{IsDecided, change_by, changes_requests, members_by}
-use Rattle.floor_machine.specs.steps.Serving.{ended_of, is_rising, tells_by, numbers_in}
-use Rattle.floor_machine.specs.steps.Telling.{answered_to, floor_update, is_watched_by, parcels_to_all}
-use Rattle.floor_machine.specs.Told.{Changed, reply_to}
-use Rattle.floor_machine.proofs.Bounds.{due-shown}
+use Rattle.floor_machine.specs.Told.{Changed, due, reply_to}
+use Rattle.floor_machine.specs.steps.Counting.{due_parcels}
+use Rattle.floor_machine.specs.steps.Deciding.{ComesTo, change_by, is_closing}
+use Rattle.floor_machine.specs.steps.Fitting.{AreFloorsShown, AreUpdatesShown, IsReplyShown, IsToldShown}
+use Rattle.floor_machine.specs.steps.Frame.{IsKept, IsQuiet}
+use Rattle.floor_machine.specs.steps.Outcomes.{FloorUpdate}
+use Rattle.floor_machine.specs.steps.Serving.{conference_of, ended_of, is_rising, is_telling, numbers_in, replied_by}
+use Rattle.floor_machine.specs.steps.Telling.{answered_to, floor_update, is_watched_by, parcels_to, parcels_to_all}
+use Rattle.floor_machine.proofs.Bounds.{close-shown, due-shown}
 use Rattle.floor_machine.proofs.Changing.{rising-numbers}
+use Rattle.floor_machine.proofs.Comes.{answered-comes, change-comes, telling-or-close, unclosing-comes}
 use Rattle.floor_machine.proofs.Entries.{ended_of-entries, numbers_in-entries}
-use Rattle.floor_machine.proofs.Quiet.{floors-kept, settled-kept, parcels-kept, requests-kept, shown-kept, still}
+use Rattle.floor_machine.proofs.Quiet.{IsStill, due_of-close, floors-kept, parcels-kept, requests-kept, settled-still, shown-kept}
 use Rattle.floor_machine.proofs.Sent.{numbered-settled}
-use Rattle.floor_machine.proofs.Served.{change-decided, reply-answered}
+use Rattle.floor_machine.proofs.Served.{settled-conference}
 use Rattle.floor_machine.proofs.Telling.{update_for}
 
--- a change of the members alone
-pub record IsKept (s : Conference) (left : List Member) (c : Change) : Type 0 where
-  pub entries : c.entries ≡ map entry_of s.ongoing
-  pub given : c.given ≡ s.given
-  pub is_open : c.is_open ≡ s.is_open
-  pub members : c.members ≡ left
+-- what keeps each request as it is shown does so as an event
+pub still-kept : (s : Conference) (e : Event) (c : Change) (t : Conference) → change s e ≡ c → IsKept s c t → IsStill s e
+still-kept s e c t same k =
+    record {
+      entries = ap (λ (x : Change). x.entries) same ∙ k.entries;
+      settled = ap (λ (x : Change). settle x.config.floors s.ongoing) same ∙ k.settled;
+      infos = ap (λ (x : Change). map (info x.config s.ongoing) s.ongoing) same ∙ k.infos;
+    }
 
--- what changes no request changes the members at the most
-pub kept : (s : Conference) (n : ℕ) (c : Decided) → changes_requests c ≡ false → IsKept s (members_by s.members n c) (change_by s n c)
-kept s n to.Nothing h = record { entries = refl; given = refl; is_open = refl; members = refl }
-kept s n (to.Add new) h = cc
-kept s n (to.End request by reason) h = cc
-kept s n (to.Words request verdicts reason) h = cc
-kept s n (to.Watch floors) h = record { entries = refl; given = refl; is_open = refl; members = refl }
+-- and what it leaves is the conference after the event
+pub next-kept : (s : Conference) (e : Event) (c : Change) (t : Conference) → change s e ≡ c → IsKept s c t → t ≡ settled s e
+next-kept s e c t same k =
+    k.next
+    ∙ ap (λ (x : Change). record s { config = x.config; members = x.members }) (sym same)
+    ∙ settled-still s e (still-kept s e c t same k) (ap (λ (x : Change). x.given) same ∙ k.given) (ap (λ (x : Change). x.is_open) same ∙ k.is_open)
 
--- so the event changes the members at the most
-pub event-kept : (s : Conference) (n : ℕ) (bytes : List ℕ) (j : Decision) → IsDecided s n bytes j → changes_requests j.change ≡ false →
-    IsKept s (members_by s.members n j.change) (change s (Message n bytes))
-event-kept s n bytes j is keeps =
-    subst (IsKept s (members_by s.members n j.change)) (sym (change-decided s n bytes (ask bytes (binding s n)) refl ∙ ap (λ (d : Decision). change_by s n d.change) (sym is))) (kept s n j.change keeps)
+-- what changes nothing keeps each request
+pub kept-nothing : (s : Conference) → settle s.config.floors s.ongoing ≡ s.ongoing → IsKept s (no_change s) s
+kept-nothing s is_settled = record { entries = refl; settled = is_settled; infos = refl; given = refl; is_open = refl; next = refl }
 
--- the conference after it
-pub settled-message : (s : Conference) (n : ℕ) (bytes : List ℕ) (j : Decision) → IsDecided s n bytes j → changes_requests j.change ≡ false → settle s.config.floors s.ongoing ≡ s.ongoing →
-    record s { members = members_by s.members n j.change } ≡ settled s (Message n bytes)
-settled-message s n bytes j is keeps is_settled =
-    let k : IsKept s (members_by s.members n j.change) (change s (Message n bytes)) = event-kept s n bytes j is keeps in
-    ap (λ (members : List Member). record s { members = members }) (sym k.members) ∙ settled-kept s (Message n bytes) refl (still s (Message n bytes) refl k.entries is_settled) k.given k.is_open
+-- so does another list of members
+pub kept-members : (s : Conference) (members : List Member) → settle s.config.floors s.ongoing ≡ s.ongoing → IsKept s (record (no_change s) { members = members }) (record s { members = members })
+kept-members s members is_settled = record { entries = refl; settled = is_settled; infos = refl; given = refl; is_open = refl; next = refl }
 
--- the reply to it
-pub replied-message : (s : Conference) (n : ℕ) (bytes : List ℕ) (j : Decision) (r : Replied) → IsDecided s n bytes j → changes_requests j.change ≡ false →
-    settle s.config.floors s.ongoing ≡ s.ongoing → is_ascending s.ongoing ≡ true →
-    r.n ≡ n → r.head ≡ response_head bytes → r.tells ≡ tells_by (settled s (Message n bytes)) [] (user_of s n) j.reply →
-    (k : ℕ) → answered_to (Some r) k ≡ reply_to s (Message n bytes) k
-replied-message s n bytes j r is keeps is_settled ascending to head tells =
-    let e : Event = Message n bytes in
-    let k : IsKept s (members_by s.members n j.change) (change s e) = event-kept s n bytes j is keeps in
-    let same : shown s e ≡ map entry_of s.ongoing = shown-kept s e (still s e refl k.entries is_settled) in
-    reply-answered s n bytes r (ask bytes (binding s n)) [] refl
-    (sym (ap ended_of same ∙ ended_of-entries s.ongoing))
-    (ap (λ (es : List Entry). is_rising (numbers_in es)) same ∙ ap is_rising (numbers_in-entries s.ongoing) ∙ rising-numbers s.ongoing ∙ ascending)
-    to head (tells ∙ ap (λ (d : Decision). tells_by (settled s e) [] (user_of s n) d.reply) is)
+-- What an event calls for in the end: the conference after it, the parcels, and that they show no more than a conference has.
+pub record IsCalledFor (s : Conference) (e : Event) (t : Conference) (ps : List Parcel) : Type 0 where
+  pub next : t ≡ settled s e
+  pub parcels : ps ≡ due_parcels s e
+  pub shown : IsToldShown s e
 
--- the parcels that it calls for
-pub parcels-message : (s : Conference) (n : ℕ) (bytes : List ℕ) (j : Decision) (r : Replied) → IsDecided s n bytes j → changes_requests j.change ≡ false →
-    settle s.config.floors s.ongoing ≡ s.ongoing → is_ascending s.ongoing ≡ true → is_numbered_from 1 s.members ≡ true →
-    ((k : ℕ) → answered_to (Some r) k ≡ reply_to s (Message n bytes) k) →
-    parcels_to_all s.config.conference (Some r) [] [] (settled s (Message n bytes)).members ≡ due_parcels s (Message n bytes)
-parcels-message s n bytes j r is keeps is_settled ascending numbered replied =
-    let e : Event = Message n bytes in
-    let k : IsKept s (members_by s.members n j.change) (change s e) = event-kept s n bytes j is keeps in
-    parcels-kept s e (Some r) refl (numbered-settled s e numbered) replied (requests-kept s e (still s e refl k.entries is_settled) ascending) (floors-kept s e (still s e refl k.entries is_settled))
+none-parcels : (conference : ℕ) (ms : List Member) → parcels_to_all conference None [] [] ms ≡ []
+none-parcels conference [] = refl
+none-parcels conference (m ∷ ms) = by m.is_live (none-parcels conference ms)
+  where
+    by : (b : Bool) → parcels_to_all conference None [] [] ms ≡ [] → cond b (parcels_to conference None [] [] m) [] ++ parcels_to_all conference None [] [] ms ≡ []
+    by true rest = rest
+    by false rest = rest
 
--- what it tells shows no more than a conference has
-pub shown-message : (s : Conference) (n : ℕ) (bytes : List ℕ) (j : Decision) (r : Replied) → IsDecided s n bytes j → changes_requests j.change ≡ false →
-    settle s.config.floors s.ongoing ≡ s.ongoing → is_ascending s.ongoing ≡ true →
-    ((k : ℕ) → answered_to (Some r) k ≡ reply_to s (Message n bytes) k) → IsReplyShown (Some r) → IsToldShown s (Message n bytes)
-shown-message s n bytes j r is keeps is_settled ascending replied reply =
-    let e : Event = Message n bytes in
-    let k : IsKept s (members_by s.members n j.change) (change s e) = event-kept s n bytes j is keeps in
-    let U : List Changed → Type 0 = λ cs. AreUpdatesShown (map update_for cs) in
-    let F : List Floor → Type 0 = λ fs. AreFloorsShown (filter (is_watched_by (settled s e).members) (map (floor_update (infos (settled s e))) fs)) in
-    due-shown s e (Some r) refl replied reply
-    (subst U (sym (requests-kept s e (still s e refl k.entries is_settled) ascending)) (All-nil (λ (u : Update). IsShown u.tell)))
-    (subst F (sym (floors-kept s e (still s e refl k.entries is_settled))) (All-nil (λ (u : FloorUpdate). IsShown u.tell)))
+none-due : (ms : List Member) (told : ℕ → List Outgoing) → ((n : ℕ) → told n ≡ []) → flat_map (λ m. map (parcel m.n) (told m.n)) ms ≡ []
+none-due [] told none = refl
+none-due (m ∷ ms) told none =
+    ap (λ (os : List Outgoing). map (parcel m.n) os ++ flat_map (λ m. map (parcel m.n) (told m.n)) ms) (none m.n) ∙ none-due ms told none
+
+-- a close calls for none
+due_parcels-close : (s : Conference) → due_parcels s Close ≡ []
+unfolding due_parcels
+due_parcels-close s = none-due (settled s Close).members (due s Close) (due_of-close s)
+
+-- what gives no course is told its sender alone
+pub quiet-called : (S T : State) (sender : Option Sender) (d : Decision) (o : Option Replied) → is_ascending S.requests.ongoing ≡ true → is_numbered_from 1 S.members ≡ true →
+    IsQuiet S d.change T → o ≡ option_map (replied_by (conference_of T) [] d.reply) sender → IsReplyShown o →
+    (e : Event) → ComesTo (conference_of S) e sender d → IsCalledFor (conference_of S) e (conference_of T) (parcels_to_all T.config.conference o [] [] T.members)
+quiet-called S T sender d o ascending numbered q is shown =
+    telling-or-close (λ e. ComesTo (conference_of S) e sender d → IsCalledFor (conference_of S) e (conference_of T) (parcels_to_all T.config.conference o [] [] T.members)) tells closes
+  where
+    s : Conference
+    s = conference_of S
+
+    tells : (e : Event) → is_telling e ≡ true → ComesTo s e sender d → IsCalledFor s e (conference_of T) (parcels_to_all T.config.conference o [] [] T.members)
+    tells e telling h =
+        let c : Change = change_by s d.change in
+        let same : change s e ≡ c = change-comes s e sender d h in
+        let k : IsKept s c (conference_of T) = q.kept (unclosing-comes s e sender d h telling) in
+        let still : IsStill s e = still-kept s e c (conference_of T) same k in
+        let next : conference_of T ≡ settled s e = next-kept s e c (conference_of T) same k in
+        let entries = shown-kept s e still in
+        let answered : (k : ℕ) → answered_to o k ≡ reply_to s e k =
+        answered-comes s e sender d [] o h (sym (ap ended_of entries ∙ ended_of-entries s.ongoing))
+        (ap (λ (es : List Entry). is_rising (numbers_in es)) entries ∙ ap is_rising (numbers_in-entries s.ongoing) ∙ rising-numbers s.ongoing ∙ ascending)
+        (is ∙ ap (λ (x : Conference). option_map (replied_by x [] d.reply) sender) next) in
+        let requests = requests-kept s e still ascending in
+        let floors = floors-kept s e still in
+        let U : List Changed → Type 0 = λ cs. AreUpdatesShown (map update_for cs) in
+        let F : List Floor → Type 0 = λ fs. AreFloorsShown (filter (is_watched_by (settled s e).members) (map (floor_update (infos (settled s e))) fs)) in
+        record {
+          next = next;
+          parcels =
+              ap (λ (x : Conference). parcels_to_all x.config.conference o [] [] x.members) next
+              ∙ ap (λ (id : ℕ). parcels_to_all id o [] [] (settled s e).members) (settled-conference s e)
+              ∙ parcels-kept s e o telling (numbered-settled s e numbered) answered requests floors;
+          shown = due-shown s e o telling answered shown (subst U (sym requests) (All-nil (λ (u : Update). IsShown u.tell))) (subst F (sym floors) (All-nil (λ (u : FloorUpdate). IsShown u.tell)));
+        }
+
+    closes : ComesTo s Close sender d → IsCalledFor s Close (conference_of T) (parcels_to_all T.config.conference o [] [] T.members)
+    closes h =
+        let none : o ≡ None = is ∙ ap (option_map (replied_by (conference_of T) [] d.reply)) h.0 in
+        record {
+          next = q.closed (ap (λ (x : Decision). is_closing x.change) h.1);
+          parcels = ap (λ (x : Option Replied). parcels_to_all T.config.conference x [] [] T.members) none ∙ none-parcels T.config.conference T.members ∙ sym (due_parcels-close s);
+          shown = close-shown s;
+        }

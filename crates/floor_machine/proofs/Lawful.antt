@@ -1,6 +1,6 @@
 -- The events that are taken are the lawful ones.
 use Rattle.std.proofs.Common.{◌≡◌, ◌≢◌, ℕ, ◌<◌, ◌≤◌, Bool, true, false, cond, Option, Some, None, refl, sym, ap, arith}
-use Rattle.std.specs.Prelude.{◌&&◌, not, nat_le, nat_lt, count_by, is_some, IsSome, length, option_map}
+use Rattle.std.specs.Prelude.{◌&&◌, not, nat_le, nat_lt, count_by, is_some, length, option_map}
 use Rattle.std.proofs.lemmas.Bool.Decides.{nat_tests}
 use Rattle.floor_config.specs.declared.fault.ConfigFault.{ConfigFault}
 use Rattle.floor_config.specs.declared.fault.ConfigFault.TheVariants as faults
@@ -11,8 +11,6 @@ use Rattle.floor_config.specs.Configuration.{Configuration}
 use Rattle.floor_config.specs.Limits.{is_known}
 use Rattle.floor_config.specs.Lookup.{is_floor, is_user}
 use Rattle.floor_queue.specs.Queue.{request_at}
-use Rattle.floor_queue.specs.declared.request.Request.{Request}
-use Rattle.floor_machine.specs.steps.Deciding.{MayAct}
 use Rattle.floor_machine.specs.declared.act.Act.{Act}
 use Rattle.floor_machine.specs.declared.event.Event.{Event}
 use Rattle.floor_machine.specs.declared.event.Event.TheVariants.{Join, Message, Took, Leave, Revoke, Close, AddUser, AddFloor, SetChair}
@@ -60,20 +58,6 @@ act_lawful m Act.Close h = by m.is_broken m.conference.is_open h
 act_lawful m (Act.AddUser user) h = faultless m (user_fault m.conference.config user) h
 act_lawful m (Act.AddFloor floor) h = faultless m (floor_fault m.conference.config floor) h
 act_lawful m (Act.SetChair floor chair) h = faultless m (chair_fault m.conference.config floor chair) h
-
--- where no refusal applies, the act may be done
-pub may_act : (m : Machine) (act : Act) → None ≡ act_refusal m act → MayAct m.conference act
-may_act m (Act.Revoke request) h = by m.is_broken m.conference.is_open (request_at m.conference.ongoing request) h
-  where
-    by : (a b : Bool) (o : Option Request) → None ≡ cond a (Some Broken) (cond (not b) (Some Ended) (cond (not (is_some o)) (Some NoRequest) None)) → IsSome o
-    by true b o h = cc
-    by false false o h = cc
-    by false true None h = cc
-    by false true (Some r) h = refl
-may_act m Act.Close h = tt
-may_act m (Act.AddUser user) h = (faultless m (user_fault m.conference.config user) h).1
-may_act m (Act.AddFloor floor) h = (faultless m (floor_fault m.conference.config floor) h).1
-may_act m (Act.SetChair floor chair) h = (faultless m (chair_fault m.conference.config floor chair) h).1
 
 -- an event that is taken is lawful
 lawful_of-taken : (s : Conference) (e : Event) → IsWhole e → event_refusal (whole s) e ≡ None → IsLawful s e
@@ -153,7 +137,7 @@ lawful_event m (AddUser user) framed h = act_lawful m (Act.AddUser user) h
 lawful_event m (AddFloor floor) framed h = act_lawful m (Act.AddFloor floor) h
 lawful_event m (SetChair floor chair) framed h = act_lawful m (Act.SetChair floor chair) h
 
-broken_refuses : (m : Machine) (e : Event) → m.is_broken ≡ true → event_refusal m e ≡ Some Broken
+pub broken_refuses : (m : Machine) (e : Event) → m.is_broken ≡ true → event_refusal m e ≡ Some Broken
 broken_refuses m (Join user) h = rw h refl
 broken_refuses m (Message n bytes) h = rw h refl
 broken_refuses m (Took n k) h = rw h refl

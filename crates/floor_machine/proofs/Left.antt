@@ -14,8 +14,6 @@ use Rattle.floor_machine.specs.Conference.{Conference, user_of, is_present}
 use Rattle.floor_machine.specs.Change.{Change, no_change, change, ending, ends_at, ends_without, leaving, released, dismissed}
 use Rattle.floor_machine.specs.steps.Telling.{entry_of_ended, listed}
 use Rattle.floor_machine.specs.steps.Marks.{AreNoted}
-use Rattle.floor_machine.specs.declared.decision.EndedBy.TheVariants.{Chair}
-use Rattle.floor_machine.specs.steps.Ending.{change_ending}
 use Rattle.floor_machine.specs.steps.Serving.{IsChanged, conference_of, after_release_for, is_rising, released_for, with_requests}
 use Rattle.floor_machine.proofs.Entries.{numbers_in-entries}
 use Rattle.floor_machine.proofs.Changing.{rising-numbers}
@@ -127,12 +125,6 @@ changed-absent s course course' n user members is_user queue begun left absent t
     entries [] = refl
     entries (q ∷ qs) = ap (λ (es : List Entry). ended_entry released q ∷ es) (entries qs)
 
-change-revoke : (s : Conference) (request : ℕ) → change s (Revoke request) ≡ record (no_change s) { entries = ending s (ends_at request dismissed) }
+pub change-revoke : (s : Conference) (request : ℕ) → change s (Revoke request) ≡ record (no_change s) { entries = ending s (ends_at request dismissed) }
 unfolding change
 change-revoke s request = refl
-
--- what a chair's ending changes is what a revoke does
-pub revoked : (s t : Conference) (request : ℕ) (course : Course) → IsChanged s (change_ending s request Chair) t course → IsChanged s (change s (Revoke request)) t course
-revoked s t request course changed =
-    let C : Change → Type 0 = λ c. IsChanged s c t course in
-    subst C (sym (change-revoke s request)) changed

@@ -23,7 +23,10 @@ pub mod Left
 pub mod Noticed
 pub mod Watched
 pub mod Quiet
+pub mod Comes
 pub mod Kept
+pub mod Framed
+pub mod Tried
 pub mod Lawful
 pub mod Runs
 pub mod Bounds

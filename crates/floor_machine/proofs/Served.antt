@@ -46,7 +46,7 @@ use Rattle.floor_machine.proofs.Sent.{numbered-settled}
 use Rattle.floor_machine.proofs.Telling.{finds, update_for, updates-changed, headed-answered, parcels-told}
 
 -- what is asked, and no check refuses, changes what its decision does
-accepts : (s : Conference) (n : ℕ) (a : Ask) → asked_change s n a ≡ change_by s n (accepted (user_of s n) a).change
+accepts : (s : Conference) (n : ℕ) (a : Ask) → asked_change s n a ≡ change_by s (accepted n (user_of s n) a).change
 accepts s n (FloorRequest beneficiary floors priority info) = refl
 accepts s n (FloorRelease request) = refl
 accepts s n (FloorRequestQuery request) = refl
@@ -58,21 +58,21 @@ accepts s n (ChairAction request verdicts reason) = by (list_any (λ v. is_final
     t = reasoned s request reason
 
     by : (b : Bool) → record (no_change s) { entries = cond b (ending t (ends_at request dismissed)) (map (λ r. entry_of (decided_at request verdicts r)) t.ongoing) }
-        ≡ change_by s n (cond b (to.End request Chair reason) (to.Words request verdicts reason))
+        ≡ change_by s (cond b (to.End request Chair reason) (to.Words request verdicts reason))
     by true = refl
     by false = refl
 accepts s n Hello = refl
 
 -- a message changes what its decision does
-pub change-decided : (s : Conference) (n : ℕ) (bytes : List ℕ) (a : Answer) → a ≡ ask bytes (binding s n) → change s (Message n bytes) ≡ change_by s n (decision_of s (user_of s n) a).change
+pub change-decided : (s : Conference) (n : ℕ) (bytes : List ℕ) (a : Answer) → a ≡ ask bytes (binding s n) → change s (Message n bytes) ≡ change_by s (decision_of s n (user_of s n) a).change
 unfolding change
 change-decided s n bytes a same = ap (message_change s n) (sym same) ∙ by a
   where
-    by_code : (a : Ask) (o : Option ErrorCode) → cond (is_some o) (no_change s) (asked_change s n a) ≡ change_by s n (option_map_or refused_by o (accepted (user_of s n) a)).change
+    by_code : (a : Ask) (o : Option ErrorCode) → cond (is_some o) (no_change s) (asked_change s n a) ≡ change_by s (option_map_or refused_by o (accepted n (user_of s n) a)).change
     by_code a None = accepts s n a
     by_code a (Some code) = refl
 
-    by : (a : Answer) → message_change s n a ≡ change_by s n (decision_of s (user_of s n) a).change
+    by : (a : Answer) → message_change s n a ≡ change_by s (decision_of s n (user_of s n) a).change
     by unanswered = refl
     by (refused code details) = refl
     by (asks a) = by_code a (refusal s (user_of s n) a)
@@ -125,7 +125,7 @@ settled-ongoing s e = ap (λ (t : Conference). t.ongoing) (settled-made s e)
 pub settled-config : (s : Conference) (e : Event) → keeps_config e ≡ true → (settled s e).config ≡ s.config
 settled-config s e keeps = ap (λ (t : Conference). t.config) (settled-made s e) ∙ config-change s e keeps
 
-settled-conference : (s : Conference) (e : Event) → (settled s e).config.conference ≡ s.config.conference
+pub settled-conference : (s : Conference) (e : Event) → (settled s e).config.conference ≡ s.config.conference
 settled-conference s e = ap (λ (t : Conference). t.config.conference) (settled-made s e) ∙ conference-change s e
 
 -- the statuses with a number are the one status that is found by it
@@ -152,7 +152,7 @@ status-settled s n bytes ended k =
 pub tells-accepted : (s : Conference) (n : ℕ) (bytes : List ℕ) (user : ℕ) (a : Ask) (ended : List Ended) →
     map entry_of_ended ended ≡ ended_of (shown s (Message n bytes)) → is_rising (numbers_in (shown s (Message n bytes))) ≡ true →
     (settled s (Message n bytes)).given ≡ given_after s a →
-    answer_tells s (Message n bytes) user a ≡ tells_by (settled s (Message n bytes)) ended user (accepted user a).reply
+    answer_tells s (Message n bytes) user a ≡ tells_by (settled s (Message n bytes)) ended user (accepted n user a).reply
 tells-accepted s n bytes user (FloorRequest beneficiary floors priority info) ended same rising given =
     status-shown s.config (shown s (Message n bytes)) ended (s.given + 1) same rising
     ∙ status-settled s n bytes ended (s.given + 1)
@@ -170,7 +170,7 @@ tells-accepted s n bytes user Hello ended same rising given = refl
 -- the answer to a message, as the steps make it
 pub tells-decided : (s : Conference) (n : ℕ) (bytes : List ℕ) (a : Answer) (ended : List Ended) → a ≡ ask bytes (binding s n) →
     map entry_of_ended ended ≡ ended_of (shown s (Message n bytes)) → is_rising (numbers_in (shown s (Message n bytes))) ≡ true →
-    reply_tells s (Message n bytes) (user_of s n) a ≡ tells_by (settled s (Message n bytes)) ended (user_of s n) (decision_of s (user_of s n) a).reply
+    reply_tells s (Message n bytes) (user_of s n) a ≡ tells_by (settled s (Message n bytes)) ended (user_of s n) (decision_of s n (user_of s n) a).reply
 tells-decided s n bytes unanswered ended read same rising = refl
 tells-decided s n bytes (refused code details) ended read same rising = refl
 tells-decided s n bytes (asks a) ended read same rising = by (refusal s (user_of s n) a) refl
@@ -182,14 +182,14 @@ tells-decided s n bytes (asks a) ended read same rising = by (refusal s (user_of
 
     by : (o : Option ErrorCode) → o ≡ refusal s (user_of s n) a →
         option_map_or (λ code. Error (code_number code) [] ∷ []) o (answer_tells s (Message n bytes) (user_of s n) a)
-        ≡ tells_by (settled s (Message n bytes)) ended (user_of s n) (option_map_or refused_by o (accepted (user_of s n) a)).reply
+        ≡ tells_by (settled s (Message n bytes)) ended (user_of s n) (option_map_or refused_by o (accepted n (user_of s n) a)).reply
     by None free = tells-accepted s n bytes (user_of s n) a ended same rising (given free)
     by (Some code) free = refl
 
 -- the reply that the steps put is the reply to the message
 pub reply-answered : (s : Conference) (n : ℕ) (bytes : List ℕ) (r : Replied) (a : Answer) (ended : List Ended) → a ≡ ask bytes (binding s n) →
     map entry_of_ended ended ≡ ended_of (shown s (Message n bytes)) → is_rising (numbers_in (shown s (Message n bytes))) ≡ true →
-    r.n ≡ n → r.head ≡ response_head bytes → r.tells ≡ tells_by (settled s (Message n bytes)) ended (user_of s n) (decision_of s (user_of s n) a).reply →
+    r.n ≡ n → r.head ≡ response_head bytes → r.tells ≡ tells_by (settled s (Message n bytes)) ended (user_of s n) (decision_of s n (user_of s n) a).reply →
     (k : ℕ) → answered_to (Some r) k ≡ reply_to s (Message n bytes) k
 unfolding reply
 reply-answered s n bytes r a ended read same rising to head tells k =
@@ -242,14 +242,3 @@ settled-state s e c t course q same changed is_settled =
     ∙ ap (λ (fs : List Floor). made t.config t.requests.given (settle fs t.requests.ongoing) t.members t.is_open)
     t.same_floors
     ∙ settled-changed s e c (conference_of t) course same changed
-
--- what the steps that reply to nobody put is what a changed event calls for that nobody sent
-pub parcels-changed : (s : Conference) (e : Event) (t : State) (course : Course) (q : Queue) → is_telling e ≡ true → ((k : ℕ) → reply_to s e k ≡ []) →
-    IsMade s (change s e) (conference_of t) course → course.before.items ≡ infos s → is_numbered_from 1 s.members ≡ true → q ≡ after_settle t.requests →
-    parcels_to_all t.config.conference None (updates t.config q.ongoing course.ended.items course.before.items course.numbers.items)
-    (floor_updates course.before.items (infos_of t.config q.ongoing) t.config.floors) t.members
-    ≡ due_parcels s e
-parcels-changed s e t course q telling unsent changed before numbered is_settled =
-    parcels-served s e (with_requests (conference_of t) q) course None telling (settled-state s e (change s e) t course q refl changed is_settled) numbered
-    (ended-shown s e (change s e) (conference_of t) course refl changed) (numbers-shown s e (change s e) (conference_of t) course refl changed) changed.rising before
-    (λ k. sym (unsent k))

@@ -8,3 +8,4 @@ pub mod Renewing
 pub mod Serving
 pub mod Counting
 pub mod Outcomes
+pub mod Frame

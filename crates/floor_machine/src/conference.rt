@@ -3,10 +3,12 @@
 ghost use Rattle.std.specs.Prelude.{◌≡◌, IfOk, is_some};
 ghost use Rattle.floor_config.specs.Configuration.{user_ids};
 
+use crate::decision::Sender;
 use crate::members::Members;
 use floor_config::{Config, User};
-use floor_message::SharedInfo;
+use floor_message::{Head, SharedInfo};
 use floor_queue::Requests;
+use floor_wire::Frame;
 use std::alloc::{AllocError, Global};
 
 /// A conference: what it was configured with, and what happened in it.
@@ -36,6 +38,7 @@ fn user_ids(alloc: Global, users: &[User]) -> Result<Vec<u16>, AllocError>
 
 impl State {
     ghost use Rattle.floor_queue.specs.Queue.{request_at};
+    ghost use Rattle.floor_message.specs.Head.{response_head};
     ghost use Rattle.floor_machine.specs.Conference.{is_live, opening, user_of};
     ghost use Rattle.floor_machine.specs.steps.Serving.{IsAtRest, conference_of};
 
@@ -73,6 +76,21 @@ impl State {
         match self.members.get(n) {
             Some(member) => member.user,
             None => 0,
+        }
+    }
+
+    /// Who sent this message of the member with this number.
+    pub(crate) fn sender(&self, n: u32, frame: &Frame) -> Sender
+        ensures { result ≡ record {
+          n = n;
+          user = user_of (conference_of self.now) n;
+          head = response_head frame.now;
+        } }
+    {
+        Sender {
+            n,
+            user: self.user_of(n),
+            head: Head::response(frame),
         }
     }
 

@@ -1,7 +1,9 @@
-//! What a message comes to once it is checked: what it changes, and what answers it. Whatever a later
-//! step needs of the message is moved into its decision.
+//! What an event comes to once it is checked: what it changes, and what answers its sender. Whatever a
+//! later step needs of the event is moved into its decision.
 
-use floor_message::{ErrorCode, Verdicts};
+use crate::added::AddedUser;
+use floor_config::Floor;
+use floor_message::{ErrorCode, Head, Verdicts};
 use floor_queue::New;
 use floor_wire::{Numbers, Octets};
 use std::alloc::Global;
@@ -27,8 +29,19 @@ pub(crate) enum Change {
     /// The verdicts leave their words on the floors of the ongoing request with this number, for this
     /// reason where the chair gives one.
     Words(u16, Verdicts, Option<Octets>),
-    /// The sender watches these floors.
-    Watch(Numbers),
+    /// The member with this number watches these floors.
+    Watch(u32, Numbers),
+    /// The member with this number is no longer live, and where it was the last of its user, the
+    /// requests for that user end.
+    Leave(u32),
+    /// The conference ends.
+    Close,
+    /// A user is added behind the others.
+    AddUser(AddedUser),
+    /// A floor is added behind the others.
+    AddFloor(Floor),
+    /// The floor with this id has this chair, or none.
+    SetChair(u16, Option<u16>),
 }
 
 /// What the sender is to be answered.
@@ -52,18 +65,39 @@ pub(crate) enum Reply {
     Error(ErrorCode, Octets),
 }
 
-/// What a message comes to.
+/// Who sent the message that an event is.
+#[derive(Clone, Copy, Debug)]
+pub(crate) struct Sender {
+    /// The number of the member.
+    pub n: u32,
+    /// The user whose connection it is.
+    pub user: u16,
+    /// The head of what answers the message.
+    pub head: Head,
+}
+
+/// What an event comes to.
 #[derive(Debug, Drop)]
 pub(crate) struct Decision {
     /// What it changes.
     pub change: Change,
-    /// What answers it.
+    /// What answers its sender, where the event is a message.
     pub reply: Reply,
 }
 
 impl Decision {
     ghost use Rattle.std.specs.Prelude.{◌≡◌};
-    ghost use Rattle.floor_machine.specs.steps.Deciding.{refused_by};
+    ghost use Rattle.floor_machine.specs.steps.Deciding.{changing, refused_by};
+
+    /// The event changes this, and nobody is answered. Takes no memory.
+    pub(crate) fn to(change: Change) -> Decision
+        ensures { result ≡ changing change }
+    {
+        Decision {
+            change,
+            reply: Reply::Nothing,
+        }
+    }
 
     /// The message is refused by this error code, and changes nothing. Takes no memory.
     pub(crate) fn refused(alloc: Global, code: ErrorCode) -> Decision

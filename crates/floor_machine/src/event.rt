@@ -156,11 +156,11 @@ impl Machine {
             Event::Message { n, frame } => self.message(*n, frame, out),
             Event::Took { n, k } => self.took(*n, *k),
             Event::Leave { n } => self.leave(*n, out),
-            Event::Revoke { request } => self.admin(Act::Revoke(*request), out),
-            Event::Close => self.admin(Act::Close, out),
+            Event::Revoke { request } => self.revoke(*request, out),
+            Event::Close => self.close(out),
             Event::AddUser { user } => self.add_user(user, out),
-            Event::AddFloor { floor } => self.admin(Act::AddFloor(*floor), out),
-            Event::SetChair { floor, chair } => self.admin(Act::SetChair(*floor, *chair), out),
+            Event::AddFloor { floor } => self.add_floor(*floor, out),
+            Event::SetChair { floor, chair } => self.set_chair(*floor, *chair, out),
         }
     }
 }

@@ -5,10 +5,10 @@
 mod act;
 mod added;
 mod affected;
-mod applying;
 mod change;
 mod conference;
 mod course;
+mod decide;
 mod decision;
 mod event;
 mod information;
@@ -21,7 +21,9 @@ mod members;
 mod outcome;
 mod parcel;
 mod replied;
+mod reply;
 mod running;
+mod serve;
 mod tell;
 
 pub use act::Act;

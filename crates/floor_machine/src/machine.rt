@@ -1,15 +1,22 @@
 //! The floor machine of one conference (RFC 8855, sections 8 to 13).
 
-ghost use Rattle.std.specs.Prelude.{◌≡◌, ◌+◌, ◌<◌, ◌≤◌, [], IfOk, IfErr, OnOk, length, count_by};
+ghost use Rattle.std.specs.Prelude.{◌≡◌, ◌+◌, ◌<◌, ◌≤◌, [], None, IfOk, IfErr, OnOk, false, length, count_by, true};
 ghost use Rattle.floor_machine.specs.Conference.{AreCut, is_cut, live_numbers, opening};
-ghost use Rattle.floor_machine.specs.declared.event.Event.TheVariants.{AddUser, Join, Leave, Message, Took};
-ghost use Rattle.floor_machine.specs.Machine.{Applied, IsRefusedBy, Left, act_refusal, event_of_act, fault_refusal, is_backlog, join_refusal, leave_refusal, member_refusal, message_refusal, refusal_of, refusal_of_fault, took_refusal, unless_refused, whole};
+ghost use Rattle.floor_machine.specs.Laws.{IsWhole};
+ghost use Rattle.floor_machine.specs.declared.event.Event.{Event};
+ghost use Rattle.floor_machine.specs.declared.event.Event.TheVariants.{Join, Leave, Message, Took};
+ghost use Rattle.floor_machine.specs.declared.machine.Refusal.TheVariants.{Memory};
+ghost use Rattle.floor_machine.specs.Machine.{Applied, IsRefusedBy, Left, event_refusal, is_backlog, join_refusal, leave_refusal, member_refusal, message_refusal, refusal_of, took_refusal, unless_refused, whole};
+ghost use Rattle.floor_machine.specs.steps.Deciding.{ComesTo, MayChange};
+ghost use Rattle.floor_machine.specs.steps.Fitting.{DetailsFit};
+ghost use Rattle.floor_machine.specs.steps.Frame.{IsTried};
 
-use crate::act::Act;
-use crate::added::AddedUser;
+mod administrator;
+
 use crate::conference::State;
+use crate::decision::{Change, Decision, Sender};
 use crate::parcel::Parcel;
-use floor_config::{Config, ConfigFault, User};
+use floor_config::Config;
 use floor_message::what_is_shown_fits;
 use floor_wire::Frame;
 use std::alloc::{AllocError, Global};
@@ -75,21 +82,6 @@ impl Refusal {
             Refusal::UnknownChair => "UnknownChair",
             Refusal::Memory => "Memory",
         }
-    }
-}
-
-/// The refusal that says why the configuration doesn't change so.
-fn refusal_of_fault(fault: ConfigFault) -> Refusal
-    ensures { result ≡ refusal_of_fault fault }
-{
-    match fault {
-        ConfigFault::OutOfRange => Refusal::OutOfRange,
-        ConfigFault::DoubleUser => Refusal::DoubleUser,
-        ConfigFault::DoubleFloor => Refusal::DoubleFloor,
-        ConfigFault::NoFloor => Refusal::NoFloor,
-        ConfigFault::UnknownChair => Refusal::UnknownChair,
-        // No change of a configuration has another fault, but want of memory.
-        _ => Refusal::Memory,
     }
 }
 
@@ -261,46 +253,6 @@ impl Machine {
         self.member_refusal(n, count)
     }
 
-    /// Why the administrator's act is not taken.
-    fn act_refusal(&self, act: &Act) -> Option<Refusal>
-        ensures { result ≡ act_refusal self.now act.now }
-    {
-        match act {
-            Act::Revoke(request) => {
-                let request = if self.state.has_request(*request) {
-                    None
-                } else {
-                    Some(Refusal::NoRequest)
-                };
-                self.refusal_of(request)
-            }
-            Act::Close => self.refusal_of(None),
-            Act::AddUser(user) => self.user_refusal(user.as_user()),
-            Act::AddFloor(floor) => self.fault_refusal(self.state.config.floor_fault(floor)),
-            Act::SetChair(floor, chair) => {
-                self.fault_refusal(self.state.config.chair_fault(*floor, *chair))
-            }
-        }
-    }
-
-    /// Why the user is not added.
-    fn user_refusal(&self, user: &User) -> Option<Refusal>
-        ensures { result ≡ act_refusal self.now (Act.AddUser user.now) }
-    {
-        self.fault_refusal(self.state.config.user_fault(user))
-    }
-
-    /// Why the configuration doesn't change so, for which this fault stands.
-    fn fault_refusal(&self, fault: Option<ConfigFault>) -> Option<Refusal>
-        ensures { result ≡ fault_refusal self.now fault }
-    {
-        let refusal = match fault {
-            Some(fault) => Some(refusal_of_fault(fault)),
-            None => None,
-        };
-        self.refusal_of(refusal)
-    }
-
     /// Why nothing is taken: the machine is broken, the conference has ended, or this applies.
     fn refusal_of(&self, other: Option<Refusal>) -> Option<Refusal>
         ensures { result ≡ refusal_of self.now other }
@@ -331,7 +283,6 @@ impl Machine {
         }
         what_is_shown_fits();
         let n = (self.joins() + 1) as u32;
-        // Whatever breaks the event off leaves it so.
         self.is_broken = true;
         self.state.join(n, user)?;
         self.is_broken = false;
@@ -343,7 +294,6 @@ impl Machine {
     /// the answer to its own message, and is cut from then on. Refused are, in this order, `Broken`,
     /// `Ended`, `NoMember` and `Cut`; after a refusal nothing has changed, but that `Memory` leaves the
     /// machine broken.
-    #[tactic(auto, using(crate::proofs::Bounds::shown_fits))]
     pub fn message(&mut self, n: u32, frame: &Frame, out: &mut Vec<Parcel>) -> Result<(), Refusal>
         ensures took { OnOk result
             (Applied self.old (Message n frame.now) self.new out.old.items out.new.items) }
@@ -352,14 +302,24 @@ impl Machine {
             (Left self.old (Message n frame.now) self.new out.old.items out.new.items) }
     {
         match self.message_refusal(n) {
-            Some(refusal) => return Err(refusal),
-            None => {}
+            Some(refusal) => Err(refusal),
+            None => self.take_message(n, frame, out),
         }
-        what_is_shown_fits();
-        self.is_broken = true;
-        self.state.message(n, frame, out)?;
-        self.is_broken = false;
-        Ok(())
+    }
+
+    /// Takes the message of a member that may send one.
+    fn take_message(&mut self, n: u32, frame: &Frame, out: &mut Vec<Parcel>) -> Result<(), Refusal>
+        requires { None ≡ message_refusal self.old n }
+        ensures tried { IsTried self.old (Message n frame.now) self.new out.old.items
+            out.new.items result }
+    {
+        // A frame is one message, which makes the event a lawful one.
+        let _bytes = frame.bytes();
+        let sender = self.state.sender(n, frame);
+        match self.state.decide(self.allocator(), &sender, frame) {
+            Ok(decision) => self.take(Some(sender), decision, out),
+            Err(refused) => Err(self.break_off(refused)),
+        }
     }
 
     /// Takes it that so many of the messages that were told to a member were brought to their end, so
@@ -384,7 +344,6 @@ impl Machine {
     /// ascending member. Where it was the last connection of its user, the floor requests for that
     /// user end. Refused are, in this order, `Broken`, `Ended` and `NoMember`; after a refusal nothing
     /// has changed, but that `Memory`, which comes last, leaves the machine broken.
-    #[tactic(auto, using(crate::proofs::Bounds::shown_fits))]
     pub fn leave(&mut self, n: u32, out: &mut Vec<Parcel>) -> Result<(), Refusal>
         ensures took { OnOk result
             (Applied self.old (Leave n) self.new out.old.items out.new.items) }
@@ -393,61 +352,45 @@ impl Machine {
             (Left self.old (Leave n) self.new out.old.items out.new.items) }
     {
         match self.member_refusal(n, None) {
-            Some(refusal) => return Err(refusal),
-            None => {}
+            Some(refusal) => Err(refusal),
+            None => self.take(None, Decision::to(Change::Leave(n)), out),
         }
-        what_is_shown_fits();
-        self.is_broken = true;
-        self.state.leave(n, out)?;
-        self.is_broken = false;
-        Ok(())
     }
 
-    /// Does what the administrator does, and appends what that tells the members to `out`, by
-    /// ascending member: a Close, a new user and a new floor tell nobody anything. Refused are, in this
-    /// order, `Broken`, `Ended`, then for a Revoke `NoRequest`, for a new user `OutOfRange`,
-    /// `DoubleUser`, for a new floor `OutOfRange`, `DoubleFloor`, `UnknownChair`, for a chair `NoFloor`,
-    /// `UnknownChair`; `Memory` comes last. After a refusal nothing has changed, but that `Memory`
-    /// leaves the machine broken.
-    #[tactic(auto, using(crate::proofs::Bounds::shown_fits, crate::proofs::Lawful::may_act))]
-    pub fn admin(&mut self, act: Act, out: &mut Vec<Parcel>) -> Result<(), Refusal>
-        ensures took { OnOk result
-            (Applied self.old (event_of_act act) self.new out.old.items out.new.items) }
-        ensures refused { IsRefusedBy (act_refusal self.old act) result }
-        ensures left { IfErr result
-            (Left self.old (event_of_act act) self.new out.old.items out.new.items) }
+    /// Breaks the machine off, for want of memory. Takes no memory.
+    fn break_off(&mut self, refused: AllocError) -> Refusal
+        ensures value { result ≡ Memory }
+        ensures broken { self.new.is_broken ≡ true }
     {
-        match self.act_refusal(&act) {
-            Some(refusal) => return Err(refusal),
-            None => {}
-        }
-        what_is_shown_fits();
         self.is_broken = true;
-        self.state.administer(act, out)?;
-        self.is_broken = false;
-        Ok(())
+        Refusal::from(refused)
     }
 
-    /// Adds a user as an event bears it, which keeps its own: refused as an act is, and by `Memory`
-    /// also where its texts can't be copied.
-    pub(crate) fn add_user(
+    /// Where memory is taken. Takes none.
+    fn allocator(&self) -> Global {
+        self.state.members.allocator()
+    }
+
+    /// Does what a lawful event comes to, which this member sent, where it is a message. Want of memory
+    /// leaves the machine broken.
+    fn take(
         &mut self,
-        user: &AddedUser,
+        sender: Option<Sender>,
+        decision: Decision,
         out: &mut Vec<Parcel>,
     ) -> Result<(), Refusal>
-        ensures took { OnOk result
-            (Applied self.old (AddUser user.now) self.new out.old.items out.new.items) }
-        ensures refused { IsRefusedBy (act_refusal self.old (Act.AddUser user.now)) result }
-        ensures left { IfErr result
-            (Left self.old (AddUser user.now) self.new out.old.items out.new.items) }
+        requires whole { self.old.is_broken ≡ false }
+        requires may { MayChange self.old.conference decision.change }
+        requires details { DetailsFit decision.reply }
+        ensures tried { (e : Event) → ComesTo self.old.conference e sender decision → IsWhole e
+            → None ≡ event_refusal self.old e
+            → IsTried self.old e self.new out.old.items out.new.items result }
     {
-        match self.user_refusal(user.as_user()) {
-            Some(refusal) => return Err(refusal),
-            None => {}
-        }
+        what_is_shown_fits();
+        // Whatever breaks the event off leaves it so.
         self.is_broken = true;
-        let user = user.copy(self.state.members.allocator())?;
+        self.state.serve(sender, decision, out)?;
         self.is_broken = false;
-        self.admin(Act::AddUser(user), out)
+        Ok(())
     }
 }

@@ -5,6 +5,5 @@ pub(crate) mod backlog;
 pub(crate) mod changed;
 pub(crate) mod due;
 pub(crate) mod notices;
-pub(crate) mod parcels;
 pub(crate) mod renewing;
 pub(crate) mod watching;

@@ -1,5 +1,5 @@
--- What a message comes to once it is checked, what that changes, and what it answers.
-use Rattle.std.specs.Prelude.{◌≡◌, ◌≢◌, ◌<◌, ℕ, ◌+◌, Bool, true, false, List, [], ◌∷◌, ◌++◌, length, map, Option, None, IfSome, IsSome, IsSomeAnd, if◌then◌else◌}
+-- What an event comes to once it is checked, what that changes, and what it answers.
+use Rattle.std.specs.Prelude.{◌≡◌, ◌≢◌, ◌<◌, ℕ, ◌+◌, Bool, true, false, List, [], ◌∷◌, ◌++◌, length, map, Option, Some, None, IfSome, IsSome, IsSomeAnd, if◌then◌else◌}
 use Rattle.std.specs.List.{list_any, list_all}
 use Rattle.std.specs.Option.{option_map_or}
 use Rattle.floor_config.specs.Changed.{chair_fault, floor_fault, user_fault}
@@ -12,17 +12,19 @@ use Rattle.floor_message.specs.Ask.{Answer, ask, asks, refused, unanswered}
 use Rattle.floor_message.specs.declared.ask.Ask.{Ask}
 use Rattle.floor_message.specs.declared.ask.Ask.TheVariants.{FloorRequest, FloorRelease, FloorRequestQuery, UserQuery, FloorQuery, ChairAction, Hello}
 use Rattle.floor_message.specs.declared.code.ErrorCode.{ErrorCode}
+use Rattle.floor_message.specs.Head.{response_head}
 use Rattle.floor_machine.specs.declared.decision.Change.{Change as Decided}
 use Rattle.floor_machine.specs.declared.decision.Change.TheVariants as to
 use Rattle.floor_machine.specs.declared.decision.Reply.TheVariants as say
 use Rattle.floor_machine.specs.declared.decision.Decision.{Decision}
 use Rattle.floor_machine.specs.declared.decision.EndedBy.TheVariants.{Chair, Participant}
-use Rattle.floor_machine.specs.declared.act.Act.{Act}
-use Rattle.floor_machine.specs.declared.member.Member.{Member}
+use Rattle.floor_machine.specs.declared.decision.Sender.{Sender}
+use Rattle.floor_machine.specs.declared.event.Event.{Event}
+use Rattle.floor_machine.specs.declared.event.Event.TheVariants.{Join, Message, Took, Leave, Revoke, Close, AddUser, AddFloor, SetChair}
 use Rattle.floor_machine.specs.Conference.{Conference, binding, user_of}
 use Rattle.floor_machine.specs.Shown.{entry_of}
 use Rattle.floor_machine.specs.Checks.{refusal, beneficiary_of, is_allowed}
-use Rattle.floor_machine.specs.Change.{Change, no_change, is_final, decided_at, reasoned, watching}
+use Rattle.floor_machine.specs.Change.{Change, change, no_change, is_final, decided_at, reasoned, watching}
 use Rattle.floor_machine.specs.steps.Ending.{change_ending}
 
 -- the request that a FloorRequest of this user asks for
@@ -39,30 +41,51 @@ abbrev pub verdicts_change : ℕ → List (ℕ × Verdict) → Option (List ℕ)
 verdicts_change request verdicts reason =
     if list_any (λ v. is_final v.1) verdicts then to.End request Chair reason else to.Words request verdicts reason
 
--- what is asked by this user comes to this, where no check refuses it
-abbrev pub accepted : ℕ → Ask → Decision
-accepted user (FloorRequest beneficiary floors priority info) =
+-- what is changed by an event that nobody is answered
+abbrev pub changing : Decided → Decision
+changing c = record { change = c; reply = say.Nothing }
+
+-- what is asked by n of this user comes to this, where no check refuses it
+abbrev pub accepted : ℕ → ℕ → Ask → Decision
+accepted n user (FloorRequest beneficiary floors priority info) =
     record { change = to.Add (new_of_ask user beneficiary floors priority info); reply = say.Added }
-accepted user (FloorRelease request) = record { change = to.End request Participant None; reply = say.Status request }
-accepted user (FloorRequestQuery request) = record { change = to.Nothing; reply = say.Status request }
-accepted user (UserQuery beneficiary) = record { change = to.Nothing; reply = say.User beneficiary }
-accepted user (FloorQuery floors) = record { change = to.Watch floors; reply = say.Floors floors }
-accepted user (ChairAction request verdicts reason) = record { change = verdicts_change request verdicts reason; reply = say.Ack }
-accepted user Hello = record { change = to.Nothing; reply = say.Hello }
+accepted n user (FloorRelease request) = record { change = to.End request Participant None; reply = say.Status request }
+accepted n user (FloorRequestQuery request) = record { change = to.Nothing; reply = say.Status request }
+accepted n user (UserQuery beneficiary) = record { change = to.Nothing; reply = say.User beneficiary }
+accepted n user (FloorQuery floors) = record { change = to.Watch n floors; reply = say.Floors floors }
+accepted n user (ChairAction request verdicts reason) = record { change = verdicts_change request verdicts reason; reply = say.Ack }
+accepted n user Hello = record { change = to.Nothing; reply = say.Hello }
 
--- what is asked by this user comes to this, by the checks of its own
-abbrev pub asked : Conference → ℕ → Ask → Decision
-asked s user a = option_map_or refused_by (refusal s user a) (accepted user a)
+-- what is asked by n of this user comes to this, by the checks of its own
+abbrev pub asked : Conference → ℕ → ℕ → Ask → Decision
+asked s n user a = option_map_or refused_by (refusal s user a) (accepted n user a)
 
--- what a message of this user comes to, as it is read
-abbrev pub decision_of : Conference → ℕ → Answer → Decision
-decision_of s user unanswered = record { change = to.Nothing; reply = say.Nothing }
-decision_of s user (refused code details) = record { change = to.Nothing; reply = say.Error code details }
-decision_of s user (asks a) = asked s user a
+-- what a message of n of this user comes to, as it is read
+abbrev pub decision_of : Conference → ℕ → ℕ → Answer → Decision
+decision_of s n user unanswered = changing to.Nothing
+decision_of s n user (refused code details) = record { change = to.Nothing; reply = say.Error code details }
+decision_of s n user (asks a) = asked s n user a
 
 -- what this message of n comes to
 abbrev pub IsDecided : Conference → ℕ → List ℕ → Decision → Type 0
-IsDecided s n bytes d = d ≡ decision_of s (user_of s n) (ask bytes (binding s n))
+IsDecided s n bytes d = d ≡ decision_of s n (user_of s n) (ask bytes (binding s n))
+
+-- nobody sent the event, which changes this
+abbrev pub IsUnsent : Option Sender → Decision → Decided → Type 0
+IsUnsent sender d c = (sender ≡ None) × (d ≡ changing c)
+
+-- The event comes to this decision, and this is who sent it. Whoever joins or acknowledges is no decision's.
+abbrev pub ComesTo : Conference → Event → Option Sender → Decision → Type 0
+ComesTo s (Join user) sender d = ⊥
+ComesTo s (Message n bytes) sender d =
+    (sender ≡ Some record { n = n; user = user_of s n; head = response_head bytes }) × IsDecided s n bytes d
+ComesTo s (Took n k) sender d = ⊥
+ComesTo s (Leave n) sender d = IsUnsent sender d (to.Leave n)
+ComesTo s (Revoke request) sender d = IsUnsent sender d (to.End request Chair None)
+ComesTo s Close sender d = IsUnsent sender d to.Close
+ComesTo s (AddUser user) sender d = IsUnsent sender d (to.AddUser user)
+ComesTo s (AddFloor floor) sender d = IsUnsent sender d (to.AddFloor floor)
+ComesTo s (SetChair floor chair) sender d = IsUnsent sender d (to.SetChair floor chair)
 
 -- this request is added
 abbrev pub change_adding : Conference → New → Change
@@ -76,29 +99,23 @@ change_adding s new =
 abbrev pub change_words : Conference → ℕ → List (ℕ × Verdict) → Change
 change_words s request verdicts = record (no_change s) { entries = map (λ r. entry_of (decided_at request verdicts r)) s.ongoing }
 
--- what is decided for n changes this
-abbrev pub change_by : Conference → ℕ → Decided → Change
-change_by s n to.Nothing = no_change s
-change_by s n (to.Add new) = change_adding s new
-change_by s n (to.End request by reason) = change_ending (reasoned s request reason) request by
-change_by s n (to.Words request verdicts reason) = change_words (reasoned s request reason) request verdicts
-change_by s n (to.Watch floors) = record (no_change s) { members = map (watching n floors) s.members }
+-- what is decided changes this
+abbrev pub change_by : Conference → Decided → Change
+change_by s to.Nothing = no_change s
+change_by s (to.Add new) = change_adding s new
+change_by s (to.End request by reason) = change_ending (reasoned s request reason) request by
+change_by s (to.Words request verdicts reason) = change_words (reasoned s request reason) request verdicts
+change_by s (to.Watch n floors) = record (no_change s) { members = map (watching n floors) s.members }
+change_by s (to.Leave n) = change s (Leave n)
+change_by s to.Close = change s Close
+change_by s (to.AddUser user) = change s (AddUser user)
+change_by s (to.AddFloor floor) = change s (AddFloor floor)
+change_by s (to.SetChair floor chair) = change s (SetChair floor chair)
 
--- it may change requests: what doesn't is told to its sender alone
-abbrev pub changes_requests : Decided → Bool
-changes_requests to.Nothing = false
-changes_requests (to.Add new) = true
-changes_requests (to.End request by reason) = true
-changes_requests (to.Words request verdicts reason) = true
-changes_requests (to.Watch floors) = false
-
--- the members after it
-abbrev pub members_by : List Member → ℕ → Decided → List Member
-members_by members n to.Nothing = members
-members_by members n (to.Add new) = members
-members_by members n (to.End request by reason) = members
-members_by members n (to.Words request verdicts reason) = members
-members_by members n (to.Watch floors) = map (watching n floors) members
+-- it ends the conference
+abbrev pub is_closing : Decided → Bool
+is_closing to.Close = true
+is_closing _ = false
 
 -- the verdicts may be done: the request is ongoing, names each of their floors, and its state allows each
 abbrev pub MayDecide : List Request → ℕ → List (ℕ × Verdict) → Type 0
@@ -112,22 +129,19 @@ pub record HasRoom (ongoing : List Request) (given : ℕ) : Type 0 where
   pub left : given ≢ 65535
 
 -- It may be done: a request that is added may be, and there is room for it, one that ends is ongoing, and verdicts that leave words
--- may be done, and none of them ends the request; and a reason is one.
+-- may be done, and none of them ends the request; a reason is one; and what is added or set the configuration may get.
 abbrev pub MayChange : Conference → Decided → Type 0
 MayChange s to.Nothing = Unit {0}
 MayChange s (to.Add new) = IsAddable s.config.floors new × HasRoom s.ongoing s.given
 MayChange s (to.End request by reason) = IsSome (request_at s.ongoing request) × IfSome reason IsReason
 MayChange s (to.Words request verdicts reason) =
     MayDecide s.ongoing request verdicts × (list_any (λ v. is_final v.1) verdicts ≡ false) × IfSome reason IsReason
-MayChange s (to.Watch floors) = Unit {0}
-
--- an act of the administrator may be done: a request that it revokes is ongoing, and what it adds or sets the configuration may get
-abbrev pub MayAct : Conference → Act → Type 0
-MayAct s (Act.Revoke request) = IsSome (request_at s.ongoing request)
-MayAct s Act.Close = Unit {0}
-MayAct s (Act.AddUser user) = user_fault s.config user ≡ None
-MayAct s (Act.AddFloor floor) = floor_fault s.config floor ≡ None
-MayAct s (Act.SetChair floor chair) = chair_fault s.config floor chair ≡ None
+MayChange s (to.Watch n floors) = Unit {0}
+MayChange s (to.Leave n) = Unit {0}
+MayChange s to.Close = Unit {0}
+MayChange s (to.AddUser user) = user_fault s.config user ≡ None
+MayChange s (to.AddFloor floor) = floor_fault s.config floor ≡ None
+MayChange s (to.SetChair floor chair) = chair_fault s.config floor chair ≡ None
 
 -- what is asked by this user, and no check refuses, may be done
 abbrev pub MayServe : Conference → ℕ → Ask → Type 0

@@ -1,5 +1,5 @@
 -- The steps by which an event is served.
-use Rattle.std.specs.Prelude.{◌≡◌, ℕ, ◌==◌, ◌&&◌, Bool, true, false, not, List, [], ◌∷◌, map, filter, Option, option_map, unwrap_or, is_some, nat_lt, Some, None}
+use Rattle.std.specs.Prelude.{◌≡◌, ℕ, ◌==◌, ◌&&◌, Bool, true, false, not, List, [], ◌∷◌, map, filter, option_map, unwrap_or, is_some, nat_lt}
 use Rattle.std.specs.List.{flat_map, list_all}
 use Rattle.std.specs.Option.{option_map_or}
 use Rattle.floor_queue.specs.Queue.{Queue, IsSettled, request_at}
@@ -8,18 +8,17 @@ use Rattle.floor_message.specs.declared.tell.Tell.{Tell}
 use Rattle.floor_message.specs.declared.tell.Tell.TheVariants.{FloorRequestStatus, UserStatus, ChairActionAck, HelloAck, Error}
 use Rattle.floor_machine.specs.declared.course.Course.{Course}
 use Rattle.floor_machine.specs.declared.course.Ended.{Ended}
-use Rattle.floor_machine.specs.declared.decision.Change.{Change as Decided}
 use Rattle.floor_machine.specs.declared.decision.Reply.{Reply as Replying}
 use Rattle.floor_machine.specs.declared.decision.Reply.TheVariants as say
+use Rattle.floor_machine.specs.declared.decision.Sender.{Sender}
+use Rattle.floor_machine.specs.declared.replied.Replied.{Replied}
 use Rattle.floor_machine.specs.declared.conference.State.{State}
-use Rattle.floor_machine.specs.Conference.{Conference, is_numbered_from}
+use Rattle.floor_machine.specs.Conference.{Conference}
 use Rattle.floor_machine.specs.declared.event.Event.{Event}
 use Rattle.floor_machine.specs.declared.event.Event.TheVariants.{Close, Took}
 use Rattle.floor_machine.specs.Shown.{Entry, ongoing_of, described}
-use Rattle.floor_machine.specs.Change.{Change, change, no_change, released}
-use Rattle.floor_machine.specs.Reply.{infos, infos_of_user, floor_answers, supported_primitives, supported_attributes}
-use Rattle.floor_machine.specs.Told.{reply_to}
-use Rattle.floor_machine.specs.steps.Deciding.{change_by, changes_requests, members_by}
+use Rattle.floor_machine.specs.Change.{Change, no_change, released}
+use Rattle.floor_machine.specs.Reply.{infos_of_user, floor_answers, supported_primitives, supported_attributes}
 use Rattle.floor_machine.specs.steps.Marks.{AreNoted}
 use Rattle.floor_machine.specs.steps.Telling.{AreInfos, entry_of_ended, listed, shown_at}
 
@@ -82,25 +81,9 @@ abbrev pub is_untaking : Event → Bool
 is_untaking (Took n k) = false
 is_untaking _ = true
 
--- t, which isn't settled yet, is s after an event that nobody sent, but neither a close nor an acknowledgement, and the course has noted what was shown before it
-pub record IsUnsent (s : Conference) (e : Event) (t : State) (course : Course) : Type 0 where
-  pub made : IsMade s (change s e) (conference_of t) course
-  pub before : course.before.items ≡ infos s
-  pub telling : is_telling e ≡ true
-  pub untaking : is_untaking e ≡ true
-  pub unsent : (n : ℕ) → reply_to s e n ≡ []
-  pub numbered : is_numbered_from 1 s.members ≡ true
-
 -- the course of an event that has changed nothing yet
 abbrev pub IsBegun : Conference → Course → Type 0
 IsBegun s course = IsChanged s (no_change s) s course
-
--- What a decision for n has made of s: t, which isn't settled yet, where it changes requests, with the course that has noted what
--- it changed. Any other has changed the members alone.
-abbrev pub IsTaken : State → ℕ → Decided → State → Option Course → Type 0
-IsTaken s n c t (Some course) =
-    IsChanged (conference_of s) (change_by (conference_of s) n c) (conference_of t) course × (course.before.items ≡ s.shown.items)
-IsTaken s n c t None = (changes_requests c ≡ false) × (t ≡ record s { members = members_by s.members n c })
 
 -- the queue after all requests for this beneficiary ended
 abbrev pub after_release_for : Queue → ℕ → Queue
@@ -127,3 +110,7 @@ tells_by t ended user (say.Floors floors) = floor_answers t floors
 tells_by t ended user say.Ack = ChairActionAck ∷ []
 tells_by t ended user say.Hello = HelloAck supported_primitives supported_attributes ∷ []
 tells_by t ended user (say.Error code details) = Error (code_number code) details ∷ []
+
+-- what this sender is answered
+abbrev pub replied_by : Conference → List Ended → Replying → Sender → Replied
+replied_by t ended reply sender = record { n = sender.n; head = sender.head; tells = tells_by t ended sender.user reply }

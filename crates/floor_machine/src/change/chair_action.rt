@@ -2,19 +2,20 @@
 //! (RFC 8855, sections 11.1 and 13.6).
 
 ghost use Rattle.std.specs.List.{list_all, list_any};
-ghost use Rattle.std.specs.Prelude.{◌≡◌, All, IfOk, IfSome, OnOk, false, map};
+ghost use Rattle.std.specs.Prelude.{◌≡◌, ℕ, All, IfOk, IfSome, OnOk, false, map};
 ghost use Rattle.floor_config.specs.Lookup.{chair_is};
 ghost use Rattle.floor_queue.specs.Order.{names};
 ghost use Rattle.floor_queue.specs.Queue.{IsReason, MaySetFloor};
 ghost use Rattle.floor_message.specs.declared.ask.Ask.TheVariants.{ChairAction};
 ghost use Rattle.floor_machine.specs.Change as change;
-ghost use Rattle.floor_machine.specs.Change.{reasoned};
 ghost use Rattle.floor_machine.specs.Checks as checks;
 ghost use Rattle.floor_machine.specs.Checks.{chair_checks, first_of, on_request};
+ghost use Rattle.floor_machine.specs.declared.decision.Change.TheVariants.{Words};
 ghost use Rattle.floor_machine.specs.steps.Deciding as deciding;
-ghost use Rattle.floor_machine.specs.steps.Deciding.{MayDecide, asked, change_words};
+ghost use Rattle.floor_machine.specs.steps.Deciding.{MayDecide, asked};
+ghost use Rattle.floor_machine.specs.steps.Frame.{IsUnderWay};
 ghost use Rattle.floor_machine.specs.steps.Marks.{KeepsNoted};
-ghost use Rattle.floor_machine.specs.steps.Serving.{IsChanged, conference_of};
+ghost use Rattle.floor_machine.specs.steps.Serving.{IsAtRest, conference_of};
 
 use crate::change::reason::give_reason;
 use crate::conference::State;
@@ -39,8 +40,8 @@ impl State {
         verdicts: Verdicts,
         reason: Option<Octets>,
     ) -> Decision
-        ensures value { result
-            ≡ asked (conference_of self.now) user (ChairAction request verdicts reason) }
+        ensures value { (n : ℕ) → result
+            ≡ asked (conference_of self.now) n user (ChairAction request verdicts reason) }
     {
         match self.chair_refusal(user, request, verdicts.as_slice()) {
             Some(code) => Decision::refused(alloc, code),
@@ -101,10 +102,9 @@ impl State {
         requires decide { MayDecide self.old.requests.ongoing request verdicts.now }
         requires words { list_any (λ v. change.is_final v.1) verdicts.now ≡ false }
         requires text { IfSome reason IsReason }
-        ensures changed { IfOk result (λ course. IsChanged (conference_of self.old)
-            (change_words (reasoned (conference_of self.old) request reason) request verdicts.now)
-            (conference_of self.new) course) }
-        ensures before { IfOk result (λ course. course.before.items ≡ self.old.shown.items) }
+        requires rest { IsAtRest self.old }
+        ensures taken { IfOk result (λ course.
+            IsUnderWay self.old (Words request verdicts.now reason) self.new course) }
     {
         let mut course = begin(alloc, &self.requests, &mut self.shown)?;
         give_reason(&mut self.requests, &mut course.marks, request, reason)?;

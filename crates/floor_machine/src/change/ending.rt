@@ -3,10 +3,11 @@
 ghost use Rattle.std.specs.Prelude.{◌≡◌, ◌++◌, ◌∷◌, [], IfOk, IfSome, IsSome, OnOk};
 ghost use Rattle.floor_queue.specs.Queue.{IsReason, after_end, request_at};
 ghost use Rattle.floor_machine.specs.Change as change;
-ghost use Rattle.floor_machine.specs.Change.{reasoned};
-ghost use Rattle.floor_machine.specs.steps.Ending.{change_ending, ending_by};
+ghost use Rattle.floor_machine.specs.declared.decision.Change.TheVariants.{End};
+ghost use Rattle.floor_machine.specs.steps.Ending.{ending_by};
+ghost use Rattle.floor_machine.specs.steps.Frame.{IsUnderWay};
 ghost use Rattle.floor_machine.specs.steps.Marks.{KeepsNoted};
-ghost use Rattle.floor_machine.specs.steps.Serving.{IsChanged, conference_of};
+ghost use Rattle.floor_machine.specs.steps.Serving.{IsAtRest};
 
 use crate::change::reason::give_reason;
 use crate::conference::State;
@@ -62,10 +63,9 @@ impl State {
     ) -> Result<Course, AllocError>
         requires ongoing { IsSome (request_at self.old.requests.ongoing request) }
         requires text { IfSome reason IsReason }
-        ensures changed { IfOk result (λ course. IsChanged (conference_of self.old)
-            (change_ending (reasoned (conference_of self.old) request reason) request by)
-            (conference_of self.new) course) }
-        ensures before { IfOk result (λ course. course.before.items ≡ self.old.shown.items) }
+        requires rest { IsAtRest self.old }
+        ensures taken { IfOk result (λ course.
+            IsUnderWay self.old (End request by reason) self.new course) }
     {
         let course = begin(alloc, &self.requests, &mut self.shown)?;
         let Course {

@@ -2,14 +2,16 @@
 //! sections 10.1 and 13.1).
 
 ghost use Rattle.std.specs.List.{list_any};
-ghost use Rattle.std.specs.Prelude.{◌≡◌, ◌++◌, ◌+◌, ◌∷◌, [], IfOk, OnOk, nat_le};
+ghost use Rattle.std.specs.Prelude.{◌≡◌, ◌++◌, ◌+◌, ◌∷◌, [], ℕ, IfOk, OnOk, nat_le};
 ghost use Rattle.floor_queue.specs.Queue.{IsAddable, after_add};
 ghost use Rattle.floor_message.specs.declared.ask.Ask.TheVariants.{FloorRequest};
 ghost use Rattle.floor_machine.specs.Checks as checks;
 ghost use Rattle.floor_machine.specs.Checks.{first_of, request_checks};
-ghost use Rattle.floor_machine.specs.steps.Deciding.{HasRoom, asked, change_adding};
+ghost use Rattle.floor_machine.specs.declared.decision.Change.TheVariants.{Add};
+ghost use Rattle.floor_machine.specs.steps.Deciding.{HasRoom, asked};
+ghost use Rattle.floor_machine.specs.steps.Frame.{IsUnderWay};
 ghost use Rattle.floor_machine.specs.steps.Marks.{KeepsNoted};
-ghost use Rattle.floor_machine.specs.steps.Serving.{IsChanged, conference_of};
+ghost use Rattle.floor_machine.specs.steps.Serving.{IsAtRest, conference_of};
 
 use crate::conference::State;
 use crate::course::{Course, begin};
@@ -32,7 +34,7 @@ impl State {
         priority: u8,
         info: Option<Octets>,
     ) -> Decision
-        ensures value { result ≡ asked (conference_of self.now) user
+        ensures value { (n : ℕ) → result ≡ asked (conference_of self.now) n user
             (FloorRequest beneficiary floors priority info) }
     {
         let whom = beneficiary.unwrap_or(user);
@@ -86,9 +88,8 @@ impl State {
     pub(crate) fn add_request(&mut self, alloc: Global, new: New) -> Result<Course, AllocError>
         requires addable { IsAddable self.old.config.floors new }
         requires room { HasRoom self.old.requests.ongoing self.old.requests.given }
-        ensures changed { IfOk result (λ course. IsChanged (conference_of self.old)
-            (change_adding (conference_of self.old) new) (conference_of self.new) course) }
-        ensures before { IfOk result (λ course. course.before.items ≡ self.old.shown.items) }
+        requires rest { IsAtRest self.old }
+        ensures taken { IfOk result (λ course. IsUnderWay self.old (Add new) self.new course) }
     {
         let course = begin(alloc, &self.requests, &mut self.shown)?;
         let Course {

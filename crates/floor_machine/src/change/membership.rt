@@ -1,23 +1,25 @@
 //! A member joins, acknowledges what it was told, or leaves, and what ends with the last connection of its user (RFC 8855, section
 //! 13.4, for the requests that are given back).
 
-ghost use Rattle.std.specs.Prelude.{◌≡◌, ◌++◌, ◌+◌, ◌<◌, ◌==◌, [], OnOk, find, length, option_map};
+ghost use Rattle.std.specs.Prelude.{◌≡◌, ◌++◌, ◌+◌, ◌<◌, ◌==◌, [], IfOk, OnOk, find, length, option_map};
 ghost use Rattle.floor_queue.specs.Queue.{IsQueue};
 ghost use Rattle.floor_machine.specs.Change as change;
 ghost use Rattle.floor_machine.specs.Journal.{parcels_of};
 ghost use Rattle.floor_machine.specs.Next.{next};
 ghost use Rattle.floor_machine.specs.declared.event.Event.TheVariants.{Join, Leave, Took};
+ghost use Rattle.floor_machine.specs.declared.decision.Change.TheVariants as Decided;
 ghost use Rattle.floor_machine.specs.steps.Fitting.{IsToldShown};
+ghost use Rattle.floor_machine.specs.steps.Frame.{IsUnderWay};
 ghost use Rattle.floor_machine.specs.steps.Marks.{KeepsNoted};
 ghost use Rattle.floor_machine.specs.steps.Serving.{IsAtRest, IsBegun, IsChanged, after_release_for, conference_of, released_for};
 
 use crate::change::ending::end_request;
 use crate::conference::State;
-use crate::course::{Course, Ended};
+use crate::course::{Course, Ended, begin};
 use crate::decision::EndedBy;
 use crate::marks::Mark;
 use floor_queue::Requests;
-use std::alloc::AllocError;
+use std::alloc::{AllocError, Global};
 
 impl State {
     /// Adds a live member, which gets the next number. After an error nothing has changed.
@@ -52,9 +54,19 @@ impl State {
         self.members.acknowledge(n, k);
     }
 
-    /// A member leaves, before the requests are settled: where it was the last of its user, the
-    /// requests for that user end as they are given back.
-    pub(crate) fn change_left(&mut self, course: &mut Course, n: u32) -> Result<(), AllocError>
+    /// A member leaves, before the requests are settled.
+    pub(crate) fn leave(&mut self, alloc: Global, n: u32) -> Result<Course, AllocError>
+        requires rest { IsAtRest self.old }
+        ensures taken { IfOk result (λ course. IsUnderWay self.old (Decided.Leave n) self.new course) }
+    {
+        let mut course = begin(alloc, &self.requests, &mut self.shown)?;
+        self.change_left(&mut course, n)?;
+        Ok(course)
+    }
+
+    /// A member is no longer live: where it was the last of its user, the requests for that user end as
+    /// they are given back.
+    fn change_left(&mut self, course: &mut Course, n: u32) -> Result<(), AllocError>
         requires queue { IsQueue self.old.requests }
         requires begun { IsBegun (conference_of self.old) course.old }
         ensures changed { OnOk result (IsChanged (conference_of self.old)

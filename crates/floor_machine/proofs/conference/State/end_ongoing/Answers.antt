@@ -3,17 +3,20 @@ use Rattle.std.specs.Prelude.{◌≡◌, ◌++◌, ◌∷◌, [], IfSome, IsSome
 use Rattle.floor_queue.specs.Queue.{Queue, after_end, request_at}
 use Rattle.floor_machine.specs.declared.course.Course.{Course}
 use Rattle.floor_machine.specs.declared.conference.State.{State}
+use Rattle.floor_machine.specs.declared.decision.Change.TheVariants.{End}
 use Rattle.floor_machine.specs.Conference.{Conference}
 use Rattle.floor_machine.specs.Change.{no_change, reasoned, reasoned_among}
 use Rattle.floor_machine.specs.steps.Ending.{change_ending, ending_by}
 use Rattle.floor_machine.specs.steps.Marks.{AreNoted}
 use Rattle.floor_machine.specs.steps.Serving.{IsChanged, conference_of, with_requests}
+use Rattle.floor_machine.proofs.Addable.{addable, fit-ended, queue_addable}
 use Rattle.floor_machine.proofs.Asked.{begun, begun-reasoned, changed-end}
+use Rattle.floor_machine.proofs.Framed.{under_way}
 use Rattle.floor_machine.proofs.Reasoned.{ascending-reasoned}
 use Rattle.floor_machine.proofs.conference.State.end_ongoing.Goals as goal
 
-pub returns-clause-changed : goal.returns-clause-changed
-returns-clause-changed c =
+pub returns : goal.returns
+returns c =
     let s : State = c.args.self.now in
     let S : Conference = conference_of s in
     let request = c.args.request in
@@ -34,7 +37,13 @@ returns-clause-changed c =
     let N : Queue → Type 0 = λ x. AreNoted s.config.floors s.requests.ongoing x.ongoing c.end_request.new.marks.items in
     let E : Queue → Type 0 = λ x. IfSome (request_at x.ongoing request) (λ r. c.end_request.new.ended.items ≡ course.ended.items ++ record { request = r; ending = ending_by c.args.by r } ∷ []) in
     let I : Queue → Type 0 = λ x. IsSome (request_at x.ongoing request) in
+    let changed : IsChanged S (change_ending (reasoned S request reason) request c.args.by) (with_requests S c.end_request.new.requests) after =
     subst Q (sym left)
     (changed-end S (reasoned S request reason) (ending_by c.args.by) reasons after request
     (ascending-reasoned request reason s.requests.ongoing ∙ c.in_ok-course.ensures.queue.ascending) told (subst I given.next given.still_ongoing) (subst E given.next done.ended) refl
-    (subst N left (done.noted s.config.floors s.requests.ongoing (given.noted s.config.floors s.requests.ongoing begins.noted))))
+    (subst N left (done.noted s.config.floors s.requests.ongoing (given.noted s.config.floors s.requests.ongoing begins.noted)))) in
+    record {
+      taken = under_way s _ (End request c.args.by reason) after c.requires.rest refl changed c.in_ok-course.ensures.before
+          (addable S (with_requests S c.end_request.new.requests) (change_ending (reasoned S request reason) request c.args.by) after
+          (fit-ended S request c.args.by reason c.requires.text (queue_addable s c.in_ok-course.ensures.queue)) changed);
+    }

@@ -2,13 +2,16 @@ use Rattle.std.proofs.Common.{◌≡◌, ◌∙◌, refl, sym, subst, ap, map}
 use Rattle.floor_queue.specs.Queue.{Queue}
 use Rattle.floor_machine.specs.declared.course.Course.{Course}
 use Rattle.floor_machine.specs.declared.conference.State.{State}
+use Rattle.floor_machine.specs.declared.decision.Change.TheVariants.{Words}
 use Rattle.floor_machine.specs.Conference.{Conference}
 use Rattle.floor_machine.specs.Change.{decided_at, no_change, reasoned, reasoned_among}
 use Rattle.floor_machine.specs.steps.Deciding.{change_words}
 use Rattle.floor_machine.specs.steps.Marks.{AreNoted}
 use Rattle.floor_machine.specs.steps.Serving.{IsChanged, conference_of, with_requests}
+use Rattle.floor_machine.proofs.Addable.{addable, fit-words}
 use Rattle.floor_machine.proofs.Allowed.{may_words}
 use Rattle.floor_machine.proofs.Asked.{begun, begun-reasoned, changed-words}
+use Rattle.floor_machine.proofs.Framed.{under_way}
 use Rattle.floor_machine.proofs.Reasoned.{ascending-reasoned}
 use Rattle.floor_machine.proofs.conference.State.leave_words.Goals as goal
 
@@ -16,8 +19,8 @@ pub leave_words-requires : goal.leave_words-requires
 leave_words-requires c = λ i d within.
     c.in_ok-give_reason.ensures.still _ (may_words c.args.self.now.requests c.args.request c.args.verdicts.now c.requires.decide c.requires.words i d within)
 
-pub returns-clause-changed : goal.returns-clause-changed
-returns-clause-changed c =
+pub returns : goal.returns
+returns c =
     let s : State = c.args.self.now in
     let S : Conference = conference_of s in
     let request = c.args.request in
@@ -38,7 +41,12 @@ returns-clause-changed c =
     let left : c.leave_words.new.requests ≡ words q = done.next ∙ ap words given.next in
     let Q : Queue → Type 0 = λ x. IsChanged S (change_words (reasoned S request reason) request verdicts) (with_requests S x) after in
     let N : Queue → Type 0 = λ x. AreNoted s.config.floors s.requests.ongoing x.ongoing c.leave_words.new.marks.items in
+    let changed : IsChanged S (change_words (reasoned S request reason) request verdicts) (with_requests S c.leave_words.new.requests) after =
     subst Q (sym left)
     (changed-words S (reasoned S request reason) reasons after request verdicts
     (ascending-reasoned request reason s.requests.ongoing ∙ c.in_ok-course.ensures.queue.ascending) told refl refl
-    (subst N left (done.noted s.config.floors s.requests.ongoing (given.noted s.config.floors s.requests.ongoing begins.noted))))
+    (subst N left (done.noted s.config.floors s.requests.ongoing (given.noted s.config.floors s.requests.ongoing begins.noted)))) in
+    record {
+      taken = under_way s _ (Words request verdicts reason) after c.requires.rest refl changed c.in_ok-course.ensures.before
+          (addable S (with_requests S c.leave_words.new.requests) (change_words (reasoned S request reason) request verdicts) after (fit-words S request verdicts reason) changed);
+    }
