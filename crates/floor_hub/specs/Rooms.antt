@@ -1,5 +1,5 @@
 -- What a call of the hub has done to the rooms.
-use Rattle.std.specs.Prelude.{◌≡◌, ◌≢◌, ◌↔◌, ◌⊎◌, ℕ, ◌+◌, List, [], ◌∷◌, ◌++◌, nat_eq, if◌then◌else◌, Bool, true, false, Option, Some, None, is_some, map, take, Result, Ok, Err, MatchResult}
+use Rattle.std.specs.Prelude.{◌≡◌, ◌≢◌, ◌↔◌, ◌⊎◌, ℕ, ◌+◌, List, [], ◌∷◌, ◌++◌, nat_eq, if◌then◌else◌, Bool, true, false, Option, Some, None, is_some, map, slice_get, take, Result, Ok, Err, MatchResult}
 use Rattle.std.specs.Option.{option_map_or}
 use Rattle.floor_config.specs.Configuration.{Configuration}
 use Rattle.floor_wire.specs.Message.{messages}
@@ -18,7 +18,7 @@ use Rattle.floor_room.specs.Taking.{Gave, outbox_of}
 use Rattle.floor_hub.specs.declared.refusal.HubRefusal.{HubRefusal}
 use Rattle.floor_hub.specs.declared.refusal.HubRefusal.TheVariants.{NoConference, Forgotten, Running, NoConnection, ByRoom, Memory as NoMemory}
 use Rattle.floor_hub.specs.declared.connection.Connection.{Connection}
-use Rattle.floor_hub.specs.Concerned.{is_cut}
+use Rattle.floor_hub.specs.Concerned.{is_cut, waiting}
 use Rattle.floor_hub.specs.Connections.{Puts, SameConnections, connection_at}
 use Rattle.floor_hub.specs.Hub.{Hub, is_forgotten, room_at}
 
@@ -129,6 +129,16 @@ pub record TakenFrom (c n : ℕ) (parcel : Option Parcel) (old new : Hub) : Type
   pub others : (d : ℕ) → nat_eq c d ≡ false → room_at new d ≡ room_at old d
   pub connections : SameConnections old.connections new.connections
   pub arrivals : new.arrivals ≡ old.arrivals
+
+-- what waits first for the member n of this room
+abbrev pub first_in : Option Room → ℕ → Option Parcel
+first_in None n = None
+first_in (Some r) n = slice_get (waiting r n) 0
+
+-- what waits first for a live connection, and nothing without one
+abbrev pub first_at : Hub → Option Connection → Option Parcel
+first_at h None = None
+first_at h (Some x) = first_in (room_at h x.conference) x.n
 
 -- NoConnection where no live connection has the number; else what waits for it
 abbrev pub TakenOf : Option Connection → Result (Option Parcel) HubRefusal → Hub → Hub → Type 0

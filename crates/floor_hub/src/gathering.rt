@@ -1,6 +1,7 @@
 //! What a room has queued to one of its members, as bytes, and who that member is.
 
-ghost use Rattle.std.specs.Prelude.{◌≡◌, ◌++◌, IfOk, OnErr, OnOk, length, take};
+ghost use Rattle.std.specs.Prelude.{◌≡◌, ◌++◌, IfOk, OnErr, OnOk, length, slice_get, take};
+ghost use Rattle.std.specs.Option.{option_copied};
 ghost use Rattle.floor_machine.specs.Events.{joiner};
 ghost use Rattle.floor_room.specs.Replay.{bytes_of};
 ghost use Rattle.floor_hub.specs.Concerned.{waiting};
@@ -53,6 +54,16 @@ fn put(parcel: &Parcel, bytes: &mut Vec<u8>) -> Result<(), AllocError>
     bytes.extend_from_slice(parcel.header())?;
     bytes.extend_from_slice(parcel.payload())?;
     Ok(())
+}
+
+/// The first parcel that waits for a member, which goes on to wait.
+pub(crate) fn first_in(room: &Room, n: u32) -> Option<&Parcel>
+    ensures value { option_copied result ≡ slice_get (waiting room.now n) 0 }
+{
+    match room.held(n) {
+        Some(held) => held.front(),
+        None => None,
+    }
 }
 
 /// Puts the bytes of the first parcel that waits for a member. After an error nothing has changed.

@@ -1,18 +1,17 @@
 //! All conferences at once: their rooms and their connections.
 
 ghost use Rattle.std.specs.Prelude.{◌≡◌, ◌++◌, ◌∷◌, [], false, true, length, ℕ, Err, nat_eq, IfErr, IfNone, IfOk, IfSome, MatchResult, None, Ok, OnErr, OnOk, Some};
+ghost use Rattle.std.specs.Option.{option_copied};
 ghost use Rattle.indexmap.specs.IndexMap.{get};
 ghost use Rattle.indexmap.specs.IndexSet.{contains};
 ghost use Rattle.floor_machine.specs.declared.event.Event.TheVariants.{Took as Takes};
 ghost use Rattle.floor_room.specs.Room.{IsRoom, Room as Kept};
-ghost use Rattle.floor_room.specs.Status.{IsStatus};
 ghost use Rattle.floor_hub.specs.Calls.{Fails, FailsGone, FailsSame, Turns, answer_of};
 ghost use Rattle.floor_hub.specs.Concerned.{Concerns, is_cut, waiting};
 ghost use Rattle.floor_hub.specs.Connections.{Puts, SameConnections, StayLive, connection_at};
 ghost use Rattle.floor_hub.specs.Hub.{is_forgotten, room_at};
 ghost use Rattle.floor_hub.specs.Left.{LeftAt, LeftLeaving, LeftServing, LeftTaking};
-ghost use Rattle.floor_hub.specs.Members.{AreMembers, user_of};
-ghost use Rattle.floor_hub.specs.Rooms.{CutIs, Forgets, IsOver, IsRefusedIn, IsRemembered, Joins, KeptOf, OneRoom, Opens, RoomOf, SameHub, TakenInto, TakenOf, admin_event, attach_event, by_broken, ended_or_none, leave_event, refusal_in, serve_event, took_event};
+ghost use Rattle.floor_hub.specs.Rooms.{CutIs, Forgets, IsOver, IsRefusedIn, IsRemembered, Joins, KeptOf, OneRoom, Opens, RoomOf, SameHub, TakenInto, TakenOf, admin_event, attach_event, by_broken, ended_or_none, first_at, leave_event, refusal_in, serve_event, took_event};
 ghost use Rattle.floor_hub.specs.StandsFor.{StandsFor};
 ghost use Rattle.floor_hub.specs.World.{World, nothing};
 ghost use Rattle.floor_hub.specs.declared.step.Answer.TheVariants.{Attached, Done};
@@ -22,16 +21,18 @@ ghost use Rattle.floor_hub.specs.steps.Found.{AtConnection, AtRoom};
 ghost use Rattle.floor_hub.specs.steps.Running.{QueuedIn, first_bytes};
 ghost use Rattle.floor_hub.specs.steps.Serving.{AttachIn, LeaveOf, ServeOf, TakeOf, TookOf};
 
+mod reading;
+
 use crate::attached::{Live, has_ended, is_shut};
 use crate::concerned::Concerned;
 use crate::connection::{ConnNo, Connection, Place};
 use crate::connections::Connections;
 use crate::forgotten::{ended_or_none, forgotten_or_none};
-use crate::gathering::{put_first, queued_to, user_of};
+use crate::gathering::{first_in, put_first, queued_to};
 use crate::refusal::HubRefusal;
 use crate::rooms::{admin_at, leave_room, open_at, serve_room, take_room, took_room};
 use crate::step::Served;
-use floor_room::{Act, Config, Event, Parcel, Refusal, Room, RoomRefusal, Status};
+use floor_room::{Act, Config, Parcel, Refusal, Room, RoomRefusal};
 use floor_wire::{Framer, Octets};
 use indexmap::{IndexMap, IndexSet};
 use std::alloc::{AllocError, Global};
@@ -40,8 +41,8 @@ use std::marker::Model;
 /// All conferences. A conference is found by its number, a connection by its own; nothing that a
 /// call does grows with the other conferences or connections.
 ///
-/// - Conferences: `open`, `admin`; `status`, `journal`, `members` and `user_of` read; `forget` gives the memory
-///   of one that has ended back.
+/// - Conferences: `open`, `admin`; `status`, `journal`, `members`, `user_of`, `config`, `shown` and `backlog` read;
+///   `forget` gives the memory of one that has ended back.
 /// - Connections: `attach`, then `piece` and `serve` as bytes come, `take` as they are sent, `took`
 ///   once they were, and `leave` at the end. Whoever is more than 1,024 parcels behind is cut: it is
 ///   told nothing more, its messages are refused by `Cut`, and `is_cut` tells it.
@@ -326,82 +327,6 @@ impl Hub {
         }
     }
 
-    /// How the room of a conference stands. Refused by `NoConference`, and by `Forgotten` where it had one.
-    /// Takes no memory.
-    ///
-    /// Each room keeps what was queued: a prefix of what its journal calls for where it is broken
-    /// off, else all of it.
-    pub fn status(&self, conference: u32) -> Result<Status, HubRefusal>
-        ensures no_conference { room_at self.now conference ≡ None
-            → is_forgotten self.now conference ≡ false → result ≡ Err HubRefusal.NoConference }
-        ensures forgotten { room_at self.now conference ≡ None
-            → is_forgotten self.now conference ≡ true → result ≡ Err HubRefusal.Forgotten }
-        ensures found { (r : Kept) → room_at self.now conference ≡ Some r
-            → MatchResult result (IsStatus r.ledger) (λ _. ⊥) }
-        ensures kept { (r : Kept) → room_at self.now conference ≡ Some r → IsRoom r }
-    {
-        match self.rooms.get(&conference) {
-            Some(room) => {
-                // What its contract says of the room is handed out.
-                let _journal = room.journal();
-                Ok(room.status())
-            }
-            None => Err(forgotten_or_none(&self.forgotten, conference)),
-        }
-    }
-
-    /// What happened in a conference so far, in order: the journal of its room, as it has it, so that
-    /// `add_lines` of floor_room gives its text by pieces. Refused by `NoConference` and
-    /// `Forgotten`. Takes no memory.
-    pub fn journal(&self, conference: u32) -> Result<&[Event], HubRefusal>
-        ensures no_conference { room_at self.now conference ≡ None
-            → is_forgotten self.now conference ≡ false → result ≡ Err HubRefusal.NoConference }
-        ensures forgotten { room_at self.now conference ≡ None
-            → is_forgotten self.now conference ≡ true → result ≡ Err HubRefusal.Forgotten }
-        ensures found { (r : Kept) → room_at self.now conference ≡ Some r
-            → MatchResult result (λ events. events.now ≡ r.ledger.journal) (λ _. ⊥) }
-        ensures kept { (r : Kept) → room_at self.now conference ≡ Some r → IsRoom r }
-    {
-        match self.rooms.get(&conference) {
-            Some(room) => Ok(room.journal()),
-            None => Err(forgotten_or_none(&self.forgotten, conference)),
-        }
-    }
-
-    /// Who is in a conference now: its live connections, by ascending number and so by ascending n.
-    /// Refused by `NoConference` and `Forgotten`. Takes no memory.
-    pub fn members(&self, conference: u32) -> Result<&[Live], HubRefusal>
-        ensures no_conference { room_at self.now conference ≡ None
-            → is_forgotten self.now conference ≡ false → result ≡ Err HubRefusal.NoConference }
-        ensures forgotten { room_at self.now conference ≡ None
-            → is_forgotten self.now conference ≡ true → result ≡ Err HubRefusal.Forgotten }
-        ensures found { (r : Kept) → room_at self.now conference ≡ Some r
-            → MatchResult result (λ live. AreMembers self.now conference live.now) (λ _. ⊥) }
-    {
-        if self.rooms.contains_key(&conference) {
-            Ok(self.concerned.live(conference))
-        } else {
-            Err(forgotten_or_none(&self.forgotten, conference))
-        }
-    }
-
-    /// The user that joined a conference as n, and None where nobody did, as the journal has it: it is
-    /// read from its start up to that Join. Refused by `NoConference` and `Forgotten`. Takes no
-    /// memory.
-    pub fn user_of(&self, conference: u32, n: u32) -> Result<Option<u16>, HubRefusal>
-        ensures no_conference { room_at self.now conference ≡ None
-            → is_forgotten self.now conference ≡ false → result ≡ Err HubRefusal.NoConference }
-        ensures forgotten { room_at self.now conference ≡ None
-            → is_forgotten self.now conference ≡ true → result ≡ Err HubRefusal.Forgotten }
-        ensures found { (r : Kept) → room_at self.now conference ≡ Some r
-            → result ≡ Ok (user_of r.ledger.journal n) }
-    {
-        match self.rooms.get(&conference) {
-            Some(room) => Ok(user_of(room.journal(), n)),
-            None => Err(forgotten_or_none(&self.forgotten, conference)),
-        }
-    }
-
     /// Whether the member of a live connection is cut: it came to be more than 1,024 messages behind,
     /// and is told nothing more. False where no live connection has the number, and of one whose
     /// conference's room is broken off. Takes no memory.
@@ -450,6 +375,21 @@ impl Hub {
         match self.connections.get(number) {
             Some(connection) => connection.held.rest_len(),
             None => 0,
+        }
+    }
+
+    /// The first parcel that waits for a connection, which goes on to wait: `take` gives it. None where
+    /// nothing waits, and where no live connection has the number. Takes no memory.
+    pub fn first(&self, number: ConnNo) -> Option<&Parcel>
+        ensures value { option_copied result
+            ≡ first_at self.now (connection_at self.now.connections number) }
+    {
+        match self.connections.get(number) {
+            Some(connection) => match self.rooms.get(&connection.conference) {
+                Some(room) => first_in(room, connection.n),
+                None => None,
+            },
+            None => None,
         }
     }
 

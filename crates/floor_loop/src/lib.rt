@@ -15,8 +15,8 @@ mod serving;
 mod turn;
 
 pub use floor_hub::{
-    Act, AddedUser, Config, ConnNo, Event, Floor, HubRefusal, Live, Place, Refusal, RoomRefusal,
-    Status, User,
+    Act, AddedUser, Config, ConnNo, Event, Floor, HubRefusal, Info, Live, Place, Refusal,
+    RoomRefusal, SharedInfo, Status, User,
 };
 pub use laws::{hello_is_written, written_is_called_for};
 pub use serving::Loop;

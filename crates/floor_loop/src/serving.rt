@@ -8,6 +8,7 @@ ghost use Rattle.floor_hub.specs.Rooms.{CutIs, Forgets, IsRemembered, Joins, One
 ghost use Rattle.floor_hub.specs.declared.connection.Connection.{Connection};
 ghost use Rattle.floor_hub.specs.declared.step.Step.TheVariants.{Admin, Attach, Leave, Open, Serve, Took as Takes};
 ghost use Rattle.floor_room.specs.Room.{Room};
+ghost use Rattle.floor_room.specs.Standing.{backlog_of, config_of, shown_of};
 ghost use Rattle.floor_room.specs.Status.{IsStatus};
 ghost use Rattle.floor_loop.specs.Loop.{HasFailed, IsEnded, outgoing_at, parcels_at, ready_at, rest_at, until_at};
 ghost use Rattle.floor_loop.specs.Done.{AtMost, Each, Hands, NoSteps, Reads, Steps};
@@ -19,7 +20,7 @@ use crate::changing::MAX_WRITE;
 use crate::turn::{
     acknowledge, attach, end, fail, fill, leave_from, read_turn, serve_turn, throw_away, wake,
 };
-use floor_hub::{Act, Config, ConnNo, Event, Hub, HubRefusal, Live, Place, Status};
+use floor_hub::{Act, Config, ConnNo, Event, Hub, HubRefusal, Live, Place, SharedInfo, Status};
 use std::alloc::Global;
 use std::marker::Model;
 
@@ -29,7 +30,8 @@ const MAX_LEFT: u32 = 4_294_967_295;
 /// A hub, and what is on its way to each of its connections. Times are milliseconds; one that is earlier
 /// than the last counts as the last.
 ///
-/// - Conferences: `open`, `admin`, `forget`; `status`, `journal`, `members` and `user_of` read.
+/// - Conferences: `open`, `admin`, `forget`; `status`, `journal`, `members`, `user_of`, `config`, `shown` and
+///   `backlog` read.
 /// - Connections: `attach`; `read` as bytes come, and again without bytes while it says that more
 ///   wait; `ended` and `failed` at the end of the stream and of the socket; `leave` once the
 ///   connection is shut down.
@@ -173,6 +175,51 @@ impl Loop {
             → result ≡ Ok (user_of r.ledger.journal n) }
     {
         self.hub.user_of(conference, n)
+    }
+
+    /// The configuration of a conference that stands now, as the hub lends it. Refused by `NoConference` and
+    /// `Forgotten`. Takes no memory.
+    pub fn config(&self, conference: u32) -> Result<&Config, HubRefusal>
+        ensures no_conference { room_at self.now.hub conference ≡ None
+            → is_forgotten self.now.hub conference ≡ false
+            → result ≡ Err HubRefusal.NoConference }
+        ensures forgotten { room_at self.now.hub conference ≡ None
+            → is_forgotten self.now.hub conference ≡ true
+            → result ≡ Err HubRefusal.Forgotten }
+        ensures found { (r : Room) → room_at self.now.hub conference ≡ Some r
+            → MatchResult result (λ config. config.now ≡ config_of r.ledger) (λ _. ⊥) }
+    {
+        self.hub.config(conference)
+    }
+
+    /// What is shown of the ongoing floor requests of a conference, ascending, as the hub lends it. Refused
+    /// by `NoConference` and `Forgotten`. Takes no memory.
+    pub fn shown(&self, conference: u32) -> Result<&[SharedInfo], HubRefusal>
+        ensures no_conference { room_at self.now.hub conference ≡ None
+            → is_forgotten self.now.hub conference ≡ false
+            → result ≡ Err HubRefusal.NoConference }
+        ensures forgotten { room_at self.now.hub conference ≡ None
+            → is_forgotten self.now.hub conference ≡ true
+            → result ≡ Err HubRefusal.Forgotten }
+        ensures found { (r : Room) → room_at self.now.hub conference ≡ Some r
+            → MatchResult result (λ shown. shown.now ≡ shown_of r.ledger) (λ _. ⊥) }
+    {
+        self.hub.shown(conference)
+    }
+
+    /// How many messages were told to n in a conference and not acknowledged, as the hub tells it. Refused by
+    /// `NoConference` and `Forgotten`. Takes no memory.
+    pub fn backlog(&self, conference: u32, n: u32) -> Result<u32, HubRefusal>
+        ensures no_conference { room_at self.now.hub conference ≡ None
+            → is_forgotten self.now.hub conference ≡ false
+            → result ≡ Err HubRefusal.NoConference }
+        ensures forgotten { room_at self.now.hub conference ≡ None
+            → is_forgotten self.now.hub conference ≡ true
+            → result ≡ Err HubRefusal.Forgotten }
+        ensures found { (r : Room) → room_at self.now.hub conference ≡ Some r
+            → result ≡ Ok (backlog_of r.ledger n) }
+    {
+        self.hub.backlog(conference, n)
     }
 
     /// Whether the member of a live connection is cut, as the hub tells it. False where no live connection has

@@ -58,3 +58,5 @@ pub mod Users
 pub mod Acts
 pub mod Grows
 pub mod Growing
+pub mod ShownOtherwise
+pub mod GoneOver

@@ -83,7 +83,7 @@ unfolding info_of
 number-info config all r = refl
 
 -- what is shown of the request with this number
-found-info : (config : Configuration) (all rs : List Request) (k : ℕ) → find (λ i. i.request == k) (map (info config all) rs) ≡ option_map (info config all) (request_at rs k)
+pub found-info : (config : Configuration) (all rs : List Request) (k : ℕ) → find (λ i. i.request == k) (map (info config all) rs) ≡ option_map (info config all) (request_at rs k)
 found-info config all [] k = refl
 found-info config all (r ∷ rs) k =
     ap (λ (n : ℕ). cond (n == k) (Some (info config all r)) (find (λ i. i.request == k) (map (info config all) rs))) (number-info config all r)

@@ -1,13 +1,18 @@
--- What an event says of itself: who joins by it, whose message it is, and how many messages to whom it acknowledges. Nobody joins by
+-- What an event says of itself: who joins by it, whose message it is, how many messages to whom it acknowledges, and whether the conference ends by it. Nobody joins by
 -- any other, no other is a message, and no other acknowledges any.
-use Rattle.std.specs.Prelude.{ℕ, ◌==◌, if◌then◌else◌, List, Option, Some, None}
+use Rattle.std.specs.Prelude.{ℕ, ◌==◌, if◌then◌else◌, Bool, true, false, List, Option, Some, None}
 use Rattle.floor_machine.specs.declared.event.Event.{Event}
-use Rattle.floor_machine.specs.declared.event.Event.TheVariants.{Join, Message, Took}
+use Rattle.floor_machine.specs.declared.event.Event.TheVariants.{Join, Message, Took, Close}
 
 -- the user that joins
 abbrev pub joiner : Event → Option ℕ
 joiner (Join user) = Some user
 joiner _ = None
+
+-- the conference ends by it
+abbrev pub is_close : Event → Bool
+is_close Close = true
+is_close _ = false
 
 -- the message
 abbrev pub message : Event → Option (List ℕ)

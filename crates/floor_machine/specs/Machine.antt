@@ -1,5 +1,5 @@
 -- The floor machine of one conference, as contracts see it.
-use Rattle.std.specs.Prelude.{◌≡◌, ◌≢◌, ℕ, ◌<◌, List, [], ◌∷◌, ◌++◌, true, length, take, drop, not, ◌&&◌, nat_le, if◌then◌else◌, Bool, false, count_by, Option, Some, None, is_some, option_map, Result, Ok, Err}
+use Rattle.std.specs.Prelude.{◌≡◌, ◌≢◌, ℕ, ◌<◌, List, [], ◌∷◌, ◌++◌, true, length, map, take, drop, not, ◌&&◌, nat_le, if◌then◌else◌, Bool, false, count_by, Option, Some, None, is_some, option_map, Result, Ok, Err}
 use Rattle.floor_config.specs.declared.fault.ConfigFault.{ConfigFault}
 use Rattle.floor_config.specs.declared.fault.ConfigFault.TheVariants as faults
 use Rattle.floor_config.specs.Changed.{chair_fault, floor_fault, user_fault}
@@ -16,6 +16,8 @@ use Rattle.floor_machine.specs.Parcel.{Parcel}
 use Rattle.floor_machine.specs.Journal.{IsLawfulFrom, after_from, parcels_from, parcels_of}
 use Rattle.floor_machine.specs.declared.running.Stopped.{Stopped}
 use Rattle.floor_machine.specs.Next.{next}
+use Rattle.floor_machine.specs.Told.{changed_requests}
+use Rattle.floor_message.specs.declared.information.Info.{Info}
 
 -- the conference, and whether an event was broken off for want of memory
 pub record Machine : Type 0 where
@@ -124,6 +126,17 @@ pub record Applied (old : Machine) (e : Event) (new : Machine) (before after : L
   pub next : new ≡ whole (next old.conference e)
   pub out : after ≡ before ++ parcels_of old.conference e
   pub fits : ToldFits old.conference e
+
+-- what is shown of the requests that an event changed, ascending
+abbrev pub infos_changed : Conference → Event → List Info
+infos_changed s e = map (λ c. c.info) (changed_requests s e)
+
+-- What a call that took an event and handed out what it changed did: the event was lawful, the conference is the next one, and what is
+-- shown of the requests that it changed stands behind what stood there.
+pub record Watched (old : Machine) (e : Event) (new : Machine) (before after : List Info) : Type 0 where
+  pub lawful : IsLawful old.conference e
+  pub next : new ≡ whole (next old.conference e)
+  pub changed : after ≡ before ++ infos_changed old.conference e
 
 -- What a call that refused an event left: no parcel more, and the machine as it was, or a broken one where memory was refused. Why
 -- it refused, but for a broken machine and for memory, is that the event isn't lawful.

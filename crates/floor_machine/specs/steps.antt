@@ -8,4 +8,5 @@ pub mod Renewing
 pub mod Serving
 pub mod Counting
 pub mod Outcomes
+pub mod Seen
 pub mod Frame

@@ -13,7 +13,7 @@ use crate::machine::{Machine, Refusal};
 use crate::parcel::Parcel;
 use floor_config::Floor;
 use floor_wire::{Copies, Frame};
-use std::alloc::AllocError;
+use std::alloc::{AllocError, Global};
 
 /// How many events the journal of a conference has at most: our choice, so that what is kept of a
 /// conference has an end.
@@ -97,6 +97,16 @@ impl Event {
         }
     }
 
+    /// Whether the conference ends by it. Takes no memory.
+    pub fn is_close(&self) -> bool
+        ensures value { result ≡ events.is_close self.now }
+    {
+        match self {
+            Event::Close => true,
+            _ => false,
+        }
+    }
+
     /// The message, where the event is one: it is one whole message, as each frame is. Takes no
     /// memory.
     pub fn message(&self) -> Option<&Frame>
@@ -119,6 +129,32 @@ impl Event {
         match self {
             Event::Message { n: sender, frame } => { if *sender == n { Some(frame) } else { None } }
             _ => None,
+        }
+    }
+
+    /// An equal event, which shares nothing with this one.
+    pub fn copy(&self, alloc: Global) -> Result<Event, AllocError>
+        ensures value { IfOk result (λ copy. copy ≡ self.now) }
+    {
+        match self {
+            Event::Join { user } => Ok(Event::Join { user: *user }),
+            Event::Message { n, frame } => {
+                let frame = frame.copy(alloc)?;
+                Ok(Event::Message { n: *n, frame })
+            }
+            Event::Took { n, k } => Ok(Event::Took { n: *n, k: *k }),
+            Event::Leave { n } => Ok(Event::Leave { n: *n }),
+            Event::Revoke { request } => Ok(Event::Revoke { request: *request }),
+            Event::Close => Ok(Event::Close),
+            Event::AddUser { user } => {
+                let user = user.copy(alloc)?;
+                Ok(Event::AddUser { user })
+            }
+            Event::AddFloor { floor } => Ok(Event::AddFloor { floor: *floor }),
+            Event::SetChair { floor, chair } => Ok(Event::SetChair {
+                floor: *floor,
+                chair: *chair,
+            }),
         }
     }
 

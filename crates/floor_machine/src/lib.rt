@@ -23,6 +23,7 @@ mod parcel;
 mod replied;
 mod reply;
 mod running;
+mod seen;
 mod serve;
 mod tell;
 
@@ -30,7 +31,7 @@ pub use act::Act;
 pub use added::AddedUser;
 pub use event::{Event, MAX_EVENTS};
 pub use floor_config::{Config, Floor, User};
-pub use floor_message::{Ask, Head, Info, RequestStatus, Tell};
+pub use floor_message::{Ask, Head, Info, RequestStatus, SharedInfo, Tell};
 pub use floor_wire::{Frame, Numbers, Octets};
 pub use laws::{
     additions_grow_alone, backlogs_are_counted, cut_stays_silent, events_tell_few, journals_keep,

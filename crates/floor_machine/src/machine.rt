@@ -1,23 +1,25 @@
 //! The floor machine of one conference (RFC 8855, sections 8 to 13).
 
 ghost use Rattle.std.specs.Prelude.{◌≡◌, ◌+◌, ◌<◌, ◌≤◌, [], None, IfOk, IfErr, OnOk, false, length, count_by, true};
-ghost use Rattle.floor_machine.specs.Conference.{AreCut, is_cut, live_numbers, opening};
+ghost use Rattle.floor_machine.specs.Conference.{AreCut, backlog, is_cut, live_numbers, opening, user_of};
 ghost use Rattle.floor_machine.specs.Laws.{IsWhole};
 ghost use Rattle.floor_machine.specs.declared.event.Event.{Event};
 ghost use Rattle.floor_machine.specs.declared.event.Event.TheVariants.{Join, Leave, Message, Took};
 ghost use Rattle.floor_machine.specs.declared.machine.Refusal.TheVariants.{Memory};
 ghost use Rattle.floor_machine.specs.Machine.{Applied, IsRefusedBy, Left, event_refusal, is_backlog, join_refusal, leave_refusal, member_refusal, message_refusal, refusal_of, took_refusal, unless_refused, whole};
+ghost use Rattle.floor_machine.specs.Reply.{infos};
 ghost use Rattle.floor_machine.specs.steps.Deciding.{ComesTo, MayChange};
 ghost use Rattle.floor_machine.specs.steps.Fitting.{DetailsFit};
 ghost use Rattle.floor_machine.specs.steps.Frame.{IsTried};
 
 mod administrator;
+mod watched;
 
 use crate::conference::State;
 use crate::decision::{Change, Decision, Sender};
 use crate::parcel::Parcel;
 use floor_config::Config;
-use floor_message::what_is_shown_fits;
+use floor_message::{SharedInfo, what_is_shown_fits};
 use floor_wire::Frame;
 use std::alloc::{AllocError, Global};
 use std::marker::Model;
@@ -98,8 +100,8 @@ impl From<AllocError> for Refusal {
 
 /// The floor machine of one conference: whole messages of its members in, parcels to them out.
 ///
-/// Readers, which take no memory: `joins`, `live_members`, `live_numbers`, `cut_numbers`,
-/// `ongoing_requests`, `is_open`, `is_broken`, `is_cut`. Changes: `join`, `message`, `took`, `leave` and `admin`, each an event;
+/// Readers, which take no memory: `config`, `joins`, `live_members`, `live_numbers`, `cut_numbers`,
+/// `ongoing_requests`, `shown`, `is_open`, `is_broken`, `is_cut`, `user_of`, `backlog`. Changes: `join`, `message`, `took`, `leave` and `admin`, each an event;
 /// `apply` takes any event by the one of its kind, and `run` many. A refused call changes nothing, but that `Memory`
 /// leaves the machine broken, and from then on it answers `Broken`.
 #[derive(Debug, Drop)]
@@ -129,6 +131,14 @@ impl Machine {
             state,
             is_broken: false,
         })
+    }
+
+    /// The configuration that stands now, with the users and floors that were added and the chairs that
+    /// were changed. Takes no memory.
+    pub fn config(&self) -> &Config
+        ensures value { result.now ≡ self.now.conference.config }
+    {
+        &self.state.config
     }
 
     /// How many members ever joined. Takes no memory.
@@ -179,6 +189,34 @@ impl Machine {
         ensures range { result ≤ 256 }
     {
         self.state.requests.ongoing().len()
+    }
+
+    /// What is shown of the ongoing floor requests, ascending; a broken machine shows none. Takes no
+    /// memory.
+    pub fn shown(&self) -> &[SharedInfo]
+        ensures value { self.now.is_broken ≡ false → result.now ≡ infos self.now.conference }
+        ensures broken { self.now.is_broken ≡ true → result.now ≡ [] }
+    {
+        if self.is_broken {
+            return &[];
+        }
+        self.state.shown.as_slice()
+    }
+
+    /// The user whose connection a live member is, and 0 where no live member has the number. Takes no
+    /// memory.
+    pub fn user_of(&self, n: u32) -> u16
+        ensures value { result ≡ user_of self.now.conference n }
+    {
+        self.state.user_of(n)
+    }
+
+    /// How many messages were told to the member with this number and not acknowledged, also once it
+    /// has left. Of a number that never joined it is 0. Takes no memory.
+    pub fn backlog(&self, n: u32) -> u32
+        ensures value { result ≡ backlog self.now.conference n }
+    {
+        self.state.members.backlog(n)
     }
 
     /// Whether the member with this number is cut: it came to be more than 1,024 messages behind, and

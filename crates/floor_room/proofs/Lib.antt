@@ -1,3 +1,4 @@
+pub mod Standing
 pub mod Ledgers
 pub mod Delivering
 pub mod Noted

@@ -3,6 +3,7 @@ pub mod Ledger
 pub mod Outbox
 pub mod Room
 pub mod Calls
+pub mod Standing
 pub mod Status
 pub mod Taking
 pub mod Told

@@ -4,19 +4,20 @@ ghost use Rattle.std.specs.Prelude.{◌≡◌, [], true, false, IfErr, IfOk};
 ghost use Rattle.floor_machine.specs.Conference.{AreCut, is_cut, live_numbers};
 ghost use Rattle.floor_machine.specs.Journal.{IsJournal};
 ghost use Rattle.floor_room.specs.Ledger.{Added, IsRefusedBy, Unadded, broken_off, closed, conference_of, new_ledger, refusal};
+ghost use Rattle.floor_room.specs.Standing.{backlog_of, config_of, shown_of};
 ghost use Rattle.floor_room.specs.Status.{IsStatus};
 
 use crate::refusal::RoomRefusal;
 use crate::status::{Status, narrowed, phase_of};
-use floor_machine::{Config, Event, MAX_EVENTS, Machine, Parcel, Refusal};
+use floor_machine::{Config, Event, MAX_EVENTS, Machine, Parcel, Refusal, SharedInfo};
 use floor_wire::Copies;
 use std::alloc::{AllocError, Global};
 use std::marker::Model;
 
 /// One conference with its journal: it hands the parcels of each event to its caller.
 ///
-/// Readers: `journal`, `closed` (why no event is taken), `status`, `is_cut`, `live_numbers`,
-/// `cut_numbers`. Changes: `add`, which changes nothing where it refuses, but that `Memory` breaks the
+/// Readers: `journal`, `closed` (why no event is taken), `status`, `config`, `shown`, `backlog`, `is_cut`,
+/// `live_numbers`, `cut_numbers`. Changes: `add`, which changes nothing where it refuses, but that `Memory` breaks the
 /// ledger off, and `break_off`.
 #[derive(Debug, Drop)]
 pub struct Ledger {
@@ -98,6 +99,40 @@ impl Ledger {
             events: self.journal.len() as u32,
             phase: phase_of(self.is_broken, self.machine.is_open()),
         }
+    }
+
+    /// The configuration that stands now, with the users and floors that were added and the chairs that
+    /// were changed; a ledger that is broken off has the one that it opened with. Takes no memory.
+    pub fn config(&self) -> &Config
+        ensures value { result.now ≡ config_of self.now }
+    {
+        if self.is_broken {
+            return &self.config;
+        }
+        self.machine.config()
+    }
+
+    /// What is shown of the ongoing floor requests, ascending; a ledger that is broken off shows none.
+    /// Takes no memory.
+    pub fn shown(&self) -> &[SharedInfo]
+        ensures value { result.now ≡ shown_of self.now }
+    {
+        if self.is_broken {
+            return &[];
+        }
+        self.machine.shown()
+    }
+
+    /// How many messages were told to the member with this number and not acknowledged, also once it has
+    /// left. Of a number that never joined it is 0, and so it is where the ledger is broken off. Takes
+    /// no memory.
+    pub fn backlog(&self, n: u32) -> u32
+        ensures value { result ≡ backlog_of self.now n }
+    {
+        if self.is_broken {
+            return 0;
+        }
+        self.machine.backlog(n)
     }
 
     /// Whether the member with this number is cut: it came to be more than 1,024 messages behind. Of a

@@ -13,7 +13,9 @@ mod replaying;
 mod room;
 mod status;
 
-pub use floor_machine::{Act, AddedUser, Config, Event, Floor, Frame, Parcel, Refusal, User};
+pub use floor_machine::{
+    Act, AddedUser, Config, Event, Floor, Frame, Info, Parcel, Refusal, SharedInfo, User,
+};
 pub use journal::{Place, add_end, add_lines, journal_text};
 pub use ledger::Ledger;
 pub use outbox::NoMember;

@@ -7,6 +7,7 @@ ghost use Rattle.floor_machine.specs.Machine.{event_of_act};
 ghost use Rattle.floor_room.specs.Calls.{Applied, Left};
 ghost use Rattle.floor_room.specs.Ledger.{IsRefusedBy, closed, conference_of, refusal};
 ghost use Rattle.floor_room.specs.Room.{IsRoom, broken_room, new_room};
+ghost use Rattle.floor_room.specs.Standing.{backlog_of, config_of, shown_of};
 ghost use Rattle.floor_room.specs.Status.{IsStatus};
 ghost use Rattle.floor_room.specs.Taking.{Gave, held_of};
 ghost use Rattle.floor_room.specs.Told.{AreTold};
@@ -17,7 +18,7 @@ use crate::ledger::Ledger;
 use crate::outbox::{NoMember, Outbox, held_of, outbox_for, queue, take};
 use crate::refusal::RoomRefusal;
 use crate::status::Status;
-use floor_machine::{Act, Config, Event, Frame, Parcel, Refusal};
+use floor_machine::{Act, Config, Event, Frame, Parcel, Refusal, SharedInfo};
 use std::alloc::{AllocError, Global};
 use std::collections::VecDeque;
 use std::marker::Model;
@@ -25,7 +26,8 @@ use std::marker::Model;
 /// One conference with its journal and its outboxes: whole messages of its members in, and what
 /// waits for each member out.
 ///
-/// Readers: `journal`, `closed` (why no event is taken), `status`, `held`, `is_cut`, `cut_numbers`.
+/// Readers: `journal`, `closed` (why no event is taken), `status`, `config`, `shown`, `backlog`, `held`, `is_cut`,
+/// `cut_numbers`.
 /// Events: `join`, `serve`, `took`, `leave` and `admin`, each of which changes nothing where it refuses,
 /// but that `Memory` breaks the room off. Each puts into its last argument, in place of what stood there,
 /// the numbers of the members to whom it queued something, and none where it refuses. `take` gives what
@@ -82,6 +84,30 @@ impl Room {
         ensures value { IsStatus self.now.ledger result }
     {
         self.ledger.status()
+    }
+
+    /// The configuration that stands now, with the users and floors that were added and the chairs that
+    /// were changed; a broken room has the one that it opened with. Takes no memory.
+    pub fn config(&self) -> &Config
+        ensures value { result.now ≡ config_of self.now.ledger }
+    {
+        self.ledger.config()
+    }
+
+    /// What is shown of the ongoing floor requests, ascending; a broken room shows none. Takes no
+    /// memory.
+    pub fn shown(&self) -> &[SharedInfo]
+        ensures value { result.now ≡ shown_of self.now.ledger }
+    {
+        self.ledger.shown()
+    }
+
+    /// How many messages were told to the member with this number and not acknowledged, also once it has
+    /// left. Of a number that never joined it is 0, and so it is in a broken room. Takes no memory.
+    pub fn backlog(&self, n: u32) -> u32
+        ensures value { result ≡ backlog_of self.now.ledger n }
+    {
+        self.ledger.backlog(n)
     }
 
     /// Whether the member with this number is cut: it came to be more than 1,024 messages behind, and
