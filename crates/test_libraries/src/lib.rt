@@ -13,6 +13,8 @@ mod client;
 mod config;
 #[cfg(test)]
 mod console;
+#[cfg(test)]
+mod control;
 pub mod framed;
 #[cfg(test)]
 mod hexadecimal;

@@ -1,0 +1,13 @@
+pub mod Spelled
+pub mod Printed
+pub mod GoingOn
+pub mod Following
+pub mod ShownLines
+pub mod Counting
+pub mod Asked
+pub mod ReadBack
+pub mod Tagging
+pub mod WhatIsRead
+pub mod InOrder
+pub mod Staying
+pub mod Waiting
