@@ -1,9 +1,13 @@
 //! The program's words, and how it ends.
 
+use crate::journal::run_journal;
 use crate::refusal::tell_place;
+use crate::words::{Asked, read_words};
 use floor_script::{RunFault, run_script};
 use std::alloc::Global;
 use std::io::{ErrorKind, Read, Write};
+use std::rt::Files;
+use std::{fs, io};
 
 /// What `--version` prints: the version, and the logic that the program is proved with.
 const VERSION: &str = "floorsim 0.1.0 (logic dac8208d650f15bf)
@@ -14,8 +18,15 @@ const USAGE: &str = "\
 Runs a script of connections and messages over conferences, and prints what each connection is sent
 
 Usage: floorsim < script
+       floorsim --journal <file> [<n>] [--text]
+       floorsim --journal <file> --status [--at <place>]
 
 Options:
+  --journal  Run the journal of a conference that floorhub kept in a file, and print what its members were
+             told, or the member <n>: the place of the event, the member's number, and the message, in
+             hexadecimal or with --text as floorc prints it
+  --status   Print how that conference stood behind its last event, or behind the one at the place: its
+             live members, and the holders and the queue of each floor
   --help     Print help
   --version  Print version
 
@@ -45,6 +56,8 @@ What is printed:
   nothing                                      there is no whole message to serve
   refused <name>                               the line is refused, and the script goes on
   error <line> <name>                          the line is bad, or line 0: the configuration
+  error <line> NotAJournal <place>             the file of --journal can't be read there, or the event isn't
+                                               lawful; line 0 and place 0: the file's head
 
 Exit status:
   0  at the end of the script
@@ -55,24 +68,63 @@ Exit status:
 /// The exit status of refused words.
 const REFUSED_WORDS: u8 = 2;
 
-/// Runs the program on the first word behind its name, of which it takes none but `--help` and
-/// `--version`, and gives the exit status. A fault of status 1 is named on `errors`.
-pub fn run_words<R: Read, W: Write + Drop, E: Write>(
-    alloc: Global,
-    word: Option<&str>,
-    input: &mut R,
+/// Runs the program on the words behind its name, and gives the exit status. A fault of status 1 is named
+/// on `errors`.
+pub fn run_words<R: Files + AllocGlobal, I: Read, W: Write + Drop, E: Write>(
+    rt: &R,
+    words: &[String],
+    input: &mut I,
     output: &mut W,
     errors: &mut E,
 ) -> u8 {
-    match word {
-        None => run_named(alloc, input, output, errors),
-        Some("--help") => print(USAGE, output, errors),
-        Some("--version") => print(VERSION, output, errors),
-        Some(_) => {
-            let _written = errors.write_all(USAGE.as_bytes());
-            REFUSED_WORDS
+    let alloc = rt.alloc();
+    let mut texts = Vec::new(alloc);
+    for word in words {
+        if texts.push(word.as_str()).is_err() {
+            return fail_by_memory(errors);
         }
     }
+    match read_words(texts.as_slice()) {
+        Some(Asked::Script) => run_named(alloc, input, output, errors),
+        Some(Asked::Help) => print(USAGE, output, errors),
+        Some(Asked::Version) => print(VERSION, output, errors),
+        Some(Asked::Journal { path, saying }) => {
+            let outcome = match bytes_of(fs::read(rt, path)) {
+                Ok(bytes) => run_journal(alloc, bytes.as_slice(), saying, output, errors),
+                Err(fault) => Err(fault),
+            };
+            status_of(outcome, errors)
+        }
+        None => refuse_words(errors),
+    }
+}
+
+/// The bytes of a file, where they were read.
+fn bytes_of(read: io::Result<Vec<u8>>) -> Result<Vec<u8>, RunFault> {
+    match read {
+        Ok(bytes) => Ok(bytes),
+        Err(error) if error.kind() == ErrorKind::OutOfMemory => Err(RunFault::Memory),
+        Err(_) => Err(RunFault::CannotRead),
+    }
+}
+
+/// The exit status of a run, whose fault is named.
+fn status_of<E: Write>(outcome: Result<(), RunFault>, errors: &mut E) -> u8 {
+    match outcome {
+        Ok(()) => 0,
+        Err(fault) => name_fault(fault, errors),
+    }
+}
+
+/// Tells how the program is called, and gives the status of refused words.
+pub fn refuse_words<E: Write>(errors: &mut E) -> u8 {
+    let _written = errors.write_all(USAGE.as_bytes());
+    REFUSED_WORDS
+}
+
+/// Names want of memory, and gives its status.
+pub fn fail_by_memory<E: Write>(errors: &mut E) -> u8 {
+    name_fault(RunFault::Memory, errors)
 }
 
 /// Prints a text.

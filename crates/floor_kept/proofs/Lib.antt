@@ -1,0 +1,10 @@
+pub mod Spelled
+pub mod Fitting
+pub mod Found
+pub mod Cuts
+pub mod Growing
+pub mod Texts
+pub mod Written
+pub mod Bodies
+pub mod Heads
+pub mod Leading

@@ -1,0 +1,8 @@
+-- What a reader has to believe, in the order of reading.
+pub mod Entries
+pub mod Body
+pub mod Head
+pub mod Writing
+pub mod Opening
+-- the steps of the proofs
+pub mod steps

@@ -1,0 +1,5 @@
+//! What no clause says: files by hand, sinks that fail, and each call once.
+
+mod files;
+mod lines;
+mod sinks;
