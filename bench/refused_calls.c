@@ -1,5 +1,6 @@
 /* Refuses reads, writes and accepts of the program that it is loaded into, as refusing.h says: of files and
-   sockets alike, one after another as they are made, but for reads of standard input, by which it would end. */
+   sockets alike, one after another as they are made, but for reads of standard input, by which it would end.
+   Where SHORT stands in the environment each write to a socket takes one byte alone. */
 #include "refusing.h"
 #include <dlfcn.h>
 #include <sys/socket.h>
@@ -20,7 +21,8 @@ ssize_t write(int file, const void *bytes, size_t count) {
 }
 
 ssize_t send(int socket, const void *bytes, size_t count, int flags) {
-    return is_refused(EPIPE) ? -1 : NEXT(send)(socket, bytes, count, flags);
+    size_t taken = count > 1 && getenv("SHORT") ? 1 : count;
+    return is_refused(EPIPE) ? -1 : NEXT(send)(socket, bytes, taken, flags);
 }
 
 int accept4(int socket, struct sockaddr *peer, socklen_t *length, int flags) {

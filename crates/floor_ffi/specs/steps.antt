@@ -1,0 +1,4 @@
+-- The steps of the proofs.
+pub mod Taken
+pub mod Lines
+pub mod Numbered

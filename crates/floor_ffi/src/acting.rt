@@ -1,0 +1,113 @@
+//! What the administrator of a conference does.
+
+ghost use Rattle.std.specs.Prelude.{◌≡◌, Some, None, IfOk, IfErr, true, false, if◌then◌else◌, MatchResult};
+ghost use Rattle.floor_machine.specs.declared.act.Act.TheVariants.{AddFloor, Close, Revoke, SetChair};
+ghost use Rattle.floor_ffi.specs.Gives.{ActGives, UserGives};
+ghost use Rattle.floor_ffi.specs.declared.outcome.Outcome.TheVariants.{NotUtf8, Refused};
+
+use crate::opening::outcome_of;
+use crate::outcome::Outcome;
+use floor_config::Text;
+use floor_hub::{Act, AddedUser, Floor, Hub, HubRefusal, User};
+use std::alloc::{AllocError, Global};
+
+/// Ends a conference.
+pub(crate) fn close(hub: &mut Hub, conference: u32) -> u32
+    ensures gives { ActGives hub.old conference Close hub.new result }
+{
+    outcome_of(hub.admin(conference, Act::Close)).number()
+}
+
+/// Takes a floor request's floors away.
+pub(crate) fn revoke(hub: &mut Hub, conference: u32, request: u16) -> u32
+    ensures gives { ActGives hub.old conference (Revoke request) hub.new result }
+{
+    outcome_of(hub.admin(conference, Act::Revoke(request))).number()
+}
+
+/// Adds a floor.
+pub(crate) fn add_floor(
+    hub: &mut Hub,
+    conference: u32,
+    id: u16,
+    room: u16,
+    has_chair: bool,
+    chair: u16,
+) -> u32
+    ensures gives { ActGives hub.old conference
+        (AddFloor record { id = id; room = room; chair = if has_chair then Some chair else None })
+        hub.new result }
+{
+    let chair = if has_chair { Some(chair) } else { None };
+    let floor = Floor { id, room, chair };
+    outcome_of(hub.admin(conference, Act::AddFloor(floor))).number()
+}
+
+/// Gives a floor a chair, or none.
+pub(crate) fn set_chair(
+    hub: &mut Hub,
+    conference: u32,
+    floor: u16,
+    has_chair: bool,
+    chair: u16,
+) -> u32
+    ensures gives { ActGives hub.old conference
+        (SetChair floor (if has_chair then Some chair else None)) hub.new result }
+{
+    let chair = if has_chair { Some(chair) } else { None };
+    outcome_of(hub.admin(conference, Act::SetChair(floor, chair))).number()
+}
+
+/// Adds a user.
+pub(crate) fn add_user(
+    hub: &mut Hub,
+    alloc: Global,
+    conference: u32,
+    id: u16,
+    proxy: bool,
+    name: &[u8],
+    uri: &[u8],
+) -> u32
+    ensures gives { UserGives hub.old conference id proxy name.now uri.now hub.new result }
+{
+    let Ok(name) = std::str::from_utf8(name) else {
+        return Outcome::NotUtf8.number();
+    };
+    let Ok(uri) = std::str::from_utf8(uri) else {
+        return Outcome::NotUtf8.number();
+    };
+    match user_of(alloc, id, proxy, name, uri) {
+        Ok(user) => outcome_of(hub.admin(conference, Act::AddUser(user))).number(),
+        Err(_) => Outcome::Refused(HubRefusal::Memory).number(),
+    }
+}
+
+/// A user of these texts.
+fn user_of(
+    alloc: Global,
+    id: u16,
+    proxy: bool,
+    name: &str,
+    uri: &str,
+) -> Result<AddedUser, AllocError>
+    ensures value { IfOk result (λ user. user ≡ record {
+      id = id;
+      name = Some name.now;
+      uri = Some uri.now;
+      proxy = proxy;
+      port = None;
+    }) }
+{
+    let name = Text::from_string(String::from_str(alloc, name)?);
+    let uri = Text::from_string(String::from_str(alloc, uri)?);
+    AddedUser::new(
+        alloc,
+        User {
+            id,
+            name: Some(name),
+            uri: Some(uri),
+            proxy,
+            port: None,
+        },
+    )
+}
