@@ -8,8 +8,9 @@
 // while it runs, keys alone, a connection that is lost and had again, links that open nothing, the end of the
 // meeting. Where a page looks otherwise than before it is looked through for what WCAG 2.2 asks at its levels A and
 // AA, as far as a program sees it: names, roles, contrast, targets, headings, landmarks; narrow, enlarged, in the
-// dark and without motion. Pictures of the pages go to the folder PICTURES, if there is one. Status 1 at the first
-// step that isn't as it should be.
+// dark and without motion. Before a floorhub all come once more by its door, where a meeting ends otherwise.
+// Pictures of the pages go to the folder PICTURES, if there is one. Status 1 at the first step that isn't as it
+// should be.
 import { spawn } from "node:child_process";
 import { mkdtempSync, readFileSync, rmSync, writeFileSync } from "node:fs";
 import { createConnection } from "node:net";
@@ -23,6 +24,7 @@ const tokens = Object.fromEntries(
   [...readFileSync(config, "utf8").matchAll(/^name = "(.*?)"[^[]*?^token = "(.*?)"/gms)].map(([, name, token]) => [name, token]),
 );
 const ADDRESS = "127.0.0.1:7080";
+const DOOR = 7_081;
 const DEBUGGING = 9_333;
 const sleep = (milliseconds) => new Promise((resolve) => setTimeout(resolve, milliseconds));
 let steps = 0;
@@ -109,7 +111,9 @@ class Tab {
     Tab.all.push(tab);
     tab.waiting = new Map();
     tab.complaints = [];
-    tab.socket = new WebSocket((await answer.json()).webSocketDebuggerUrl);
+    const { id, webSocketDebuggerUrl } = await answer.json();
+    tab.id = id;
+    tab.socket = new WebSocket(webSocketDebuggerUrl);
     tab.socket.onmessage = (event) => tab.hear(JSON.parse(event.data));
     await new Promise((resolve) => (tab.socket.onopen = resolve));
     for (const domain of ["Page", "Runtime", "Log"]) await tab.send(`${domain}.enable`);
@@ -117,6 +121,11 @@ class Tab {
     await tab.send("Emulation.setFocusEmulationEnabled", { enabled: true });
     await tab.send("Page.navigate", { url: `http://${ADDRESS}/#${hash}` });
     return tab;
+  }
+
+  /** Closes all tabs. */
+  static async closeAll() {
+    for (const { id } of Tab.all.splice(0)) await fetch(`http://127.0.0.1:${DEBUGGING}/json/close/${id}`);
   }
 
   hear({ id, result, error, method, params }) {
@@ -136,8 +145,10 @@ class Tab {
 
   send(method, params = {}) {
     const id = (this.last = (this.last ?? 0) + 1);
+    // It tells who asked.
+    const late = new Error(`${this.name}: no answer to ${method}`);
     return new Promise((resolve, reject) => {
-      setTimeout(() => reject(new Error(`${this.name}: no answer to ${method}`)), 60_000).unref();
+      setTimeout(() => reject(late), 60_000).unref();
       this.waiting.set(id, { resolve, reject });
       this.socket.send(JSON.stringify({ id, method, params }));
     });
@@ -328,6 +339,7 @@ async function meet(server, gateway) {
   await ann.says("Microphone", ".left", "0 bytes left");
   await ann.fill("Microphone", "info", "ü".repeat(32));
   await ann.says("Microphone", ".left", "Too long by 2 bytes");
+  await ann.picture("too-long", false);
   await ann.press("Microphone", "Raise hand");
   await sleep(500);
   await ann.says("Microphone", ".standing", "");
@@ -450,12 +462,15 @@ async function meet(server, gateway) {
   await nobody.shows("This link opens no meeting");
   await nobody.focus("This link opens no meeting");
   await nobody.audit("nobody's link");
+  await nobody.size(390, 480);
+  await nobody.picture("nobody", false);
   const without = await Tab.open("without", "");
-  await without.size(390, 844);
+  await without.size(390, 480);
   await without.shows("This page needs your own link");
   await without.shows("No link");
   await without.audit("no link");
   await without.picture("without", false);
+  await cutOff();
   await looks(all);
   for (const tab of all) if (tab.complaints.length) throw new Error(`${tab.name}: ${tab.complaints}`);
   const { settings } = { settings: await ann.value("[...document.querySelectorAll('#settings input')].map((box) => box.checked).join()") };
@@ -470,7 +485,7 @@ async function meet(server, gateway) {
   await ann.shows("The connection was lost: your hands are down");
   await ann.says("Screen", ".standing", "The connection was lost, and the floor was given back.");
   await ben.says("Microphone", ".standing", "The connection was lost, and your hand is down.");
-  await ann.picture("lost");
+  await ann.picture("lost", false);
   const again = await start(floorwebPath, ADDRESS, config, folder);
   for (const tab of all) await tab.until("document.body.classList.contains('open')", "connected again", 40_000);
 
@@ -490,6 +505,7 @@ async function meet(server, gateway) {
   await ann.focus("The meeting has ended");
   await ann.hides("Raise hand");
   await ann.audit("the end");
+  await ann.size(390, 480);
   await ann.picture("ended", false);
   const late = await Tab.open("late", tokens.Ann);
   await late.shows("The meeting has ended", 20_000);
@@ -499,6 +515,74 @@ async function meet(server, gateway) {
   await late.value("document.querySelector('#notice button').click()");
   await late.until("window.made > 0", "a try");
   return again;
+}
+
+/** What is told of the meeting can't be had, and then it can; and the notices that no server of today causes. */
+async function cutOff() {
+  const tab = await Tab.open("cut off", "");
+  await tab.size(390, 480);
+  await tab.shows("This page needs your own link");
+  await tab.send("Network.enable");
+  await tab.send("Network.setBlockedURLs", { urls: ["*/meeting"] });
+  await tab.value(`location.hash = ${JSON.stringify(tokens.Cid)}`);
+  await tab.shows("The meeting can't be reached");
+  await tab.focus("The meeting can't be reached");
+  await tab.audit("a meeting that can't be reached");
+  await tab.picture("unreachable", false);
+  await tab.send("Network.setBlockedURLs", { urls: [] });
+  await tab.value("document.querySelector('#notice button').click()");
+  await tab.shows("Connected", 20_000);
+  for (const kind of ["messages", "refused"]) {
+    await tab.value(`import("./say.js").then(({ showNotice }) => showNotice(${JSON.stringify(kind)}))`);
+    await tab.audit(kind);
+    await tab.picture(`notice-${kind}`, false);
+  }
+  await tab.value("location.hash = ''");
+}
+
+/** By a door of floorhub: one with too many windows is told so, and a meeting that was closed has ended. */
+async function meetByDoor() {
+  await Tab.closeAll();
+  const words = ["--door-by-id", String(DOOR)];
+  const server = await start(serverPath, ...words, config);
+  const gateway = await start(floorwebPath, ADDRESS, config, folder, ...words);
+  const [ann, ben] = [await Tab.open("Ann"), await Tab.open("Ben")];
+  for (const tab of [ann, ben]) {
+    await tab.size(390, 844);
+    await tab.shows("Connected", 20_000);
+  }
+  await ann.press("Microphone", "Raise hand");
+  await ben.until(`[...document.querySelectorAll(".pending .who")].some((one) => one.textContent === "Ann")`, "Ann's hand");
+
+  // The configuration lets a user have eight connections.
+  await ann.value(`(async () => {
+    const { Session } = await import("./session.js");
+    const meeting = await (await fetch("/meeting", { headers: { Authorization: "Bearer " + location.hash.slice(1) } })).json();
+    for (let count = 1; count < 8; count++) {
+      const session = new Session(location.hash.slice(1), meeting);
+      session.connect();
+      await new Promise((resolve) => session.addEventListener("state", () => session.state === "open" && resolve()));
+    }
+  })()`);
+  const ninth = await Tab.open("ninth", tokens.Ann);
+  await ninth.size(390, 844);
+  await ninth.shows("The meeting has ended, or is full", 20_000);
+  await ninth.focus("The meeting has ended, or is full");
+  await ninth.audit("one window too many");
+  await ninth.size(390, 480);
+  await ninth.picture("full", false);
+  await ann.shows("The chair hasn't decided yet");
+  await ninth.value("window.made = 0; window.WebSocket = class extends WebSocket { constructor(...words) { super(...words); window.made++; } }; 0");
+  await sleep(5_000);
+  await ninth.until("window.made === 0", "no try");
+
+  await order(server, "close 1", "ok closed 1");
+  for (const tab of [ann, ben]) await tab.shows("The meeting has ended, or is full", 20_000);
+  await ben.value("document.querySelector('#notice button').click()");
+  await ben.shows("Connecting");
+  await ben.shows("Ended", 20_000);
+  await stop(gateway);
+  await stop(server);
 }
 
 /** How the page looks and is used: narrow, enlarged, in the dark, without motion, by keys. */
@@ -518,7 +602,7 @@ async function looks([ann, ben, cid, dee]) {
   await dee.audit("200 per cent");
   await dee.value("document.documentElement.style.fontSize = '200%'");
   await dee.audit("letters of twice the size");
-  await dee.picture("large");
+  await dee.picture("large", false);
   await dee.value("document.documentElement.style.fontSize = ''");
   await dee.size(1_060, 760, false);
   await cid.send("Emulation.setEmulatedMedia", { features: [{ name: "prefers-reduced-motion", value: "reduce" }] });
@@ -595,6 +679,10 @@ try {
     await sleep(100);
   }
   gateway = await meet(server, gateway);
+  if (serverPath.includes("floorhub")) {
+    await Promise.all([stop(gateway), stop(server)]);
+    await meetByDoor();
+  }
   console.log(`${steps} steps as they should be`);
 } catch (error) {
   console.log(`FAILED behind ${steps} steps: ${error.stack}`);

@@ -3,14 +3,13 @@
 
 Starts a server, a floord or a floorhub, and a floorweb of its own and runs each group of tries (or those
 that are named): starts, heads, sockets, floods, many, unread, proxy (which wants nginx and openssl),
-service, refused (which wants a C compiler), door (before a floorhub), ends. Each try has the answer that it wants: a status of HTTP,
+service, refused (which wants a C compiler), door (before a floorhub), ends; and, where it is named, loads, of
+which each takes five minutes. Each try has the answer that it wants: a status of HTTP,
 a close code of WebSocket (RFC 6455, section 7.4.1), or what is in the frames. Prints a line for each that
 fails, and how many passed; status 1 where one failed.
 """
-import base64
 import collections
 import fcntl
-import hashlib
 import os
 import re
 import resource
@@ -28,21 +27,14 @@ import threading
 import time
 
 import server
+from browsers import (
+    ACCEPT, CONFERENCES, ERROR, FLOOR_ID_1, FLOOR_QUERY, FLOOR_RELEASE, FLOOR_REQUEST, FLOOR_STATUS, HEAD, HELLO,
+    HELLO_ACK, HOST, KEY, LONGEST, LOST_USERS, NOT_TAKEN, NO_SERVER, PORT, QUIET, USERS, Browser, Gateway, answer_of,
+    ask, check, configuration, connect, failed, frame, get, message, number_of, passed, reply, status_of, token_of,
+    upgrade)
+from loads import loads
 from server import FIRST_PORT, Server, hello
 
-PORT = FIRST_PORT + 180
-HOST = '127.0.0.1:%d' % PORT
-KEY = 'dGhlIHNhbXBsZSBub25jZQ=='
-ACCEPT = base64.b64encode(
-    hashlib.sha1((KEY + '258EAFA5-E914-47DA-95CA-C5AB0DC85B11').encode()).digest())
-CONFERENCES = 8
-USERS = 4
-FLOOR_REQUEST, FLOOR_RELEASE, FLOOR_QUERY, FLOOR_STATUS = 1, 2, 7, 8
-HELLO, HELLO_ACK, ERROR = 11, 12, 13
-FLOOR_ID_1 = bytes([4, 4, 0, 1])
-LONGEST = 12 + 4 * 65_535
-QUIET = 25
-HEAD = 10
 # A browser that takes nothing is cut: a write waits 30 seconds, and as long again for each part that the
 # system's buffers still took.
 CUT = 130
@@ -51,238 +43,6 @@ CUT = 130
 FLOOD = 3_000
 # How many lines a log is told that nobody reads: more than a pipe holds.
 UNREAD = 1_600
-
-passed = 0
-failed = []
-
-
-def check(name, got, wanted):
-    """Takes down whether a try gave what it should."""
-    global passed
-    if got == wanted:
-        passed += 1
-    else:
-        failed.append(name)
-        print('FAILED %s: %r, wanted %r' % (name, got, wanted), flush=True)
-
-
-def token_of(conference, user):
-    return 'token-of-user-%02d-of-%02d--' % (user, conference)
-
-
-def configuration():
-    """Eight conferences of four users with tokens; in the first is a user whom no port answers."""
-    rows = []
-    port = FIRST_PORT
-    for conference in range(1, CONFERENCES + 1):
-        rows.append('[[conference]]\nid = %d\nlimit = 16\n' % conference)
-        for user in range(10, 10 + USERS):
-            rows.append('[[conference.user]]\nid = %d\nname = "U%d"\nport = %d\ntoken = "%s"\n' % (
-                user, user, port, token_of(conference, user)))
-            port += 1
-        rows.append('[[conference.floor]]\nid = 1\ntitle = "Microphone"\n')
-    return ''.join(rows)
-
-
-# Of two users more nobody listens at the port of one, and nobody accepts at that of the other.
-LOST_USERS = '[[conference]]\nid = 99\n' + ''.join(
-    '[[conference.user]]\nid = %d\nport = %d\ntoken = "%s"\n' % (user, FIRST_PORT + 170 + user, token_of(99, user))
-    for user in (1, 2))
-NO_SERVER = 4404
-
-
-class Gateway:
-    """A floorweb that runs."""
-
-    def __init__(self, program, folder, text, *words, address=HOST, descriptors=4_096, variables=None):
-        handle, self.path = tempfile.mkstemp(suffix='.toml')
-        with os.fdopen(handle, 'w') as file:
-            file.write(text)
-        self.process = subprocess.Popen(
-            [os.path.abspath(program), address, self.path, folder, *words], stdin=subprocess.PIPE,
-            stdout=subprocess.PIPE, stderr=subprocess.PIPE, env={**os.environ, **(variables or {})},
-            preexec_fn=lambda: resource.setrlimit(resource.RLIMIT_NOFILE, (descriptors,) * 2))
-
-    def ready(self):
-        """Waits until it listens."""
-        if self.process.stdout.readline() != b'ready\n':
-            raise SystemExit(self.process.stderr.read().decode())
-        return self
-
-    def end(self, seconds=10):
-        """Ends its standard input, and gives its status and what it printed."""
-        try:
-            printed, errors = self.process.communicate(b'', seconds)
-        except subprocess.TimeoutExpired:
-            self.process.kill()
-            printed, errors = self.process.communicate()
-        os.unlink(self.path)
-        return self.process.returncode, printed.decode(), errors.decode()
-
-    def use(self):
-        """Its resident memory in kB, its threads and its descriptors."""
-        pid = self.process.pid
-        with open('/proc/%d/status' % pid) as file:
-            rows = dict(line.split(':', 1) for line in file if ':' in line)
-        return (int(rows['VmRSS'].split()[0]), int(rows['Threads']),
-                len(os.listdir('/proc/%d/fd' % pid)))
-
-    def at_rest(self):
-        """What it uses once the last of the tries before has let go."""
-        since, seen = time.monotonic(), self.use()
-        while time.monotonic() - since < 3:
-            time.sleep(0.1)
-            now = self.use()
-            if now[1:] != seen[1:]:
-                since = time.monotonic()
-            seen = now
-        return seen
-
-    def freed(self, before, seconds):
-        """Waits until its threads and descriptors are as they were, and gives them."""
-        end = time.monotonic() + seconds
-        while self.use()[1:] != before[1:] and time.monotonic() < end:
-            time.sleep(0.1)
-        return self.use()[1:]
-
-
-def connect(narrow=False, port=PORT):
-    """A connection; of what a narrow one doesn't read the sockets hold some 100 kB."""
-    stream = server.connect(port, narrow)
-    stream.settimeout(90)
-    return stream
-
-
-def reply(stream):
-    """All bytes until the stream ends."""
-    got = b''
-    try:
-        while piece := stream.recv(65_536):
-            got += piece
-    except ConnectionResetError:
-        got += b'<reset>'
-    return got
-
-
-def status_of(got):
-    words = got.split(b'\r\n')[0].split(b' ')
-    return int(words[1]) if len(words) > 1 and words[1].isdigit() else repr(got[:40])
-
-
-def ask(request):
-    stream = connect()
-    stream.sendall(request)
-    return reply(stream)
-
-
-def answer_of(stream, seconds):
-    """The status by which a connection is answered, also where that isn't within so many seconds."""
-    stream.settimeout(seconds)
-    try:
-        return status_of(reply(stream))
-    except TimeoutError:
-        return 'no answer'
-
-
-def get(path, method='GET', more=''):
-    return ('%s %s HTTP/1.1\r\nHost: %s\r\n%s\r\n' % (method, path, HOST, more)).encode()
-
-
-def upgrade(path, more='', **fields):
-    """A handshake, with some of its fields changed or, where they are None, left out."""
-    sent = {'Host': HOST, 'Upgrade': 'websocket', 'Connection': 'keep-alive, Upgrade',
-            'Sec-WebSocket-Key': KEY, 'Sec-WebSocket-Version': '13',
-            'Sec-WebSocket-Protocol': 'bfcp'}
-    for name, value in fields.items():
-        sent[name.replace('_', '-')] = value
-    rows = ''.join('%s: %s\r\n' % row for row in sent.items() if row[1] is not None)
-    return ('GET %s HTTP/1.1\r\n%s%s\r\n' % (path, rows, more)).encode()
-
-
-def frame(opcode, payload, mask=True, last=True, width=None, bits=0):
-    """A frame of a browser; `width` is how many bytes say its length where more do than need to."""
-    length = len(payload)
-    width = width or (0 if length < 126 else 2 if length < 65_536 else 8)
-    head = bytes([(0x80 if last else 0) | bits | opcode])
-    marked = 0x80 if mask else 0
-    head += {0: lambda: bytes([marked | length]), 2: lambda: bytes([marked | 126]) + struct.pack('>H', length),
-             8: lambda: bytes([marked | 127]) + struct.pack('>Q', length)}[width]()
-    if not mask:
-        return head + payload
-    key = os.urandom(4)
-    spread = (key * (length // 4 + 1))[:length]
-    masked = (int.from_bytes(payload, 'big') ^ int.from_bytes(spread, 'big')).to_bytes(length, 'big')
-    return head + key + masked
-
-
-def message(primitive, conference=1, transaction=1, user=10, payload=b''):
-    return struct.pack('>BBHIHH', 0x20, primitive, len(payload) // 4, conference, transaction,
-                       user) + payload
-
-
-def number_of(told):
-    """The floor request that a FloorRequestStatus tells of."""
-    return struct.unpack('>H', told[14:16])[0]
-
-
-class Browser:
-    """A WebSocket whose handshake is done."""
-
-    def __init__(self, token, request=None, behind=b'', narrow=False, port=PORT):
-        self.stream = connect(narrow, port)
-        self.stream.sendall((request or upgrade('/bfcp/' + token)) + behind)
-        got = b''
-        while b'\r\n\r\n' not in got:
-            piece = self.stream.recv(4_096)
-            if not piece:
-                raise EOFError(got)
-            got += piece
-        self.head, self.held = got.split(b'\r\n\r\n', 1)
-
-    def take(self, count):
-        while len(self.held) < count:
-            piece = self.stream.recv(65_536)
-            if not piece:
-                raise EOFError('the stream ended')
-            self.held += piece
-        got, self.held = self.held[:count], self.held[count:]
-        return got
-
-    def read(self):
-        """The next frame: its opcode and its payload. It is whole, and without a mask."""
-        first, second = self.take(2)
-        assert first & 0x70 == 0 and first & 0x80 and not second & 0x80, (first, second)
-        length = second & 127
-        if length == 126:
-            length = struct.unpack('>H', self.take(2))[0]
-        elif length == 127:
-            length = struct.unpack('>Q', self.take(8))[0]
-        return first & 15, self.take(length)
-
-    def send(self, opcode, payload, **how):
-        self.stream.sendall(frame(opcode, payload, **how))
-
-    def ends(self):
-        """The code by which it is closed; the frames before are thrown away. Behind it is nothing."""
-        try:
-            while True:
-                opcode, payload = self.read()
-                if opcode == 8:
-                    code = struct.unpack('>H', payload[:2])[0] if payload else None
-                    return code if reply(self.stream) == b'' else 'bytes behind the close'
-        except EOFError:
-            return 'end'
-        except ConnectionResetError:
-            return 'reset'
-
-    def primitive(self):
-        """The primitive of the message in the next frame, which is binary and holds it alone."""
-        opcode, payload = self.read()
-        assert opcode == 2 and len(payload) == 12 + 4 * struct.unpack('>H', payload[2:4])[0]
-        return payload[1]
-
-    def close(self):
-        self.stream.close()
 
 
 # Starts
@@ -508,6 +268,16 @@ def sockets(program, folder):
     check('the longest message but some', browser.primitive() in (HELLO_ACK, ERROR), True)
     browser.stream.shutdown(socket.SHUT_WR)
     check('a browser that ends its side', browser.ends(), 'end')
+    browser = Browser(token)
+    times = []
+    for transaction in range(1, 201):
+        start = time.perf_counter()
+        browser.stream.sendall(frame(9, b'x') + frame(2, message(HELLO, transaction=transaction)))
+        browser.read(), browser.read()
+        times.append(time.perf_counter() - start)
+    # One that waited for the other's acknowledgement would come 40 ms later.
+    check('of two small frames none waits for the other', sorted(times)[100] < 0.03, True)
+    browser.close()
     browser = Browser(token)
     pings = 1_000
     hellos = 3_000
@@ -821,6 +591,9 @@ def refused(program, folder):
 
             end, _ = run('0')
             check('%s: none is refused' % what, end, 'well')
+            if library == 'refused_calls':
+                variables = {'LD_PRELOAD': path, 'REFUSE': '0', 'SHORT': '1'}
+                check('each write takes a byte', refused_run(program, folder, faults, variables)[0], 'well')
             with open(count) as file:
                 made = int(file.read())
             for form in forms:
@@ -876,6 +649,8 @@ def page_and_hello():
             got += piece
     except ConnectionResetError:
         got = b''
+    except TimeoutError:
+        return page, 'WRONG: no answer behind %r' % got[-40:]
     stream.close()
     if b'\x820\x20\x0c' in got:
         return page, 'hello'
@@ -965,12 +740,12 @@ def door(program, folder, server_path):
     check('door: a floor is granted, and who watches it is told', (ann.primitive(), ben.primitive()), (4, FLOOR_STATUS))
     more = [browser(1, 10) for _ in range(BOUND - 1)]
     check('door: more browsers of one user', [one.primitive() for one in more], [HELLO_ACK] * (BOUND - 1))
-    check('door: one too many', end_of(browser(1, 10)), 1001)
-    check('door: nobody of the configuration', end_of(Browser(token_of(99, 1), port=PORT + 5)), 1001)
+    check('door: one too many', end_of(browser(1, 10)), NOT_TAKEN)
+    check('door: nobody of the configuration', end_of(Browser(token_of(99, 1), port=PORT + 5)), NOT_TAKEN)
     check('door: they are members', hub.ask('status 1').split(' events')[0], 'conference 1 members 4 ongoing 1')
     check('door: the meeting ends', hub.ask('close 1'), 'ok closed 1')
     check('door: its browsers are told', [end_of(one) for one in [ann, ben] + more], [1001] * 4)
-    check('door: nobody comes to it again', end_of(browser(1, 10)), 1001)
+    check('door: nobody comes to it again', end_of(browser(1, 10)), NOT_TAKEN)
     other.send(2, message(HELLO, conference=2, transaction=2))
     check('door: the other goes on', other.primitive(), HELLO_ACK)
     check('door: the server stops', hub.stop()[1], 0)
@@ -980,7 +755,8 @@ def door(program, folder, server_path):
     status, _, errors = gateway.end()
     rows = [line.split(' ', 1)[1] for line in errors.splitlines()]
     check('door: the log', (status, rows.count('left conference 1 user 10: ServerGone'),
-                            rows[-1:]), (0, BOUND + 2, ['no server for conference 2 user 10']))
+                            rows.count('left conference 1 user 10: Refused'), rows[-1:]),
+          (0, BOUND, 2, ['no server for conference 2 user 10']))
 
 
 # Many
@@ -1075,13 +851,15 @@ def main():
         door(program, folder, floord_path)
     if 'many' in groups:
         many(program, folder, gateway)
+    if 'loads' in groups:
+        loads(floord_path, program, folder)
     if 'unread' in groups:
         unread(program, folder)
     if 'ends' in groups:
         ends(program, folder, floord_path, floord, gateway)
     check('it ends, without a log', gateway.end(), (0, '', ''))
     floord.process.kill()
-    print('%d tries passed, %d failed' % (passed, len(failed)))
+    print('%d tries passed, %d failed' % (len(passed), len(failed)))
     sys.exit(1 if failed else 0)
 
 

@@ -3,3 +3,4 @@ pub mod Accepting
 pub mod Console
 pub mod Ending
 pub mod Ports
+pub mod Capacity

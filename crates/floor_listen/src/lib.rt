@@ -6,12 +6,14 @@
 #![tactic(auto)]
 
 mod accepting;
+mod capacity;
 mod connections;
 mod console;
 mod ending;
 mod ports;
 
 pub use accepting::{ACCEPT_AGAIN_MILLIS, Accepting, after_accept};
+pub use capacity::{Capacity, Granted, Taken};
 pub use connections::{
     Begun, Connections, Gone, MAX_CONNECTIONS, Member, Open, Released, Running, Unserved,
 };

@@ -75,6 +75,7 @@ codes_allowed Why.Closed code is = absurd (cc is)
 codes_allowed Why.Gone code is = absurd (cc is)
 codes_allowed Why.ServerGone code is = let e : code ≡ Code.Away = cc is in rw e refl
 codes_allowed Why.NoServer code is = let e : code ≡ Code.Library 4404 = cc is in rw e refl
+codes_allowed Why.Refused code is = let e : code ≡ Code.Library 4403 = cc is in rw e refl
 codes_allowed Why.Broken code is = let e : code ≡ Code.Protocol = cc is in rw e refl
 codes_allowed Why.Fragment code is = let e : code ≡ Code.Protocol = cc is in rw e refl
 codes_allowed Why.Text code is = let e : code ≡ Code.Unsupported = cc is in rw e refl

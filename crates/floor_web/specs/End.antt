@@ -5,7 +5,7 @@ use Rattle.websocket.specs.declared.protocol.frame.coding.CloseCode.TheVariants 
 use Rattle.websocket.specs.declared.error.Error.{Error}
 use Rattle.websocket.specs.declared.error.Error.TheVariants as Cause
 use Rattle.floor_web.specs.declared.end.End.{End}
-use Rattle.floor_web.specs.declared.end.End.TheVariants.{Closed, Gone, ServerGone, NoServer, Broken, Fragment, Text, NoUtf8, NoMessage, TooLong, Memory}
+use Rattle.floor_web.specs.declared.end.End.TheVariants.{Closed, Gone, ServerGone, NoServer, Refused, Broken, Fragment, Text, NoUtf8, NoMessage, TooLong, Memory}
 
 -- the name of an end
 abbrev pub name_of : End → List ℕ
@@ -13,6 +13,7 @@ name_of Closed = codes "Closed"
 name_of Gone = codes "Gone"
 name_of ServerGone = codes "ServerGone"
 name_of NoServer = codes "NoServer"
+name_of Refused = codes "Refused"
 name_of Broken = codes "Broken"
 name_of Fragment = codes "Fragment"
 name_of Text = codes "Text"
@@ -27,6 +28,7 @@ code_of Closed = None
 code_of Gone = None
 code_of ServerGone = Some Code.Away
 code_of NoServer = Some (Code.Library 4404)
+code_of Refused = Some (Code.Library 4403)
 code_of Broken = Some Code.Protocol
 code_of Fragment = Some Code.Protocol
 code_of Text = Some Code.Unsupported

@@ -17,6 +17,9 @@ pub enum End {
     ServerGone,
     /// No floor control server listens at the participant's port. Code 4404.
     NoServer,
+    /// The floor control server ended the connection before it said anything, as floorhub's door does
+    /// where it refuses the user. Code 4403.
+    Refused,
     /// The browser broke the protocol of WebSocket (RFC 6455). Code 1002.
     Broken,
     /// The browser sent a message in fragments (RFC 8857, section 4.2). Code 1002.
@@ -44,6 +47,7 @@ impl End {
             End::Gone => "Gone",
             End::ServerGone => "ServerGone",
             End::NoServer => "NoServer",
+            End::Refused => "Refused",
             End::Broken => "Broken",
             End::Fragment => "Fragment",
             End::Text => "Text",
@@ -64,6 +68,7 @@ impl End {
             End::ServerGone => Some(CloseCode::Away),
             // Codes from 4000 on are an application's own.
             End::NoServer => Some(CloseCode::Library(4_404)),
+            End::Refused => Some(CloseCode::Library(4_403)),
             End::Broken | End::Fragment => Some(CloseCode::Protocol),
             End::Text => Some(CloseCode::Unsupported),
             End::NoUtf8 | End::NoMessage => Some(CloseCode::Invalid),

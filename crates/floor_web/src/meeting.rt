@@ -6,7 +6,6 @@
 //!  "floors":[{"id":2,"title":"","room":1,"chair":10}],"users":[{"id":10,"name":"Ann"}]}
 //! ```
 
-use crate::participants::items_of;
 use floor_config::{Config, User};
 use serde::Serialize;
 use std::alloc::{AllocError, Global};
@@ -40,12 +39,14 @@ struct ShownUser<'a> {
     name: &'a str,
 }
 
-/// What the page of a user of a conference is told. `table` is the conference's own.
+/// What the page of a user of a conference is told. `table` is the conference's own, and `floors` has one
+/// for each of its floors.
 pub(crate) fn meeting_text(
     alloc: Global,
     config: &Config,
     user: &User,
     table: &Value,
+    floors: &[Value],
 ) -> Result<String, AllocError> {
     let meeting = Meeting {
         conference: config.conference(),
@@ -53,7 +54,7 @@ pub(crate) fn meeting_text(
         user: user.id,
         name: name_of(user),
         proxy: user.proxy,
-        floors: floors_of(alloc, config, table)?,
+        floors: floors_of(alloc, config, floors)?,
         users: users_of(alloc, config)?,
     };
     match serde_json::to_string(alloc, &meeting) {
@@ -65,9 +66,8 @@ pub(crate) fn meeting_text(
 fn floors_of<'a>(
     alloc: Global,
     config: &Config,
-    table: &'a Value,
+    tables: &'a [Value],
 ) -> Result<Vec<ShownFloor<'a>>, AllocError> {
-    let tables = items_of(table.get("floor"));
     let mut floors = Vec::new(alloc);
     for (index, floor) in config.floors().iter().enumerate() {
         floors.push(ShownFloor {

@@ -239,7 +239,8 @@ fn add_user(
             user: user.id,
         });
     };
-    let meeting = meeting_text(alloc, config, user, conference)?;
+    let floors = items_of(conference.get("floor"));
+    let meeting = meeting_text(alloc, config, user, conference, floors)?;
     participants.push(Participant {
         token: String::from_str(alloc, token)?,
         conference: number,
@@ -324,7 +325,7 @@ fn value_at<'a>(table: &'a Table, key: &str) -> Option<&'a Value>
 }
 
 /// The items of an array; none where there is no array.
-pub(crate) fn items_of(value: Option<&Value>) -> &[Value]
+fn items_of(value: Option<&Value>) -> &[Value]
     ensures value { items_view result.now
         ≡ spec.items_of (option_map (λ v. view v.now) value.entry) }
 {

@@ -38,11 +38,11 @@ pub enum Side {
 /// control server.
 ///
 /// `browser` and `server` take a piece of what a side sends, `close` says that a side's stream ended,
-/// `lack_server` that there is no server, and `ping` asks the browser for a sign of life. Each adds what is to be sent to the server to `up`,
-/// and to the browser to `down`; the caller sends both in that order, whole. Once `end` tells an end
-/// nothing is carried any more: what `down` holds by then is still to be sent, and then the browser's
-/// socket is closed. It holds what no whole frame and no whole message is yet, and nothing by what a
-/// peer announces.
+/// `lack_server` that there is no server, `refuse` that the server said nothing before its stream ended,
+/// and `ping` asks the browser for a sign of life. Each adds what is to be sent to the server to `up`, and
+/// to the browser to `down`; the caller sends both in that order, whole. Once `end` tells an end nothing is
+/// carried any more: what `down` holds by then is still to be sent, and then the browser's socket is
+/// closed. It holds what no whole frame and no whole message is yet, and nothing by what a peer announces.
 #[derive(Drop)]
 pub struct Relay {
     alloc: Global,
@@ -179,6 +179,22 @@ impl Relay {
             return;
         }
         self.finish(End::NoServer, down);
+    }
+
+    /// Says that the server ended its stream before it said anything: it takes no connection of the
+    /// participant's now. The browser is told by a close of its own, since it may come again in vain.
+    pub fn refuse(&mut self, down: &mut Vec<u8>)
+        ensures took { self.old.end ≡ None → spec.Finishes End.Refused self.new
+            down.old.items down.new.items }
+        ensures ended { IsSome self.old.end → spec.Silent self.old self.new
+            [] [] down.old.items down.new.items }
+        ensures carried { spec.KeepsRelayed [] [] self.old self.new
+            [] [] down.old.items down.new.items }
+    {
+        if self.is_over() {
+            return;
+        }
+        self.finish(End::Refused, down);
     }
 
     /// Asks the browser for a sign of life.

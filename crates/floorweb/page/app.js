@@ -121,7 +121,7 @@ function showState() {
   document.body.classList.toggle("open", state === "open");
   if (wasOpen && state !== "open") lose();
   if (state === "ended") {
-    showNotice(cause, cause === "meeting" ? () => room.session.again() : undefined);
+    showNotice(cause, cause === "meeting" || cause === "full" ? () => room.session.again() : undefined);
   } else if (state === "open") {
     hideNotice();
   }

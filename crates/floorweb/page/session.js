@@ -7,9 +7,10 @@ const FIRST_WAIT = 500;
 const LONGEST_WAIT = 15_000;
 const ANSWER_WAIT = 10_000;
 
-/** The code by which floorweb closes where the server's port refuses it. */
+/** The codes by which floorweb closes where nobody is at the server's port, and where the server takes no connection of the user's. */
 const NO_SERVER = 4404;
-/** At which of them running the meeting is taken to have ended: a server that starts anew is back before. */
+const NOT_TAKEN = 4403;
+/** At which of them running nothing is tried any more: a server that starts anew is back before. */
 const MAX_REFUSED = 3;
 
 /** An Error message of the server, by its name in RFC 8855. */
@@ -29,7 +30,7 @@ export class Lost extends Error {}
  */
 export class Session extends EventTarget {
   state = "connecting";
-  /** Once it has ended: `meeting` (it isn't there any more), `messages` (they were taken for no BFCP) or `refused`. */
+  /** Once it has ended: `meeting` (it isn't there any more), `full` (it isn't, or takes nobody more of this user), `messages` (they were taken for no BFCP) or `refused`. */
   cause = "";
   /** Once it waits: how many seconds it does. */
   seconds = 0;
@@ -138,8 +139,8 @@ export class Session extends EventTarget {
     this.floors.clear();
     if (this.state === "ended") return;
     if (code === 1002 || code === 1003 || code === 1007) return this.#end("messages");
-    this.#refused = code === NO_SERVER ? this.#refused + 1 : 0;
-    if (this.#refused === MAX_REFUSED) return this.#end("meeting");
+    this.#refused = code === NO_SERVER || code === NOT_TAKEN ? this.#refused + 1 : 0;
+    if (this.#refused === MAX_REFUSED) return this.#end(code === NO_SERVER ? "meeting" : "full");
     this.seconds = Math.ceil(this.#wait / 1000);
     this.#enter("waiting");
     this.#timer = setTimeout(() => this.connect(), this.#wait * (0.75 + Math.random() / 2));

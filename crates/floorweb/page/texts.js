@@ -85,6 +85,10 @@ export const notices = {
     title: "The meeting has ended",
     text: "Nothing is left to do here. If it goes on later, try again then.",
   },
+  full: {
+    title: "The meeting has ended, or is full",
+    text: "If it goes on, close the other windows in which you have it open, and try again.",
+  },
   messages: {
     title: "This page can't go on",
     text: "The server doesn't understand what it sends. Load it again; if that doesn't help, tell whoever runs the meeting.",

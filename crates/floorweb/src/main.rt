@@ -1,24 +1,11 @@
 //! A gateway for browsers: it serves a page, and carries BFCP between a WebSocket of the page and a
-//! user's port of a floor control server (RFC 8857).
+//! user's port of a floor control server, or its door (RFC 8857).
 //!
 //! It runs until its standard input ends: status 0. Status 1 for a fault, which standard error names;
 //! 2 for words that are refused.
 #![tactic(auto)]
 
-mod connection;
-mod deadline;
-mod entry;
-mod fault;
-mod gateway;
-mod head;
-mod pair;
-mod run;
-#[cfg(test)]
-mod tests;
-mod unserved;
-mod words;
-
-use crate::fault::GatewayFault;
+use floor_gateway::{GatewayFault, run, tell};
 use std::io::ErrorKind;
 use std::process::ExitCode;
 
@@ -27,17 +14,17 @@ fn main(rt: HostRuntime) -> ExitCode {
     let words: Vec<String> = match std::env::args(&rt) {
         Ok(arguments) => match arguments.collect(alloc) {
             Ok(words) => words,
-            Err(_) => return ExitCode::from(run::tell(&mut rt.stderr(), GatewayFault::Memory)),
+            Err(_) => return ExitCode::from(tell(&mut rt.stderr(), GatewayFault::Memory)),
         },
         Err(error) if error.kind() == ErrorKind::OutOfMemory => {
-            return ExitCode::from(run::tell(&mut rt.stderr(), GatewayFault::Memory));
+            return ExitCode::from(tell(&mut rt.stderr(), GatewayFault::Memory));
         }
         Err(_) => {
             let _outcome = rt.eprintln("error: a word is not UTF-8");
             return ExitCode::from(2);
         }
     };
-    ExitCode::from(run::run(
+    ExitCode::from(run(
         rt,
         alloc,
         words.as_slice(),

@@ -78,8 +78,8 @@ fn push_end(told: &mut String, relay: &Relay) -> Result<(), AllocError> {
 }
 
 /// What is sent down of a server's bytes, which are the first line, and how the relay ends. Behind them
-/// `ping` sends a ping, `gone server` and `gone browser` end a side, `no server` says that there is none, and
-/// other bytes come from the server.
+/// `ping` sends a ping, `gone server` and `gone browser` end a side, `no server` says that there is none,
+/// `refused` that it said nothing, and other bytes come from the server.
 pub fn of_server(alloc: Global, text: &str) -> Result<String, AllocError> {
     let (first, lines) = text.split_once('\n').unwrap_or((text, ""));
     let said = bytes(alloc, first)?;
@@ -119,6 +119,7 @@ fn act(alloc: Global, relay: &mut Relay, down: &mut Vec<u8>, line: &str) -> Resu
         "gone server" => relay.close(Side::Server, down),
         "gone browser" => relay.close(Side::Browser, down),
         "no server" => relay.lack_server(down),
+        "refused" => relay.refuse(down),
         said => relay.server(&bytes(alloc, said)?, down),
     }
     Ok(())

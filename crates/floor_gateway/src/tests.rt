@@ -1,6 +1,6 @@
 //! A gateway from its start to its end: the faults that it names, and a browser that is served.
 
-use crate::run::run;
+use crate::running::run;
 use std::alloc::Global;
 use std::io::{Read, Write};
 use std::net::{Net, TcpListener, TcpStream};

@@ -173,9 +173,9 @@ fn wait_for_end<R: Wait, I: Read>(rt: &R, input: &mut I) {
 }
 
 /// Waits a while until no connection runs: each is told that the gateway goes away.
-fn wait_for_connections<R: Clock>(rt: &R, gateway: &Gateway) {
+fn wait_for_connections<R: Clock + Wait>(rt: &R, gateway: &Gateway) {
     for _ in 0..LAST_LOOKS {
-        if gateway.is_idle() {
+        if gateway.is_idle(rt) {
             return;
         }
         thread::sleep(rt, Duration::from_millis(LOOK_MILLIS));

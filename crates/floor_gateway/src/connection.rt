@@ -3,22 +3,21 @@
 use crate::entry::{Entry, Place};
 use crate::gateway::Gateway;
 use crate::head::{HeadEnd, read_head};
-use crate::pair::{Pair, WRITE_SECONDS, linger};
+use crate::pair::{Pair, linger};
+use crate::server::{Reached, prepare, reach};
 use crate::unserved::Unserved;
-use floor_proxy::unique_id_header;
+use floor_listen::Granted;
 use floor_web::{
     Asked, End, Kind, Participant, Reading, Refusal, Relay, read_request, refuse, serve, welcome,
 };
 use std::alloc::Global;
-use std::io::{ErrorKind, Read, Write};
-use std::net::{Ipv4Addr, Net, Shutdown, SocketAddr, TcpListener, TcpStream};
+use std::io::{Read, Write};
+use std::net::{Net, Shutdown, TcpListener, TcpStream};
+use std::sync::atomic::{AtomicBool, Ordering};
 use std::sync::{Arc, Wait};
 use std::thread;
-use std::thread::Threads;
-use std::time::{Clock, Duration};
-
-/// How long the server may take to take a connection, in seconds.
-const CONNECT_SECONDS: u64 = 5;
+use std::thread::{SpawnError, Threads};
+use std::time::Clock;
 
 /// Starts the thread of a connection. Where it can't be served its socket is closed.
 pub fn start<R>(rt: R, alloc: Global, gateway: &Arc<Gateway, Global>, stream: TcpStream)
@@ -32,25 +31,108 @@ where
         + Send
         + 'static,
 {
-    let Ok(theirs) = Arc::try_clone(gateway) else {
+    let Ok(starting) = Starting::new(alloc, gateway, stream) else {
         gateway.tell(&rt, &Entry::Unserved(Unserved::Memory));
         return;
     };
-    if !gateway.enter() {
-        gateway.tell(&rt, &Entry::Refused(Refusal::Unavailable));
-        turn_away(alloc, &stream);
-        return;
-    }
-    let started = thread::spawn(&rt, move || {
-        if let Err(unserved) = run(rt, alloc, &theirs, stream) {
-            theirs.tell(&rt, &Entry::Unserved(unserved));
+    match gateway.enter(&rt) {
+        Some(granted) => start_thread(rt, alloc, starting, granted),
+        None => {
+            gateway.tell(&rt, &Entry::Refused(Refusal::Unavailable));
+            turn_away(alloc, &starting.stream);
         }
-        theirs.leave();
-    });
-    if started.is_err() {
-        gateway.tell(&rt, &Entry::Unserved(Unserved::NoThread));
-        gateway.leave();
     }
+}
+
+/// A connection whose thread is to be started.
+#[derive(Drop)]
+struct Starting {
+    gateway: Arc<Gateway, Global>,
+    /// Whether there is a thread for it.
+    has_thread: Arc<AtomicBool, Global>,
+    /// The same, for whoever finds that there is none.
+    ours: Arc<AtomicBool, Global>,
+    stream: TcpStream,
+}
+
+impl Starting {
+    fn new(
+        alloc: Global,
+        gateway: &Arc<Gateway, Global>,
+        stream: TcpStream,
+    ) -> Result<Starting, Unserved> {
+        let gateway = Arc::try_clone(gateway)?;
+        let has_thread = Arc::new(alloc, AtomicBool::new(true))?;
+        let ours = Arc::try_clone(&has_thread)?;
+        Ok(Starting {
+            gateway,
+            has_thread,
+            ours,
+            stream,
+        })
+    }
+}
+
+/// Starts the thread, with a place for its connection.
+fn start_thread<R>(rt: R, alloc: Global, starting: Starting, granted: Granted)
+where
+    R: Net<Listener = TcpListener, Stream = TcpStream>
+        + Clock
+        + Threads
+        + Wait
+        + Copy
+        + Drop
+        + Send
+        + 'static,
+{
+    let Starting {
+        gateway,
+        has_thread,
+        ours,
+        stream,
+    } = starting;
+    match thread::spawn(
+        &rt,
+        move || run(rt, alloc, &gateway, granted, &has_thread, stream),
+    ) {
+        Ok(_handle) => {}
+        Err(SpawnError { value: work }) => {
+            // What its thread would do is done here, and is no more than to give the place back.
+            ours.store(false, Ordering::SeqCst);
+            work();
+        }
+    }
+}
+
+/// What a connection's thread does: it serves the connection, and gives its place back.
+fn run<R>(
+    rt: R,
+    alloc: Global,
+    gateway: &Gateway,
+    granted: Granted,
+    has_thread: &AtomicBool,
+    stream: TcpStream,
+)
+where
+    R: Net<Listener = TcpListener, Stream = TcpStream>
+        + Clock
+        + Threads
+        + Wait
+        + Copy
+        + Drop
+        + Send
+        + 'static,
+{
+    let place = granted.taken();
+    let served = if has_thread.load(Ordering::SeqCst) {
+        read_and_answer(rt, alloc, gateway, stream)
+    } else {
+        Err(Unserved::NoThread)
+    };
+    if let Err(unserved) = served {
+        gateway.tell(&rt, &Entry::Unserved(unserved));
+    }
+    gateway.leave(&rt, place);
 }
 
 /// Answers that there are too many connections, and waits for nothing.
@@ -66,7 +148,12 @@ fn turn_away(alloc: Global, mut stream: &TcpStream) {
 }
 
 /// Reads the request, and serves it.
-fn run<R>(rt: R, alloc: Global, gateway: &Gateway, stream: TcpStream) -> Result<(), Unserved>
+fn read_and_answer<R>(
+    rt: R,
+    alloc: Global,
+    gateway: &Gateway,
+    stream: TcpStream,
+) -> Result<(), Unserved>
 where
     R: Net<Listener = TcpListener, Stream = TcpStream>
         + Clock
@@ -94,12 +181,6 @@ where
         }
         _ => Ok(()),
     }
-}
-
-/// Has a socket send without delay, and wait for its peer no longer than it may.
-fn prepare(stream: &TcpStream) {
-    let _outcome = stream.set_nodelay(true);
-    let _outcome = stream.set_write_timeout(Some(Duration::from_secs(WRITE_SECONDS)));
 }
 
 /// Answers what is asked for. `behind` came behind the head.
@@ -224,43 +305,6 @@ where
     let end = pair.part(&rt);
     gateway.tell(&rt, &Entry::Left(place, end.unwrap_or(End::Gone)));
     Ok(())
-}
-
-/// What came of connecting to the server.
-#[derive(Drop)]
-enum Reached {
-    Server(TcpStream),
-    /// Nobody listens there.
-    Nobody,
-    /// It can't be connected to.
-    Failure,
-}
-
-/// Connects to the participant's port of the server; or to its door, and says who it is.
-fn reach<R: Net<Listener = TcpListener, Stream = TcpStream>>(
-    rt: &R,
-    alloc: Global,
-    door: Option<u16>,
-    participant: &Participant,
-) -> Result<Reached, Unserved> {
-    let Some(port) = door.or(participant.port) else {
-        return Ok(Reached::Failure);
-    };
-    let address = SocketAddr::from((Ipv4Addr::LOCALHOST, port));
-    let wait = Duration::from_secs(CONNECT_SECONDS);
-    let mut server = match TcpStream::connect_timeout(rt, &address, wait) {
-        Ok(server) => server,
-        Err(error) if error.kind() == ErrorKind::ConnectionRefused => return Ok(Reached::Nobody),
-        Err(_) => return Ok(Reached::Failure),
-    };
-    prepare(&server);
-    if door.is_some() {
-        let header = unique_id_header(alloc, participant.conference, participant.user)?;
-        if server.write_all(header.as_slice()).is_err() {
-            return Ok(Reached::Failure);
-        }
-    }
-    Ok(Reached::Server(server))
 }
 
 /// Makes the connection a WebSocket, and closes it by the code for a server that isn't there.

@@ -4,6 +4,7 @@ use crate::entry::Entry;
 use crate::fault::GatewayFault;
 use crate::pair::Pair;
 use crate::words::Words;
+use floor_listen::{Capacity, Granted, Taken};
 use floor_log::Log;
 use floor_web::{
     File, Origins, Pages, Participants, ParticipantsFault, kind_of, read_participants,
@@ -14,12 +15,9 @@ use std::fs;
 use std::io::Write;
 use std::path::Path;
 use std::rt::Files;
-use std::sync::atomic::{AtomicBool, AtomicUsize, Ordering};
+use std::sync::atomic::{AtomicBool, Ordering};
 use std::sync::{Arc, Mutex, Wait};
 use std::time::Clock;
-
-/// How many connections there may be at once: each may have two threads and two descriptors.
-const MAX_CONNECTIONS: usize = 1_024;
 
 /// What all connections share.
 #[derive(Drop)]
@@ -31,7 +29,7 @@ pub struct Gateway {
     /// The server's door by id, where all come by it.
     pub door: Option<u16>,
     log: Option<Arc<Log, Global>>,
-    running: AtomicUsize,
+    places: Mutex<Capacity>,
     is_ending: AtomicBool,
     pairs: Mutex<Slab<Arc<Pair, Global>>>,
 }
@@ -55,6 +53,7 @@ impl Gateway {
             folder,
             origins,
             door,
+            connections,
             has_log: _,
         } = words;
         let participants = participants_of(rt, alloc, config.as_str(), errors)?;
@@ -73,7 +72,7 @@ impl Gateway {
             origins: Origins { listed: origins },
             door,
             log,
-            running: AtomicUsize::new(0),
+            places: Mutex::new(Capacity::new(usize::from(connections))),
             is_ending: AtomicBool::new(false),
             pairs: Mutex::new(Slab::new(alloc)),
         })
@@ -96,22 +95,18 @@ impl Gateway {
     }
 
     /// Takes a place for a connection, if one is free.
-    pub fn enter(&self) -> bool {
-        if self.running.fetch_add(1, Ordering::SeqCst) < MAX_CONNECTIONS {
-            return true;
-        }
-        self.leave();
-        false
+    pub fn enter<R: Wait>(&self, rt: &R) -> Option<Granted> {
+        self.places.lock(rt).take()
     }
 
     /// Gives a place back.
-    pub fn leave(&self) {
-        self.running.fetch_sub(1, Ordering::SeqCst);
+    pub fn leave<R: Wait>(&self, rt: &R, place: Taken) {
+        self.places.lock(rt).give_back(place);
     }
 
     /// Whether no connection runs.
-    pub fn is_idle(&self) -> bool {
-        self.running.load(Ordering::SeqCst) == 0
+    pub fn is_idle<R: Wait>(&self, rt: &R) -> bool {
+        self.places.lock(rt).is_idle()
     }
 
     /// Takes up a pair, so that it ends where the gateway does.

@@ -8,6 +8,10 @@ use std::alloc::Global;
 /// The version, and the logic that the program is proved with.
 const VERSION: &str = "0.1.0 (logic dac8208d650f15bf)";
 
+/// How many connections there may be at once where no word says it: each may have two threads and two
+/// descriptors.
+const CONNECTIONS: u16 = 1_024;
+
 /// What the words say.
 #[derive(Debug, Drop)]
 pub struct Words {
@@ -21,6 +25,8 @@ pub struct Words {
     pub origins: Vec<String>,
     /// The server's door by id, where all are to come by it; else each comes by the user's own port.
     pub door: Option<u16>,
+    /// How many connections there may be at once.
+    pub connections: u16,
     /// Whether each connection that joins, is refused or leaves is told.
     pub has_log: bool,
 }
@@ -58,6 +64,7 @@ fn parsed(alloc: Global, words: &[String]) -> Result<Words, Error> {
         folder: text(alloc, &matches, "folder")?,
         origins,
         door: matches.get_one::<u16>("door-by-id"),
+        connections: matches.get_one::<u16>("connections").unwrap_or(CONNECTIONS),
         has_log: matches.get_flag("log"),
     })
 }
@@ -88,6 +95,14 @@ fn command<'a>(alloc: Global) -> Result<Command<'a>, Error> {
                 .help(
                     "The server's door by id: all users come by it, and need no port of their own.",
                 ),
+        )?
+        .arg(
+            Arg::new(alloc, "connections")
+                .long("connections")
+                .value_name("count")
+                .action(ArgAction::Set)
+                .value_parser(ValueParser::unsigned(1, u64::from(u16::MAX)))
+                .help("How many connections there may be at once, if not 1024."),
         )?
         .arg(
             Arg::new(alloc, "log")

@@ -9,6 +9,7 @@ use floor_web::{End, Relay, Side};
 use std::alloc::Global;
 use std::io::{ErrorKind, Read, Write};
 use std::net::{Shutdown, TcpStream};
+use std::sync::atomic::{AtomicBool, Ordering};
 use std::sync::{Mutex, Wait};
 use std::time::{Clock, Duration};
 
@@ -31,6 +32,8 @@ pub struct Pair {
     alloc: Global,
     browser: TcpStream,
     server: TcpStream,
+    /// Whether the gateway itself has ended the reading of the server.
+    is_hung_up: AtomicBool,
     relay: Mutex<Relay>,
 }
 
@@ -42,6 +45,7 @@ impl Pair {
             alloc,
             browser,
             server,
+            is_hung_up: AtomicBool::new(false),
             relay: Mutex::new(Relay::new(alloc)),
         }
     }
@@ -88,12 +92,16 @@ impl Pair {
     pub fn carry_down<R: Wait>(&self, rt: &R) {
         let mut server = &self.server;
         let mut piece = [0u8; 4_096];
+        let mut has_said = false;
         for _ in rt.forever() {
             let goes_on = match server.read(&mut piece) {
-                Ok(0) => self.close(rt, Side::Server),
-                Ok(count) => self.tell(rt, &piece[..count]),
+                Ok(0) => self.end_of_server(rt, has_said),
+                Ok(count) => {
+                    has_said = true;
+                    self.tell(rt, &piece[..count])
+                }
                 Err(error) if error.kind() == ErrorKind::Interrupted => true,
-                Err(_) => self.close(rt, Side::Server),
+                Err(_) => self.end_of_server(rt, has_said),
             };
             if !goes_on {
                 break;
@@ -105,6 +113,7 @@ impl Pair {
 
     /// Ends the reading of the server, which ends the relay.
     pub fn hang_up(&self) {
+        self.is_hung_up.store(true, Ordering::SeqCst);
         // It may be shut down already.
         let _outcome = self.server.shutdown(Shutdown::Both);
     }
@@ -144,6 +153,17 @@ impl Pair {
         let mut down = Vec::new(self.alloc);
         let mut relay = self.relay.lock(rt);
         relay.close(side, &mut down);
+        self.send(&mut relay, down.as_slice())
+    }
+
+    /// Says that the server's stream ended, which has said something or not. Tells whether the relay goes on.
+    fn end_of_server<R: Wait>(&self, rt: &R, has_said: bool) -> bool {
+        if has_said || self.is_hung_up.load(Ordering::SeqCst) {
+            return self.close(rt, Side::Server);
+        }
+        let mut down = Vec::new(self.alloc);
+        let mut relay = self.relay.lock(rt);
+        relay.refuse(&mut down);
         self.send(&mut relay, down.as_slice())
     }
 

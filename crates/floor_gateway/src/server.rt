@@ -1,0 +1,56 @@
+//! The way to the server: a participant's port, or the door for all.
+
+use crate::pair::WRITE_SECONDS;
+use crate::unserved::Unserved;
+use floor_proxy::unique_id_header;
+use floor_web::Participant;
+use std::alloc::Global;
+use std::io::{ErrorKind, Write};
+use std::net::{Ipv4Addr, Net, SocketAddr, TcpListener, TcpStream};
+use std::time::Duration;
+
+/// How long the server may take to take a connection, in seconds.
+const CONNECT_SECONDS: u64 = 5;
+
+/// What came of connecting to the server.
+#[derive(Drop)]
+pub enum Reached {
+    Server(TcpStream),
+    /// Nobody listens there.
+    Nobody,
+    /// It can't be connected to.
+    Failure,
+}
+
+/// Connects to the participant's port of the server; or to its door, and says who it is.
+pub fn reach<R: Net<Listener = TcpListener, Stream = TcpStream>>(
+    rt: &R,
+    alloc: Global,
+    door: Option<u16>,
+    participant: &Participant,
+) -> Result<Reached, Unserved> {
+    let Some(port) = door.or(participant.port) else {
+        return Ok(Reached::Failure);
+    };
+    let address = SocketAddr::from((Ipv4Addr::LOCALHOST, port));
+    let wait = Duration::from_secs(CONNECT_SECONDS);
+    let mut server = match TcpStream::connect_timeout(rt, &address, wait) {
+        Ok(server) => server,
+        Err(error) if error.kind() == ErrorKind::ConnectionRefused => return Ok(Reached::Nobody),
+        Err(_) => return Ok(Reached::Failure),
+    };
+    prepare(&server);
+    if door.is_some() {
+        let header = unique_id_header(alloc, participant.conference, participant.user)?;
+        if server.write_all(header.as_slice()).is_err() {
+            return Ok(Reached::Failure);
+        }
+    }
+    Ok(Reached::Server(server))
+}
+
+/// Has a socket send without delay, and wait for its peer no longer than it may.
+pub fn prepare(stream: &TcpStream) {
+    let _outcome = stream.set_nodelay(true);
+    let _outcome = stream.set_write_timeout(Some(Duration::from_secs(WRITE_SECONDS)));
+}

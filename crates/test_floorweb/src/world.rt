@@ -1,0 +1,478 @@
+//! What the steps of a case do, and what they print.
+
+use crate::gateway::Gateway;
+use crate::stream::{Heard, Stream};
+use floor_words::{read_hexadecimal, words};
+use std::alloc::Global;
+use std::io::ErrorKind;
+use std::net::{Net, TcpListener, TcpStream};
+use std::rt::Files;
+use std::sync::Wait;
+use std::thread::Threads;
+use std::time::{Clock, Duration, Instant};
+use std::{fs, thread};
+use test_cases::Fault;
+
+/// How long a peer is waited for where a case says nothing else, in seconds.
+const PATIENCE: u64 = 10;
+
+/// How many bytes are printed as they are.
+const MAX_SHOWN: usize = 100;
+
+/// The file that the gateway reads.
+const CONFIGURATION: &str = "meeting.toml";
+
+/// The files that it serves, and a folder that has no page.
+const FILES: [(&str, &str); 4] = [
+    ("page/index.html", "<p>floors"),
+    ("page/app.min.js", "// two dots"),
+    ("page/NOTES", "of no kind"),
+    ("other/style.css", "p { }"),
+];
+
+/// A gateway, the browsers before it and the server behind it.
+#[derive(Drop)]
+pub struct World<R> {
+    rt: R,
+    alloc: Global,
+    /// Where the server listens, for two users.
+    servers: Vec<TcpListener>,
+    ports: [u16; 2],
+    /// A port at which nobody listens.
+    nobody: u16,
+    /// The gateway's own.
+    port: u16,
+    gateway: Option<Gateway>,
+    streams: Vec<Stream>,
+    patience: u64,
+    /// How many bytes stand behind what is sent next, in one piece with it.
+    behind: usize,
+    clock: Instant,
+    pub printed: String,
+}
+
+fn free_port<R>(rt: &R) -> Result<u16, Fault>
+where
+    R: Net<Listener = TcpListener, Stream = TcpStream>,
+{
+    let listener = TcpListener::bind(rt, "127.0.0.1:0")?;
+    Ok(listener.local_addr()?.port())
+}
+
+impl<R> World<R>
+where
+    R: Net<Listener = TcpListener, Stream = TcpStream>
+        + Files
+        + AllocGlobal
+        + Clock
+        + Threads
+        + Wait
+        + Copy
+        + Drop
+        + Send
+        + 'static,
+{
+    pub fn new(rt: R) -> Result<World<R>, Fault> {
+        let alloc = rt.alloc();
+        let mut servers = Vec::new(alloc);
+        let mut ports = [0u16; 2];
+        for port in ports.iter_mut() {
+            let server = TcpListener::bind(&rt, "127.0.0.1:0")?;
+            *port = server.local_addr()?.port();
+            server.set_nonblocking(true)?;
+            servers.push(server)?;
+        }
+        let nobody = free_port(&rt)?;
+        for folder in ["page", "other"] {
+            // It may be there since the case before.
+            let _outcome = fs::create_dir(&rt, folder);
+        }
+        for (name, text) in FILES {
+            fs::write(&rt, name, text)?;
+        }
+        let Ok(clock) = Instant::now(&rt) else {
+            return Err(Fault::Wrong("no clock"));
+        };
+        Ok(World {
+            rt,
+            alloc,
+            servers,
+            ports,
+            nobody,
+            port: free_port(&rt)?,
+            gateway: None,
+            streams: Vec::new(alloc),
+            patience: PATIENCE,
+            behind: 0,
+            clock,
+            printed: String::new(alloc),
+        })
+    }
+
+    /// A text in which FIRST and SECOND are the server's ports, and NOBODY one at which nobody listens.
+    fn with_ports(&self, text: &str) -> Result<String, Fault> {
+        let [first, second] = self.ports;
+        let mut text = String::from_str(self.alloc, text)?;
+        for (name, port) in [
+            ("FIRST", first),
+            ("SECOND", second),
+            ("NOBODY", self.nobody),
+        ] {
+            let port = format!(in self.alloc; "{port}")?;
+            text = text.as_str().replace(self.alloc, name, port.as_str())?;
+        }
+        Ok(text)
+    }
+
+    /// Writes the file that the gateway reads.
+    pub fn write_configuration(&mut self, text: &str) -> Result<(), Fault> {
+        let text = self.with_ports(text)?;
+        fs::write(&self.rt, CONFIGURATION, text.as_str())?;
+        Ok(())
+    }
+
+    /// Does a step.
+    ///
+    /// - `gateway WORDS` starts the gateway, of the folder page, with these words besides, and prints its
+    ///   first line; `folder NAME` is another folder; `log` prints the next line of its log, `end` ends
+    ///   its input, and `stop` waits for its end besides, and prints what else it printed, its log and its status.
+    /// - `NAME ask TEXT` sends a request, in which `|` ends a line; `NAME open USER` asks for a WebSocket with
+    ///   the user's token, and further fields behind the user; `NAME status` prints the status of the answer,
+    ///   `NAME answer` the body too, to the end of the stream.
+    /// - `NAME greet USER BYTE BYTES` asks for a WebSocket with a frame right behind the request.
+    /// - `NAME frame BYTE BYTES` sends a frame by its first byte and its payload, `NAME send BYTES` sends bytes,
+    ///   `NAME fill COUNT` so many of one byte, `NAME text TEXT` a text, and
+    ///   `NAME flood COUNT BYTES` so many times these bytes, however long that takes, beside what comes next.
+    /// - `NAME hear` prints the next frame, `NAME hear COUNT` the next bytes; `NAME half` ends the sending side,
+    ///   and `NAME close` closes the stream.
+    /// - `NAME accept` is the next connection to the server, at either port.
+    /// - `behind COUNT` has so many bytes stand behind what is sent next, in one piece with it.
+    /// - `patience SECONDS` is how long each is waited for, `sleep MILLISECONDS` waits, `clock` starts a clock,
+    ///   and `since LEAST MOST` prints whether it shows so many seconds.
+    pub fn step(&mut self, line: &str) -> Result<(), Fault> {
+        if line.is_empty() || line.starts_with('#') {
+            return Ok(());
+        }
+        let (first, rest) = line.split_once(' ').unwrap_or((line, ""));
+        match first {
+            "gateway" => self.start("page", rest),
+            "folder" => {
+                let (folder, rest) = rest.split_once(' ').unwrap_or((rest, ""));
+                self.start(folder, rest)
+            }
+            "log" => self.log(),
+            "end" => {
+                if let Some(gateway) = &self.gateway {
+                    gateway.end_input();
+                }
+                Ok(())
+            }
+            "stop" => self.stop(),
+            "patience" => {
+                self.patience = number_in(rest)?;
+                Ok(())
+            }
+            "behind" => {
+                self.behind = number_in(rest)? as usize;
+                Ok(())
+            }
+            "sleep" => {
+                thread::sleep(&self.rt, Duration::from_millis(number_in(rest)?));
+                Ok(())
+            }
+            "clock" => match Instant::now(&self.rt) {
+                Ok(now) => {
+                    self.clock = now;
+                    Ok(())
+                }
+                Err(_) => Err(Fault::Wrong("no clock")),
+            },
+            "since" => self.since(rest),
+            name => {
+                let (verb, rest) = rest.split_once(' ').unwrap_or((rest, ""));
+                self.act(name, verb, rest)
+            }
+        }
+    }
+
+    fn start(&mut self, folder: &str, more: &str) -> Result<(), Fault> {
+        let alloc = self.alloc;
+        let address = format!(in alloc; "127.0.0.1:{}", self.port)?;
+        let mut all = Vec::new(alloc);
+        for word in ["floorweb", address.as_str(), CONFIGURATION, folder] {
+            all.push(String::from_str(alloc, word)?)?;
+        }
+        let more = self.with_ports(more)?;
+        for word in more.as_str().split_whitespace() {
+            all.push(String::from_str(alloc, word)?)?;
+        }
+        let gateway = Gateway::start(self.rt, all)?;
+        let line = gateway.line(alloc)?;
+        if line.is_empty() {
+            return gateway.end(&self.rt, &mut self.printed);
+        }
+        write!(self.printed, "{}\n", line.as_str())?;
+        self.gateway = Some(gateway);
+        Ok(())
+    }
+
+    fn log(&mut self) -> Result<(), Fault> {
+        match &self.gateway {
+            None => Ok(self.printed.push_str("there is no gateway\n")?),
+            Some(gateway) => {
+                let line = gateway.log_line(self.alloc)?;
+                write!(self.printed, "log {}\n", line.as_str())?;
+                Ok(())
+            }
+        }
+    }
+
+    fn stop(&mut self) -> Result<(), Fault> {
+        match self.gateway.take() {
+            None => Ok(self.printed.push_str("there is no gateway\n")?),
+            Some(gateway) => gateway.end(&self.rt, &mut self.printed),
+        }
+    }
+
+    fn since(&mut self, rest: &str) -> Result<(), Fault> {
+        let (least, most) = rest.split_once(' ').unwrap_or((rest, rest));
+        let Ok(spent) = self.clock.elapsed(&self.rt) else {
+            return Err(Fault::Wrong("no clock"));
+        };
+        let spent = spent.as_millis() as u64;
+        let least = number_in(least)?.saturating_mul(1_000);
+        let most = number_in(most)?.saturating_mul(1_000);
+        if least <= spent && spent <= most {
+            self.printed.push_str("in time\n")?;
+        } else {
+            write!(self.printed, "after {spent} milliseconds\n")?;
+        }
+        Ok(())
+    }
+
+    /// What somebody does.
+    fn act(&mut self, name: &str, verb: &str, rest: &str) -> Result<(), Fault> {
+        match verb {
+            "ask" => {
+                let text = rest.replace(self.alloc, "|", "\r\n")?;
+                self.connect(name, text.as_bytes())
+            }
+            "open" => {
+                let (user, fields) = rest.split_once(' ').unwrap_or((rest, ""));
+                self.open(name, user, fields, &[])
+            }
+            "greet" => {
+                let (user, frame) = rest.split_once(' ').unwrap_or((rest, ""));
+                let frame = self.bytes_of("frame", frame)?;
+                self.open(name, user, "", frame.as_slice())
+            }
+            "accept" => self.accept(name),
+            _ if self.place_of(name).is_err() => {
+                write!(self.printed, "{name} isn't there\n")?;
+                Ok(())
+            }
+            "close" => {
+                let place = self.place_of(name)?;
+                let _stream = self.streams.remove(place);
+                Ok(())
+            }
+            "half" => {
+                self.stream(name)?.end_sending();
+                Ok(())
+            }
+            "text" => {
+                let text = rest.replace(self.alloc, "|", "\r\n")?;
+                self.send(name, text.as_bytes())
+            }
+            "send" | "fill" | "frame" => {
+                let bytes = self.bytes_of(verb, rest)?;
+                self.send(name, bytes.as_slice())
+            }
+            "flood" => {
+                let (count, bytes) = rest.split_once(' ').unwrap_or((rest, ""));
+                let count = number_in(count)?;
+                let bytes = self.bytes_of("send", bytes)?;
+                let rt = self.rt;
+                self.stream(name)?.flood(&rt, count, bytes)
+            }
+            "status" | "answer" => self.answer(name, verb == "answer"),
+            "hear" if rest.is_empty() => self.hear_frame(name),
+            "hear" => self.hear(name, rest),
+            _ => Err(Fault::Layout("no such step")),
+        }
+    }
+
+    fn place_of(&self, name: &str) -> Result<usize, Fault> {
+        match self
+            .streams
+            .iter()
+            .position(|stream| stream.name.as_str() == name)
+        {
+            Some(place) => Ok(place),
+            None => Err(Fault::Layout("nobody has this name")),
+        }
+    }
+
+    fn stream(&mut self, name: &str) -> Result<&mut Stream, Fault> {
+        let place = self.place_of(name)?;
+        Ok(&mut self.streams[place])
+    }
+
+    fn add(&mut self, name: &str, socket: TcpStream) -> Result<(), Fault> {
+        let stream = Stream::new(self.alloc, name, socket)?;
+        stream.wait_for(self.patience)?;
+        self.streams.push(stream)?;
+        Ok(())
+    }
+
+    /// Sends bytes, with those behind them that a step has asked for.
+    fn send(&mut self, name: &str, bytes: &[u8]) -> Result<(), Fault> {
+        let mut sent = Vec::from_slice(self.alloc, bytes)?;
+        let len = bytes.len().saturating_add(self.behind);
+        sent.resize(len, b'x')?;
+        self.behind = 0;
+        self.stream(name)?.send(sent.as_slice());
+        Ok(())
+    }
+
+    fn connect(&mut self, name: &str, request: &[u8]) -> Result<(), Fault> {
+        let address = format!(in self.alloc; "127.0.0.1:{}", self.port)?;
+        let Ok(socket) = TcpStream::connect(&self.rt, address.as_str()) else {
+            write!(self.printed, "{name} can't connect\n")?;
+            return Ok(());
+        };
+        socket.set_nodelay(true)?;
+        self.add(name, socket)?;
+        self.send(name, request)
+    }
+
+    /// Asks for a WebSocket: RFC 6455, section 1.3, has the key.
+    fn open(&mut self, name: &str, user: &str, fields: &str, behind: &[u8]) -> Result<(), Fault> {
+        let request = format!(in self.alloc;
+            "GET /bfcp HTTP/1.1|Host: h|Connection: Upgrade|Upgrade: websocket|Sec-WebSocket-Version: 13|Sec-WebSocket-Key: dGhlIHNhbXBsZSBub25jZQ==|Sec-WebSocket-Protocol: bfcp, token.the-token-of-user-{user}--|{fields}|"
+        )?;
+        let request = request.as_str().replace(self.alloc, "|", "\r\n")?;
+        let mut bytes = request.into_bytes();
+        bytes.extend_from_slice(behind)?;
+        self.connect(name, bytes.as_slice())
+    }
+
+    fn accept(&mut self, name: &str) -> Result<(), Fault> {
+        for _ in 0..self.patience.saturating_mul(100) {
+            if let Some(socket) = self.accepted()? {
+                return self.add(name, socket);
+            }
+            thread::sleep(&self.rt, Duration::from_millis(10));
+        }
+        write!(self.printed, "{name} never comes\n")?;
+        Ok(())
+    }
+
+    /// The next connection to the server, if there is one.
+    fn accepted(&self) -> Result<Option<TcpStream>, Fault> {
+        for server in self.servers.iter() {
+            match server.accept() {
+                Ok((socket, _)) => {
+                    socket.set_nonblocking(false)?;
+                    return Ok(Some(socket));
+                }
+                Err(error) if error.kind() == ErrorKind::WouldBlock => {}
+                Err(error) => return Err(Fault::from(error)),
+            }
+        }
+        Ok(None)
+    }
+
+    /// The bytes that a step sends.
+    fn bytes_of(&self, verb: &str, rest: &str) -> Result<Vec<u8>, Fault> {
+        let alloc = self.alloc;
+        if verb == "fill" {
+            let count = number_in(rest)? as usize;
+            let mut bytes = Vec::new(alloc);
+            bytes.resize(count, b'x')?;
+            return Ok(bytes);
+        }
+        let spelled = match read_hexadecimal(alloc, &words(alloc, rest)?) {
+            Ok(bytes) => bytes,
+            Err(_) => return Err(Fault::Layout("no hexadecimal")),
+        };
+        if verb == "send" {
+            return Ok(spelled);
+        }
+        let Some((first, payload)) = spelled.split_first() else {
+            return Err(Fault::Layout("a frame without a first byte"));
+        };
+        let mut bytes = Vec::new(alloc);
+        bytes.push(*first)?;
+        bytes.push(0x80 | (payload.len() % 126) as u8)?;
+        bytes.extend_from_slice(&[0, 0, 0, 0])?;
+        bytes.extend_from_slice(payload)?;
+        Ok(bytes)
+    }
+
+    /// Prints the status of an answer, and its body where the whole answer is asked for.
+    fn answer(&mut self, name: &str, is_whole: bool) -> Result<(), Fault> {
+        let alloc = self.alloc;
+        let (heard, head) = self.stream(name)?.head(alloc)?;
+        if heard != Heard::Enough {
+            write!(self.printed, "{name} {}\n", heard.name())?;
+            return Ok(());
+        }
+        let line = std::str::from_utf8(head.as_slice()).unwrap_or("");
+        let status = line.split(' ').nth(1).unwrap_or("none");
+        write!(self.printed, "{name} {status}")?;
+        if is_whole {
+            let (heard, body) = self.stream(name)?.rest(alloc)?;
+            let body = std::str::from_utf8(body.as_slice()).unwrap_or("no UTF-8");
+            write!(self.printed, " {body} {}", heard.name())?;
+        }
+        self.printed.push('\n')?;
+        Ok(())
+    }
+
+    fn hear_frame(&mut self, name: &str) -> Result<(), Fault> {
+        let alloc = self.alloc;
+        let (heard, first, payload) = self.stream(name)?.frame(alloc)?;
+        if heard != Heard::Enough {
+            write!(self.printed, "{name} {}\n", heard.name())?;
+            return Ok(());
+        }
+        let front = hex::encode(alloc, &[first])?;
+        let payload = shown(alloc, payload.as_slice())?;
+        write!(
+            self.printed,
+            "{name} {} {}\n",
+            front.as_str(),
+            payload.as_str()
+        )?;
+        Ok(())
+    }
+
+    fn hear(&mut self, name: &str, rest: &str) -> Result<(), Fault> {
+        let alloc = self.alloc;
+        let count = number_in(rest)? as usize;
+        let (heard, bytes) = self.stream(name)?.bytes(alloc, count)?;
+        if heard != Heard::Enough {
+            write!(self.printed, "{name} {}\n", heard.name())?;
+            return Ok(());
+        }
+        let bytes = shown(alloc, bytes.as_slice())?;
+        write!(self.printed, "{name} {}\n", bytes.as_str())?;
+        Ok(())
+    }
+}
+
+/// Bytes as they are printed: how many, where they are many.
+fn shown(alloc: Global, bytes: &[u8]) -> Result<String, Fault> {
+    if MAX_SHOWN < bytes.len() {
+        return Ok(format!(in alloc; "{} bytes", bytes.len())?);
+    }
+    Ok(hex::encode(alloc, bytes)?)
+}
+
+fn number_in(text: &str) -> Result<u64, Fault> {
+    match text.parse() {
+        Ok(number) => Ok(number),
+        Err(_) => Err(Fault::Layout("no number")),
+    }
+}
