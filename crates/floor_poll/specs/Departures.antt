@@ -23,6 +23,7 @@ departure_at (end.Refused hub.Forgotten) = left.Memory
 departure_at (end.Refused hub.Running) = left.Memory
 departure_at (end.Refused hub.NoConnection) = left.Memory
 departure_at (end.Refused hub.Memory) = left.Memory
+departure_at end.Removed = left.Removed
 
 abbrev pub departure_by : Bool → Option End → Departure
 departure_by true end = left.Stopped

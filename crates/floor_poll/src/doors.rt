@@ -460,7 +460,7 @@ fn hear(entering: &mut Entering, buffer: &mut Vec<u8>) -> Heard {
 }
 
 /// The earlier of two times, where there is one.
-fn earlier(one: Option<u64>, other: Option<u64>) -> Option<u64> {
+pub fn earlier(one: Option<u64>, other: Option<u64>) -> Option<u64> {
     match (one, other) {
         (Some(one), Some(other)) => Some(one.min(other)),
         (one, other) => one.or(other),

@@ -9,6 +9,7 @@
 mod accepting;
 mod arrival;
 mod connection;
+mod control;
 mod departure;
 mod doors;
 mod elapsed;
@@ -25,4 +26,5 @@ mod server;
 mod turns;
 mod worker;
 
+pub use control::console::Descriptors;
 pub use running::run;

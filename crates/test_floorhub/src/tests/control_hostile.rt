@@ -1,0 +1,159 @@
+//! Clients of the control socket that mean harm: each has its named answer, and holds nobody up.
+
+use super::clients::{
+    ask, ask_control, control, control_lines, free_port, prepare, run_to_end, start_with_socket,
+};
+use std::alloc::Global;
+use std::fs;
+use std::io::{Read, Write};
+use std::net::Shutdown;
+use std::os::unix::net::UnixStream;
+use std::test::Fail;
+
+/// How many clients there are at most.
+const MAX_CLIENTS: usize = 64;
+
+/// All that is left of a stream, as a text.
+fn rest(alloc: Global, client: &mut UnixStream) -> Result<String, Fail> {
+    let mut bytes = Vec::new(alloc);
+    client.read_to_end(&mut bytes)?;
+    Ok(String::from_utf8(bytes)?)
+}
+
+#[test]
+fn the_65th_client_is_closed(rt: HostRuntime) -> Result<(), Fail> {
+    let alloc = rt.alloc();
+    let path = "control-full";
+    let server = start_with_socket(rt, "full.toml", path, free_port(&rt)?)?;
+    let mut clients = Vec::new(alloc);
+    for _ in 0..MAX_CLIENTS {
+        let mut client = control(&rt, path)?;
+        let found = ask_control(alloc, &mut client, "unwatch 1", 1)?;
+        assert_eq!(rt; found.as_str(), "ok unwatched 1");
+        clients.push(client)?;
+    }
+    let mut late = control(&rt, path)?;
+    assert_eq!(rt; rest(alloc, &mut late)?.as_str(), "error Full\n");
+    assert_eq!(rt;
+        ask(&rt, &server, "status 1")?.as_str(),
+        "conference 1 members 0 ongoing 0 events 0 open"
+    );
+    drop(clients);
+    assert_eq!(rt;
+        ask(&rt, &server, "stop")?.as_str(),
+        "ok stopped seats 0 events 0"
+    );
+    assert_eq!(rt; server.end(&rt), 0);
+    fs::remove_file(&rt, "full.toml")?;
+    Ok(())
+}
+
+/// What is too long closes its client behind its answer, and what isn't a text doesn't.
+#[test]
+fn what_is_too_long_closes_its_client(rt: HostRuntime) -> Result<(), Fail> {
+    let alloc = rt.alloc();
+    let path = "control-long";
+    let server = start_with_socket(rt, "long.toml", path, free_port(&rt)?)?;
+    let mut client = control(&rt, path)?;
+    client.write_all(b"@a \xff\n@b unwatch 1\n")?;
+    let found = control_lines(alloc, &mut client, 2)?;
+    assert_eq!(rt; found.as_str(), "error NotText,@b ok unwatched 1");
+    let mut longest = Vec::from_elem(alloc, b'x', 65_536)?;
+    longest.push(b'\n')?;
+    client.write_all(longest.as_slice())?;
+    assert_eq!(rt;
+        control_lines(alloc, &mut client, 1)?.as_str(),
+        "error UnknownCommand"
+    );
+    client.write_all(longest.as_slice().get(..65_536).ok_or("so long")?)?;
+    client.write_all(b"x")?;
+    assert_eq!(rt; rest(alloc, &mut client)?.as_str(), "error TooLong\n");
+    let mut client = control(&rt, path)?;
+    client.write_all(b"open .\n")?;
+    for _ in 0..17 {
+        if client.write_all(longest.as_slice()).is_err() {
+            break;
+        }
+    }
+    assert_eq!(rt;
+        control_lines(alloc, &mut client, 1)?.as_str(),
+        "error TooLong"
+    );
+    assert_eq!(rt;
+        ask(&rt, &server, "stop")?.as_str(),
+        "ok stopped seats 0 events 0"
+    );
+    assert_eq!(rt; server.end(&rt), 0);
+    fs::remove_file(&rt, "long.toml")?;
+    Ok(())
+}
+
+/// One client dies inside `open .`, one ends its sending behind whole lines, and one never reads: others are answered.
+#[test]
+fn who_never_reads_holds_nobody_up(rt: HostRuntime) -> Result<(), Fail> {
+    let alloc = rt.alloc();
+    let path = "control-unread";
+    let server = start_with_socket(rt, "unread.toml", path, free_port(&rt)?)?;
+    let mut dying = control(&rt, path)?;
+    dying.write_all(b"open .\n[[conference]]\nid = 5\n")?;
+    drop(dying);
+    let mut half = control(&rt, path)?;
+    half.write_all(b"@1 unwatch 1\n@2 unwatch 1\n@3 unwa")?;
+    half.shutdown(Shutdown::Write)?;
+    let found = rest(alloc, &mut half)?;
+    assert_eq!(rt; found.as_str(), "@1 ok unwatched 1\n@2 ok unwatched 1\n");
+    let mut silent = control(&rt, path)?;
+    silent.set_nonblocking(true)?;
+    for _ in 0..2_000 {
+        if silent
+            .write_all(b"metrics\nlist\njournal 1\nwatch 1\nunwatch 1\n")
+            .is_err()
+        {
+            break;
+        }
+    }
+    let mut client = control(&rt, path)?;
+    for _ in 0..100 {
+        let found = ask_control(alloc, &mut client, "status 1", 1)?;
+        assert_eq!(rt;
+            found.as_str(),
+            "conference 1 members 0 ongoing 0 events 0 open"
+        );
+    }
+    assert_eq!(rt;
+        ask_control(alloc, &mut client, "status 5", 1)?.as_str(),
+        "error NoConference"
+    );
+    assert_eq!(rt;
+        ask(&rt, &server, "stop")?.as_str(),
+        "ok stopped seats 0 events 0"
+    );
+    assert_eq!(rt; server.end(&rt), 0);
+    fs::remove_file(&rt, "unread.toml")?;
+    Ok(())
+}
+
+/// Where somebody listens at the path, or another file is there, the server doesn't start.
+#[test]
+fn a_path_that_is_taken_is_refused(rt: HostRuntime) -> Result<(), Fail> {
+    let alloc = rt.alloc();
+    let path = "control-taken";
+    let server = start_with_socket(rt, "taken.toml", path, free_port(&rt)?)?;
+    fs::write(&rt, "control-file", "")?;
+    for other in [path, "control-file", "control-none/socket"] {
+        let (console, mut start) = prepare(&rt, "other.toml", &[(2, free_port(&rt)?)])?;
+        start.add_word(alloc, "--control")?;
+        start.add_word(alloc, other)?;
+        assert_eq!(rt; run_to_end(rt, alloc, start), 1, "{other}");
+        drop(console);
+    }
+    assert_eq!(rt;
+        ask(&rt, &server, "stop")?.as_str(),
+        "ok stopped seats 0 events 0"
+    );
+    assert_eq!(rt; server.end(&rt), 0);
+    for path in ["taken.toml", "other.toml", "control-file"] {
+        fs::remove_file(&rt, path)?;
+    }
+    Ok(())
+}
