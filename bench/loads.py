@@ -2,7 +2,7 @@
 
 A thousand browsers over fifty conferences, of which in each one raises a hand and lowers it again, twice a second,
 and all others are told; and beside them one that takes nothing, a head that drips, and a page that is loaded anew
-each second. LOADS_SECONDS in the environment is how long it goes on, if not 300.
+each second; before them others come and go. LOADS_SECONDS in the environment is how long it goes on, if not 300.
 """
 import os
 import resource
@@ -26,9 +26,17 @@ EACH = 1
 PORT = FIRST_PORT + 480
 # More than there may be at once by themselves: what comes beside the thousand is to be seen for itself.
 PLACES = 1_200
-# By how many kB it may grow for each browser: 4 to 23 were seen, beside other work. Its two stacks are a guess; what
-# grows isn't known.
-GROWTH = 32
+# glibc keeps what was given back, for each thread and in up to eight arenas a processor, which looks like growth: some
+# 20 kB for each browser. Without caches and with one arena the gateway's memory is what it holds.
+PLAIN = {'MALLOC_ARENA_MAX': '1', 'GLIBC_TUNABLES': 'glibc.malloc.tcache_count=0'}
+# By how many kB it may grow then for each browser that stays and is told some hundred messages (half of it was seen,
+# with what waits for the one that takes nothing), and for each that came and went (nothing was).
+GROWTH = 1
+LEFT = 0.25
+# How many rounds of how many browsers come and go, behind some that aren't counted.
+ROUNDS = 40
+FIRST_ROUNDS = 5
+TOGETHER = 50
 # How long the last answers are waited for, in seconds: the browsers, the server and the gateway share the machine.
 LAST = 60
 
@@ -206,11 +214,32 @@ def deaf(end, seen):
     seen['deaf'] = browser
 
 
+def come_and_go(gateway, rounds):
+    """Browsers come, are answered and go, in each round some at once, and all is freed behind it."""
+    before = gateway.use()
+    freed = before[1:]
+    for _ in range(rounds):
+        browsers = [Browser(token_of(conference, 10), port=PORT) for conference in range(1, TOGETHER + 1)]
+        for conference, browser in enumerate(browsers, 1):
+            browser.send(2, message(HELLO, conference, 1, 10))
+            browser.primitive()
+            browser.close()
+        freed = gateway.freed(before, LAST)
+        if freed != before[1:]:
+            break
+    check('loads: those that came and went are freed', freed, before[1:])
+
+
 def loads(server_path, program, folder):
     """All of it at once."""
     server = Server(server_path, configuration(), limits={resource.RLIMIT_NOFILE: 8_192})
     gateway = Gateway(program, folder, configuration(), '--connections', str(PLACES),
-                      address='127.0.0.1:%d' % PORT, descriptors=8_192).ready()
+                      address='127.0.0.1:%d' % PORT, descriptors=8_192, variables=PLAIN).ready()
+    come_and_go(gateway, FIRST_ROUNDS)
+    before = gateway.use()
+    come_and_go(gateway, ROUNDS)
+    left = gateway.use()[0] - before[0]
+    check('loads: those that came and went leave nothing', left < LEFT * ROUNDS * TOGETHER, True)
     before = gateway.use()
     crowd = Crowd()
     began = time.monotonic()
@@ -246,9 +275,10 @@ def loads(server_path, program, folder):
           (seen['loads'] * seen['wanted'], seen['loads'], seen['loads']))
     check('loads: each head that drips is given up in its time',
           [one for one in seen['drips'] if one[0] != 408 or not HEAD <= one[1] <= HEAD + 2], [])
-    check('loads: it grows by less than was seen to be usual', last[0] - first[0] < GROWTH * count, True)
+    check('loads: those that stay take no more for what they are told', last[0] - first[0] < GROWTH * count, True)
     crowd.is_over = True
     reading.join()
+    print('%d browsers came and went, and left %d kB' % (ROUNDS * TOGETHER, left))
     print('%d browsers in %.1f s: %.0f kB and %.1f threads for each; behind %d s %d kB more' % (
         count, took, (first[0] - before[0]) / count, (first[1] - before[1]) / count, SECONDS, last[0] - first[0]))
     print('%d hands raised and lowered, %d messages told, %.0f each second; an answer %.1f ms (median), %.0f ms (of 100 '

@@ -10,7 +10,7 @@
 // AA, as far as a program sees it: names, roles, contrast, targets, headings, landmarks; narrow, enlarged, in the
 // dark and without motion. Before a floorhub all come once more by its door, where a meeting ends otherwise.
 // Pictures of the pages go to the folder PICTURES, if there is one. Status 1 at the first step that isn't as it
-// should be.
+// should be. PATIENCE in the environment is how many times as long each step is waited for, on a busy machine.
 import { spawn } from "node:child_process";
 import { mkdtempSync, readFileSync, rmSync, writeFileSync } from "node:fs";
 import { createConnection } from "node:net";
@@ -26,6 +26,7 @@ const tokens = Object.fromEntries(
 const ADDRESS = "127.0.0.1:7080";
 const DOOR = 7_081;
 const DEBUGGING = 9_333;
+const PATIENCE = Number(process.env.PATIENCE ?? 1);
 const sleep = (milliseconds) => new Promise((resolve) => setTimeout(resolve, milliseconds));
 let steps = 0;
 
@@ -148,7 +149,7 @@ class Tab {
     // It tells who asked.
     const late = new Error(`${this.name}: no answer to ${method}`);
     return new Promise((resolve, reject) => {
-      setTimeout(() => reject(late), 60_000).unref();
+      setTimeout(() => reject(late), 60_000 * PATIENCE).unref();
       this.waiting.set(id, { resolve, reject });
       this.socket.send(JSON.stringify({ id, method, params }));
     });
@@ -161,7 +162,7 @@ class Tab {
   }
 
   async until(expression, what = expression, wait = 8_000) {
-    for (const end = Date.now() + wait; Date.now() < end; await sleep(50)) {
+    for (const end = Date.now() + wait * PATIENCE; Date.now() < end; await sleep(50)) {
       if (await this.value(expression)) return void steps++;
     }
     throw new Error(`${this.name}: never ${what}\n${await this.value("document.body?.innerText")}\n${Tab.complaints.join("\n")}`);

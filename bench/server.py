@@ -25,6 +25,13 @@ def proxy_header(name):
     return bytes.fromhex('0d0a0d0a000d0a515549540a211100') + bytes([len(tlvs)]) + tlvs
 
 
+def header_by_id(name):
+    """The header that says at a door by id who comes: a name in its unique-id."""
+    name = name.encode()
+    return (bytes.fromhex('0d0a0d0a000d0a515549540a2100') + struct.pack('>H', 3 + len(name)) + b'\5'
+            + struct.pack('>H', len(name)) + name)
+
+
 def configuration(conferences, users, first_port=FIRST_PORT):
     """The text of a configuration, and (port, conference, user) of each user, conferences in turn."""
     text = []
@@ -157,3 +164,74 @@ def hear(client, count):
             break
         heard += piece
     return heard
+
+
+class Control:
+    """A program at a floorhub's control socket. Live lines that came before an answer are kept apart."""
+
+    def __init__(self, path, seconds=30):
+        self.socket = socket.socket(socket.AF_UNIX)
+        self.socket.settimeout(seconds)
+        self.socket.connect(path)
+        # Bytes behind the last whole line; whole lines, the next one last; live lines so far.
+        self.heard, self.lines, self.live = b'', [], []
+        self.tags = 0
+
+    def line(self):
+        """The next line, without its end; an OSError where the stream ends, or nothing comes."""
+        while not self.lines:
+            piece = self.socket.recv(1 << 18)
+            if not piece:
+                raise ConnectionError('the control socket has ended')
+            *self.lines, self.heard = (self.heard + piece).split(b'\n')
+            self.lines.reverse()
+        return self.lines.pop().decode()
+
+    def listen(self, seconds):
+        """Takes the live lines that come within so many seconds."""
+        end = time.monotonic() + seconds
+        while True:
+            while self.lines:
+                self.live.append(self.line())
+            left = end - time.monotonic()
+            if left <= 0 or not select.select([self.socket], [], [], left)[0]:
+                return
+            self.live.append(self.line())
+
+    def settle(self, seconds=2):
+        """Takes live lines until none come for so many seconds."""
+        before = -1
+        while before != len(self.live):
+            before = len(self.live)
+            self.listen(seconds)
+
+    def send(self, line):
+        """Sends a line with a tag of its own, which is given back for `answer`."""
+        self.tags += 1
+        tag = ('@s%d' if line.startswith('status ') else '@%d') % self.tags
+        self.socket.sendall(b'%s %s\n' % (tag.encode(), line.encode()))
+        return tag
+
+    def answer(self, tag):
+        """The lines of the next answer, without the tag that it has to have; a ConnectionError where it hasn't."""
+        lines = []
+        while True:
+            line = self.line()
+            if line[:2] in ('! ', '~ '):
+                if lines:
+                    raise ConnectionError('inside the answer of %s stands "%s"' % (tag, line))
+                self.live.append(line)
+                continue
+            if not line.startswith(tag + ' '):
+                raise ConnectionError('%s is answered by "%s"' % (tag, line))
+            lines.append(line[len(tag) + 1:])
+            # `status` is answered by a line as it stands in a list.
+            if lines[-1].split(' ', 1)[0] in ('ok', 'error', 'end') or tag[1] == 's':
+                return lines
+
+    def ask(self, line):
+        """The lines of the answer, without the tag."""
+        return self.answer(self.send(line))
+
+    def close(self):
+        self.socket.close()

@@ -14,21 +14,25 @@ const GREATEST: i64 = 65_535;
 
 /// Walks through a document's table, and stops at its first fault.
 pub fn conferences(alloc: Global, table: &Table) -> Result<(), Fault> {
-    let document = Place {
-        table,
-        path: String::new(alloc),
-    };
+    let document = Place::document(alloc, table);
     if table.get("conference").is_none() {
-        return document.stop(alloc, "conference is missing; [] stands for none");
+        return document.stop(alloc, None, "conference is missing; [] stands for none");
     }
     let items = tables(alloc, &document, "conference", usize::MAX)?;
-    let places = places(alloc, "", "conference", items)?;
+    let places = places(alloc, &document, "conference", items)?;
     for place in places.iter() {
         conference(alloc, place)?;
     }
     let numbers = numbers_of(alloc, &places, "id")?;
     if let Some((first, second)) = double_of(alloc, numbers.as_slice())? {
-        return twice(alloc, &document, "conferences", first, second, &numbers);
+        return twice(
+            alloc,
+            &document,
+            "conferences",
+            (first, second),
+            &places,
+            &numbers,
+        );
     }
     double_port(alloc, &places)
 }
@@ -39,22 +43,22 @@ fn conference(alloc: Global, place: &Place) -> Result<(), Fault> {
     optional(alloc, place, "limit", 1, 16)?;
     optional(alloc, place, "connections", 1, 64)?;
     let items = tables(alloc, place, "user", 256)?;
-    let users = places(alloc, place.path.as_str(), "user", items)?;
+    let users = places(alloc, place, "user", items)?;
     for user in users.iter() {
         check_user(alloc, user)?;
     }
     let ids = numbers_of(alloc, &users, "id")?;
     if let Some((first, second)) = double_of(alloc, ids.as_slice())? {
-        return twice(alloc, place, "users", first, second, &ids);
+        return twice(alloc, place, "users", (first, second), &users, &ids);
     }
     let items = tables(alloc, place, "floor", 32)?;
-    let floors = places(alloc, place.path.as_str(), "floor", items)?;
+    let floors = places(alloc, place, "floor", items)?;
     for floor in floors.iter() {
         check_floor(alloc, floor)?;
     }
     let numbers = numbers_of(alloc, &floors, "id")?;
     if let Some((first, second)) = double_of(alloc, numbers.as_slice())? {
-        return twice(alloc, place, "floors", first, second, &numbers);
+        return twice(alloc, place, "floors", (first, second), &floors, &numbers);
     }
     chairs(alloc, &floors, ids.as_slice())
 }
@@ -81,7 +85,7 @@ fn chairs(alloc: Global, floors: &[Place], users: &[i64]) -> Result<(), Fault> {
         match number_at(floor, "chair") {
             Some(chair) if !users.contains(&chair) => {
                 let what = format!(in alloc; "chair {chair} is no user of the conference")?;
-                return floor.stop(alloc, what.as_str());
+                return floor.stop(alloc, Some("chair"), what.as_str());
             }
             _ => {}
         }
@@ -93,22 +97,31 @@ fn chairs(alloc: Global, floors: &[Place], users: &[i64]) -> Result<(), Fault> {
 fn double_port(alloc: Global, conferences: &[Place]) -> Result<(), Fault> {
     let mut ports = Vec::new(alloc);
     let mut paths = Vec::new(alloc);
+    let mut spots = Vec::new(alloc);
     for conference in conferences {
         let items = tables(alloc, conference, "user", 256)?;
-        for user in places(alloc, conference.path.as_str(), "user", items)?.iter() {
+        for user in places(alloc, conference, "user", items)?.iter() {
             if let Some(port) = number_at(user, "port") {
                 ports.push(port)?;
                 paths.push(String::from_str(alloc, user.path.as_str())?)?;
+                spots.push(user.spot(alloc, Some("port"))?)?;
             }
         }
     }
     let Some((first, second)) = double_of(alloc, ports.as_slice())? else {
         return Ok(());
     };
+    if spots.len() <= second {
+        return Ok(());
+    }
+    let spot = spots.swap_remove(second);
     match (paths.get(first), paths.get(second), ports.get(first)) {
         (Some(first), Some(second), Some(port)) => {
             let (first, second) = (first.as_str(), second.as_str());
-            stopped(format!(in alloc; "{first} and {second} have port {port}")?)
+            stopped(
+                format!(in alloc; "{first} and {second} have port {port}")?,
+                spot,
+            )
         }
         _ => Ok(()),
     }
@@ -117,14 +130,14 @@ fn double_port(alloc: Global, conferences: &[Place]) -> Result<(), Fault> {
 /// The tables among the values, each with its place.
 fn places<'a>(
     alloc: Global,
-    above: &str,
-    kind: &str,
+    outer: &Place,
+    kind: &'static str,
     items: &'a [Value],
 ) -> Result<Vec<Place<'a>>, AllocError> {
     let mut places = Vec::new(alloc);
     for (index, item) in items.iter().enumerate() {
         if let Some(table) = item.as_table() {
-            places.push(Place::new(alloc, above, kind, index.saturating_add(1), table)?)?;
+            places.push(Place::new(alloc, outer, kind, index.saturating_add(1), table)?)?;
         }
     }
     Ok(places)
@@ -147,17 +160,22 @@ fn numbers_of(alloc: Global, places: &[Place], key: &str) -> Result<Vec<i64>, Al
     Ok(numbers)
 }
 
-/// Ends the walk at two tables of one kind with one id.
+/// Ends the walk at two tables of one kind with one id: the fault is the second's.
 fn twice(
     alloc: Global,
     place: &Place,
     kind: &str,
-    first: usize,
-    second: usize,
+    double: (usize, usize),
+    places: &[Place],
     ids: &[i64],
 ) -> Result<(), Fault> {
+    let (first, second) = double;
     let id = ids.get(first).copied().unwrap_or(0);
+    let spot = match places.get(second) {
+        Some(table) => table.spot(alloc, Some("id"))?,
+        None => place.spot(alloc, None)?,
+    };
     let (first, second) = (first.saturating_add(1), second.saturating_add(1));
     let what = format!(in alloc; "{kind} {first} and {second} have id {id}")?;
-    place.stop(alloc, what.as_str())
+    place.stop_at(alloc, spot, what.as_str())
 }

@@ -11,9 +11,10 @@ mod checks;
 mod diagnosis;
 mod doubles;
 mod place;
+mod seeking;
 mod unknown;
 mod values;
 
-pub use diagnosis::{Diagnosis, diagnose};
+pub use diagnosis::{Diagnosis, diagnose, line_of_fault};
 pub use floor_config::ConfigFault;
 pub use unknown::{UnknownKey, unknown_keys};

@@ -1,14 +1,12 @@
 //! Keys that a configuration has and that say nothing, as one that is misspelled.
-//!
-//! The reader of TOML keeps no places, so the line of a key is looked for: the first of those lines up to
-//! which the text has the key.
 
+use crate::seeking::{Lines, Sought};
 use std::alloc::{AllocError, Global};
 use std::fmt::Write;
 use toml::{Table, Value};
 
-/// How many beginnings of a text are read at most to find lines.
-const MAX_READS: u32 = 5_000;
+/// How many bytes of beginnings of a text are read at most to find lines.
+const MAX_BYTES: usize = 268_435_456;
 
 /// How many keys are told of at most.
 const MAX_TOLD: usize = 100;
@@ -35,74 +33,15 @@ pub struct UnknownKey {
 /// The first 100 keys of a text that say nothing, table by table; none of a text that isn't TOML.
 pub fn unknown_keys(alloc: Global, text: &str) -> Result<Vec<UnknownKey>, AllocError> {
     let mut keys = Vec::new(alloc);
-    let ends = line_ends(alloc, text)?;
-    let mut reads = MAX_READS;
+    let mut lines = Lines::new(alloc, text, MAX_BYTES)?;
     for place in places(alloc, text)?.unwrap_or(Vec::new(alloc)) {
         if keys.len() == MAX_TOLD {
             break;
         }
-        let line = line_of(alloc, text, &ends, place.as_str(), &mut reads)?;
+        let line = lines.line_of(&Sought::Unknown(place.as_str()))?;
         keys.push(UnknownKey { line, place })?;
     }
     Ok(keys)
-}
-
-/// How many bytes the first line of the text has with its line feed, the first two, and so on.
-fn line_ends(alloc: Global, text: &str) -> Result<Vec<usize>, AllocError> {
-    let mut ends = Vec::new(alloc);
-    for (at, byte) in text.as_bytes().iter().enumerate() {
-        if *byte == b'\n' {
-            ends.push(at.saturating_add(1))?;
-        }
-    }
-    ends.push(text.len())?;
-    Ok(ends)
-}
-
-/// The first line up to which the text has the key, by halves: once it is there it stays. `None` once
-/// there are no reads left.
-fn line_of(
-    alloc: Global,
-    text: &str,
-    ends: &[usize],
-    place: &str,
-    reads: &mut u32,
-) -> Result<Option<usize>, AllocError> {
-    let mut without = 0usize;
-    let mut with = ends.len();
-    for _ in 0..usize::BITS {
-        if with <= without.saturating_add(1) {
-            return Ok(Some(with));
-        }
-        let middle = without.midpoint(with);
-        match has_key(alloc, text, ends, middle, place, reads)? {
-            None => return Ok(None),
-            Some(true) => with = middle,
-            Some(false) => without = middle,
-        }
-    }
-    Ok(Some(with))
-}
-
-/// Whether so many lines have the key, together with those behind them that end what they begin.
-fn has_key(
-    alloc: Global,
-    text: &str,
-    ends: &[usize],
-    lines: usize,
-    place: &str,
-    reads: &mut u32,
-) -> Result<Option<bool>, AllocError> {
-    for end in ends.iter().skip(lines.saturating_sub(1)) {
-        let Some(left) = reads.checked_sub(1) else {
-            return Ok(None);
-        };
-        *reads = left;
-        if let Some(found) = places(alloc, text.get(..*end).unwrap_or(text))? {
-            return Ok(Some(found.iter().any(|other| other.as_str() == place)));
-        }
-    }
-    Ok(Some(true))
 }
 
 /// The places of all keys of a text that say nothing; `None` where it isn't TOML.
@@ -110,12 +49,15 @@ fn places(alloc: Global, text: &str) -> Result<Option<Vec<String>>, AllocError> 
     match toml::table_from_str(alloc, text) {
         Err(error) if error.is_memory() => Err(AllocError),
         Err(_) => Ok(None),
-        Ok(table) => {
-            let mut found = Vec::new(alloc);
-            push_document(alloc, &table, &mut found)?;
-            Ok(Some(found))
-        }
+        Ok(table) => Ok(Some(unknown_places(alloc, &table)?)),
     }
+}
+
+/// The places of all keys of a document that say nothing.
+pub fn unknown_places(alloc: Global, table: &Table) -> Result<Vec<String>, AllocError> {
+    let mut found = Vec::new(alloc);
+    push_document(alloc, table, &mut found)?;
+    Ok(found)
 }
 
 /// Appends those of a document.

@@ -1,5 +1,5 @@
 -- Why a connection isn't served any more, as the log tells.
-use Rattle.std.specs.Prelude.{ℕ, zero, suc, Bool, true, false, Option, Some, None}
+use Rattle.std.specs.Prelude.{zero, suc, Bool, true, false, Option, Some, None}
 use Rattle.floor_hub.specs.declared.refusal.HubRefusal.{HubRefusal}
 use Rattle.floor_hub.specs.declared.refusal.HubRefusal.TheVariants as hub
 use Rattle.floor_room.specs.declared.status.Phase.{Phase}
@@ -23,6 +23,7 @@ departure_at (end.Refused hub.Forgotten) = left.Memory
 departure_at (end.Refused hub.Running) = left.Memory
 departure_at (end.Refused hub.NoConnection) = left.Memory
 departure_at (end.Refused hub.Memory) = left.Memory
+departure_at end.Removed = left.Removed
 
 abbrev pub departure_by : Bool → Option End → Departure
 departure_by true end = left.Stopped

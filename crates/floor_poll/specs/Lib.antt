@@ -2,3 +2,7 @@
 pub mod Departures
 pub mod Refusals
 pub mod Doors
+pub mod Times
+pub mod Counters
+pub mod Pieces
+pub mod Readers

@@ -6,6 +6,7 @@ use crate::departure::refused_by;
 use crate::mailbox::Mailbox;
 use crate::port::{Accepted, accept};
 use crate::worker::Worker;
+use floor_console::{Refusal, RoomRefusal};
 use floor_loop::ConnNo;
 use floor_server::{Entry, Peer, Refused, UserPort};
 use mio::net::TcpStream;
@@ -37,6 +38,7 @@ impl<R: Clock + Wait + Copy + Drop> Worker<R> {
                 Accepted::Nobody => return,
                 Accepted::Gone => {}
                 Accepted::Failure => {
+                    self.counters.accept_failures = self.counters.accept_failures.saturating_add(1);
                     self.set_failing(number, true);
                     self.look_again(number, ACCEPT_AGAIN_MILLIS);
                     return;
@@ -94,7 +96,10 @@ impl<R: Clock + Wait + Copy + Drop> Worker<R> {
     fn attach(&mut self, stream: TcpStream, peer: Peer) {
         match self.join(peer.to) {
             Ok(number) => self.add(number, stream, peer),
-            Err(cause) => self.tell(&Entry::Refused { peer, cause }),
+            Err(cause) => {
+                self.count_refused(cause);
+                self.tell(&Entry::Refused { peer, cause });
+            }
         }
     }
 
@@ -121,11 +126,14 @@ impl<R: Clock + Wait + Copy + Drop> Worker<R> {
                 self.add(number, stream, peer);
                 self.serve_bytes(number, header.rest());
             }
-            Err(cause) => self.tell(&Entry::RefusedAtDoor {
-                door: arrival.door,
-                peer: peer.port,
-                cause,
-            }),
+            Err(cause) => {
+                self.count_refused(cause);
+                self.tell(&Entry::RefusedAtDoor {
+                    door: arrival.door,
+                    peer: peer.port,
+                    cause,
+                });
+            }
         }
     }
 
@@ -136,15 +144,26 @@ impl<R: Clock + Wait + Copy + Drop> Worker<R> {
             return Err(Refused::NoConference);
         };
         places.take(to.user)?;
-        match self
+        let before = self.before(to.conference);
+        let attached = self
             .hub
-            .attach(self.alloc, to.conference, to.user, self.now)
-        {
+            .attach(self.alloc, to.conference, to.user, self.now);
+        let _count = self.note_events(before);
+        match attached {
             Ok(number) => Ok(number),
             Err(refusal) => {
-                places.give_back(to.user);
+                if let Some(places) = self.conferences.get_mut(&to.conference) {
+                    places.give_back(to.user);
+                }
                 Err(refused_by(refusal))
             }
+        }
+    }
+
+    /// Counts one that isn't let in since the conference has as many members as it may.
+    fn count_refused(&mut self, cause: Refused) {
+        if cause == Refused::ByRoom(RoomRefusal::Refused(Refusal::Full)) {
+            self.counters.full = self.counters.full.saturating_add(1);
         }
     }
 
@@ -176,7 +195,7 @@ impl<R: Clock + Wait + Copy + Drop> Worker<R> {
             .insert(number, Connection::new(stream, peer, n));
         if !is_told || added.is_err() {
             // Nothing would ever be told of it.
-            self.hub.failed(number, self.now);
+            self.fail(number);
         }
     }
 }

@@ -16,6 +16,8 @@ pub enum End {
     Failure,
     /// A message was refused.
     Refused(HubRefusal),
+    /// An administrator has shown it out.
+    Removed,
 }
 
 /// Why a member has left whose conference stands so, who was cut or wasn't, whose server stops or doesn't, and
@@ -45,6 +47,7 @@ fn departure_at(end: End) -> Departure
         End::Failure => Departure::Reset,
         End::Refused(HubRefusal::ByRoom(refusal)) => Departure::Message(refusal),
         End::Refused(_) => Departure::Memory,
+        End::Removed => Departure::Removed,
     }
 }
 

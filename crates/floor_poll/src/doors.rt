@@ -6,7 +6,7 @@
 use crate::accepting::{ACCEPT_AGAIN_MILLIS, MAX_ACCEPTS};
 use crate::arrival::Arrival;
 use crate::connection::{Found, read_once, shut_down};
-use crate::elapsed::Elapsed;
+use crate::elapsed::{Elapsed, earlier};
 use crate::header::{Header, Verdict};
 use crate::log::tell;
 use crate::mailbox::Mailbox;
@@ -457,14 +457,6 @@ fn hear(entering: &mut Entering, buffer: &mut Vec<u8>) -> Heard {
         Found::End | Found::Failure => true,
     };
     Heard::Verdict(entering.header.verdict(entering.door.entry, is_over))
-}
-
-/// The earlier of two times, where there is one.
-fn earlier(one: Option<u64>, other: Option<u64>) -> Option<u64> {
-    match (one, other) {
-        (Some(one), Some(other)) => Some(one.min(other)),
-        (one, other) => one.or(other),
-    }
 }
 
 /// Whether a time, where there is one, has come.

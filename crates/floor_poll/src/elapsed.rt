@@ -1,5 +1,8 @@
 //! How late it is, as a thread sees it.
 
+ghost use Rattle.std.specs.Prelude.{◌≡◌};
+ghost use Rattle.floor_poll.specs.Times.{earlier};
+
 use std::time::{Clock, Instant};
 
 /// The time since a thread began.
@@ -25,5 +28,15 @@ impl Elapsed {
             }
             _ => None,
         }
+    }
+}
+
+/// The earlier of two times, where there is one.
+pub fn earlier(one: Option<u64>, other: Option<u64>) -> Option<u64>
+    ensures value { result ≡ earlier one other }
+{
+    match (one, other) {
+        (Some(one), Some(other)) => Some(one.min(other)),
+        (one, other) => one.or(other),
     }
 }

@@ -1,28 +1,40 @@
-//! The server of a hub: conferences of a configuration over TCP, a port for each user, by a few event
-//! loops, and an administrator's lines.
+//! The loops of a server of a hub: conferences over TCP, a port for each user, by a few event loops.
 //!
-//! [`run`] does what a program's words ask for. It stands on floor_loop, which serves a hub, and on
-//! floor_server, which has what all servers share: here are the sockets, the threads and the clock. A
-//! conference belongs to one loop, with its ports and its connections; loops share nothing but the log.
+//! A [`Server`] starts them, and asks them, by a thread that waits for the answer, or by [`Server::send`] for
+//! somebody who doesn't: then the loop answers into an [`Inbox`]. It stands on floor_loop, which serves a hub, and
+//! on floor_server, which has what all servers share: here are the sockets, the threads and the clock. A conference
+//! belongs to one loop, with its ports and its connections; loops share nothing but the log.
 #![tactic(auto)]
 
 mod accepting;
 mod arrival;
+mod asks;
 mod connection;
+mod counters;
 mod departure;
 mod doors;
 mod elapsed;
+mod growth;
 mod header;
-mod lines;
+mod inbox;
 mod log;
 mod mailbox;
 mod opening;
 mod owners;
 mod places;
 mod port;
-mod running;
+mod readers;
+mod refusals;
 mod server;
 mod turns;
 mod worker;
 
-pub use running::run;
+pub use accepting::{ACCEPT_AGAIN_MILLIS, MAX_ACCEPTS};
+pub use counters::{both, no_counts};
+pub use elapsed::{Elapsed, earlier};
+pub use inbox::{Asker, Inbox, Note, Unread};
+pub use mailbox::{Answer, Asked, Lines, Piece, Question, Report};
+pub use port::Port;
+pub use refusals::ended;
+pub use server::{Server, poll_of};
+pub use worker::{REST_MILLIS, Room, WAKER};

@@ -13,10 +13,10 @@ pub fn tell<R: Wait + Clock>(rt: &R, log: &Option<Arc<Log, Global>>, entry: &Ent
     }
 }
 
-/// The log once more, where there is one, for another thread.
-pub fn share(log: &Option<Arc<Log, Global>>) -> Result<Option<Arc<Log, Global>>, AllocError> {
-    match log {
-        Some(log) => Ok(Some(Arc::try_clone(log)?)),
+/// What threads share, the log as well as the inbox, once more for another one, where there is one.
+pub fn share<T>(shared: &Option<Arc<T, Global>>) -> Result<Option<Arc<T, Global>>, AllocError> {
+    match shared {
+        Some(shared) => Ok(Some(Arc::try_clone(shared)?)),
         None => Ok(None),
     }
 }

@@ -1,11 +1,11 @@
-//! What the first thread asks of a loop, one thing after another, and what the loop answers; and who comes to
-//! it by a door.
+//! What the first thread asks of a loop, and what the loop answers; and who comes to it by a door.
 
 use crate::arrival::Arrival;
+use crate::inbox::Asker;
 use crate::port::Port;
 use floor_config::Config;
-use floor_console::BoardRefusal;
-use floor_loop::{Act, Status, User};
+use floor_control::{ControlRefusal, Metrics, Standing};
+use floor_loop::{Act, Event, Status, User};
 use mio::Waker;
 use std::alloc::{AllocError, Global};
 use std::collections::VecDeque;
@@ -31,37 +31,104 @@ pub enum Asked {
         conference: u32,
         act: Act,
     },
+    /// To show a member out of a conference.
+    Leave {
+        conference: u32,
+        n: u32,
+    },
+    /// To give the memory of a conference back.
+    Forget {
+        conference: u32,
+    },
+    /// To tell something, and to do nothing.
+    Tell(Question),
+    /// To answer once none of the conferences is open.
+    Drain,
+    /// To end.
+    Stop,
+}
+
+/// What a loop is to tell.
+#[derive(Drop)]
+pub enum Question {
     /// How a conference stands.
     Status {
         conference: u32,
     },
-    /// The lines of a conference's journal behind the first `done`.
+    /// The lines of a conference's journal behind the first `done` events and up to the first `until`.
     Journal {
         conference: u32,
         done: usize,
+        until: usize,
     },
-    /// To end.
-    Stop,
+    /// The lines of a conference's users.
+    Users {
+        conference: u32,
+    },
+    /// The lines of a conference's live members.
+    Members {
+        conference: u32,
+    },
+    /// The lines of a conference's floors.
+    Floors {
+        conference: u32,
+    },
+    /// Copies of a conference's events behind the first `done`.
+    Events {
+        conference: u32,
+        done: usize,
+    },
+    /// How these conferences stand.
+    Standings {
+        conferences: Vec<u32>,
+    },
+    /// What was counted.
+    Counts,
 }
 
 /// What a loop answers.
 #[derive(Drop)]
 pub enum Answer {
-    /// It is done, or refused.
-    Done(Result<(), BoardRefusal>),
+    /// It is done, and the conference's journal has so many events; or it is refused.
+    Done(Result<u32, ControlRefusal>),
     /// How the conference stands.
-    Stands(Result<Status, BoardRefusal>),
+    Stands(Result<Status, ControlRefusal>),
     /// Some lines.
-    Lines(Result<Lines, BoardRefusal>),
+    Lines(Result<Lines, ControlRefusal>),
+    /// Some events, and whether there are more.
+    Events(Result<Piece, ControlRefusal>),
+    /// How those of the conferences stand that weren't forgotten.
+    Standings(Result<Vec<Standing>, ControlRefusal>),
+    /// What was counted.
+    Counts(Metrics),
+    /// None of the conferences is open.
+    Drained,
     /// It has ended.
     Stopped(Report),
 }
 
-/// Some lines of a journal.
+/// Some events of a journal.
+#[derive(Drop)]
+pub struct Piece {
+    pub events: Vec<Event>,
+    /// Whether the journal has some behind them.
+    pub has_more: bool,
+    /// Whether the conference is broken off.
+    pub is_broken: bool,
+}
+
+/// What is asked of a loop, and who isn't waited for.
+#[derive(Drop)]
+pub struct Ask {
+    pub asker: Asker,
+    pub asked: Asked,
+}
+
+/// Some lines.
 #[derive(Drop)]
 pub struct Lines {
     pub text: String,
-    /// How many events they are of.
+    /// How many events of a journal they are of.
     pub added: usize,
 }
 
@@ -77,12 +144,14 @@ pub struct Report {
 }
 
 /// Where the first thread and the doors meet a loop. What is asked waits until the loop takes it, the answer
-/// until the first thread does, and who comes by a door until the loop lets it in.
+/// until the first thread does, and who comes by a door until the loop lets it in. What is asked by somebody who
+/// isn't waited for stands in a queue of its own, and is answered by the inbox.
 #[derive(Drop)]
 pub struct Mailbox {
     asked: Mutex<Option<Asked>>,
     answer: Mutex<Option<Answer>>,
     answered: Parker,
+    asks: Mutex<VecDeque<Ask>>,
     arrivals: Mutex<VecDeque<Arrival>>,
     waker: Waker,
 }
@@ -94,6 +163,7 @@ impl Mailbox {
             asked: Mutex::new(None),
             answer: Mutex::new(None),
             answered: Parker::new(),
+            asks: Mutex::new(VecDeque::new(alloc)),
             arrivals: Mutex::new(VecDeque::new(alloc)),
             waker,
         }
@@ -127,6 +197,27 @@ impl Mailbox {
         *self.answer.lock(rt) = Some(answer);
         self.answered.unpark();
     }
+
+    /// Asks the loop for somebody who isn't waited for. After an error nothing was asked.
+    pub fn send<R: Wait>(&self, rt: &R, ask: Ask) -> Result<(), AllocError> {
+        match self.asks.lock(rt).push_back(ask) {
+            Ok(()) => {}
+            Err(_) => return Err(AllocError),
+        }
+        let _woken = self.waker.wake();
+        Ok(())
+    }
+
+    /// The first that is asked so.
+    pub fn next_ask<R: Wait>(&self, rt: &R) -> Option<Ask> {
+        self.asks.lock(rt).pop_front()
+    }
+
+    /// Whether nothing is asked so.
+    pub fn is_idle<R: Wait>(&self, rt: &R) -> bool {
+        self.asks.lock(rt).is_empty()
+    }
+
     /// Hands over who has come by a door. After an error nobody was, and its connection is closed.
     pub fn bring<R: Wait>(&self, rt: &R, arrival: Arrival) -> Result<(), AllocError> {
         match self.arrivals.lock(rt).push_back(arrival) {

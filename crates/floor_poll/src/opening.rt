@@ -1,16 +1,20 @@
 //! What the first thread asks for: conferences and their ports, and what their administrators do.
 
 ghost use Rattle.std.specs.Prelude.{◌≡◌};
-ghost use Rattle.floor_poll.specs.Refusals.{refusal_of};
+ghost use Rattle.floor_hub.specs.declared.step.Step.TheVariants.{Admin};
+ghost use Rattle.floor_loop.specs.Done.{AtMost, Steps};
+ghost use Rattle.floor_loop.specs.Written.{TookNothing};
 
-use crate::mailbox::{Answer, Asked, Lines, Mailbox};
+use crate::mailbox::{Answer, Asked, Mailbox};
 use crate::places::Places;
 use crate::port::Port;
+use crate::refusals::{refusal_of, refusal_of_act};
 use crate::worker::Worker;
 use floor_config::Config;
 use floor_console::BoardRefusal;
+use floor_control::ControlRefusal;
 use floor_loop::{Act, AddedUser, HubRefusal, User};
-use floor_room::{Phase, add_lines};
+use floor_room::Phase;
 use floor_server::Entry;
 use mio::{Interest, Token};
 use std::alloc::AllocError;
@@ -24,29 +28,38 @@ impl<R: Clock + Wait + Copy + Drop> Worker<R> {
         let Some(asked) = mailbox.take(&rt) else {
             return;
         };
-        let answer = match asked {
-            Asked::Open { config, ports } => Answer::Done(self.open(config, ports)),
+        if let Some(answer) = self.carry_out(asked) {
+            mailbox.reply(&rt, answer);
+        }
+        self.write_ready();
+    }
+
+    /// Does what is asked, and gives the answer, where it has one at once.
+    pub fn carry_out(&mut self, asked: Asked) -> Option<Answer> {
+        match asked {
+            Asked::Open { config, ports } => Some(Answer::Done(self.open(config, ports))),
             Asked::AddUser {
                 conference,
                 user,
                 port,
-            } => Answer::Done(self.add_user(conference, user, port)),
-            Asked::Admin { conference, act } => Answer::Done(self.admin(conference, act)),
-            Asked::Status { conference } => {
-                Answer::Stands(self.hub.status(conference).map_err(refusal_of))
+            } => Some(Answer::Done(self.add_user(conference, user, port))),
+            Asked::Admin { conference, act } => Some(Answer::Done(self.admin(conference, act))),
+            Asked::Leave { conference, n } => Some(Answer::Done(self.show_out(conference, n))),
+            Asked::Forget { conference } => Some(Answer::Done(self.forget(conference))),
+            Asked::Tell(question) => Some(self.answer_to(question)),
+            Asked::Drain => {
+                self.is_draining = true;
+                None
             }
-            Asked::Journal { conference, done } => Answer::Lines(self.lines(conference, done)),
             Asked::Stop => {
                 self.stop();
-                return;
+                None
             }
-        };
-        mailbox.reply(&rt, answer);
-        self.write_ready();
+        }
     }
 
     /// Opens a conference with its ports. Where it is refused they are given back.
-    fn open(&mut self, config: Config, ports: Vec<Port>) -> Result<(), BoardRefusal> {
+    fn open(&mut self, config: Config, ports: Vec<Port>) -> Result<u32, ControlRefusal> {
         let conference = config.conference();
         let mut places = Places::new(self.alloc, config.connections());
         let outcome = self.open_with(&mut places, config, ports);
@@ -57,7 +70,7 @@ impl<R: Clock + Wait + Copy + Drop> Worker<R> {
             }
             Err(_) => self.close_ports(&mut places),
         }
-        outcome
+        outcome.map(|()| 0)
     }
 
     /// Takes the ports in, and then opens the conference, with room for what is kept of it.
@@ -66,7 +79,7 @@ impl<R: Clock + Wait + Copy + Drop> Worker<R> {
         places: &mut Places,
         config: Config,
         ports: Vec<Port>,
-    ) -> Result<(), BoardRefusal> {
+    ) -> Result<(), ControlRefusal> {
         self.conferences.reserve(1)?;
         for port in ports {
             places.reserve()?;
@@ -81,7 +94,7 @@ impl<R: Clock + Wait + Copy + Drop> Worker<R> {
 
     /// Takes in a port that is listened on, with room for what is kept of it, and is told of who connects. Gives
     /// its number.
-    fn take_in(&mut self, port: Port) -> Result<u64, BoardRefusal> {
+    fn take_in(&mut self, port: Port) -> Result<u64, ControlRefusal> {
         self.reserve_port()?;
         let number = self.last_port.saturating_add(2);
         let place = port.place;
@@ -90,7 +103,7 @@ impl<R: Clock + Wait + Copy + Drop> Worker<R> {
         let registry = self.poll.registry();
         match registry.register(&mut port.listener, token, Interest::READABLE) {
             Ok(()) => {}
-            Err(_) => return Err(BoardRefusal::CannotListen),
+            Err(_) => return Err(ControlRefusal::ByBoard(BoardRefusal::CannotListen)),
         }
         self.last_port = number;
         let _added = self.ports.insert(number, port);
@@ -111,7 +124,7 @@ impl<R: Clock + Wait + Copy + Drop> Worker<R> {
         conference: u32,
         user: User,
         port: Option<Port>,
-    ) -> Result<(), BoardRefusal> {
+    ) -> Result<u32, ControlRefusal> {
         let Some(port) = port else {
             return self.add_to(conference, user);
         };
@@ -121,14 +134,14 @@ impl<R: Clock + Wait + Copy + Drop> Worker<R> {
         let number = self.take_in(port)?;
         let outcome = self.add_to(conference, user);
         match outcome {
-            Ok(()) => self.keep_port(conference, number),
+            Ok(_) => self.keep_port(conference, number),
             Err(_) => self.close_port(number),
         }
         outcome
     }
 
     /// Adds a user. The port is this server's, and no part of the conference.
-    fn add_to(&mut self, conference: u32, user: User) -> Result<(), BoardRefusal> {
+    fn add_to(&mut self, conference: u32, user: User) -> Result<u32, ControlRefusal> {
         let user = AddedUser::new(self.alloc, User { port: None, ..user })?;
         self.admin(conference, Act::AddUser(user))
     }
@@ -140,22 +153,36 @@ impl<R: Clock + Wait + Copy + Drop> Worker<R> {
         }
     }
 
-    /// Does what a conference's administrator does. A closed conference has no port any more.
-    fn admin(&mut self, conference: u32, act: Act) -> Result<(), BoardRefusal> {
+    /// Does what a conference's administrator does, and gives its place in the journal. A closed conference has no
+    /// port any more.
+    fn admin(&mut self, conference: u32, act: Act) -> Result<u32, ControlRefusal>
+        ensures steps { Steps (AtMost 1 (Admin conference act)) self.old.hub.hub self.new.hub.hub }
+    {
         let closes = matches!(act, Act::Close);
-        match self.hub.admin(conference, act, self.now) {
+        match self.act(conference, act) {
             Ok(()) => {
                 if closes {
                     self.tell(&Entry::Closed { conference });
                     self.close_ports_of(conference);
                 }
-                Ok(())
+                Ok(self.events_of(conference))
             }
             Err(refusal) => {
                 self.tell_if_broken(conference);
-                Err(refusal_of(refusal))
+                Err(refusal_of_act(refusal))
             }
         }
+    }
+
+    /// The same, whatever follows here.
+    fn act(&mut self, conference: u32, act: Act) -> Result<(), HubRefusal>
+        ensures steps { Steps (AtMost 1 (Admin conference act)) self.old.hub.hub self.new.hub.hub }
+        ensures took { TookNothing self.old.hub self.new.hub }
+    {
+        let before = self.before(conference);
+        let outcome = self.hub.admin(conference, act, self.now);
+        let _count = self.note_events(before);
+        outcome
     }
 
     /// Tells the log of a conference that is broken off.
@@ -170,36 +197,35 @@ impl<R: Clock + Wait + Copy + Drop> Worker<R> {
         }
     }
 
-    /// Some lines of a journal behind the first `done`.
-    fn lines(&self, conference: u32, done: usize) -> Result<Lines, BoardRefusal> {
-        let events = match self.hub.journal(conference) {
-            Ok(events) => events,
-            Err(refusal) => return Err(refusal_of(refusal)),
-        };
-        let mut text = String::new(self.alloc);
-        let added = add_lines(self.alloc, &mut text, events, done)?;
-        Ok(Lines { text, added })
-    }
-
-    fn close_ports_of(&mut self, conference: u32) {
+    pub fn close_ports_of(&mut self, conference: u32)
+        ensures hub { self.new.hub ≡ self.old.hub }
+    {
         let Some(places) = self.conferences.get_mut(&conference) else {
             return;
         };
         let ports = places.take_ports(self.alloc);
-        for number in ports {
-            self.close_port(number);
-        }
+        self.close_each(&ports);
     }
 
-    fn close_ports(&mut self, places: &mut Places) {
+    fn close_ports(&mut self, places: &mut Places)
+        ensures hub { self.new.hub ≡ self.old.hub }
+    {
         let ports = places.take_ports(self.alloc);
+        self.close_each(&ports);
+    }
+
+    fn close_each(&mut self, ports: &[u64])
+        ensures hub { self.new.hub ≡ self.old.hub }
+    {
         for number in ports {
-            self.close_port(number);
+            self.close_port(*number);
         }
     }
 
     /// Listens on a port no longer.
-    fn close_port(&mut self, number: u64) {
+    fn close_port(&mut self, number: u64)
+        ensures hub { self.new.hub ≡ self.old.hub }
+    {
         if let Some(port) = self.ports.swap_remove(&number) {
             let place = port.place;
             drop(port);
@@ -220,24 +246,9 @@ impl<R: Clock + Wait + Copy + Drop> Worker<R> {
         for place in 0..self.connections.len() {
             if let Some((number, _)) = self.connections.get_index(place) {
                 let number = *number;
-                self.hub.ended(number, self.now);
+                self.hear_out(number);
             }
         }
         self.write_ready();
-    }
-}
-
-/// What the administrator is answered whom the hub refuses so.
-fn refusal_of(refusal: HubRefusal) -> BoardRefusal
-    ensures value { result ≡ refusal_of refusal }
-{
-    match refusal {
-        HubRefusal::Used => BoardRefusal::Used,
-        HubRefusal::NoConference
-        | HubRefusal::Forgotten
-        | HubRefusal::Running
-        | HubRefusal::NoConnection => BoardRefusal::NoConference,
-        HubRefusal::Memory => BoardRefusal::Memory,
-        HubRefusal::ByRoom(refusal) => BoardRefusal::ByRoom(refusal),
     }
 }

@@ -1,7 +1,8 @@
 //! Which loop has which conference.
 
-ghost use Rattle.std.specs.Prelude.{◌≡◌, ◌<◌, ◌%◌, ℕ, false, nat_eq, None, OnErr, OnOk, Some};
-ghost use Rattle.indexmap.specs.IndexMap.{get, index_map_len, index_of_by};
+ghost use Rattle.std.specs.Prelude.{◌≡◌, ◌<◌, ◌+◌, ◌%◌, ◌^◌, ℕ, IfOk, IsPermutation, IsSorted, false, nat_eq, None, OnErr, OnOk, Some};
+ghost use Rattle.std.specs.Ordering.{nat_cmp};
+ghost use Rattle.indexmap.specs.IndexMap.{get, index_map_len, index_of_by, keys};
 
 use indexmap::IndexMap;
 use std::alloc::{AllocError, Global};
@@ -41,13 +42,25 @@ impl Owners {
         self.places.get_index_of(&conference)
     }
 
-    /// The loop that the next conference is given to: the first of those that have the fewest.
-    pub fn next(&self) -> usize
-        ensures value { 0 < self.now.loops
-            → result ≡ index_map_len self.now.places % self.now.loops }
+    /// The conferences that were ever opened, in ascending order.
+    pub fn numbers(&self, alloc: Global) -> Result<Vec<u32>, AllocError>
+        ensures found { IfOk result (λ numbers. IsPermutation (keys self.now.places) numbers.items) }
+        ensures ascending { IfOk result (λ numbers. IsSorted nat_cmp numbers.items) }
+    {
+        let mut numbers: Vec<u32> = self.places.keys().copied().collect(alloc)?;
+        numbers.sort()?;
+        Ok(numbers)
+    }
+
+    /// The loop that the next conference is given to behind so many that are opened: the first of those that have the
+    /// fewest then.
+    pub fn next(&self, opening: usize) -> usize
+        ensures value { 0 < self.now.loops → index_map_len self.now.places + opening < 2 ^ 64
+            → result ≡ (index_map_len self.now.places + opening) % self.now.loops }
         ensures within { 0 < self.now.loops → result < self.now.loops }
     {
-        self.places.len().checked_rem(self.loops).unwrap_or(0)
+        let count = self.places.len().saturating_add(opening);
+        count.checked_rem(self.loops).unwrap_or(0)
     }
 
     /// Takes room for one conference more.

@@ -99,6 +99,13 @@ impl Places {
         }
     }
 
+    /// Its ports.
+    pub fn ports(&self) -> &[u64]
+        ensures value { result.now ≡ self.now.ports.items }
+    {
+        self.ports.as_slice()
+    }
+
     /// Gives its ports out.
     pub fn take_ports(&mut self, alloc: Global) -> Vec<u64>
         ensures users { self.new.users ≡ self.old.users }

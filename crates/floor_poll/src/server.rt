@@ -1,10 +1,12 @@
 //! The server as its administrator sees it: the loops, and which of them has which conference.
 
 use crate::doors::{Gate, Listening, Ways, serve_doors};
+use crate::inbox::{Asker, Inbox};
 use crate::log::share;
-use crate::mailbox::{Answer, Asked, Mailbox, Report};
+use crate::mailbox::{Answer, Ask, Asked, Mailbox, Question, Report};
 use crate::owners::Owners;
 use crate::port::{Port, listen};
+use crate::refusals::board_refusal;
 use crate::worker::{Room, WAKER, serve};
 use floor_config::Config;
 use floor_console::{Board, BoardRefusal, Floor, StopRefusal, Stopped, Text, User};
@@ -16,9 +18,9 @@ use std::alloc::{AllocError, Global};
 use std::net::Net;
 use std::rt::Files;
 use std::sync::{Arc, Mutex, Wait};
-use std::thread;
 use std::thread::{JoinHandle, Threads};
 use std::time::Clock;
+use std::{fs, thread};
 
 /// The loops of a server, and their conferences.
 #[derive(Drop)]
@@ -51,12 +53,14 @@ impl<R> Server<R>
 where
     R: Net + Files + AllocGlobal + Clock + Threads + Wait + Copy + Drop + Send + 'static,
 {
-    /// Starts so many loops. Without memory, descriptors or threads for all of them none runs.
+    /// Starts so many loops, which tell the inbox what is asked by somebody who isn't waited for. Without memory,
+    /// descriptors or threads for all of them none runs.
     pub fn start(
         rt: R,
         alloc: Global,
         loops: usize,
         log: &Option<Arc<Log, Global>>,
+        inbox: &Option<Arc<Inbox, Global>>,
     ) -> Result<Server<R>, AllocError> {
         let mut server = Server {
             rt,
@@ -68,7 +72,7 @@ where
             told: None,
         };
         for _ in 0..loops {
-            match start_one(rt, alloc, log) {
+            match start_one(rt, alloc, log, inbox) {
                 Ok(one) => server.loops.push(one)?,
                 Err(error) => {
                     let _outcome = server.stop();
@@ -188,19 +192,25 @@ where
 }
 
 /// Starts a loop.
-fn start_one<R>(rt: R, alloc: Global, log: &Option<Arc<Log, Global>>) -> Result<Serving, AllocError>
+fn start_one<R>(
+    rt: R,
+    alloc: Global,
+    log: &Option<Arc<Log, Global>>,
+    inbox: &Option<Arc<Inbox, Global>>,
+) -> Result<Serving, AllocError>
 where
     R: Net + Clock + Threads + Wait + Copy + Drop + Send + 'static,
 {
     let (poll, waker) = poll_of(&rt)?;
     let (mailbox, theirs) = mailboxes(alloc, waker)?;
     let log = share(log)?;
-    let thread = start_thread(rt, alloc, poll, log, theirs)?;
+    let inbox = share(inbox)?;
+    let thread = start_thread(rt, alloc, poll, log, inbox, theirs)?;
     Ok(Serving { mailbox, thread })
 }
 
 /// What a loop waits for its sockets by, and what ends its waiting.
-fn poll_of<R: Net>(rt: &R) -> Result<(Poll, Waker), AllocError> {
+pub fn poll_of<R: Net>(rt: &R) -> Result<(Poll, Waker), AllocError> {
     match Poll::new(rt) {
         Ok(poll) => match Waker::new(poll.registry(), WAKER) {
             Ok(waker) => Ok((poll, waker)),
@@ -230,13 +240,17 @@ fn start_thread<R>(
     alloc: Global,
     poll: Poll,
     log: Option<Arc<Log, Global>>,
+    inbox: Option<Arc<Inbox, Global>>,
     mailbox: Arc<Mailbox, Global>,
 ) -> Result<JoinHandle<()>, AllocError>
 where
     R: Clock + Threads + Wait + Copy + Drop + Send + 'static,
 {
     let room = Room::new(alloc)?;
-    match thread::spawn(&rt, move || serve(rt, alloc, poll, log, room, &mailbox)) {
+    match thread::spawn(
+        &rt,
+        move || serve(rt, alloc, poll, log, inbox, room, &mailbox),
+    ) {
         Ok(thread) => Ok(thread),
         Err(_) => Err(AllocError),
     }
@@ -270,16 +284,33 @@ impl<R: Net + Files + AllocGlobal + Clock + Threads + Wait + Drop> Server<R> {
 
     /// Opens the conferences of a file, and tells how many.
     pub fn open_file(&mut self, path: &str) -> Result<usize, BoardRefusal> {
-        let configs = match self.read(path) {
-            Ok(configs) => configs,
-            Err(reason) => return Err(self.refuse(reason)),
-        };
         let mut count = 0usize;
-        for config in configs {
+        for config in self.read_file(path)? {
             self.open_one(config)?;
             count = count.saturating_add(1);
         }
         Ok(count)
+    }
+
+    /// The configurations of a file.
+    pub fn read_file(&mut self, path: &str) -> Result<Vec<Config>, BoardRefusal> {
+        match self.read(path) {
+            Ok(configs) => Ok(configs),
+            Err(reason) => Err(self.refuse(reason)),
+        }
+    }
+
+    /// The text of a configuration's file. Of what isn't a file, as a pipe, nothing is read: it may keep one waiting.
+    pub fn text_of(&mut self, path: &str) -> Result<String, BoardRefusal> {
+        if !is_readable_at_once(&self.rt, path) {
+            let line = format!(in self.alloc; "{path}: not a file").ok();
+            let refusal = BoardRefusal::CannotRead;
+            return Err(self.refuse(Reason { refusal, line }));
+        }
+        match read_text(&self.rt, self.alloc, path) {
+            Ok(text) => Ok(text),
+            Err(reason) => Err(self.refuse(reason)),
+        }
     }
 
     /// Reads and checks a file whole.
@@ -289,22 +320,37 @@ impl<R: Net + Files + AllocGlobal + Clock + Threads + Wait + Drop> Server<R> {
     }
 
     /// Opens one conference, in the loop whose turn it is.
-    fn open_one(&mut self, config: Config) -> Result<(), BoardRefusal> {
+    pub fn open_one(&mut self, config: Config) -> Result<(), BoardRefusal> {
         let conference = config.conference();
-        if self.owner(conference).is_some() {
+        let asked = self.opening_of(config)?;
+        let next = self.next_loop(0);
+        match self.ask_at(next, asked) {
+            Some(Answer::Done(Ok(_))) => self.take_opened(conference, next),
+            Some(Answer::Done(Err(refusal))) => Err(board_refusal(refusal)),
+            _ => Err(BoardRefusal::Memory),
+        }
+    }
+
+    /// What is asked of a loop that is to open a conference: its ports are listened on, and there is room for it.
+    pub fn opening_of(&mut self, config: Config) -> Result<Asked, BoardRefusal> {
+        if self.owner(config.conference()).is_some() {
             return Err(BoardRefusal::Used);
         }
         self.owners.lock(&self.rt).reserve()?;
-        let ports = match self.listen_all(&config) {
-            Ok(ports) => ports,
-            Err(reason) => return Err(self.refuse(reason)),
-        };
-        let place = self.owners.lock(&self.rt).next();
-        match self.ask_at(place, Asked::Open { config, ports }) {
-            Some(Answer::Done(Ok(()))) => { Ok(self.owners.lock(&self.rt).add(conference, place)?) }
-            Some(Answer::Done(Err(refusal))) => Err(refusal),
-            _ => Err(BoardRefusal::Memory),
+        match self.listen_all(&config) {
+            Ok(ports) => Ok(Asked::Open { config, ports }),
+            Err(reason) => Err(self.refuse(reason)),
         }
+    }
+
+    /// The loop whose turn it is behind so many that are opened.
+    pub fn next_loop(&self, opening: usize) -> usize {
+        self.owners.lock(&self.rt).next(opening)
+    }
+
+    /// Takes it that a loop has opened a conference.
+    pub fn take_opened(&mut self, conference: u32, place: usize) -> Result<(), BoardRefusal> {
+        Ok(self.owners.lock(&self.rt).add(conference, place)?)
     }
 
     /// Listens on the port of each user of a configuration who has one.
@@ -336,8 +382,9 @@ impl<R: Net + Files + AllocGlobal + Clock + Threads + Wait + Drop> Server<R> {
         }
     }
 
-    /// Adds a user, whose port is listened on first, where there is one. The conference is looked for before that.
-    fn add(&mut self, conference: u32, user: User) -> Result<(), BoardRefusal> {
+    /// What is asked of a loop that is to add a user: its port is listened on, where it has one. The conference is
+    /// looked for before that.
+    pub fn adding_of(&mut self, conference: u32, user: User) -> Result<Asked, BoardRefusal> {
         if self.owner(conference).is_none() {
             return Err(BoardRefusal::NoConference);
         }
@@ -348,19 +395,35 @@ impl<R: Net + Files + AllocGlobal + Clock + Threads + Wait + Drop> Server<R> {
                 Err(reason) => return Err(self.refuse(reason)),
             },
         };
-        self.change(
+        Ok(Asked::AddUser {
             conference,
-            Asked::AddUser {
-                conference,
-                user,
-                port,
-            },
-        )
+            user,
+            port,
+        })
     }
 
     /// The place of the loop that has a conference, if it was ever opened.
-    fn owner(&self, conference: u32) -> Option<usize> {
+    pub fn owner(&self, conference: u32) -> Option<usize> {
         self.owners.lock(&self.rt).get(conference)
+    }
+
+    /// How many loops there are.
+    pub fn loops(&self) -> usize {
+        self.loops.len()
+    }
+
+    /// The conferences that were ever opened, in ascending order.
+    pub fn conferences(&self) -> Result<Vec<u32>, AllocError> {
+        self.owners.lock(&self.rt).numbers(self.alloc)
+    }
+
+    /// Asks a loop for somebody who isn't waited for: the answer comes to the inbox. After an error nothing was
+    /// asked.
+    pub fn send(&self, place: usize, asker: Asker, asked: Asked) -> Result<(), AllocError> {
+        match self.loops.get(place) {
+            Some(one) => one.mailbox.send(&self.rt, Ask { asker, asked }),
+            None => Err(AllocError),
+        }
     }
 
     /// Asks a loop, and waits for its answer.
@@ -384,7 +447,8 @@ impl<R: Net + Files + AllocGlobal + Clock + Threads + Wait + Drop> Server<R> {
     /// Has something done in a conference.
     fn change(&self, conference: u32, asked: Asked) -> Result<(), BoardRefusal> {
         match self.ask(conference, asked)? {
-            Answer::Done(done) => done,
+            Answer::Done(Ok(_)) => Ok(()),
+            Answer::Done(Err(refusal)) => Err(board_refusal(refusal)),
             _ => Err(BoardRefusal::Memory),
         }
     }
@@ -395,8 +459,9 @@ impl<R: Net + Files + AllocGlobal + Clock + Threads + Wait + Drop> Server<R> {
 
     /// How a conference stands.
     fn stands(&self, conference: u32) -> Result<Status, BoardRefusal> {
-        match self.ask(conference, Asked::Status { conference })? {
-            Answer::Stands(found) => found,
+        let question = Question::Status { conference };
+        match self.ask(conference, Asked::Tell(question))? {
+            Answer::Stands(found) => found.map_err(board_refusal),
             _ => Err(BoardRefusal::Memory),
         }
     }
@@ -425,12 +490,17 @@ impl<R: Net + Files + AllocGlobal + Clock + Threads + Wait + Drop> Server<R> {
         done: usize,
         text: &mut String,
     ) -> Result<usize, BoardRefusal> {
-        match self.ask(conference, Asked::Journal { conference, done })? {
+        let question = Question::Journal {
+            conference,
+            done,
+            until: usize::MAX,
+        };
+        match self.ask(conference, Asked::Tell(question))? {
             Answer::Lines(Ok(lines)) => {
                 text.push_str(lines.text.as_str())?;
                 Ok(lines.added)
             }
-            Answer::Lines(Err(refusal)) => Err(refusal),
+            Answer::Lines(Err(refusal)) => Err(board_refusal(refusal)),
             _ => Err(BoardRefusal::Memory),
         }
     }
@@ -512,7 +582,8 @@ impl<R: Net + Files + AllocGlobal + Clock + Threads + Wait + Drop> Board for Ser
     }
 
     fn add_user(&mut self, conference: u32, user: User) -> Result<(), BoardRefusal> {
-        self.add(conference, user)
+        let asked = self.adding_of(conference, user)?;
+        self.change(conference, asked)
     }
 
     fn add_floor(&mut self, conference: u32, floor: Floor) -> Result<(), BoardRefusal> {
@@ -542,6 +613,14 @@ impl<R: Net + Files + AllocGlobal + Clock + Threads + Wait + Drop> Board for Ser
         let outcome = self.stop_all();
         self.outcome = Some(outcome);
         outcome
+    }
+}
+
+/// Whether a path leads to a file, or to nothing.
+fn is_readable_at_once<R: Files>(rt: &R, path: &str) -> bool {
+    match fs::metadata(rt, path) {
+        Ok(found) => found.is_file(),
+        Err(_) => true,
     }
 }
 

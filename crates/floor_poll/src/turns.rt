@@ -1,5 +1,12 @@
 //! A connection's turn: what came is read and served, what is queued is written, and who is to be shut down is.
 
+ghost use Rattle.std.specs.Prelude.{◌≡◌, None, OnOk};
+ghost use Rattle.floor_hub.specs.Connections.{connection_at};
+ghost use Rattle.floor_hub.specs.declared.step.Step.TheVariants.{Leave, Serve};
+ghost use Rattle.floor_loop.specs.Done.{AtMost, Each, Hands, Reads, Steps};
+ghost use Rattle.floor_loop.specs.Loop.{HasFailed, IsEnded};
+ghost use Rattle.floor_loop.specs.Written.{TookNothing};
+
 use crate::connection::{Connection, Found, Written, shut_down};
 use crate::departure::{End, departure_of};
 use crate::worker::Worker;
@@ -31,7 +38,7 @@ impl<R: Clock + Wait + Copy + Drop> Worker<R> {
         }
         match self.turns.push_back(number) {
             Ok(()) => connection.is_queued = true,
-            Err(_) => self.hub.failed(number, self.now),
+            Err(_) => self.fail(number),
         }
     }
 
@@ -77,15 +84,35 @@ impl<R: Clock + Wait + Copy + Drop> Worker<R> {
             }
             Found::Nothing => self.go_on(number, Ok(false)),
             Found::End => {
-                self.hub.ended(number, self.now);
+                self.hear_out(number);
                 let held = self.hub.held_len(number);
                 self.note_end(number, End::Stream(held));
             }
             Found::Failure => {
-                self.hub.failed(number, self.now);
+                self.fail(number);
                 self.note_end(number, End::Failure);
             }
         }
+    }
+
+    /// Serves what a connection has sent to its end, which is to be shut down then.
+    pub fn hear_out(&mut self, number: ConnNo)
+        ensures steps { Steps (Each (Serve number)) self.old.hub.hub self.new.hub.hub }
+        ensures ended { IsEnded self.new.hub.attended number }
+    {
+        let before = self.before_of(number);
+        self.hub.ended(number, self.now);
+        self.note_messages(before);
+    }
+
+    /// The same of a connection whose socket has failed.
+    pub fn fail(&mut self, number: ConnNo)
+        ensures steps { Steps (Each (Serve number)) self.old.hub.hub self.new.hub.hub }
+        ensures failed { HasFailed self.new.hub.attended number }
+    {
+        let before = self.before_of(number);
+        self.hub.failed(number, self.now);
+        self.note_messages(before);
     }
 
     /// Hands in the first so many bytes of the buffer, and serves messages of a connection: 58 at most, and no
@@ -94,7 +121,10 @@ impl<R: Clock + Wait + Copy + Drop> Worker<R> {
     fn serve_messages(&mut self, number: ConnNo, count: usize) -> Result<bool, HubRefusal> {
         let begun = Instant::now(&self.rt).ok();
         let first = self.first_of(number);
-        let mut more = hand_in(&mut self.hub, number, &self.buffer, count, first, self.now)?;
+        let before = self.before_of(number);
+        let served = hand_in(&mut self.hub, number, &self.buffer, count, first, self.now);
+        self.note_messages(before);
+        let mut more = served?;
         let mut is_long = false;
         for _ in 0..MAX_GROUPS {
             if !more {
@@ -104,10 +134,23 @@ impl<R: Clock + Wait + Copy + Drop> Worker<R> {
             if is_long {
                 break;
             }
-            more = self.hub.read(number, &[], GROUP, self.now)?;
+            more = self.serve_group(number, &[], GROUP)?;
         }
         self.note_long(number, is_long);
         Ok(more)
+    }
+
+    /// Hands in bytes, and serves so many messages at most.
+    fn serve_group(&mut self, number: ConnNo, bytes: &[u8], most: u32) -> Result<bool, HubRefusal>
+        ensures steps { Steps (Reads number bytes.now most) self.old.hub.hub self.new.hub.hub }
+        ensures handed { OnOk result
+            (Steps (Hands number bytes.now most) self.old.hub.hub self.new.hub.hub) }
+        ensures took { TookNothing self.old.hub self.new.hub }
+    {
+        let before = self.before_of(number);
+        let served = self.hub.read(number, bytes, most, self.now);
+        self.note_messages(before);
+        served
     }
 
     /// With how many messages a turn begins: with one where the last turn took long.
@@ -129,7 +172,7 @@ impl<R: Clock + Wait + Copy + Drop> Worker<R> {
         if bytes.is_empty() {
             return;
         }
-        let served = self.hub.read(number, bytes, FIRST, self.now);
+        let served = self.serve_group(number, bytes, FIRST);
         self.go_on(number, served);
     }
 
@@ -145,7 +188,7 @@ impl<R: Clock + Wait + Copy + Drop> Worker<R> {
                     self.queue(number);
                 }
                 if !more && self.has_failed(number) {
-                    self.hub.failed(number, self.now);
+                    self.fail(number);
                 }
             }
             Err(refusal) => {
@@ -183,34 +226,43 @@ impl<R: Clock + Wait + Copy + Drop> Worker<R> {
     /// Writes what is to be written to a connection, as far as its socket takes it, and shuts it down where it is
     /// to be and nothing is left.
     pub fn write(&mut self, number: ConnNo) {
+        let before = self.before_of(number);
+        let is_written = self.write_whole(number);
+        self.note_taken(before);
+        // Whoever's socket failed is among them.
+        if is_written && self.hub.until(number).is_some() {
+            self.end(number);
+        }
+    }
+
+    /// Writes what is to be written to a connection, as far as its socket takes it, and says whether nothing is left
+    /// or its socket has failed.
+    fn write_whole(&mut self, number: ConnNo) -> bool {
         let Some(connection) = self.connections.get_mut(&number) else {
-            return;
+            return false;
         };
         if connection.has_failed && connection.has_more {
-            return;
+            return false;
         }
         connection.is_blocked = false;
         for _ in 0..u64::MAX {
             match write_once(&mut self.hub, connection, number, self.now) {
                 Written::All => break,
                 Written::Bytes(_) => {}
-                Written::Nothing => return,
+                Written::Nothing => return false,
                 Written::Failure => {
                     connection.end = connection.end.or(Some(End::Failure));
                     connection.has_failed = true;
                     if connection.has_more {
                         // What it has sent is served turn by turn before it is shut down.
-                        return;
+                        return false;
                     }
-                    self.hub.failed(number, self.now);
+                    self.fail(number);
                     break;
                 }
             }
         }
-        // Whoever's socket failed is among them.
-        if self.hub.until(number).is_some() {
-            self.end(number);
-        }
+        true
     }
 
     /// Shuts down each connection whose time is over.
@@ -225,21 +277,39 @@ impl<R: Clock + Wait + Copy + Drop> Worker<R> {
     }
 
     /// Shuts a connection down: its member leaves.
-    fn end(&mut self, number: ConnNo) {
-        let connection = self.connections.swap_remove(&number);
-        if let Some(mut connection) = connection {
-            self.tell_left(number, &connection);
-            shut_down(&mut connection.stream, self.buffer.as_mut_slice());
-            let to = connection.peer.to;
-            if let Some(places) = self.conferences.get_mut(&to.conference) {
-                places.give_back(to.user);
-            }
-        }
+    pub fn end(&mut self, number: ConnNo)
+        ensures steps { Steps (AtMost 1 (Leave number)) self.old.hub.hub self.new.hub.hub }
+        ensures took { TookNothing self.old.hub self.new.hub }
+        ensures left { connection_at self.new.hub.hub.connections number ≡ None }
+    {
+        let before = self.before_of(number);
+        self.close(number);
         let _left = self.hub.leave(number, self.now);
+        let _count = self.note_events(before);
+    }
+
+    /// Closes a connection's socket, and gives its place back.
+    fn close(&mut self, number: ConnNo)
+        ensures hub { self.new.hub ≡ self.old.hub }
+    {
+        let Some(mut connection) = self.connections.swap_remove(&number) else {
+            return;
+        };
+        self.tell_left(number, &connection);
+        shut_down(&mut connection.stream, self.buffer.as_mut_slice());
+        let to = connection.peer.to;
+        if let Some(places) = self.conferences.get_mut(&to.conference) {
+            places.give_back(to.user);
+        }
     }
 
     /// Tells the log, where there is one, why a member leaves.
-    fn tell_left(&self, number: ConnNo, connection: &Connection) {
+    fn tell_left(&mut self, number: ConnNo, connection: &Connection)
+        ensures hub { self.new.hub ≡ self.old.hub }
+    {
+        if self.hub.is_cut(number) {
+            self.counters.cut = self.counters.cut.saturating_add(1);
+        }
         let Some(log) = &self.log else {
             return;
         };

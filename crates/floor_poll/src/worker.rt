@@ -1,11 +1,14 @@
 //! A loop's thread: it waits for its sockets, and for what the first thread asks.
 
 use crate::connection::Connection;
+use crate::counters::no_counts;
 use crate::elapsed::Elapsed;
+use crate::inbox::Inbox;
 use crate::log::tell;
 use crate::mailbox::{Answer, Mailbox, Report};
 use crate::places::Places;
 use crate::port::Port;
+use floor_control::Metrics;
 use floor_loop::{ConnNo, Loop};
 use floor_room::Phase;
 use floor_server::{Entry, Log};
@@ -53,6 +56,17 @@ pub struct Worker<R> {
     pub log: Option<Arc<Log, Global>>,
     pub is_stopping: bool,
     pub joined: usize,
+    /// What the first thread is told by, where it serves a control socket.
+    pub inbox: Option<Arc<Inbox, Global>>,
+    /// The conferences whose next events the first thread is told of, each with how many it knows.
+    pub followed: IndexMap<u32, u32>,
+    /// Whether more is asked than was taken.
+    pub has_asks: bool,
+    /// Whether the first thread is told once none of the conferences is open.
+    pub is_draining: bool,
+    /// The conference that was found open last, where that was looked for.
+    pub last_open: u32,
+    pub counters: Metrics,
     elapsed: Elapsed,
     /// How late it is, in milliseconds since the loop began.
     pub now: u64,
@@ -65,6 +79,7 @@ impl<R: Clock + Drop> Worker<R> {
         alloc: Global,
         poll: Poll,
         log: Option<Arc<Log, Global>>,
+        inbox: Option<Arc<Inbox, Global>>,
         buffer: Vec<u8>,
     ) -> Worker<R> {
         Worker {
@@ -84,6 +99,12 @@ impl<R: Clock + Drop> Worker<R> {
             log,
             is_stopping: false,
             joined: 0,
+            inbox,
+            followed: IndexMap::new(alloc),
+            has_asks: false,
+            is_draining: false,
+            last_open: 0,
+            counters: no_counts(),
             now: 0,
         }
     }
@@ -95,9 +116,9 @@ impl<R: Clock + Drop> Worker<R> {
         }
     }
 
-    /// How long it waits for its sockets at most: not at all while somebody is to be served.
+    /// How long it waits for its sockets at most: not at all while somebody is to be served, or answered.
     fn patience(&mut self) -> Option<Duration> {
-        if !self.turns.is_empty() {
+        if !self.turns.is_empty() || self.has_asks {
             return Some(Duration::ZERO);
         }
         let next = match (self.hub.next_due(), self.again) {
@@ -111,7 +132,7 @@ impl<R: Clock + Drop> Worker<R> {
 
     /// What the loop had.
     fn report(&self) -> Report {
-        let mut events = 0u128;
+        let mut events = u128::from(self.counters.events);
         let mut broken = None;
         for (conference, _) in self.conferences.iter() {
             if let Ok(status) = self.hub.status(*conference) {
@@ -139,7 +160,7 @@ impl<R: Clock + Wait + Copy + Drop> Worker<R> {
                 thread::sleep(&rt, Duration::from_millis(REST_MILLIS));
             }
             self.look();
-            let mut is_asked = false;
+            let mut is_asked = self.has_asks;
             for event in &events {
                 if event.token() == WAKER {
                     is_asked = true;
@@ -152,8 +173,10 @@ impl<R: Clock + Wait + Copy + Drop> Worker<R> {
             if is_asked {
                 self.enter_all(mailbox);
                 self.answer(mailbox);
+                self.answer_asks(mailbox);
             }
             self.end_due();
+            self.tell_drained();
             if self.is_stopping && self.connections.is_empty() {
                 mailbox.reply(&rt, Answer::Stopped(self.report()));
                 return;
@@ -223,9 +246,10 @@ pub fn serve<R: Clock + Wait + Copy + Drop>(
     alloc: Global,
     poll: Poll,
     log: Option<Arc<Log, Global>>,
+    inbox: Option<Arc<Inbox, Global>>,
     room: Room,
     mailbox: &Mailbox,
 ) {
     let Room { events, buffer } = room;
-    Worker::new(rt, alloc, poll, log, buffer).run(mailbox, events);
+    Worker::new(rt, alloc, poll, log, inbox, buffer).run(mailbox, events);
 }

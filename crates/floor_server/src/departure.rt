@@ -75,6 +75,8 @@ pub enum Departure {
     BrokenOff,
     /// Its port ends, as where the server stops.
     Stopped,
+    /// An administrator has shown it out.
+    Removed,
     /// It was read from as often as a connection is at most.
     TurnLimit,
     /// No thread can be had for its writer.
@@ -97,6 +99,7 @@ impl Departure {
             Departure::Closed => "Closed",
             Departure::BrokenOff => "BrokenOff",
             Departure::Stopped => "Stopped",
+            Departure::Removed => "Removed",
             Departure::TurnLimit => "TurnLimit",
             Departure::NoThread => "NoThread",
             Departure::Memory => "Memory",

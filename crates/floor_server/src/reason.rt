@@ -63,6 +63,11 @@ impl PortFault {
         self.of_place(alloc, format!(in alloc; "port {} of {word}", door.port))
     }
 
+    /// Why the control socket isn't listened on.
+    pub fn at_control(&self, alloc: Global, path: &str) -> Reason {
+        self.of_place(alloc, format!(in alloc; "socket {path} of --control"))
+    }
+
     fn of_place(&self, alloc: Global, place: Result<String, AllocError>) -> Reason {
         Reason {
             refusal: self.refusal(),

@@ -49,8 +49,8 @@ pub struct Program {
     pub name: &'static str,
     /// What it does, a sentence of its help.
     pub about: &'static str,
-    /// Whether it serves by event loops, so that `--loops`, `--door`, `--door-by-id` and `--health` are
-    /// of its words, and goes by `conference.connections`.
+    /// Whether it serves by event loops, so that `--loops`, `--door`, `--door-by-id`, `--health` and
+    /// `--control` are of its words, and goes by `conference.connections`.
     pub by_loops: bool,
 }
 
@@ -76,6 +76,8 @@ pub struct Words {
     pub loops: Option<u8>,
     /// The doors that are asked for.
     pub doors: Vec<Door>,
+    /// The path of the control socket, where one is asked for.
+    pub control: Option<String>,
 }
 
 /// Why the words ask for nothing.
@@ -106,7 +108,16 @@ fn parsed(alloc: Global, words: &[String], program: &Program) -> Result<Words, E
         has_log: matches.get_flag("log"),
         loops: matches.get_one::<u8>("loops"),
         doors: doors_of(alloc, &matches)?,
+        control: control_of(alloc, &matches)?,
     })
+}
+
+/// The path of the control socket that the words ask for.
+fn control_of(alloc: Global, matches: &ArgMatches) -> Result<Option<String>, AllocError> {
+    match matches.get_str("control") {
+        Some(path) => Ok(Some(String::from_str(alloc, path)?)),
+        None => Ok(None),
+    }
 }
 
 /// The doors that the words ask for.
@@ -163,7 +174,19 @@ fn with_doors<'a>(alloc: Global, command: Command<'a>) -> Result<Command<'a>, Er
     let health = port(alloc, "health").help(
         "A port at which whoever connects is let go at once: it says that the server lives",
     );
-    Ok(command.arg(by_certificate)?.arg(by_id)?.arg(health)?)
+    let command = command.arg(by_certificate)?.arg(by_id)?.arg(health)?;
+    Ok(command.arg(control(alloc))?)
+}
+
+/// The control socket.
+fn control<'a>(alloc: Global) -> Arg<'a> {
+    Arg::new(alloc, "control")
+        .long("control")
+        .value_name("path")
+        .action(ArgAction::Set)
+        .help(
+            "A Unix socket at which programs administer, readable and writable by its owner alone; the end of standard input stops nothing then",
+        )
 }
 
 /// A port.

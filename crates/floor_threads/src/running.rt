@@ -96,6 +96,7 @@ where
                 has_log,
                 loops: _,
                 doors,
+                control: _,
             },
         ) => match task {
             Task::Serve => {

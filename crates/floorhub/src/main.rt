@@ -1,13 +1,14 @@
 //! A floor control server: conferences of a configuration behind a few event loops, a port for each user, and an
 //! administrator's lines.
 //!
-//! Standard input holds the lines; each is answered on standard output. Status 0 after `stop` where
+//! Standard input holds the lines; each is answered on standard output. Programs administer by a control socket,
+//! where one is asked for. Status 0 after `stop` where
 //! all was in order; 1 for a fault, which standard error names; 2 for words that are refused.
 #![tactic(auto)]
 
 use floor_listen::{Ending, ServerFault};
-use floor_poll::run;
 use floor_server::{Program, tell_ending};
+use floor_socket::{Descriptors, run};
 use std::io::ErrorKind;
 use std::process::ExitCode;
 
@@ -16,6 +17,12 @@ const PROGRAM: Program = Program {
     name: "floorhub",
     about: "Serves the floors of conferences (BFCP, RFC 8855) by event loops, and reads an administrator's lines.",
     by_loops: true,
+};
+
+/// Standard input and output.
+const STANDARD: Descriptors = Descriptors {
+    input: 0,
+    output: 1,
 };
 
 fn main(rt: HostRuntime) -> ExitCode {
@@ -42,6 +49,7 @@ fn main(rt: HostRuntime) -> ExitCode {
         &mut rt.stdout(),
         &mut rt.stderr(),
         rt.stderr(),
+        Some(STANDARD),
     ))
 }
 

@@ -5,6 +5,7 @@ use floor_words::read_u32;
 use std::alloc::Global;
 use std::io::{ErrorKind, Read, Write};
 use std::net::{Net, TcpListener, TcpStream};
+use std::os::unix::net::UnixStream;
 use std::rt::Files;
 use std::sync::Arc;
 use std::sync::atomic::{AtomicU64, Ordering};
@@ -190,6 +191,51 @@ pub fn next_line(alloc: Global, mut stream: &TcpStream) -> Result<String, Fail> 
     for _ in 0..10_000 {
         let mut byte = [0u8; 1];
         if stream.read(&mut byte)? == 0 || byte[0] == b'\n' {
+            break;
+        }
+        text.push(byte[0])?;
+    }
+    Ok(String::from_utf8(text)?)
+}
+
+/// Connects to a control socket.
+pub fn control<R: Net<Listener = TcpListener, Stream = TcpStream>>(
+    rt: &R,
+    path: &str,
+) -> Result<UnixStream, Fail> {
+    Ok(UnixStream::connect(rt, path)?)
+}
+
+/// Hands a control socket a line, and gives so many lines that come, with a comma between each two.
+pub fn ask_control(
+    alloc: Global,
+    client: &mut UnixStream,
+    text: &str,
+    count: usize,
+) -> Result<String, Fail> {
+    client.write_all(text.as_bytes())?;
+    client.write_all(b"\n")?;
+    control_lines(alloc, client, count)
+}
+
+/// The next so many lines of a control socket, with a comma between each two.
+pub fn control_lines(alloc: Global, client: &mut UnixStream, count: usize) -> Result<String, Fail> {
+    let mut lines = String::new(alloc);
+    for place in 0..count {
+        if 0 < place {
+            lines.push(',')?;
+        }
+        lines.push_str(control_line(alloc, client)?.as_str())?;
+    }
+    Ok(lines)
+}
+
+/// The next line of a control socket, without its line feed; what there is where the stream ends before.
+fn control_line(alloc: Global, client: &mut UnixStream) -> Result<String, Fail> {
+    let mut text = Vec::new(alloc);
+    for _ in 0..200_000 {
+        let mut byte = [0u8; 1];
+        if client.read(&mut byte)? == 0 || byte[0] == b'\n' {
             break;
         }
         text.push(byte[0])?;

@@ -2,6 +2,8 @@
 
 mod clients;
 mod console;
+mod control;
+mod control_hostile;
 mod doors;
 mod endings;
 mod logged;

@@ -3,10 +3,14 @@
 use std::alloc::Global;
 use std::io::{ErrorKind, Read, Write};
 use std::net::{Shutdown, TcpStream};
+use std::sync::Wait;
 use std::thread;
 use std::thread::Threads;
-use std::time::Duration;
+use std::time::{Clock, Duration};
 use test_cases::Fault;
+
+/// How long it waits between two bytes that drip, in milliseconds.
+const DRIP_MILLIS: u64 = 100;
 
 /// A stream, with the bytes that were read of it beyond what was asked for.
 #[derive(Drop)]
@@ -79,6 +83,19 @@ impl Stream {
             Ok(_handle) => Ok(()),
             Err(_) => Err(Fault::Wrong("no thread")),
         }
+    }
+
+    /// Sends so many bytes, one after another, and tells whether the peer took them. One whose socket is
+    /// closed resets the stream at the first, so a later one can't be sent.
+    pub fn drip<R: Clock + Wait>(&self, rt: &R, count: u64) -> bool {
+        let mut socket = &self.socket;
+        for _ in 0..count {
+            if socket.write_all(b"x").is_err() {
+                return false;
+            }
+            thread::sleep(rt, Duration::from_millis(DRIP_MILLIS));
+        }
+        true
     }
 
     /// Ends its sending side.

@@ -19,6 +19,9 @@ const PATIENCE: u64 = 10;
 /// How many bytes are printed as they are.
 const MAX_SHOWN: usize = 100;
 
+/// The descriptors that this process has open, the gateway's among them.
+const DESCRIPTORS: &str = "/proc/self/fd";
+
 /// The file that the gateway reads.
 const CONFIGURATION: &str = "meeting.toml";
 
@@ -47,6 +50,8 @@ pub struct World<R> {
     patience: u64,
     /// How many bytes stand behind what is sent next, in one piece with it.
     behind: usize,
+    /// How many descriptors were open when that was marked.
+    marked: usize,
     clock: Instant,
     pub printed: String,
 }
@@ -104,6 +109,7 @@ where
             streams: Vec::new(alloc),
             patience: PATIENCE,
             behind: 0,
+            marked: 0,
             clock,
             printed: String::new(alloc),
         })
@@ -144,11 +150,13 @@ where
     ///   `NAME fill COUNT` so many of one byte, `NAME text TEXT` a text, and
     ///   `NAME flood COUNT BYTES` so many times these bytes, however long that takes, beside what comes next.
     /// - `NAME hear` prints the next frame, `NAME hear COUNT` the next bytes; `NAME half` ends the sending side,
-    ///   and `NAME close` closes the stream.
+    ///   and `NAME close` closes the stream. `NAME drip COUNT` sends so many bytes one after another, and prints
+    ///   whether each was taken.
     /// - `NAME accept` is the next connection to the server, at either port.
     /// - `behind COUNT` has so many bytes stand behind what is sent next, in one piece with it.
     /// - `patience SECONDS` is how long each is waited for, `sleep MILLISECONDS` waits, `clock` starts a clock,
-    ///   and `since LEAST MOST` prints whether it shows so many seconds.
+    ///   and `since LEAST MOST` prints whether it shows so many seconds. `mark` counts the descriptors that are
+    ///   open, and `freed` prints whether there are no more of them.
     pub fn step(&mut self, line: &str) -> Result<(), Fault> {
         if line.is_empty() || line.starts_with('#') {
             return Ok(());
@@ -188,6 +196,11 @@ where
                 Err(_) => Err(Fault::Wrong("no clock")),
             },
             "since" => self.since(rest),
+            "mark" => {
+                self.marked = self.descriptors()?;
+                Ok(())
+            }
+            "freed" => self.freed(),
             name => {
                 let (verb, rest) = rest.split_once(' ').unwrap_or((rest, ""));
                 self.act(name, verb, rest)
@@ -250,6 +263,28 @@ where
         Ok(())
     }
 
+    fn descriptors(&self) -> Result<usize, Fault> {
+        let mut count = 0usize;
+        for entry in fs::read_dir(&self.rt, DESCRIPTORS)? {
+            let _entry = entry?;
+            count = count.saturating_add(1);
+        }
+        Ok(count)
+    }
+
+    /// Prints whether no more descriptors are open than were marked, once those of others are closed.
+    fn freed(&mut self) -> Result<(), Fault> {
+        for _ in 0..self.patience.saturating_mul(10) {
+            if self.descriptors()? <= self.marked {
+                return Ok(self.printed.push_str("all is freed\n")?);
+            }
+            thread::sleep(&self.rt, Duration::from_millis(100));
+        }
+        let more = self.descriptors()?.saturating_sub(self.marked);
+        write!(self.printed, "{more} descriptors are held\n")?;
+        Ok(())
+    }
+
     /// What somebody does.
     fn act(&mut self, name: &str, verb: &str, rest: &str) -> Result<(), Fault> {
         match verb {
@@ -294,6 +329,14 @@ where
                 let bytes = self.bytes_of("send", bytes)?;
                 let rt = self.rt;
                 self.stream(name)?.flood(&rt, count, bytes)
+            }
+            "drip" => {
+                let count = number_in(rest)?;
+                let rt = self.rt;
+                let is_heard = self.stream(name)?.drip(&rt, count);
+                let how = if is_heard { "is heard" } else { "is cut off" };
+                write!(self.printed, "{name} {how}\n")?;
+                Ok(())
             }
             "status" | "answer" => self.answer(name, verb == "answer"),
             "hear" if rest.is_empty() => self.hear_frame(name),

@@ -1,18 +1,45 @@
 //! A server in a thread of its own.
 
-use floor_poll::run;
 use floor_server::Program;
+use floor_socket::{Descriptors, run};
 use std::alloc::Global;
 use std::io::{Write, sink};
 use std::net::{Net, TcpListener, TcpStream};
+use std::os::fd::AsRawFd;
 use std::rt::Files;
 use std::sync::Wait;
+use std::test::Fail;
+use std::thread;
 use std::thread::Threads;
 use std::time::Clock;
 pub use test_clients::{
-    Server, Start, ask, connect, free_port, greet, hear, line, log_lines, prepare, send, two_ends,
-    write_file,
+    Server, Start, ask, ask_control, connect, control, control_lines, free_port, greet, hear, line,
+    log_lines, prepare, send, two_ends, write_file,
 };
+
+/// Starts a server of conference 1, with user 10 at a port, with a control socket at a path. It says `ready` first.
+pub fn start_with_socket<R>(rt: R, config: &str, path: &str, port: u16) -> Result<Server, Fail>
+where
+    R: Net<Listener = TcpListener, Stream = TcpStream>
+        + Files
+        + AllocGlobal
+        + Clock
+        + Threads
+        + Wait
+        + Copy
+        + Drop
+        + Send
+        + 'static,
+{
+    let alloc = rt.alloc();
+    let (console, mut start) = prepare(&rt, config, &[(1, port)])?;
+    start.add_word(alloc, "--control")?;
+    start.add_word(alloc, path)?;
+    let thread = thread::spawn(&rt, move || run_to_end(rt, alloc, start))?;
+    let server = Server { console, thread };
+    line(&rt, &server)?;
+    Ok(server)
+}
 
 /// Runs a server to its end, and gives the exit status.
 pub fn run_to_end<R>(rt: R, alloc: Global, start: Start) -> u8
@@ -51,6 +78,10 @@ where
         mut input,
         mut output,
     } = start;
+    let descriptors = Descriptors {
+        input: input.as_raw_fd(),
+        output: output.as_raw_fd(),
+    };
     let mut errors = Vec::new(alloc);
     let program = Program {
         name: "floorhub",
@@ -66,5 +97,6 @@ where
         &mut output,
         &mut errors,
         log,
+        Some(descriptors),
     )
 }

@@ -1,14 +1,16 @@
 //! A run of the server over its words, a reader and two writers.
 
-use crate::lines::answer_lines;
-use crate::server::Server;
+use crate::alone::answer_lines;
+use crate::console::Descriptors;
+use crate::serving::{Run, serve_socket};
 use floor_console::{Board, BoardRefusal};
 use floor_listen::{Ending, ServerFault, ended};
+use floor_poll::Server;
 use floor_server::{
     Log, Program, Task, Words, check_configuration, ending_of_words, fault_of_opening,
     fault_of_stop, log_of, print, read_words, tell, tell_ending,
 };
-use std::alloc::Global;
+use std::alloc::{AllocError, Global};
 use std::io::{Read, Write};
 use std::net::{Net, TcpListener, TcpStream};
 use std::rt::Files;
@@ -21,7 +23,9 @@ use std::time::Clock;
 const MAX_LOOPS: usize = 4;
 
 /// Does what the words ask for: serves a configuration until `input` says `stop` or ends, or checks one.
-/// A log that the words ask for goes to the sink. Prints to `errors` the name of a fault, and above it what
+/// With a control socket a client may say `stop` as well, and the end of the input stops nothing; without the
+/// descriptors of the input and the output there is no console then. A log that the words ask for goes to the
+/// sink. Prints to `errors` the name of a fault, and above it what
 /// a person is told of it, and gives the exit status.
 pub fn run<
     R: Net<Listener = TcpListener, Stream = TcpStream>
@@ -47,10 +51,11 @@ pub fn run<
     output: &mut O,
     errors: &mut E,
     sink: L,
+    descriptors: Option<Descriptors>,
 ) -> u8 {
     let ending = match read_words(alloc, words, program) {
         Ok(words) => match words.task {
-            Task::Serve => serve(rt, alloc, &words, input, output, errors, sink),
+            Task::Serve => { serve(rt, alloc, &words, input, output, errors, sink, descriptors) }
             Task::Check => {
                 check_configuration(
                     &rt,
@@ -77,7 +82,7 @@ fn loops_of<R: Threads>(rt: &R, loops: Option<u8>) -> usize {
     }
 }
 
-/// Serves the configuration of a file until `input` says `stop` or ends.
+/// Serves the configuration of a file until `input` says `stop` or ends, or a client of the control socket says so.
 fn serve<R, I: Read, O: Write, E: Write, L>(
     rt: R,
     alloc: Global,
@@ -86,6 +91,7 @@ fn serve<R, I: Read, O: Write, E: Write, L>(
     output: &mut O,
     errors: &mut E,
     sink: L,
+    descriptors: Option<Descriptors>,
 ) -> Ending
 where
     R: Net + Files + AllocGlobal + Clock + Threads + Wait + Copy + Drop + Send + 'static,
@@ -95,22 +101,67 @@ where
         None => None,
         Some(log) => Arc::new(alloc, log).ok(),
     };
-    let Ok(mut server) = Server::start(rt, alloc, loops_of(&rt, words.loops), &log) else {
-        return Ending::Fault(ServerFault::Memory);
+    let loops = loops_of(&rt, words.loops);
+    let run = match &words.control {
+        Some(path) => {
+            let path = path.as_str();
+            serve_socket(
+                rt,
+                alloc,
+                loops,
+                words,
+                path,
+                &log,
+                descriptors,
+                input,
+                output,
+                errors,
+            )
+        }
+        None => serve_console(rt, alloc, loops, words, &log, input, output, errors),
     };
-    let served = converse(rt, alloc, &mut server, words, &log, input, output, errors);
+    end_log(&rt, &log);
+    ending_of(run)
+}
+
+/// How a run ends.
+fn ending_of(run: Result<Run, AllocError>) -> Ending {
+    match run {
+        Ok(Run { served, outcome }) => {
+            let stopped = match outcome {
+                Ok(_) => Ok(()),
+                Err(refusal) => Err(fault_of_stop(refusal)),
+            };
+            ended(served, stopped)
+        }
+        Err(_) => Ending::Fault(ServerFault::Memory),
+    }
+}
+
+/// Serves the configuration of a file by so many loops until `input` says `stop` or ends. Without memory,
+/// descriptors or threads for that it isn't begun.
+fn serve_console<R, I: Read, O: Write, E: Write>(
+    rt: R,
+    alloc: Global,
+    loops: usize,
+    words: &Words,
+    log: &Option<Arc<Log, Global>>,
+    input: &mut I,
+    output: &mut O,
+    errors: &mut E,
+) -> Result<Run, AllocError>
+where
+    R: Net + Files + AllocGlobal + Clock + Threads + Wait + Copy + Drop + Send + 'static,
+{
+    let mut server = Server::start(rt, alloc, loops, log, &None)?;
+    let served = converse(rt, alloc, &mut server, words, log, input, output, errors);
     // Whatever went wrong, no thread is left behind.
     let outcome = match server.outcome() {
         Some(outcome) => outcome,
         None => server.stop(),
     };
     server.join();
-    end_log(&rt, &log);
-    let stopped = match outcome {
-        Ok(_) => Ok(()),
-        Err(refusal) => Err(fault_of_stop(refusal)),
-    };
-    ended(served, stopped)
+    Ok(Run { served, outcome })
 }
 
 /// Ends the log, where there is one, once its last lines are written.

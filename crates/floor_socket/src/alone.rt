@@ -1,8 +1,8 @@
 //! The administrator's lines, one after another.
 
-use crate::server::Server;
 use floor_console::run_command;
 use floor_listen::ServerFault;
+use floor_poll::Server;
 use floor_server::{next_command, print, tell};
 use std::alloc::Global;
 use std::io::{BufReader, Read, Write};

@@ -1,0 +1,80 @@
+//! What is asked of a loop by somebody who isn't waited for.
+
+use crate::inbox::{Asker, Note};
+use crate::mailbox::{Answer, Ask, Mailbox};
+use crate::worker::Worker;
+use floor_room::Phase;
+use std::sync::Wait;
+use std::time::Clock;
+
+/// How many are answered between two turns.
+const MAX_ASKS: u32 = 64;
+
+impl<R: Clock + Wait + Copy + Drop> Worker<R> {
+    /// Answers what is asked, 64 at most at a time.
+    pub fn answer_asks(&mut self, mailbox: &Mailbox) {
+        let rt = self.rt;
+        self.has_asks = false;
+        for _ in 0..MAX_ASKS {
+            match mailbox.next_ask(&rt) {
+                Some(ask) => self.answer_ask(ask),
+                None => return,
+            }
+        }
+        self.has_asks = !mailbox.is_idle(&rt);
+    }
+
+    /// Does what is asked, and answers.
+    fn answer_ask(&mut self, ask: Ask) {
+        let Ask { asker, asked } = ask;
+        if let Some(answer) = self.carry_out(asked) {
+            self.put(Note::Answered { asker, answer });
+        }
+        self.write_ready();
+    }
+
+    /// Tells the first thread that none of the conferences is open, where it waits for that.
+    pub fn tell_drained(&mut self) {
+        if !self.is_draining || self.has_open() {
+            return;
+        }
+        self.is_draining = false;
+        self.put(Note::Answered {
+            asker: Asker::Drain,
+            answer: Answer::Drained,
+        });
+    }
+
+    /// Whether one of the conferences is open. The one that was found open last is looked at first.
+    fn has_open(&mut self) -> bool {
+        if self.is_open(self.last_open) {
+            return true;
+        }
+        for (conference, _) in self.conferences.iter() {
+            if self.is_open(*conference) {
+                self.last_open = *conference;
+                return true;
+            }
+        }
+        false
+    }
+}
+
+impl<R: Clock + Drop> Worker<R> {
+    fn is_open(&self, conference: u32) -> bool {
+        match self.hub.status(conference) {
+            Ok(status) => status.phase == Phase::Running,
+            Err(_) => false,
+        }
+    }
+}
+
+impl<R: Wait + Clock + Drop> Worker<R> {
+    /// Tells the first thread something, where it serves a control socket.
+    pub fn put(&self, note: Note) {
+        match &self.inbox {
+            Some(inbox) => inbox.put(&self.rt, note),
+            None => {}
+        }
+    }
+}

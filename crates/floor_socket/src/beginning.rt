@@ -1,0 +1,341 @@
+//! What a line asks for is begun.
+
+ghost use Rattle.std.specs.Prelude.{◌≡◌, ◌≢◌};
+ghost use Rattle.floor_control.specs.declared.refusal.ControlRefusal.TheVariants.{Forgotten};
+ghost use Rattle.floor_poll.specs.Refusals.{ended};
+
+use crate::desk::{CONSOLE, Desk};
+use crate::lines::{Went, refused};
+use crate::task::{List, Step, Task, Then};
+use floor_console::{BoardRefusal, Command};
+use floor_control::{
+    ConfigFault, ControlRefusal, Done, Line, Octets, Opening, Text, User, add_draining, add_end,
+    add_stopped, add_unwatched, add_word, add_word_kept,
+};
+use floor_loop::Act;
+use floor_poll::{Asked, Asker, Question, ended, no_counts};
+use std::alloc::AllocError;
+use std::net::Net;
+use std::rt::Files;
+use std::sync::Wait;
+use std::thread::Threads;
+use std::time::Clock;
+
+impl<R> Desk<R>
+where
+    R: Net + Files + AllocGlobal + Clock + Threads + Wait + Copy + Drop + Send + 'static,
+{
+    /// Begins what a line asks for.
+    pub fn begin(&mut self, number: u64, mut task: Task, line: Line) -> Result<Went, AllocError> {
+        let begun = match line {
+            Line::Command(Command::Empty) => return Ok(Went::Over),
+            Line::Command(command) => self.begin_command(number, &mut task, command),
+            line => self.begin_own(number, &mut task, line),
+        };
+        self.take_told(number);
+        match begun {
+            Ok(step) => {
+                task.step = step;
+                Ok(Went::On(task))
+            }
+            Err(refusal) => refused(task, refusal),
+        }
+    }
+
+    /// Keeps what a person is told of a refusal, where that is the console's.
+    pub fn take_told(&mut self, number: u64) {
+        let told = self.server.take_told();
+        self.note_told(number, told);
+    }
+
+    /// Keeps what a person is told of what a client was refused, where that is the console.
+    pub fn note_told(&mut self, number: u64, told: Option<String>) {
+        if number == CONSOLE && told.is_some() {
+            self.told = told;
+        }
+    }
+
+    /// Begins what the console asks for as well.
+    fn begin_command(
+        &mut self,
+        number: u64,
+        task: &mut Task,
+        command: Command,
+    ) -> Result<Step, ControlRefusal> {
+        match command {
+            Command::Empty => Ok(Step::End),
+            Command::Open { path } => self.read_file(number, path),
+            Command::AddUser { conference, user } => self.add_user(number, conference, user),
+            Command::Status { conference } => self.stand(number, conference, Then::Status),
+            Command::Journal { conference } => {
+                self.stand(number, conference, Then::Journal { from: None })
+            }
+            Command::Stop => self.stop_for(number, task),
+            act => self.begin_act(number, act),
+        }
+    }
+
+    /// Begins what is done to a conference alone.
+    fn begin_act(&mut self, number: u64, command: Command) -> Result<Step, ControlRefusal> {
+        match command {
+            Command::Close { conference } => self.act(number, conference, Act::Close, Done::Closed),
+            Command::Revoke {
+                conference,
+                request,
+            } => self.act(
+                number,
+                conference,
+                Act::Revoke(request),
+                Done::Revoked(request),
+            ),
+            Command::AddFloor { conference, floor } => {
+                let done = Done::FloorAdded(floor.id);
+                self.act(number, conference, Act::AddFloor(floor), done)
+            }
+            Command::SetChair {
+                conference,
+                floor,
+                chair,
+            } => {
+                let done = Done::ChairSet(floor);
+                self.act(number, conference, Act::SetChair(floor, chair), done)
+            }
+            _ => Ok(Step::End),
+        }
+    }
+
+    /// Begins what is asked at the socket alone.
+    fn begin_own(
+        &mut self,
+        number: u64,
+        task: &mut Task,
+        line: Line,
+    ) -> Result<Step, ControlRefusal> {
+        match line {
+            Line::OpenHere => Ok(Step::Gather(Opening::new(self.alloc))),
+            Line::Leave { conference, n } => self.leave(number, conference, n),
+            Line::Forget { conference } => self.forget(number, conference),
+            Line::Watch { conference, from } => self.watch(number, conference, from),
+            Line::Unwatch { conference } => self.unwatch_for(number, task, conference),
+            Line::Word {
+                conference,
+                key,
+                value,
+            } => self.keep_word(task, conference, key, value),
+            Line::Words { conference } => self.tell_words(task, conference),
+            Line::Drain => self.drain(task),
+            reader => self.begin_reader(number, reader),
+        }
+    }
+
+    /// Begins what is asked of the loops and changes nothing.
+    fn begin_reader(&mut self, number: u64, line: Line) -> Result<Step, ControlRefusal> {
+        match line {
+            Line::List => self.list(),
+            Line::Users { conference } => {
+                self.question(number, conference, Question::Users { conference })
+            }
+            Line::Members { conference } => {
+                self.question(number, conference, Question::Members { conference })
+            }
+            Line::Floors { conference } => {
+                self.question(number, conference, Question::Floors { conference })
+            }
+            Line::Journal { conference, from } => {
+                self.stand(number, conference, Then::Journal { from })
+            }
+            Line::Metrics => Ok(Step::Count {
+                place: 0,
+                counts: no_counts(),
+            }),
+            _ => Ok(Step::End),
+        }
+    }
+
+    fn leave(&mut self, number: u64, conference: u32, n: u32) -> Result<Step, ControlRefusal> {
+        self.ask(number, conference, Asked::Leave { conference, n })?;
+        Ok(Step::Acting {
+            conference,
+            done: Done::Left(n),
+        })
+    }
+
+    /// Asks the loop of a conference for a line, which has one at a time.
+    pub fn ask(
+        &mut self,
+        number: u64,
+        conference: u32,
+        asked: Asked,
+    ) -> Result<(), ControlRefusal> {
+        let Some(place) = self.server.owner(conference) else {
+            return Err(ControlRefusal::ByBoard(BoardRefusal::NoConference));
+        };
+        self.send(place, Asker::Line { client: number }, asked)
+    }
+
+    /// Asks a loop; there is room for the answer.
+    pub fn send(&mut self, place: usize, asker: Asker, asked: Asked) -> Result<(), ControlRefusal> {
+        self.inbox.reserve(&self.rt, self.expected())?;
+        self.server.send(place, asker, asked)?;
+        Ok(())
+    }
+
+    /// How many notes may come at most before another ask: an answer and a configuration for each client, an answer
+    /// to what it is behind with, an answer and a growth for each conference that is followed, and the loops' ends.
+    pub fn expected(&self) -> usize {
+        let clients = self.clients.len().saturating_add(1).saturating_mul(3);
+        let followed = self.following.saturating_add(1).saturating_mul(2);
+        clients
+            .saturating_add(followed)
+            .saturating_add(self.opening.len())
+            .saturating_add(self.server.loops())
+    }
+
+    fn act(
+        &mut self,
+        number: u64,
+        conference: u32,
+        act: Act,
+        done: Done,
+    ) -> Result<Step, ControlRefusal> {
+        self.ask(number, conference, Asked::Admin { conference, act })?;
+        Ok(Step::Acting { conference, done })
+    }
+
+    fn add_user(
+        &mut self,
+        number: u64,
+        conference: u32,
+        user: User,
+    ) -> Result<Step, ControlRefusal> {
+        let done = Done::UserAdded(user.id);
+        let asked = self.server.adding_of(conference, user)?;
+        self.ask(number, conference, asked)?;
+        Ok(Step::Acting { conference, done })
+    }
+
+    fn stand(&mut self, number: u64, conference: u32, then: Then) -> Result<Step, ControlRefusal> {
+        let question = Question::Status { conference };
+        self.ask(number, conference, Asked::Tell(question))?;
+        Ok(Step::Standing { conference, then })
+    }
+
+    fn question(
+        &mut self,
+        number: u64,
+        conference: u32,
+        question: Question,
+    ) -> Result<Step, ControlRefusal> {
+        self.ask(number, conference, Asked::Tell(question))?;
+        Ok(Step::Lines)
+    }
+
+    fn forget(&mut self, number: u64, conference: u32) -> Result<Step, ControlRefusal> {
+        let Some(place) = self.server.owner(conference) else {
+            return Err(ControlRefusal::ByBoard(BoardRefusal::NoConference));
+        };
+        let asker = Asker::Forgetting {
+            client: number,
+            conference,
+        };
+        self.send(place, asker, Asked::Forget { conference })?;
+        Ok(Step::Forgetting { conference })
+    }
+
+    fn list(&mut self) -> Result<Step, ControlRefusal> {
+        Ok(Step::List(List {
+            conferences: self.server.conferences()?,
+            at: 0,
+            place: 0,
+            found: Vec::new(self.alloc),
+            count: 0,
+        }))
+    }
+
+    fn watch(
+        &mut self,
+        number: u64,
+        conference: u32,
+        from: Option<u64>,
+    ) -> Result<Step, ControlRefusal> {
+        let _meeting = self.meeting(conference)?;
+        if self.watches(number, conference) {
+            return Err(ControlRefusal::Watching);
+        }
+        self.stand(number, conference, Then::Watch { from })
+    }
+
+    fn unwatch_for(
+        &mut self,
+        number: u64,
+        task: &mut Task,
+        conference: u32,
+    ) -> Result<Step, ControlRefusal> {
+        let _meeting = self.meeting(conference)?;
+        self.unwatch(number, conference);
+        add_unwatched(task.text(), conference)?;
+        Ok(Step::End)
+    }
+
+    fn keep_word(
+        &mut self,
+        task: &mut Task,
+        conference: u32,
+        key: Text,
+        value: Option<Octets>,
+    ) -> Result<Step, ControlRefusal> {
+        let meeting = match self.meeting(conference) {
+            Ok(meeting) => meeting,
+            Err(refusal) => return Err(of_act(refusal)),
+        };
+        add_word_kept(task.text(), conference, key.as_str())?;
+        match value {
+            Some(value) => {
+                if !meeting.words.fits(key.as_str(), value.as_slice()) {
+                    return Err(ControlRefusal::from(ConfigFault::OutOfRange));
+                }
+                meeting.words.keep(key, value)?;
+            }
+            None => meeting.words.remove(key.as_str()),
+        }
+        Ok(Step::End)
+    }
+
+    fn tell_words(&mut self, task: &mut Task, conference: u32) -> Result<Step, ControlRefusal> {
+        let meeting = self.meeting(conference)?;
+        let words = meeting.words.items();
+        for word in words {
+            add_word(task.text(), word.key.as_str(), word.value.as_slice())?;
+        }
+        add_end(task.text(), words.len())?;
+        Ok(Step::End)
+    }
+
+    /// Opens no conference any more, and asks each loop, once, to tell once none of its own is open.
+    fn drain(&mut self, task: &mut Task) -> Result<Step, ControlRefusal> {
+        self.is_draining = true;
+        for place in self.asked_to_drain..self.server.loops() {
+            self.send(place, Asker::Drain, Asked::Drain)?;
+            self.asked_to_drain = place.saturating_add(1);
+        }
+        add_draining(task.text())?;
+        Ok(Step::End)
+    }
+
+    fn stop_for(&mut self, number: u64, task: &mut Task) -> Result<Step, ControlRefusal> {
+        let outcome = self.stop(number);
+        add_stopped(task.text(), outcome)?;
+        Ok(Step::End)
+    }
+}
+
+/// What an act is refused by where a conference was forgotten: it is a closed one.
+fn of_act(refusal: ControlRefusal) -> ControlRefusal
+    ensures forgotten { refusal ≡ Forgotten → result ≡ ended }
+    ensures same { refusal ≢ Forgotten → result ≡ refusal }
+{
+    match refusal {
+        ControlRefusal::Forgotten => ended(),
+        other => other,
+    }
+}
