@@ -96,7 +96,7 @@ where
                 has_log,
                 loops: _,
                 doors,
-                control: _,
+                control: _control,
             },
         ) => match task {
             Task::Serve => {
