@@ -6,7 +6,7 @@
 // examples/browsers.toml. What each page shows is compared step by step: hands, queue, decisions with their
 // reasons, texts that are too long, a server that is slow, an administrator's revoke, a conference that is changed
 // while it runs, keys alone, a connection that is lost and had again, links that open nothing, the end of the
-// meeting. Where a page looks otherwise than before it is looked through for what WCAG 2.2 asks at its levels A and
+// meeting; before a floorhub also by its control socket, with the operator's page. Where a page looks otherwise than before it is looked through for what WCAG 2.2 asks at its levels A and
 // AA, as far as a program sees it: names, roles, contrast, targets, headings, landmarks; narrow, enlarged, in the
 // dark and without motion. Before a floorhub all come once more by its door, where a meeting ends otherwise.
 // Pictures of the pages go to the folder PICTURES, if there is one. Status 1 at the first step that isn't as it
@@ -25,6 +25,7 @@ const tokens = Object.fromEntries(
 );
 const ADDRESS = "127.0.0.1:7080";
 const DOOR = 7_081;
+const OPERATOR = "the-token-of-the-operator";
 const DEBUGGING = 9_333;
 const PATIENCE = Number(process.env.PATIENCE ?? 1);
 const sleep = (milliseconds) => new Promise((resolve) => setTimeout(resolve, milliseconds));
@@ -105,7 +106,7 @@ class Tab {
   static all = [];
   static complaints = [];
 
-  static async open(name, hash = tokens[name]) {
+  static async open(name, hash = tokens[name], path = "/") {
     const answer = await fetch(`http://127.0.0.1:${DEBUGGING}/json/new?about:blank`, { method: "PUT" });
     const tab = new Tab();
     tab.name = name;
@@ -120,7 +121,7 @@ class Tab {
     for (const domain of ["Page", "Runtime", "Log"]) await tab.send(`${domain}.enable`);
     // Each is looked at, as by a person of its own: else the browser holds back the timers of all but one.
     await tab.send("Emulation.setFocusEmulationEnabled", { enabled: true });
-    await tab.send("Page.navigate", { url: `http://${ADDRESS}/#${hash}` });
+    await tab.send("Page.navigate", { url: `http://${ADDRESS}${path}#${hash}` });
     return tab;
   }
 
@@ -586,6 +587,135 @@ async function meetByDoor() {
   await stop(server);
 }
 
+/** Says a line at the control socket, which has to be answered so. */
+async function say(path, line, answer) {
+  const socket = createConnection(path);
+  const told = await new Promise((resolve, reject) => {
+    let text = "";
+    socket.on("data", (piece) => (text += piece).includes("\n") && resolve(text.split("\n")[0]));
+    socket.once("error", reject);
+    socket.write(`${line}\n`);
+  });
+  socket.destroy();
+  if (!told.startsWith(answer)) throw new Error(`${line}: ${told}`);
+  steps++;
+}
+
+/** By floorhub's control socket: late users, new floors and other chairs are seen at once, and so is the end; and the operator's page. */
+async function meetByControl() {
+  await Tab.closeAll();
+  const place = mkdtempSync(join(tmpdir(), "control-"));
+  const control = join(place, "control");
+  writeFileSync(join(place, "token"), `${OPERATOR}\n`);
+  const door = ["--door-by-id", String(DOOR)];
+  let server = await start(serverPath, ...door, "--control", control, config);
+  const gateway = await start(floorwebPath, ADDRESS, config, folder, ...door, "--control", control, "--operator", join(place, "token"));
+  const operator = await Tab.open("operator", OPERATOR, "/operator");
+  await operator.size(390, 844);
+  await operator.shows("Connected", 20_000);
+  await operator.shows("1 conference, 0 connections");
+  await operator.audit("the operator's page without people");
+  const [ann, dee] = [await Tab.open("Ann"), await Tab.open("Dee")];
+  for (const tab of [ann, dee]) {
+    await tab.size(390, 844);
+    await tab.shows("Connected", 20_000);
+  }
+  await operator.shows("1 conference, 2 connections");
+  await operator.shows("Ann has connected");
+  await ann.fill("Microphone", "info", "A question");
+  await ann.press("Microphone", "Raise hand");
+  await operator.shows("asks the chair");
+  await dee.press("Microphone", "Give the floor to Ann");
+  await ann.shows("You have the floor.");
+  await operator.shows("has the floor");
+
+  // A late user, with a link at once; a new floor; another chair.
+  await say(control, "user 1 14 name Eve", "ok user 1 14 at ");
+  await say(control, `word 1 token.14 ${Buffer.from("the-token-of-user-14--").toString("hex")}`, "ok word 1 token.14");
+  const eve = await Tab.open("Eve", "the-token-of-user-14--");
+  await eve.size(390, 844);
+  await eve.shows("You are Eve");
+  await eve.shows("Connected", 20_000);
+  await operator.shows("Eve (14)");
+  await say(control, "floor 1 3", "ok floor 1 3 at ");
+  await say(control, `word 1 title.3 ${Buffer.from("Whiteboard").toString("hex")}`, "ok word 1 title.3");
+  await ann.shows("Whiteboard");
+  await ann.press("Whiteboard", "Take the floor");
+  await ann.says("Whiteboard", ".standing", "You have the floor.");
+  await say(control, "chair 1 3 14", "ok chair 1 3 at ");
+  await ann.says("Whiteboard", ".rule", "One at a time, Eve decides");
+  await eve.says("Whiteboard", ".rule", "One at a time, you decide");
+  await eve.shows("You are Eve, chair");
+  await eve.press("Whiteboard", "Take the floor back from Ann");
+  await eve.type("My turn");
+  await eve.key("Enter", 13);
+  await ann.shows("Whiteboard: the floor was taken back: My turn");
+  for (const scheme of ["dark", "light"]) {
+    await operator.send("Emulation.setEmulatedMedia", { features: [{ name: "prefers-color-scheme", value: scheme }] });
+    await operator.audit(`the operator's page, ${scheme}`);
+  }
+  await operator.picture("operator", false);
+  await operator.size(320, 640);
+  await operator.audit("the operator's page, 320 pixels");
+  await operator.size(1_280, 1_024, false);
+  await operator.audit("the operator's page, wide");
+  await operator.size(390, 844);
+
+  // What the operator orders, each after a question; by keys too.
+  const press = (label) => operator.value(`(() => {
+    const button = [...document.querySelectorAll("button")].find((one) => one.getAttribute("aria-label") === ${JSON.stringify(label)});
+    if (!button) throw new Error("no button " + ${JSON.stringify(label)} + " in " + document.body.innerText);
+    button.focus();
+    button.click();
+  })()`);
+  const agree = () => operator.value("document.querySelector('dialog button[value=do]').click()");
+  await press("Take Microphone back from Ann (10)");
+  await operator.until("document.querySelector('dialog').open", "a question");
+  await operator.audit("the operator's question");
+  await operator.picture("operator-sure", false);
+  await operator.key("Escape", 27);
+  await operator.until("!document.querySelector('dialog').open", "no question");
+  await operator.focus("Take Microphone back from Ann (10)");
+  await ann.says("Microphone", ".standing", "You have the floor.");
+  await press("Take Microphone back from Ann (10)");
+  await agree();
+  await ann.shows("Microphone: the floor was taken back");
+  await operator.shows("Done: Take Microphone back from Ann (10).");
+  await press("Show Eve (14) out");
+  await agree();
+  await eve.shows("Not connected");
+  await operator.shows("Eve (14) has gone");
+  await eve.shows("Connected", 20_000);
+
+  // floorhub goes and comes back: nothing is taken as ended meanwhile.
+  const gone = new Promise((resolve) => server.once("exit", resolve));
+  await say(control, "stop", "ok stopped");
+  await gone;
+  await operator.shows("The server is away");
+  await ann.shows("Not connected");
+  await ann.hides("The meeting has ended");
+  server = await start(serverPath, ...door, "--control", control, config);
+  await operator.shows("Connected", 20_000);
+  await ann.shows("Connected", 40_000);
+
+  // The end reaches who looks at once.
+  const from = Date.now();
+  const title = await operator.value("document.querySelector('.conference h2').textContent");
+  await press(`Close the conference ${title}`);
+  await agree();
+  for (const tab of [ann, dee]) await tab.shows("The meeting has ended");
+  if (Date.now() - from > 3_000 * PATIENCE) throw new Error(`the end was told after ${Date.now() - from} ms`);
+  await operator.shows("has ended");
+  const wrong = await Tab.open("wrong", "nobodys-token-nobodys-token", "/operator");
+  await wrong.size(390, 480);
+  await wrong.shows("This link isn't the operator's", 20_000);
+  await wrong.audit("a link that isn't the operator's");
+  await stop(gateway);
+  // The end of its input stops no floorhub that has a control socket.
+  await say(control, "stop", "ok stopped");
+  rmSync(place, { recursive: true, force: true });
+}
+
 /** How the page looks and is used: narrow, enlarged, in the dark, without motion, by keys. */
 async function looks([ann, ben, cid, dee]) {
   for (const scheme of ["dark", "light"]) {
@@ -683,6 +813,7 @@ try {
   if (serverPath.includes("floorhub")) {
     await Promise.all([stop(gateway), stop(server)]);
     await meetByDoor();
+    await meetByControl();
   }
   console.log(`${steps} steps as they should be`);
 } catch (error) {

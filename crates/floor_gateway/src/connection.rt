@@ -1,14 +1,17 @@
 //! One connection: a request, and what follows it.
 
 use crate::entry::{Entry, Place};
-use crate::gateway::Gateway;
+use crate::gateway::{Gateway, Seat};
 use crate::head::{HeadEnd, read_head};
+use crate::listener::{Changed, Listener};
+use crate::order;
 use crate::pair::{Pair, linger};
 use crate::server::{Reached, prepare, reach};
 use crate::unserved::Unserved;
 use floor_listen::Granted;
 use floor_web::{
-    Asked, End, Kind, Participant, Reading, Refusal, Relay, read_request, refuse, serve, welcome,
+    Asked, End, Kind, Reading, Refusal, Relay, Source, meeting_of, read_request, refuse, serve,
+    stream, welcome,
 };
 use std::alloc::Global;
 use std::io::{Read, Write};
@@ -17,7 +20,17 @@ use std::sync::atomic::{AtomicBool, Ordering};
 use std::sync::{Arc, Wait};
 use std::thread;
 use std::thread::{SpawnError, Threads};
-use std::time::Clock;
+use std::time::{Clock, Duration};
+
+/// How often a token is looked up that nobody has, where others come by the control socket: whoever tells it
+/// there and sends the link at once is told by the next round.
+const LOOKS: u32 = 15;
+
+/// What a page is told that asks for what changes, where no control socket is followed.
+const NOTHING_LIVE: &[u8] = b"{\"live\":false}\n";
+
+/// How long it waits between two looks, in milliseconds.
+const LOOK_MILLIS: u64 = 100;
 
 /// Starts the thread of a connection. Where it can't be served its socket is closed.
 pub fn start<R>(rt: R, alloc: Global, gateway: &Arc<Gateway, Global>, stream: TcpStream)
@@ -211,20 +224,164 @@ where
             }
             None => answer_refusal(&rt, alloc, gateway, &stream, Refusal::NotFound, is_head),
         },
-        Asked::Meeting { token, is_head } => match gateway.participants.find(token) {
-            Some(participant) => {
-                let answer = serve(alloc, Kind::Json, participant.meeting.as_bytes(), is_head)?;
+        Asked::Told {
+            source,
+            token,
+            is_head,
+        } => tell(rt, alloc, gateway, stream, source, token, is_head),
+        Asked::Order { token, order } => { obey(&rt, alloc, gateway, &stream, token, order) }
+        Asked::Bfcp { token, accept } => match seat_of(&rt, gateway, token) {
+            Some(seat) if seat.is_ended => {
+                lack_server(&rt, alloc, gateway, &seat, &stream, &accept)
+            }
+            Some(seat) => connect(rt, alloc, gateway, &seat, stream, &accept, behind),
+            None => answer_refusal(&rt, alloc, gateway, &stream, Refusal::NotFound, false),
+        },
+    }
+}
+
+/// Whom a token stands for.
+fn seat_of<R: Clock + Wait>(rt: &R, gateway: &Gateway, token: &[u8]) -> Option<Seat> {
+    for _ in 0..LOOKS {
+        let seat = gateway.seat(rt, token);
+        if seat.is_some() || gateway.control.is_none() || gateway.is_ending() {
+            return seat;
+        }
+        thread::sleep(rt, Duration::from_millis(LOOK_MILLIS));
+    }
+    None
+}
+
+/// Tells whoever has the token what it asks for.
+fn tell<R>(
+    rt: R,
+    alloc: Global,
+    gateway: &Gateway,
+    stream: TcpStream,
+    source: Source,
+    token: &[u8],
+    is_head: bool,
+) -> Result<(), Unserved>
+where
+    R: Clock + Threads + Wait + Copy + Drop + Send + 'static,
+{
+    match source {
+        Source::Operator => {
+            if !gateway.is_operator(token) {
+                return answer_refusal(&rt, alloc, gateway, &stream, Refusal::NotFound, is_head);
+            }
+            go_on_telling(&rt, alloc, gateway, stream, None, is_head)
+        }
+        Source::Live => match seat_of(&rt, gateway, token) {
+            Some(seat) if gateway.control.is_some() => {
+                let place = Some(Place::of(&seat));
+                go_on_telling(&rt, alloc, gateway, stream, place, is_head)
+            }
+            Some(_) => {
+                let answer = serve(alloc, Kind::Json, NOTHING_LIVE, is_head)?;
                 send_last(&rt, &stream, answer.as_slice());
                 Ok(())
             }
             None => answer_refusal(&rt, alloc, gateway, &stream, Refusal::NotFound, is_head),
         },
-        Asked::Bfcp { token, accept } => match gateway.participants.find(token) {
-            Some(participant) => {
-                connect(rt, alloc, gateway, participant, stream, &accept, behind)
+        Source::Meeting => match meeting_text(&rt, alloc, gateway, token)? {
+            Some(text) => {
+                let answer = serve(alloc, Kind::Json, text.as_bytes(), is_head)?;
+                send_last(&rt, &stream, answer.as_slice());
+                Ok(())
             }
-            None => answer_refusal(&rt, alloc, gateway, &stream, Refusal::NotFound, false),
+            None => answer_refusal(&rt, alloc, gateway, &stream, Refusal::NotFound, is_head),
         },
+    }
+}
+
+/// What the page of the token's user is told of its meeting: by what is known at the control socket, and else
+/// by the file.
+fn meeting_text<R: Clock + Wait>(
+    rt: &R,
+    alloc: Global,
+    gateway: &Gateway,
+    token: &[u8],
+) -> Result<Option<String>, Unserved> {
+    let Some(seat) = seat_of(rt, gateway, token) else {
+        return Ok(None);
+    };
+    {
+        let picture = gateway.picture.lock(rt);
+        if let Some(follower) = &*picture {
+            if let Some(conference) = follower.conference(seat.conference) {
+                let text = meeting_of(alloc, conference, seat.user, &gateway.titles)?;
+                if text.is_some() {
+                    return Ok(text);
+                }
+            }
+        }
+    }
+    match gateway.meeting_in_file(token) {
+        Some(text) => Ok(Some(String::from_str(alloc, text)?)),
+        None => Ok(None),
+    }
+}
+
+/// Tells a page what is known, and what changes, until it goes.
+fn go_on_telling<R: Clock + Wait>(
+    rt: &R,
+    alloc: Global,
+    gateway: &Gateway,
+    stream_to: TcpStream,
+    place: Option<Place>,
+    is_head: bool,
+) -> Result<(), Unserved> {
+    let head = stream(alloc)?;
+    if is_head {
+        send_last(rt, &stream_to, head.as_slice());
+        return Ok(());
+    }
+    let listener = Arc::new(alloc, Listener::new(alloc, stream_to, place))?;
+    if !listener.open(head.as_slice()) {
+        return Ok(());
+    }
+    let key = gateway.listen(rt, &listener)?;
+    if gateway.is_ending() {
+        // It may have hung up for all others before.
+        listener.hang_up();
+    }
+    listener.tell(rt, gateway, &Changed::all(alloc));
+    listener.wait(rt);
+    gateway.unlisten(rt, key);
+    Ok(())
+}
+
+/// Has done what the operator's page orders, and answers what the server does.
+fn obey<R>(
+    rt: &R,
+    alloc: Global,
+    gateway: &Gateway,
+    stream: &TcpStream,
+    token: &[u8],
+    order: &[u8],
+) -> Result<(), Unserved>
+where
+    R: Net<Listener = TcpListener, Stream = TcpStream> + Clock + Wait,
+{
+    let Some(path) = &gateway.control else {
+        return answer_refusal(rt, alloc, gateway, stream, Refusal::NotFound, false);
+    };
+    if !gateway.is_operator(token) {
+        return answer_refusal(rt, alloc, gateway, stream, Refusal::NotFound, false);
+    }
+    let order = std::str::from_utf8(order).unwrap_or("");
+    let Some(line) = order::line_of(alloc, order)? else {
+        return answer_refusal(rt, alloc, gateway, stream, Refusal::BadRequest, false);
+    };
+    gateway.tell(rt, &Entry::Ordered);
+    match order::asked(rt, alloc, path.as_str(), line.as_str())? {
+        Some(text) => {
+            let answer = serve(alloc, Kind::Text, text.as_bytes(), false)?;
+            send_last(rt, stream, answer.as_slice());
+            Ok(())
+        }
+        None => answer_refusal(rt, alloc, gateway, stream, Refusal::BadGateway, false),
     }
 }
 
@@ -254,7 +411,7 @@ fn connect<R>(
     rt: R,
     alloc: Global,
     gateway: &Gateway,
-    participant: &Participant,
+    seat: &Seat,
     stream: TcpStream,
     accept: &[u8; 28],
     behind: &[u8],
@@ -269,10 +426,14 @@ where
         + Send
         + 'static,
 {
-    let server = match reach(&rt, alloc, gateway.door, participant)? {
+    let server = match reach(&rt, alloc, gateway.door, seat)? {
         Reached::Server(server) => server,
+        // By the control socket it would be known if the meeting had ended: it may come back.
+        Reached::Nobody if gateway.control.is_some() => {
+            return answer_refusal(&rt, alloc, gateway, &stream, Refusal::BadGateway, false);
+        }
         Reached::Nobody => {
-            return lack_server(&rt, alloc, gateway, participant, &stream, accept);
+            return lack_server(&rt, alloc, gateway, seat, &stream, accept);
         }
         Reached::Failure => {
             return answer_refusal(&rt, alloc, gateway, &stream, Refusal::BadGateway, false);
@@ -296,7 +457,7 @@ where
         gateway.remove(&rt, key);
         return Err(Unserved::NoThread);
     };
-    let place = Place::of(participant);
+    let place = Place::of(seat);
     gateway.tell(&rt, &Entry::Joined(place));
     pair.carry_up(&rt, behind);
     pair.hang_up();
@@ -312,11 +473,11 @@ fn lack_server<R: Clock + Wait>(
     rt: &R,
     alloc: Global,
     gateway: &Gateway,
-    participant: &Participant,
+    seat: &Seat,
     stream: &TcpStream,
     accept: &[u8; 28],
 ) -> Result<(), Unserved> {
-    gateway.tell(rt, &Entry::NoServer(Place::of(participant)));
+    gateway.tell(rt, &Entry::NoServer(Place::of(seat)));
     let mut answer = welcome(alloc, accept)?;
     Relay::new(alloc).lack_server(&mut answer);
     send_last(rt, stream, answer.as_slice());

@@ -1,8 +1,9 @@
 //! What the log tells: a line for each connection that joins, is refused or leaves. No line has a
 //! token, and for a message there is none.
 
+use crate::gateway::Seat;
 use crate::unserved::Unserved;
-use floor_web::{End, Participant, Refusal};
+use floor_web::{End, Refusal};
 use std::alloc::{AllocError, Global};
 
 /// What became of a connection.
@@ -16,6 +17,8 @@ pub enum Entry {
     NoServer(Place),
     /// A request was refused.
     Refused(Refusal),
+    /// The operator's page has ordered something.
+    Ordered,
     /// A connection isn't answered.
     Unserved(Unserved),
 }
@@ -28,11 +31,11 @@ pub struct Place {
 }
 
 impl Place {
-    /// That of a participant.
-    pub fn of(participant: &Participant) -> Place {
+    /// That of a seat.
+    pub fn of(seat: &Seat) -> Place {
         Place {
-            conference: participant.conference,
-            user: participant.user,
+            conference: seat.conference,
+            user: seat.user,
         }
     }
 }
@@ -53,6 +56,7 @@ impl Entry {
                 let (conference, user) = (place.conference, place.user);
                 format!(in alloc; "no server for conference {conference} user {user}")
             }
+            Entry::Ordered => format!(in alloc; "operator ordered"),
             Entry::Refused(refusal) => format!(in alloc; "refused {}", refusal.status()),
             Entry::Unserved(unserved) => format!(in alloc; "unserved {}", unserved.name()),
         }

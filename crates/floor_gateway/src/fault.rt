@@ -12,6 +12,10 @@ pub enum GatewayFault {
     Participants(ParticipantsFault),
     /// A user has a token and no port, and there is no door.
     MissingPort,
+    /// An operator's token is given, and no control socket.
+    NoControl,
+    /// The operator's token is shorter than 22 characters, or has others than letters, digits, `-` and `_`.
+    WeakToken,
     /// The page's folder has no `index.html`.
     NoPage,
     /// The address can't be listened on, or no thread is left for it.
@@ -29,6 +33,8 @@ impl GatewayFault {
             GatewayFault::CannotRead => "CannotRead",
             GatewayFault::Participants(fault) => fault.name(),
             GatewayFault::MissingPort => "MissingPort",
+            GatewayFault::NoControl => "NoControl",
+            GatewayFault::WeakToken => "WeakToken",
             GatewayFault::NoPage => "NoPage",
             GatewayFault::CannotListen => "CannotListen",
             GatewayFault::CannotWrite => "CannotWrite",

@@ -2,12 +2,15 @@
 
 use crate::entry::Entry;
 use crate::fault::GatewayFault;
+use crate::listener::{Changed, Listener};
 use crate::pair::Pair;
 use crate::words::Words;
+use floor_follow::{Fact, FollowFault, Follower, Phase, Question, Told};
 use floor_listen::{Capacity, Granted, Taken};
 use floor_log::Log;
 use floor_web::{
-    File, Origins, Pages, Participants, ParticipantsFault, kind_of, read_participants,
+    File, Origins, Pages, Participants, ParticipantsFault, Titles, bearer, is_strong_token,
+    kind_of, read_participants, read_titles,
 };
 use slab::Slab;
 use std::alloc::{AllocError, AllocFailed, Global};
@@ -23,7 +26,17 @@ use std::time::Clock;
 #[derive(Drop)]
 pub struct Gateway {
     alloc: Global,
-    pub participants: Participants,
+    participants: Participants,
+    /// What the configuration's file calls conferences and floors.
+    pub titles: Titles,
+    /// The server's control socket, where it is followed.
+    pub control: Option<String>,
+    /// The operator's token, where there is an operator's page.
+    operator: Option<String>,
+    /// What is known by the control socket, once it was heard: it stays while the socket is lost.
+    pub picture: Mutex<Option<Follower>>,
+    is_lost: AtomicBool,
+    listening: Mutex<Slab<Arc<Listener, Global>>>,
     pub pages: Pages,
     pub origins: Origins,
     /// The server's door by id, where all come by it.
@@ -32,6 +45,17 @@ pub struct Gateway {
     places: Mutex<Capacity>,
     is_ending: AtomicBool,
     pairs: Mutex<Slab<Arc<Pair, Global>>>,
+}
+
+/// Whom a token stands for.
+#[derive(Clone, Copy, Debug)]
+pub struct Seat {
+    pub conference: u32,
+    pub user: u16,
+    /// The user's port of the server, where there is one.
+    pub port: Option<u16>,
+    /// Whether the conference is known to run no more.
+    pub is_ended: bool,
 }
 
 impl Gateway {
@@ -53,13 +77,25 @@ impl Gateway {
             folder,
             origins,
             door,
+            control,
+            operator,
             connections,
             has_log: _,
         } = words;
-        let participants = participants_of(rt, alloc, config.as_str(), errors)?;
-        if door.is_none() {
+        let text = text_of(rt, config.as_str(), errors)?;
+        let is_followed = control.is_some();
+        let participants = participants_of(
+            alloc,
+            config.as_str(),
+            text.as_str(),
+            is_followed,
+            errors,
+        )?;
+        let titles = read_titles(alloc, text.as_str())?;
+        if door.is_none() && !is_followed {
             check_ports(&participants, config.as_str(), errors)?;
         }
+        let operator = operator_token(rt, alloc, operator, is_followed, errors)?;
         let pages = read_pages(rt, alloc, folder.as_str(), errors)?;
         if pages.find(b"index.html").is_none() {
             let _outcome = writeln!(errors, "{folder}: there is no index.html in it");
@@ -68,6 +104,12 @@ impl Gateway {
         Ok(Gateway {
             alloc,
             participants,
+            titles,
+            control,
+            operator,
+            picture: Mutex::new(None),
+            is_lost: AtomicBool::new(false),
+            listening: Mutex::new(Slab::new(alloc)),
             pages,
             origins: Origins { listed: origins },
             door,
@@ -131,6 +173,148 @@ impl Gateway {
         for (_key, pair) in self.pairs.lock(rt).iter() {
             pair.hang_up();
         }
+        for (_key, listener) in self.listening.lock(rt).iter() {
+            listener.hang_up();
+        }
+    }
+
+    /// Takes up a page that is told what changes.
+    pub fn listen<R: Wait>(
+        &self,
+        rt: &R,
+        listener: &Arc<Listener, Global>,
+    ) -> Result<usize, AllocError> {
+        let ours = Arc::try_clone(listener)?;
+        match self.listening.lock(rt).insert(ours) {
+            Ok(key) => Ok(key),
+            Err(AllocFailed { value: _ }) => Err(AllocError),
+        }
+    }
+
+    /// Gives it up.
+    pub fn unlisten<R: Wait>(&self, rt: &R, key: usize) {
+        let listener = self.listening.lock(rt).try_remove(key);
+        // Without the lock.
+        drop(listener);
+    }
+
+    /// The pages that are told what changes; none where there is no memory for them, who hear it by the next
+    /// round.
+    pub fn listeners<R: Wait>(&self, rt: &R) -> Vec<Arc<Listener, Global>> {
+        let mut all = Vec::new(self.alloc);
+        for (_key, listener) in self.listening.lock(rt).iter() {
+            if let Ok(ours) = Arc::try_clone(listener) {
+                let _outcome = all.push(ours);
+            }
+        }
+        all
+    }
+
+    /// Shows what is known of the server now.
+    pub fn show<R: Wait>(&self, rt: &R, follower: Follower) {
+        let before = self.picture.lock(rt).replace(follower);
+        self.is_lost.store(false, Ordering::SeqCst);
+        // Without the lock.
+        drop(before);
+    }
+
+    /// The control socket is lost.
+    pub fn lose(&self) {
+        self.is_lost.store(true, Ordering::SeqCst);
+    }
+
+    /// Whether the control socket is lost, and what is known of the server may be old.
+    pub fn is_lost(&self) -> bool {
+        self.is_lost.load(Ordering::SeqCst)
+    }
+
+    /// What is to be asked next of the server that is shown.
+    pub fn ask<R: Wait>(&self, rt: &R) -> Option<Question> {
+        match &mut *self.picture.lock(rt) {
+            Some(follower) => follower.ask(),
+            None => None,
+        }
+    }
+
+    /// Takes what a line tells of the server that is shown.
+    pub fn hear<R: Wait>(&self, rt: &R, told: Told) -> Result<(), FollowFault> {
+        match &mut *self.picture.lock(rt) {
+            Some(follower) => follower.hear(told),
+            None => Ok(()),
+        }
+    }
+
+    /// Has the list and the words asked for again.
+    pub fn begin_round<R: Wait>(&self, rt: &R) {
+        match &mut *self.picture.lock(rt) {
+            Some(follower) => follower.begin_round(),
+            None => {}
+        }
+    }
+
+    /// Whether this is the operator's token.
+    pub fn is_operator(&self, token: &[u8]) -> bool {
+        match &self.operator {
+            Some(operator) => operator.as_bytes() == token,
+            None => false,
+        }
+    }
+
+    /// Whom a token stands for: by a word at the control socket, else by the file.
+    pub fn seat<R: Wait>(&self, rt: &R, token: &[u8]) -> Option<Seat> {
+        let picture = self.picture.lock(rt);
+        if let Some(follower) = &*picture {
+            for conference in follower.conferences() {
+                if let Some(user) = bearer(conference, token) {
+                    return Some(self.seat_in(follower, conference.number, user, None));
+                }
+            }
+        }
+        let participant = self.participants.find(token)?;
+        let (conference, user, port) = (participant.conference, participant.user, participant.port);
+        match &*picture {
+            Some(follower) => Some(self.seat_in(follower, conference, user, port)),
+            None => Some(Seat {
+                conference,
+                user,
+                port,
+                is_ended: false,
+            }),
+        }
+    }
+
+    /// A user's seat by what is known of the conference. While the control socket is lost none is known to
+    /// have ended.
+    fn seat_in(&self, follower: &Follower, number: u32, user: u16, port: Option<u16>) -> Seat {
+        let mut seat = Seat {
+            conference: number,
+            user,
+            port,
+            is_ended: !self.is_lost(),
+        };
+        let Some(conference) = follower.conference(number) else {
+            return seat;
+        };
+        if conference.phase == Phase::Running {
+            seat.is_ended = false;
+        }
+        for fact in conference.facts.as_slice() {
+            match fact {
+                Fact::User(person) if person.id == user && seat.port.is_none() => {
+                    seat.port = person.port;
+                }
+                _ => {}
+            }
+        }
+        seat
+    }
+
+    /// What the page of a user of the file is told by the file.
+    pub fn meeting_in_file(&self, token: &[u8]) -> Option<&str> {
+        match self.participants.find(token) {
+            Some(participant) => Some(participant.meeting.as_str()),
+            None => None,
+        }
     }
 
     /// Whether no further connection is to begin.
@@ -139,25 +323,62 @@ impl Gateway {
     }
 }
 
-/// The participants of a configuration's file.
-fn participants_of<R, E: Write>(
-    rt: &R,
-    alloc: Global,
-    path: &str,
-    errors: &mut E,
-) -> Result<Participants, GatewayFault>
+/// The text of a file.
+fn text_of<R, E: Write>(rt: &R, path: &str, errors: &mut E) -> Result<String, GatewayFault>
 where
     R: Files + AllocGlobal + Clone + Drop,
 {
-    let text = match fs::read_to_string(rt, path) {
-        Ok(text) => text,
+    match fs::read_to_string(rt, path) {
+        Ok(text) => Ok(text),
         Err(error) => {
             let _outcome = writeln!(errors, "{path}: {error}");
-            return Err(GatewayFault::CannotRead);
+            Err(GatewayFault::CannotRead)
         }
+    }
+}
+
+/// The operator's token, which a file has, where one is named.
+fn operator_token<R, E: Write>(
+    rt: &R,
+    alloc: Global,
+    path: Option<String>,
+    is_followed: bool,
+    errors: &mut E,
+) -> Result<Option<String>, GatewayFault>
+where
+    R: Files + AllocGlobal + Clone + Drop,
+{
+    let Some(path) = path else {
+        return Ok(None);
     };
-    match read_participants(alloc, text.as_str()) {
+    if !is_followed {
+        let _outcome = writeln!(errors, "an operator's page needs --control");
+        return Err(GatewayFault::NoControl);
+    }
+    let text = text_of(rt, path.as_str(), errors)?;
+    let token = text.as_str().trim();
+    if !is_strong_token(token.as_bytes()) {
+        let _outcome = writeln!(
+            errors,
+            "{}: a token is a text of at least 22 letters, digits, - and _",
+            path.as_str()
+        );
+        return Err(GatewayFault::WeakToken);
+    }
+    Ok(Some(String::from_str(alloc, token)?))
+}
+
+/// The participants of a configuration's text: there may be none where others come by the control socket.
+fn participants_of<E: Write>(
+    alloc: Global,
+    path: &str,
+    text: &str,
+    is_followed: bool,
+    errors: &mut E,
+) -> Result<Participants, GatewayFault> {
+    match read_participants(alloc, text) {
         Ok(participants) => Ok(participants),
+        Err(ParticipantsFault::NoToken) if is_followed => Ok(Participants::none(alloc)),
         Err(ParticipantsFault::Memory) => Err(GatewayFault::Memory),
         Err(fault) => {
             tell_place(errors, path, fault);

@@ -59,8 +59,7 @@ impl Pair {
     /// Carries what the browser sends, from the bytes that came behind the head of its request on,
     /// until the relay has ended.
     pub fn carry_up<R: Wait>(&self, rt: &R, behind: &[u8]) {
-        let mut up = Vec::new(self.alloc);
-        if !self.hear(rt, behind, &mut up) {
+        if !self.hear(rt, behind) {
             return;
         }
         let mut browser = &self.browser;
@@ -71,7 +70,7 @@ impl Pair {
                 Ok(0) => self.close(rt, Side::Browser),
                 Ok(count) => {
                     is_asked = false;
-                    self.hear(rt, &piece[..count], &mut up)
+                    self.hear(rt, &piece[..count])
                 }
                 Err(error) => match error.kind() {
                     ErrorKind::Interrupted => true,
@@ -125,12 +124,13 @@ impl Pair {
     }
 
     /// Takes a piece of the browser's stream. Tells whether the relay goes on.
-    fn hear<R: Wait>(&self, rt: &R, piece: &[u8], up: &mut Vec<u8>) -> bool {
-        up.clear();
+    fn hear<R: Wait>(&self, rt: &R, piece: &[u8]) -> bool {
+        // For one piece alone: what a long message took is given back with it.
+        let mut up = Vec::new(self.alloc);
         let mut down = Vec::new(self.alloc);
         let goes_on = {
             let mut relay = self.relay.lock(rt);
-            relay.browser(piece, up, &mut down);
+            relay.browser(piece, &mut up, &mut down);
             self.send(&mut relay, down.as_slice())
         };
         let mut server = &self.server;

@@ -1,9 +1,9 @@
 //! A run of the gateway over its words, a reader and two writers.
 
-use crate::connection;
 use crate::fault::GatewayFault;
 use crate::gateway::Gateway;
 use crate::words::{Words, WordsFault, parse_words};
+use crate::{connection, control};
 use floor_listen::{Accepting, after_accept};
 use floor_log::Log;
 use std::alloc::Global;
@@ -13,7 +13,7 @@ use std::os::fd::OwnedFd;
 use std::rt::Files;
 use std::sync::{Arc, Wait};
 use std::thread;
-use std::thread::Threads;
+use std::thread::{JoinHandle, Threads};
 use std::time::{Clock, Duration};
 
 /// How often it looks, at the end, whether a connection still runs, and how long it waits between.
@@ -98,6 +98,7 @@ where
     let Ok(acceptor) = started else {
         return Err(GatewayFault::CannotListen);
     };
+    let follower = start_following(rt, alloc, &gateway);
     let outcome = print(output, "ready\n");
     if outcome.is_ok() {
         wait_for_end(&rt, input);
@@ -106,6 +107,9 @@ where
     // It ends the accept.
     let _outcome = second.shutdown(Shutdown::Both);
     acceptor.join(&rt);
+    if let Some(follower) = follower {
+        follower.join(&rt);
+    }
     wait_for_connections(&rt, &gateway);
     gateway.end_log(&rt);
     outcome
@@ -134,6 +138,34 @@ where
             Err(GatewayFault::CannotListen)
         }
     }
+}
+
+/// Starts the thread that follows the control socket, where there is one. Without a thread or memory for it
+/// nothing is followed, as where the socket is lost.
+fn start_following<R>(
+    rt: R,
+    alloc: Global,
+    gateway: &Arc<Gateway, Global>,
+) -> Option<JoinHandle<()>>
+where
+    R: Net<Listener = TcpListener, Stream = TcpStream>
+        + Clock
+        + Threads
+        + Wait
+        + Copy
+        + Drop
+        + Send
+        + 'static,
+{
+    let path = match &gateway.control {
+        Some(path) => String::from_str(alloc, path.as_str()).ok()?,
+        None => return None,
+    };
+    let theirs = Arc::try_clone(gateway).ok()?;
+    thread::spawn(&rt, move || {
+        control::follow(rt, alloc, &theirs, path.as_str())
+    })
+    .ok()
 }
 
 /// Starts a connection with each stream that is accepted, until the gateway ends.

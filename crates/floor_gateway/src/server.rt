@@ -1,9 +1,9 @@
 //! The way to the server: a participant's port, or the door for all.
 
+use crate::gateway::Seat;
 use crate::pair::WRITE_SECONDS;
 use crate::unserved::Unserved;
 use floor_proxy::unique_id_header;
-use floor_web::Participant;
 use std::alloc::Global;
 use std::io::{ErrorKind, Write};
 use std::net::{Ipv4Addr, Net, SocketAddr, TcpListener, TcpStream};
@@ -22,14 +22,14 @@ pub enum Reached {
     Failure,
 }
 
-/// Connects to the participant's port of the server; or to its door, and says who it is.
+/// Connects to the user's port of the server; or to its door, and says who it is.
 pub fn reach<R: Net<Listener = TcpListener, Stream = TcpStream>>(
     rt: &R,
     alloc: Global,
     door: Option<u16>,
-    participant: &Participant,
+    seat: &Seat,
 ) -> Result<Reached, Unserved> {
-    let Some(port) = door.or(participant.port) else {
+    let Some(port) = door.or(seat.port) else {
         return Ok(Reached::Failure);
     };
     let address = SocketAddr::from((Ipv4Addr::LOCALHOST, port));
@@ -41,7 +41,7 @@ pub fn reach<R: Net<Listener = TcpListener, Stream = TcpStream>>(
     };
     prepare(&server);
     if door.is_some() {
-        let header = unique_id_header(alloc, participant.conference, participant.user)?;
+        let header = unique_id_header(alloc, seat.conference, seat.user)?;
         if server.write_all(header.as_slice()).is_err() {
             return Ok(Reached::Failure);
         }

@@ -25,6 +25,10 @@ pub struct Words {
     pub origins: Vec<String>,
     /// The server's door by id, where all are to come by it; else each comes by the user's own port.
     pub door: Option<u16>,
+    /// The server's control socket, where it is followed.
+    pub control: Option<String>,
+    /// The file that has the operator's token, where there is an operator's page.
+    pub operator: Option<String>,
     /// How many connections there may be at once.
     pub connections: u16,
     /// Whether each connection that joins, is refused or leaves is told.
@@ -64,6 +68,8 @@ fn parsed(alloc: Global, words: &[String]) -> Result<Words, Error> {
         folder: text(alloc, &matches, "folder")?,
         origins,
         door: matches.get_one::<u16>("door-by-id"),
+        control: optional_text(alloc, &matches, "control")?,
+        operator: optional_text(alloc, &matches, "operator")?,
         connections: matches.get_one::<u16>("connections").unwrap_or(CONNECTIONS),
         has_log: matches.get_flag("log"),
     })
@@ -97,6 +103,22 @@ fn command<'a>(alloc: Global) -> Result<Command<'a>, Error> {
                 ),
         )?
         .arg(
+            Arg::new(alloc, "control")
+                .long("control")
+                .value_name("path")
+                .action(ArgAction::Set)
+                .help(
+                    "The server's control socket: who takes part, and in what, is what it tells.",
+                ),
+        )?
+        .arg(
+            Arg::new(alloc, "operator")
+                .long("operator")
+                .value_name("file")
+                .action(ArgAction::Set)
+                .help("A file with the token of the operator's page, /operator#TOKEN."),
+        )?
+        .arg(
             Arg::new(alloc, "connections")
                 .long("connections")
                 .value_name("count")
@@ -120,6 +142,17 @@ fn required<'a>(alloc: Global, id: &'a str, help: &'a str) -> Arg<'a> {
 
 fn text(alloc: Global, matches: &ArgMatches<'_>, id: &str) -> Result<String, Error> {
     Ok(String::from_str(alloc, matches.get_str(id).unwrap_or(""))?)
+}
+
+fn optional_text(
+    alloc: Global,
+    matches: &ArgMatches<'_>,
+    id: &str,
+) -> Result<Option<String>, Error> {
+    match matches.get_str(id) {
+        Some(text) => Ok(Some(String::from_str(alloc, text)?)),
+        None => Ok(None),
+    }
 }
 
 fn fault_of(alloc: Global, error: Error) -> WordsFault {

@@ -6,15 +6,18 @@ use Rattle.websocket.specs.Handshake.{IsValidKey, accept_key_of}
 use Rattle.floor_web.specs.declared.refusal.Refusal.{Refusal}
 use Rattle.floor_web.specs.declared.refusal.Refusal.TheVariants.{BadRequest, Forbidden, MethodNotAllowed, UpgradeRequired}
 use Rattle.floor_web.specs.declared.asked.Asked.{Asked}
-use Rattle.floor_web.specs.declared.asked.Asked.TheVariants.{Page, Meeting, Bfcp}
+use Rattle.floor_web.specs.declared.asked.Asked.TheVariants.{Page, Told, Order, Bfcp}
+use Rattle.floor_web.specs.declared.asked.Source.{Source}
+use Rattle.floor_web.specs.declared.asked.Source.TheVariants.{Meeting, Live, Operator}
 use Rattle.floor_web.specs.Fields.{values_of, only, words, has_word, behind, offers}
 use Rattle.floor_web.specs.Origins.{allows}
 
--- what a request asks for: a file of the page by its name, or what the user with this token is told of the meeting, each with its
--- body or without; or a WebSocket for the user with this token, under the key of its handshake
+-- what a request asks for: a file of the page by its name, or what whoever has this token is told of a source, each with its body or
+-- without; that something be done, by whoever has this token; or a WebSocket for the user with this token, under the key of its handshake
 pub data Wanted : Type 0 where
   page : List ℕ → Bool → Wanted
-  meeting : List ℕ → Bool → Wanted
+  told : Source → List ℕ → Bool → Wanted
+  order : (token order : List ℕ) → Wanted
   socket : (token key : List ℕ) → Wanted
 
 -- what follows where nothing is refused
@@ -76,7 +79,7 @@ asked_socket listed fields host is_head token =
 
 abbrev pub name_of_page : List ℕ → List ℕ
 name_of_page [] = codes "index.html"
-name_of_page (b ∷ bytes) = b ∷ bytes
+name_of_page (b ∷ bytes) = if bytes_eq (b ∷ bytes) (codes "operator") then codes "operator.html" else b ∷ bytes
 
 abbrev pub asked_page : Option (List ℕ) → (is_head : Bool) → Result Wanted Refusal
 asked_page None is_head = Err BadRequest
@@ -87,14 +90,24 @@ abbrev pub bearer_of : List (List ℕ) → List ℕ
 bearer_of [] = []
 bearer_of (v ∷ vs) = unwrap_or (behind v (codes "Bearer ")) (bearer_of vs)
 
--- where the path is, or begins with, `/meeting`
-abbrev pub bearer_at : Fields → (path : List ℕ) → Option (List ℕ)
-bearer_at fields path =
-    if bytes_eq path (codes "/meeting") then Some (bearer_of (values_of fields (codes "Authorization"))) else behind path (codes "/meeting/")
+-- what is told at a path to whoever has the token behind `Bearer `
+abbrev pub source_of : (path : List ℕ) → Option Source
+source_of path =
+    if bytes_eq path (codes "/meeting") then Some Meeting
+    else if bytes_eq path (codes "/live") then Some Live
+    else if bytes_eq path (codes "/operator/live") then Some Operator
+    else None
 
 abbrev pub asked_meeting : Option (List ℕ) → (path : List ℕ) → (is_head : Bool) → Result Wanted Refusal
-asked_meeting (Some token) path is_head = Ok (meeting token is_head)
+asked_meeting (Some token) path is_head = Ok (told Meeting token is_head)
 asked_meeting None path is_head = asked_page (behind path (codes "/")) is_head
+
+abbrev pub told_by : Option Source → Fields → (path : List ℕ) → (is_head : Bool) → Result Wanted Refusal
+told_by (Some source) fields path is_head = Ok (told source (bearer_of (values_of fields (codes "Authorization"))) is_head)
+told_by None fields path is_head = asked_meeting (behind path (codes "/meeting/")) path is_head
+
+abbrev pub asked_told : Fields → (path : List ℕ) → (is_head : Bool) → Result Wanted Refusal
+asked_told fields path is_head = told_by (source_of path) fields path is_head
 
 -- where the path is, or begins with, `/bfcp`
 abbrev pub token_at : Fields → (path : List ℕ) → Option (List ℕ)
@@ -103,7 +116,7 @@ token_at fields path =
 
 abbrev pub at_token : List (List ℕ) → Fields → (host path : List ℕ) → (is_head : Bool) → Option (List ℕ) → Result Wanted Refusal
 at_token listed fields host path is_head (Some token) = asked_socket listed fields host is_head token
-at_token listed fields host path is_head None = asked_meeting (bearer_at fields path) path is_head
+at_token listed fields host path is_head None = asked_told fields path is_head
 
 abbrev pub at_path : List (List ℕ) → Fields → (host path : List ℕ) → (is_head : Bool) → Result Wanted Refusal
 at_path listed fields host path is_head = at_token listed fields host path is_head (token_at fields path)
@@ -116,25 +129,44 @@ with_host listed fields target is_head (Some host) =
     if has_field fields (codes "Content-Length") || has_field fields (codes "Transfer-Encoding") then Err BadRequest
     else at_path listed fields host (before_first (λ b. b == 63) target) is_head
 
+-- ---- by POST
+
+-- the order that stands in the field Order, for whoever has the token behind `Bearer `
+abbrev pub ordered_in : Result (Option (List ℕ)) Refusal → Fields → Result Wanted Refusal
+ordered_in (Ok (Some text)) fields = Ok (order (bearer_of (values_of fields (codes "Authorization"))) text)
+ordered_in (Ok None) fields = Err BadRequest
+ordered_in (Err e) fields = Err e
+
+abbrev pub ordered : Fields → Result Wanted Refusal
+ordered fields = ordered_in (only (values_of fields (codes "Order"))) fields
+
+-- without a body
+abbrev pub with_length : Result (Option (List ℕ)) Refusal → Fields → Result Wanted Refusal
+with_length (Ok None) fields = ordered fields
+with_length (Ok (Some length)) fields = if bytes_eq length (codes "0") then ordered fields else Err BadRequest
+with_length (Err e) fields = Err e
+
+-- an order of the operator's
+abbrev pub posted : Fields → (path : List ℕ) → Result Wanted Refusal
+posted fields path =
+    if bytes_eq path (codes "/operator/order")
+    then (if has_field fields (codes "Transfer-Encoding") then Err BadRequest else with_length (only (values_of fields (codes "Content-Length"))) fields)
+    else Err MethodNotAllowed
+
 -- the order: the method, one Host, no body, and then what its path asks for; what stands behind a `?` isn't looked at
 abbrev pub asked : List (List ℕ) → (method target : List ℕ) → Fields → Result Wanted Refusal
 asked listed method target fields =
-    if bytes_eq method (codes "HEAD") || bytes_eq method (codes "GET")
+    if bytes_eq method (codes "POST") then posted fields (before_first (λ b. b == 63) target)
+    else if bytes_eq method (codes "HEAD") || bytes_eq method (codes "GET")
     then after (only (values_of fields (codes "Host"))) (with_host listed fields target (bytes_eq method (codes "HEAD")))
     else Err MethodNotAllowed
 
 -- The answer is what is wanted: a key that is valid is answered by its accept key, and any other is a bad request.
 abbrev pub Answers : Result Wanted Refusal → Result Asked Refusal → Type 0
 Answers (Err e) answer = answer ≡ Err e
-Answers (Ok (page name is_head)) (Err e) = ⊥
 Answers (Ok (page name is_head)) (Ok (Page n h)) = (n.now ≡ name) × (h ≡ is_head)
-Answers (Ok (page name is_head)) (Ok (Meeting t h)) = ⊥
-Answers (Ok (page name is_head)) (Ok (Bfcp t accept)) = ⊥
-Answers (Ok (meeting token is_head)) (Err e) = ⊥
-Answers (Ok (meeting token is_head)) (Ok (Page n h)) = ⊥
-Answers (Ok (meeting token is_head)) (Ok (Meeting t h)) = (t.now ≡ token) × (h ≡ is_head)
-Answers (Ok (meeting token is_head)) (Ok (Bfcp t accept)) = ⊥
+Answers (Ok (told source token is_head)) (Ok (Told s t h)) = (s ≡ source) × (t.now ≡ token) × (h ≡ is_head)
+Answers (Ok (order token text)) (Ok (Order t o)) = (t.now ≡ token) × (o.now ≡ text)
 Answers (Ok (socket token key)) (Err e) = (e ≡ BadRequest) × ¬ (IsValidKey key)
-Answers (Ok (socket token key)) (Ok (Page n h)) = ⊥
-Answers (Ok (socket token key)) (Ok (Meeting t h)) = ⊥
 Answers (Ok (socket token key)) (Ok (Bfcp t accept)) = (t.now ≡ token) × IsValidKey key × (accept ≡ accept_key_of key)
+Answers _ _ = ⊥

@@ -1,7 +1,7 @@
 -- The files of a page: which are served, and as what (RFC 9110, section 8.3).
 use Rattle.std.specs.Prelude.{ℕ, List, codes, bytes_eq, Option, Some, None, if◌then◌else◌}
 use Rattle.floor_web.specs.declared.pages.Kind.{Kind}
-use Rattle.floor_web.specs.declared.pages.Kind.TheVariants.{Html, Css, Script, Svg, Png, Icon, Json}
+use Rattle.floor_web.specs.declared.pages.Kind.TheVariants.{Html, Css, Script, Svg, Png, Icon, Json, Text}
 
 -- the kind that an end of a name stands for
 abbrev pub kind_of : List ℕ → Option Kind
@@ -24,3 +24,4 @@ media_type_of Svg = codes "image/svg+xml"
 media_type_of Png = codes "image/png"
 media_type_of Icon = codes "image/x-icon"
 media_type_of Json = codes "application/json"
+media_type_of Text = codes "text/plain; charset=utf-8"

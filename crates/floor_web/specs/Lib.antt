@@ -10,5 +10,6 @@ pub mod Head
 pub mod Kinds
 pub mod Replies
 pub mod Participants
+pub mod Bearer
 -- the steps of the proofs
 pub mod steps

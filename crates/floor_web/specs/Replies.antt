@@ -37,6 +37,11 @@ served kind body is_head = answer (codes "200 OK") (media_type_of kind) [] body 
 abbrev pub refused : Refusal → (is_head : Bool) → List ℕ
 refused refusal is_head = answer (status refusal) (codes "text/plain; charset=utf-8") (fields refusal) (status refusal) is_head
 
+-- the head of an answer that goes on as long as the connection does
+abbrev pub streamed : List ℕ
+streamed =
+    line (codes "HTTP/1.1 ") (codes "200 OK") ++ (line (codes "Content-Type: ") (codes "application/x-ndjson") ++ end (codes "X-Accel-Buffering: no\r\n"))
+
 abbrev pub welcomed : (accept : List ℕ) → List ℕ
 welcomed accept =
     codes "HTTP/1.1 101 Switching Protocols\r\nUpgrade: websocket\r\nConnection: Upgrade\r\nSec-WebSocket-Protocol: bfcp\r\nSec-WebSocket-Accept: "

@@ -5,6 +5,10 @@
 //! | `/` and `/NAME` | a file of the page |
 //! | `/meeting/TOKEN` | what the user with the token is told of the meeting |
 //! | `/meeting` | the same; the token stands in the field Authorization, as `Bearer TOKEN` (RFC 6750) |
+//! | `/live` | the same, and again whenever it changes; the token stands in Authorization |
+//! | `/operator` | the operator's page |
+//! | `/operator/live` | how all conferences stand, and again what changes; the operator's token stands in Authorization |
+//! | `/operator/order`, by POST | that what stands in the field Order be done; the operator's token stands in Authorization |
 //! | `/bfcp/TOKEN` | a WebSocket for the user with the token |
 //! | `/bfcp` | the same; the token is offered beside the subprotocol, as `bfcp, token.TOKEN` |
 
@@ -22,15 +26,41 @@ use crate::refusal::Refusal;
 use httparse::spans::HeaderSpan;
 use websocket::handshake::server::accept_key;
 
+/// What is told to whoever has a token.
+#[derive(Clone, Copy, Debug, PartialEq, Eq)]
+pub enum Source {
+    /// The meeting of the token's user.
+    Meeting,
+    /// The same, and again whenever it changes.
+    Live,
+    /// How all conferences stand, and again what changes, by the operator's token.
+    Operator,
+}
+
 /// What a request asks for.
 #[derive(Clone, Copy, Debug, PartialEq, Eq)]
 pub enum Asked<'a> {
     /// A file of the page, by its name; the head of the answer alone, where `is_head` says so.
-    Page { name: &'a [u8], is_head: bool },
-    /// What whoever has the token is told of the meeting.
-    Meeting { token: &'a [u8], is_head: bool },
+    Page {
+        name: &'a [u8],
+        is_head: bool,
+    },
+    /// What whoever has the token is told.
+    Told {
+        source: Source,
+        token: &'a [u8],
+        is_head: bool,
+    },
+    /// That something be done, by whoever has the operator's token.
+    Order {
+        token: &'a [u8],
+        order: &'a [u8],
+    },
     /// A WebSocket for whoever has the token, and the key that its handshake is answered by.
-    Bfcp { token: &'a [u8], accept: [u8; 28] },
+    Bfcp {
+        token: &'a [u8],
+        accept: [u8; 28],
+    },
 }
 
 /// What a request asks for. The first reason against it is told.
@@ -45,12 +75,48 @@ pub(crate) fn asked_by<'a>(
     ensures value { spec.Answers (spec.asked (map string_bytes origins.now.listed.items)
         method.now target.now (fields_of head.now spans.now)) result }
 {
+    if method == b"POST".as_slice() {
+        return posted(head, spans, path_of(target));
+    }
     let is_head = method == b"HEAD".as_slice();
     if !is_head && method != b"GET".as_slice() {
         return Err(Refusal::MethodNotAllowed);
     }
     match only(head, spans, b"Host") {
         Ok(Some(host)) => with_host(origins, head, spans, target, is_head, host),
+        Ok(None) => Err(Refusal::BadRequest),
+        Err(refusal) => Err(refusal),
+    }
+}
+
+/// What a request asks for by POST: an order of the operator's, which has no body.
+fn posted<'a>(head: &'a [u8], spans: &[HeaderSpan], path: &[u8]) -> Result<Asked<'a>, Refusal>
+    requires within { All (IsHeaderWithin (length head.now)) spans.now }
+    ensures value { spec.Answers (spec.posted (fields_of head.now spans.now) path.now) result }
+{
+    if path != b"/operator/order".as_slice() {
+        return Err(Refusal::MethodNotAllowed);
+    }
+    if has_field(head, spans, b"Transfer-Encoding") {
+        return Err(Refusal::BadRequest);
+    }
+    match only(head, spans, b"Content-Length") {
+        Ok(Some(length)) if length != b"0".as_slice() => Err(Refusal::BadRequest),
+        Ok(_) => ordered(head, spans),
+        Err(refusal) => Err(refusal),
+    }
+}
+
+/// The order that stands in the field Order.
+fn ordered<'a>(head: &'a [u8], spans: &[HeaderSpan]) -> Result<Asked<'a>, Refusal>
+    requires within { All (IsHeaderWithin (length head.now)) spans.now }
+    ensures value { spec.Answers (spec.ordered (fields_of head.now spans.now)) result }
+{
+    match only(head, spans, b"Order") {
+        Ok(Some(order)) => Ok(Asked::Order {
+            token: token_borne(head, spans, b"Authorization"),
+            order,
+        }),
         Ok(None) => Err(Refusal::BadRequest),
         Err(refusal) => Err(refusal),
     }
@@ -98,11 +164,51 @@ fn at_path<'a>(
 {
     match token_at(head, spans, path) {
         Some(token) => socket(origins, head, spans, host, is_head, token),
-        None => match bearer_at(head, spans, path) {
-            Some(token) => Ok(Asked::Meeting { token, is_head }),
+        None => told(head, spans, path, is_head),
+    }
+}
+
+fn told<'a>(
+    head: &'a [u8],
+    spans: &[HeaderSpan],
+    path: &'a [u8],
+    is_head: bool,
+) -> Result<Asked<'a>, Refusal>
+    requires within { All (IsHeaderWithin (length head.now)) spans.now }
+    ensures value { spec.Answers (spec.asked_told (fields_of head.now spans.now) path.now is_head)
+        result }
+{
+    match source_of(path) {
+        Some(source) => Ok(Asked::Told {
+            source,
+            token: token_borne(head, spans, b"Authorization"),
+            is_head,
+        }),
+        None => match behind(path, b"/meeting/") {
+            Some(token) => Ok(Asked::Told {
+                source: Source::Meeting,
+                token,
+                is_head,
+            }),
             None => page(path, is_head),
         },
     }
+}
+
+/// What is told at a path to whoever has the token that stands in Authorization.
+fn source_of(path: &[u8]) -> Option<Source>
+    ensures value { result ≡ spec.source_of path.now }
+{
+    if path == b"/meeting".as_slice() {
+        return Some(Source::Meeting);
+    }
+    if path == b"/live".as_slice() {
+        return Some(Source::Live);
+    }
+    if path == b"/operator/live".as_slice() {
+        return Some(Source::Operator);
+    }
+    None
 }
 
 fn page(path: &[u8], is_head: bool) -> Result<Asked<'_>, Refusal>
@@ -114,21 +220,13 @@ fn page(path: &[u8], is_head: bool) -> Result<Asked<'_>, Refusal>
             name: b"index.html",
             is_head,
         }),
+        Some(name) if name == b"operator".as_slice() => Ok(Asked::Page {
+            name: b"operator.html",
+            is_head,
+        }),
         Some(name) => Ok(Asked::Page { name, is_head }),
         None => Err(Refusal::BadRequest),
     }
-}
-
-/// The token that a path asks for what is told of a meeting by.
-fn bearer_at<'a>(head: &'a [u8], spans: &[HeaderSpan], path: &'a [u8]) -> Option<&'a [u8]>
-    requires within { All (IsHeaderWithin (length head.now)) spans.now }
-    ensures value { option_copied result
-        ≡ spec.bearer_at (fields_of head.now spans.now) path.now }
-{
-    if path == b"/meeting".as_slice() {
-        return Some(token_borne(head, spans, b"Authorization"));
-    }
-    behind(path, b"/meeting/")
 }
 
 /// The token behind `Bearer ` in the fields with this name; empty where there is none.

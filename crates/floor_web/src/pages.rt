@@ -17,6 +17,8 @@ pub enum Kind {
     Png,
     Icon,
     Json,
+    /// A text that no file of a page is.
+    Text,
 }
 
 /// Which kind an end of a name stands for, behind its dot.
@@ -48,6 +50,7 @@ impl Kind {
             Kind::Png => "image/png",
             Kind::Icon => "image/x-icon",
             Kind::Json => "application/json",
+            Kind::Text => "text/plain; charset=utf-8",
         }
     }
 }

@@ -11,7 +11,7 @@
 //! The file is the floor control server's own, which ignores `token`, and `title` of a floor and of
 //! a conference. It is refused here for whatever the server refuses it for.
 
-ghost use Rattle.std.specs.Prelude.{◌≡◌, ◌<◌, ◌==◌, All, IfOk, Ok, bytes_eq, find, is_none, length, option_and_then, option_map, string_bytes};
+ghost use Rattle.std.specs.Prelude.{◌≡◌, ◌<◌, ◌==◌, [], All, IfOk, Ok, bytes_eq, find, is_none, length, option_and_then, option_map, string_bytes};
 ghost use Rattle.std.specs.List.{list_any};
 ghost use Rattle.std.specs.Option.{option_copied};
 ghost use Rattle.floor_web.specs.Participants as spec;
@@ -109,6 +109,15 @@ impl Model for Participants {
 }
 
 impl Participants {
+    /// Nobody. Takes no memory.
+    pub fn none(alloc: Global) -> Participants
+        ensures value { result ≡ [] }
+    {
+        Participants {
+            participants: Vec::new(alloc),
+        }
+    }
+
     /// Whom a token stands for.
     pub fn find(&self, token: &[u8]) -> Option<&Participant>
         ensures found { option_copied result
@@ -257,13 +266,14 @@ fn strong_token(value: &Value) -> Option<&str>
         ≡ option_and_then strong (as_str (view value.now)) }
 {
     match value.as_str() {
-        Some(token) if is_strong(token.as_bytes()) => Some(token),
+        Some(token) if is_strong_token(token.as_bytes()) => Some(token),
         _ => None,
     }
 }
 
-/// Whether a token can't be guessed, as far as its form tells.
-fn is_strong(token: &[u8]) -> bool
+/// Whether a token can't be guessed, as far as its form tells: it has 22 letters, digits, `-` and `_` at least,
+/// and nothing else.
+pub fn is_strong_token(token: &[u8]) -> bool
     ensures value { result ≡ spec.is_strong token.now }
 {
     token.len() >= MIN_TOKEN_LEN && has_token_bytes_alone(token)

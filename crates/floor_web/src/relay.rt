@@ -42,7 +42,8 @@ pub enum Side {
 /// and `ping` asks the browser for a sign of life. Each adds what is to be sent to the server to `up`, and
 /// to the browser to `down`; the caller sends both in that order, whole. Once `end` tells an end nothing is
 /// carried any more: what `down` holds by then is still to be sent, and then the browser's socket is
-/// closed. It holds what no whole frame and no whole message is yet, and nothing by what a peer announces.
+/// closed. It holds what no whole frame and no whole message is yet, and nothing by what a peer announces;
+/// of a browser's message that was carried no buffer stays.
 #[derive(Drop)]
 pub struct Relay {
     alloc: Global,
@@ -116,11 +117,23 @@ impl Relay {
             up.old.items up.new.items down.old.items down.new.items }
     {
         match hear_all(self.alloc, &mut self.context, &mut self.unread, up, down) {
-            None => {}
+            None => self.settle(),
             Some(end) => {
                 self.end = Some(end);
                 self.let_go();
             }
+        }
+    }
+
+    /// Moves what is unread to a buffer of its own size: of a long message that was carried no memory
+    /// stays. Where there is none for that the buffer stays.
+    fn settle(&mut self)
+        ensures { self.new ≡ self.old }
+    {
+        let mut left = BytesMut::new(self.alloc);
+        match left.extend_from_slice(self.unread.as_slice()) {
+            Ok(()) => self.unread = left,
+            Err(_) => {}
         }
     }
 

@@ -48,6 +48,18 @@ pub fn welcome(alloc: Global, accept: &[u8; 28]) -> Result<Vec<u8>, AllocError>
     Ok(bytes)
 }
 
+/// The head of an answer 200 that goes on as long as the connection does: a line of JSON each time that what
+/// it tells changes, and an empty line as a sign of life. A proxy hands it on as it comes.
+pub fn stream(alloc: Global) -> Result<Vec<u8>, AllocError>
+    ensures value { IfOk result (λ bytes. bytes.items ≡ spec.streamed) }
+{
+    let mut head = String::new(alloc);
+    put_line(&mut head, "HTTP/1.1 ", "200 OK")?;
+    put_line(&mut head, "Content-Type: ", "application/x-ndjson")?;
+    put_end(&mut head, "X-Accel-Buffering: no\r\n")?;
+    Ok(head.into_bytes())
+}
+
 /// An answer of this status and kind, with these fields beside those that each has.
 fn answer(
     alloc: Global,

@@ -1,7 +1,8 @@
 // The page: the meeting of its link, the connection, and what came of one's own requests.
 
-import { isInSight, loseHand, makeCard, showFloor, showOutcome, showTimes } from "./card.js";
+import { isInSight, loseHand, makeCard, showFloor, showOutcome, showRule, showTimes } from "./card.js";
 import { prepareChair } from "./chair.js";
+import { followMeeting } from "./live.js";
 import { isChair, mineOf, nameOf, requestsOf, room, titleOf } from "./room.js";
 import { hideNotice, prepareTexts, setChip, showNotice, tell, warn } from "./say.js";
 import { Session } from "./session.js";
@@ -27,6 +28,7 @@ async function start() {
   prepareMeeting();
   prepareChair();
   connect(token);
+  followMeeting(token, takeMeeting);
 }
 
 /** What the token's user is told of the meeting. */
@@ -47,13 +49,37 @@ function stop(kind, again) {
 }
 
 function prepareMeeting() {
+  const { cards } = room;
+  showMeeting();
+  addEventListener("keydown", pressKey);
+  setInterval(() => cards.forEach(showTimes), 10_000);
+}
+
+/** Shows what the meeting is: users, floors and chairs may have come since it was shown. */
+function showMeeting() {
   const { meeting, cards } = room;
   $("title").textContent = meeting.title || texts.conference(meeting.conference);
   $("me").textContent = texts.youAre(nameOf(meeting.user), isChair());
-  for (const floor of meeting.floors) cards.set(floor.id, makeCard(floor));
-  $("floors").replaceChildren(...[...cards.values()].map((card) => card.node));
-  addEventListener("keydown", pressKey);
-  setInterval(() => cards.forEach(showTimes), 10_000);
+  for (const floor of meeting.floors) {
+    const card = cards.get(floor.id);
+    if (card) {
+      showRule(card, floor);
+    } else {
+      cards.set(floor.id, makeCard(floor));
+      $("floors").append(cards.get(floor.id).node);
+    }
+  }
+}
+
+/** Takes what is told of the meeting when it has changed. */
+function takeMeeting(meeting) {
+  if (meeting.ended) return room.session.finish();
+  const before = room.meeting.floors.length;
+  room.meeting = meeting;
+  showMeeting();
+  if (meeting.floors.length !== before) room.session.watch(meeting);
+  room.cards.forEach(showFloor);
+  showTitle();
 }
 
 function connect(token) {

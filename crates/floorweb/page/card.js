@@ -18,19 +18,12 @@ export function makeCard(floor) {
   const { meeting } = room;
   const node = clone("floor");
   const part = (selector) => node.querySelector(selector);
-  const card = { floor, node, part, entries: new Map(), isMine: floor.chair === meeting.user };
-  part("h2").textContent = titleOf(floor);
+  const card = { floor, node, part, entries: new Map() };
   part("h2").id = `floor-${floor.id}`;
   node.setAttribute("aria-labelledby", `floor-${floor.id}`);
-  const chair = floor.chair === null ? texts.noChair : card.isMine ? texts.youDecide : texts.decides(nameOf(floor.chair));
-  part(".rule").textContent = `${texts.room(floor.room)}, ${chair}`;
   part("[name=priority]").append(...texts.priorities.map((name, value) => new Option(name, value, value === 2, value === 2)));
   part(".proxy").hidden = !meeting.proxy;
-  part("[name=beneficiary]").append(...meeting.users.map((user) => new Option(nameOf(user.id), user.id, false, user.id === meeting.user)));
-  part(".pending").hidden = floor.chair === null;
-  // A chair's first concern is the others.
-  if (card.isMine) node.append(part(".mine"));
-  node.classList.toggle("chaired", card.isMine);
+  showRule(card, floor);
   countBytes(part("[name=info]"), MAX_INFO_LENGTH);
   part("form").addEventListener("submit", (event) => {
     event.preventDefault();
@@ -38,6 +31,27 @@ export function makeCard(floor) {
   });
   part(".lower").addEventListener("click", () => lowerAll(card));
   return card;
+}
+
+/** Shows what a floor is: it may have another chair than before, and there may be more users. */
+export function showRule(card, floor) {
+  const { meeting } = room;
+  const { node, part } = card;
+  card.floor = floor;
+  const wasMine = card.isMine;
+  card.isMine = floor.chair === meeting.user;
+  part("h2").textContent = titleOf(floor);
+  const chair = floor.chair === null ? texts.noChair : card.isMine ? texts.youDecide : texts.decides(nameOf(floor.chair));
+  part(".rule").textContent = `${texts.room(floor.room)}, ${chair}`;
+  part(".pending").hidden = floor.chair === null;
+  const select = part("[name=beneficiary]");
+  const listed = new Set([...select.options].map((option) => Number(option.value)));
+  const others = meeting.users.filter((user) => !listed.has(user.id));
+  select.append(...others.map((user) => new Option(nameOf(user.id), user.id, false, user.id === meeting.user)));
+  // A chair's first concern is the others. Only where that changes is anything moved: a focus would be lost.
+  if (card.isMine && !wasMine) node.append(part(".mine"));
+  if (!card.isMine && wasMine) part("header").after(part(".mine"));
+  node.classList.toggle("chaired", card.isMine);
 }
 
 // One's own hand

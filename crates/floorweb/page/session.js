@@ -72,6 +72,22 @@ export class Session extends EventTarget {
     this.#socket = socket;
   }
 
+  /** The meeting is known to have ended. */
+  finish() {
+    if (this.state !== "ended") this.#end("meeting");
+  }
+
+  /** Asks to be told of the floors of the meeting, of which there are others than before. */
+  async watch(meeting) {
+    this.#meeting = meeting;
+    if (this.state !== "open") return;
+    try {
+      this.#take(await this.ask(floorQuery(meeting.floors.map((floor) => floor.id))));
+    } catch {
+      // With the next connection they are asked for anyway.
+    }
+  }
+
   /** Sends a message, and gives the server's answer. */
   ask({ primitive, attributes }) {
     return new Promise((resolve, reject) => {
@@ -148,6 +164,7 @@ export class Session extends EventTarget {
   }
 
   #end(cause) {
+    clearTimeout(this.#timer);
     this.cause = cause;
     this.#enter("ended");
     this.#socket.close();

@@ -139,6 +139,23 @@ impl Stream {
         Ok((heard, bytes))
     }
 
+    /// The next line, without its line feed.
+    pub fn line(&mut self, alloc: Global) -> Result<(Heard, Vec<u8>), Fault> {
+        for _ in 0..100_000 {
+            if let Some(end) = self.held.iter().position(|byte| *byte == b'\n') {
+                let line = self.take(alloc, end)?;
+                let _feed = self.take(alloc, 1)?;
+                return Ok((Heard::Enough, line));
+            }
+            let wanted = self.held.len().saturating_add(1);
+            let heard = self.hold(wanted)?;
+            if heard != Heard::Enough {
+                return Ok((heard, Vec::new(alloc)));
+            }
+        }
+        Ok((Heard::Nothing, Vec::new(alloc)))
+    }
+
     /// All that comes until the stream ends.
     pub fn rest(&mut self, alloc: Global) -> Result<(Heard, Vec<u8>), Fault> {
         let heard = self.hold(usize::MAX)?;

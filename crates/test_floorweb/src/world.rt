@@ -6,6 +6,8 @@ use floor_words::{read_hexadecimal, words};
 use std::alloc::Global;
 use std::io::ErrorKind;
 use std::net::{Net, TcpListener, TcpStream};
+use std::os::fd::OwnedFd;
+use std::os::unix::net::UnixListener;
 use std::rt::Files;
 use std::sync::Wait;
 use std::thread::Threads;
@@ -26,12 +28,17 @@ const DESCRIPTORS: &str = "/proc/self/fd";
 const CONFIGURATION: &str = "meeting.toml";
 
 /// The files that it serves, and a folder that has no page.
-const FILES: [(&str, &str); 4] = [
+const FILES: [(&str, &str); 6] = [
     ("page/index.html", "<p>floors"),
     ("page/app.min.js", "// two dots"),
     ("page/NOTES", "of no kind"),
+    ("page/operator.html", "<p>all"),
+    ("operator.token", "the-token-of-the-operator\n"),
     ("other/style.css", "p { }"),
 ];
+
+/// The server's control socket.
+const CONTROL: &str = "control";
 
 /// A gateway, the browsers before it and the server behind it.
 #[derive(Drop)]
@@ -43,6 +50,8 @@ pub struct World<R> {
     ports: [u16; 2],
     /// A port at which nobody listens.
     nobody: u16,
+    /// The server's control socket, where it has one.
+    control: Option<UnixListener>,
     /// The gateway's own.
     port: u16,
     gateway: Option<Gateway>,
@@ -104,6 +113,7 @@ where
             servers,
             ports,
             nobody,
+            control: None,
             port: free_port(&rt)?,
             gateway: None,
             streams: Vec::new(alloc),
@@ -147,12 +157,14 @@ where
     ///   `NAME answer` the body too, to the end of the stream.
     /// - `NAME greet USER BYTE BYTES` asks for a WebSocket with a frame right behind the request.
     /// - `NAME frame BYTE BYTES` sends a frame by its first byte and its payload, `NAME send BYTES` sends bytes,
-    ///   `NAME fill COUNT` so many of one byte, `NAME text TEXT` a text, and
+    ///   `NAME fill COUNT` so many of one byte, `NAME text TEXT` a text, `NAME tell LINES` lines that `|` ends, and
     ///   `NAME flood COUNT BYTES` so many times these bytes, however long that takes, beside what comes next.
     /// - `NAME hear` prints the next frame, `NAME hear COUNT` the next bytes; `NAME half` ends the sending side,
     ///   and `NAME close` closes the stream. `NAME drip COUNT` sends so many bytes one after another, and prints
     ///   whether each was taken.
     /// - `NAME accept` is the next connection to the server, at either port.
+    /// - `control` opens the server's control socket, at the path control, and `shut` shuts it; `NAME follow` is the
+    ///   next that connects to it, and `NAME line` prints the next line of a stream.
     /// - `behind COUNT` has so many bytes stand behind what is sent next, in one piece with it.
     /// - `patience SECONDS` is how long each is waited for, `sleep MILLISECONDS` waits, `clock` starts a clock,
     ///   and `since LEAST MOST` prints whether it shows so many seconds. `mark` counts the descriptors that are
@@ -176,6 +188,11 @@ where
                 Ok(())
             }
             "stop" => self.stop(),
+            "control" => self.open_control(),
+            "shut" => {
+                self.control = None;
+                Ok(())
+            }
             "patience" => {
                 self.patience = number_in(rest)?;
                 Ok(())
@@ -302,6 +319,7 @@ where
                 self.open(name, user, "", frame.as_slice())
             }
             "accept" => self.accept(name),
+            "follow" => self.follow(name),
             _ if self.place_of(name).is_err() => {
                 write!(self.printed, "{name} isn't there\n")?;
                 Ok(())
@@ -317,6 +335,11 @@ where
             }
             "text" => {
                 let text = rest.replace(self.alloc, "|", "\r\n")?;
+                self.send(name, text.as_bytes())
+            }
+            "tell" => {
+                let text = self.with_ports(rest)?;
+                let text = text.as_str().replace(self.alloc, "|", "\n")?;
                 self.send(name, text.as_bytes())
             }
             "send" | "fill" | "frame" => {
@@ -338,6 +361,7 @@ where
                 write!(self.printed, "{name} {how}\n")?;
                 Ok(())
             }
+            "line" => self.line(name),
             "status" | "answer" => self.answer(name, verb == "answer"),
             "hear" if rest.is_empty() => self.hear_frame(name),
             "hear" => self.hear(name, rest),
@@ -408,6 +432,53 @@ where
             thread::sleep(&self.rt, Duration::from_millis(10));
         }
         write!(self.printed, "{name} never comes\n")?;
+        Ok(())
+    }
+
+    /// Opens the server's control socket.
+    fn open_control(&mut self) -> Result<(), Fault> {
+        // It may be there since the case before.
+        let _outcome = fs::remove_file(&self.rt, CONTROL);
+        let control = UnixListener::bind(&self.rt, CONTROL)?;
+        control.set_nonblocking(true)?;
+        self.control = Some(control);
+        Ok(())
+    }
+
+    fn follow(&mut self, name: &str) -> Result<(), Fault> {
+        for _ in 0..self.patience.saturating_mul(100) {
+            if let Some(socket) = self.followed()? {
+                return self.add(name, socket);
+            }
+            thread::sleep(&self.rt, Duration::from_millis(10));
+        }
+        write!(self.printed, "{name} never comes\n")?;
+        Ok(())
+    }
+
+    /// The next connection to the control socket, if there is one.
+    fn followed(&self) -> Result<Option<TcpStream>, Fault> {
+        let Some(control) = &self.control else {
+            return Ok(None);
+        };
+        match control.accept() {
+            Ok((socket, _)) => {
+                socket.set_nonblocking(false)?;
+                Ok(Some(TcpStream::from(OwnedFd::from(socket))))
+            }
+            Err(error) if error.kind() == ErrorKind::WouldBlock => Ok(None),
+            Err(error) => Err(Fault::from(error)),
+        }
+    }
+
+    fn line(&mut self, name: &str) -> Result<(), Fault> {
+        let alloc = self.alloc;
+        let (heard, line) = self.stream(name)?.line(alloc)?;
+        let text = match heard {
+            Heard::Enough => std::str::from_utf8(line.as_slice()).unwrap_or("no UTF-8"),
+            _ => heard.name(),
+        };
+        write!(self.printed, "{name} {text}\n")?;
         Ok(())
     }
 

@@ -1,6 +1,6 @@
 //! Requests of browsers: what they ask for.
 
-use floor_web::{Asked, Origins, Reading, read_request};
+use floor_web::{Asked, Origins, Reading, Source, read_request};
 use std::alloc::{AllocError, Global};
 use std::fmt::Write;
 
@@ -28,11 +28,27 @@ fn push_reading(told: &mut String, reading: &Reading) -> Result<(), AllocError> 
 fn push_asked(told: &mut String, asked: &Asked) -> Result<(), AllocError> {
     match asked {
         Asked::Page { name, is_head } => push_name(told, "page", name, *is_head),
-        Asked::Meeting { token, is_head } => push_name(told, "meeting", token, *is_head),
+        Asked::Told {
+            source,
+            token,
+            is_head,
+        } => push_name(told, name_of(*source), token, *is_head),
+        Asked::Order { token, order } => {
+            push_name(told, "order", order, false)?;
+            write!(told, ", token {}", text_of(token))
+        }
         Asked::Bfcp { token, accept } => {
             push_name(told, "bfcp", token, false)?;
             write!(told, ", accept {}", text_of(accept.as_slice()))
         }
+    }
+}
+
+fn name_of(source: Source) -> &'static str {
+    match source {
+        Source::Meeting => "meeting",
+        Source::Live => "live",
+        Source::Operator => "operator",
     }
 }
 

@@ -1,0 +1,31 @@
+-- Whom a token stands for by the words that are kept beside a conference.
+use Rattle.std.specs.Prelude.{ℕ, ◌==◌, ◌^◌, Bool, List, bytes_eq, codes, find, is_some, option_and_then, Option, Some, None, if◌then◌else◌}
+use Rattle.std.specs.List.{after_first, before_first}
+use Rattle.floor_words.specs.Words.{number}
+use Rattle.floor_follow.specs.declared.fact.Fact.{Fact}
+use Rattle.floor_follow.specs.declared.fact.Fact.TheVariants.{User, Floor, Request, Reason, Member, Word}
+use Rattle.floor_web.specs.Participants.{is_strong}
+
+abbrev pub is_dot : ℕ → Bool
+is_dot b = b == 46
+
+-- the user of a word's key: `token.` and the User ID
+abbrev pub user_of_key : List ℕ → Option ℕ
+user_of_key key = if bytes_eq (before_first is_dot key) (codes "token") then number (2 ^ 16) (after_first is_dot key) else None
+
+-- the user whose token a fact says this to be
+abbrev pub user_of_token : List ℕ → Fact → Option ℕ
+user_of_token token (Word w) = if bytes_eq w.value token then user_of_key w.key else None
+user_of_token token (User p) = None
+user_of_token token (Floor f) = None
+user_of_token token (Request r) = None
+user_of_token token (Reason r) = None
+user_of_token token (Member m) = None
+
+-- the user whose token this is by the first fact that says so
+abbrev pub bearer_among : List ℕ → List Fact → Option ℕ
+bearer_among token facts = option_and_then (user_of_token token) (find (λ fact. is_some (user_of_token token fact)) facts)
+
+-- and only a strong token is one
+abbrev pub bearer : List ℕ → List Fact → Option ℕ
+bearer token facts = if is_strong token then bearer_among token facts else None

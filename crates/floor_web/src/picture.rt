@@ -1,0 +1,324 @@
+//! What pages are told of a conference that is followed at the control socket, as JSON: a user's page of its
+//! meeting, and the operator's of all.
+//!
+//! What floorhub doesn't know stands in words beside the conference: `token.10` is the token of user 10,
+//! `title` what the page calls the conference, and `title.2` what it calls floor 2.
+
+ghost use Rattle.std.specs.Prelude.{◌≡◌, find, is_some, option_copied};
+ghost use Rattle.floor_web.specs.Bearer as spec;
+
+use crate::participants::is_strong_token;
+use crate::titles::Titles;
+use floor_follow::{Conference, Fact, Octets, Person, Phase, RequestStatus};
+use floor_words::read_u16;
+use serde::Serialize;
+use std::alloc::{AllocError, Global};
+
+/// What a user's page is told.
+#[derive(Drop, Serialize)]
+struct Meeting<'a> {
+    conference: u32,
+    title: &'a str,
+    user: u16,
+    name: &'a str,
+    proxy: bool,
+    ended: bool,
+    floors: Vec<ShownFloor<'a>>,
+    users: Vec<ShownUser<'a>>,
+}
+
+/// A floor, with how many hold it at once.
+#[derive(Drop, Serialize)]
+struct ShownFloor<'a> {
+    id: u16,
+    title: &'a str,
+    room: u16,
+    chair: Option<u16>,
+}
+
+/// A user of the conference.
+#[derive(Drop, Serialize)]
+struct ShownUser<'a> {
+    id: u16,
+    name: &'a str,
+}
+
+/// What the operator's page is told.
+#[derive(Drop, Serialize)]
+struct Overview<'a> {
+    conference: u32,
+    title: &'a str,
+    phase: &'static str,
+    events: u64,
+    floors: Vec<ShownFloor<'a>>,
+    users: Vec<ShownUser<'a>>,
+    members: Vec<ShownMember>,
+    requests: Vec<ShownRequest>,
+    reasons: Vec<ShownReason<'a>>,
+}
+
+/// A live member.
+#[derive(Drop, Serialize)]
+struct ShownMember {
+    n: u32,
+    user: u16,
+    away: bool,
+}
+
+/// A floor request at one of its floors.
+#[derive(Drop, Serialize)]
+struct ShownRequest {
+    request: u16,
+    floor: u16,
+    user: Option<u16>,
+    by: Option<u16>,
+    status: &'static str,
+    position: u16,
+}
+
+/// What is said of a floor request.
+#[derive(Drop, Serialize)]
+struct ShownReason<'a> {
+    request: u16,
+    text: &'a str,
+}
+
+/// Whom a token stands for by a word of the conference: the first word whose key is `token.` and a user, and
+/// which is this token, if it is a strong one.
+pub fn bearer(conference: &Conference, token: &[u8]) -> Option<u16>
+    ensures found { result ≡ spec.bearer token.now conference.now.facts }
+{
+    if is_strong_token(token) {
+        return bearer_among(conference.facts.as_slice(), token);
+    }
+    None
+}
+
+/// The user whose token this is by the first fact that says so.
+fn bearer_among(facts: &[Fact], token: &[u8]) -> Option<u16>
+    ensures found { result ≡ spec.bearer_among token.now facts.now }
+{
+    match token_word(facts, token) {
+        None => None,
+        Some(fact) => user_of_token(fact, token),
+    }
+}
+
+/// The first fact that says whose token this is.
+fn token_word<'a>(facts: &'a [Fact], token: &[u8]) -> Option<&'a Fact>
+    ensures found { option_copied result
+        ≡ find (λ fact. is_some (spec.user_of_token token.now fact)) facts.now }
+{
+    facts
+        .iter()
+        .find(|fact| user_of_token(fact, token).is_some())
+}
+
+/// The user whose token a fact says this to be.
+fn user_of_token(fact: &Fact, token: &[u8]) -> Option<u16>
+    ensures value { result ≡ spec.user_of_token token.now fact.now }
+{
+    match fact {
+        Fact::Word(word) if word.value.as_slice() == token => user_of_key(word.key.as_str()),
+        _ => None,
+    }
+}
+
+/// The user of a word's key, `token.` and the User ID.
+fn user_of_key(key: &str) -> Option<u16>
+    ensures value { result ≡ spec.user_of_key key.now }
+{
+    match key.split_once('.') {
+        Some((name, number)) if name == "token" => read_u16(number),
+        _ => None,
+    }
+}
+
+/// What the page of a user is told of a conference; `None` where it has no such user.
+pub fn meeting_of(
+    alloc: Global,
+    conference: &Conference,
+    user: u16,
+    titles: &Titles,
+) -> Result<Option<String>, AllocError> {
+    let Some(person) = person_of(conference, user) else {
+        return Ok(None);
+    };
+    let meeting = Meeting {
+        conference: conference.number,
+        title: title_of(alloc, conference, None, titles)?,
+        user,
+        name: text_of(&person.name),
+        proxy: person.proxy,
+        ended: conference.phase != Phase::Running,
+        floors: floors_of(alloc, conference, titles)?,
+        users: users_of(alloc, conference)?,
+    };
+    match serde_json::to_string(alloc, &meeting) {
+        Ok(text) => Ok(Some(text)),
+        Err(_) => Err(AllocError),
+    }
+}
+
+/// What the operator's page is told of a conference.
+pub fn overview_of<'a>(
+    alloc: Global,
+    conference: &'a Conference,
+    titles: &'a Titles,
+) -> Result<String, AllocError> {
+    let overview = Overview {
+        conference: conference.number,
+        title: title_of(alloc, conference, None, titles)?,
+        phase: conference.phase.name(),
+        events: conference.events,
+        floors: floors_of(alloc, conference, titles)?,
+        users: users_of(alloc, conference)?,
+        members: members_of(alloc, conference)?,
+        requests: requests_of(alloc, conference)?,
+        reasons: reasons_of(alloc, conference)?,
+    };
+    match serde_json::to_string(alloc, &overview) {
+        Ok(text) => Ok(text),
+        Err(_) => Err(AllocError),
+    }
+}
+
+fn person_of(conference: &Conference, user: u16) -> Option<&Person> {
+    for fact in conference.facts.as_slice() {
+        match fact {
+            Fact::User(person) if person.id == user => return Some(person),
+            _ => {}
+        }
+    }
+    None
+}
+
+fn floors_of<'a>(
+    alloc: Global,
+    conference: &'a Conference,
+    titles: &'a Titles,
+) -> Result<Vec<ShownFloor<'a>>, AllocError> {
+    let mut floors = Vec::new(alloc);
+    for fact in conference.facts.as_slice() {
+        if let Fact::Floor(floor) = fact {
+            floors.push(ShownFloor {
+                id: floor.id,
+                title: title_of(alloc, conference, Some(floor.id), titles)?,
+                room: floor.room,
+                chair: floor.chair,
+            })?;
+        }
+    }
+    Ok(floors)
+}
+
+fn users_of<'a>(
+    alloc: Global,
+    conference: &'a Conference,
+) -> Result<Vec<ShownUser<'a>>, AllocError> {
+    let mut users = Vec::new(alloc);
+    for fact in conference.facts.as_slice() {
+        if let Fact::User(person) = fact {
+            users.push(ShownUser {
+                id: person.id,
+                name: text_of(&person.name),
+            })?;
+        }
+    }
+    Ok(users)
+}
+
+fn members_of(alloc: Global, conference: &Conference) -> Result<Vec<ShownMember>, AllocError> {
+    let mut members = Vec::new(alloc);
+    for fact in conference.facts.as_slice() {
+        if let Fact::Member(member) = fact {
+            members.push(ShownMember {
+                n: member.n,
+                user: member.user,
+                away: member.is_away,
+            })?;
+        }
+    }
+    Ok(members)
+}
+
+fn requests_of(alloc: Global, conference: &Conference) -> Result<Vec<ShownRequest>, AllocError> {
+    let mut requests = Vec::new(alloc);
+    for fact in conference.facts.as_slice() {
+        if let Fact::Request(requested) = fact {
+            requests.push(ShownRequest {
+                request: requested.request,
+                floor: requested.floor,
+                user: requested.user,
+                by: requested.requester,
+                status: status_name(requested.status),
+                position: requested.position,
+            })?;
+        }
+    }
+    Ok(requests)
+}
+
+fn reasons_of<'a>(
+    alloc: Global,
+    conference: &'a Conference,
+) -> Result<Vec<ShownReason<'a>>, AllocError> {
+    let mut reasons = Vec::new(alloc);
+    for fact in conference.facts.as_slice() {
+        if let Fact::Reason(reason) = fact {
+            reasons.push(ShownReason {
+                request: reason.request,
+                text: utf8_of(reason.text.as_slice()),
+            })?;
+        }
+    }
+    Ok(reasons)
+}
+
+/// The name of a status (RFC 8855, section 5.2.5).
+fn status_name(status: RequestStatus) -> &'static str {
+    match status {
+        RequestStatus::Pending => "Pending",
+        RequestStatus::Accepted => "Accepted",
+        RequestStatus::Granted => "Granted",
+        RequestStatus::Denied => "Denied",
+        RequestStatus::Cancelled => "Cancelled",
+        RequestStatus::Released => "Released",
+        RequestStatus::Revoked => "Revoked",
+    }
+}
+
+/// What the conference, or a floor of it, is called: by its words, and else by the file.
+fn title_of<'a>(
+    alloc: Global,
+    conference: &'a Conference,
+    floor: Option<u16>,
+    titles: &'a Titles,
+) -> Result<&'a str, AllocError> {
+    let key = match floor {
+        None => String::from_str(alloc, "title")?,
+        Some(floor) => format!(in alloc; "title.{floor}")?,
+    };
+    for fact in conference.facts.as_slice() {
+        match fact {
+            Fact::Word(word) if word.key.as_str() == key.as_str() => {
+                return Ok(utf8_of(word.value.as_slice()));
+            }
+            _ => {}
+        }
+    }
+    Ok(titles.find(conference.number, floor))
+}
+
+/// A name; empty where there is none.
+fn text_of(name: &Option<Octets>) -> &str {
+    match name {
+        Some(name) => utf8_of(name.as_slice()),
+        None => "",
+    }
+}
+
+/// A text; empty where it is no UTF-8.
+fn utf8_of(bytes: &[u8]) -> &str {
+    std::str::from_utf8(bytes).unwrap_or("")
+}
