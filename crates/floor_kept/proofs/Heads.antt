@@ -13,7 +13,7 @@ use Rattle.floor_kept.specs.Body.{is_one_line}
 use Rattle.floor_kept.specs.Head.{IsDivided, IsHead, IsHeadFault, IsHeadOf, IsUndivided, divider, document_of, first_line, head_text, is_table_line, lines_of}
 use Rattle.floor_kept.specs.declared.head.HeadFault.{HeadFault}
 use Rattle.floor_kept.specs.declared.head.HeadFault.TheVariants.{FirstLine, Divider, Refused, Conferences, Memory}
-use Rattle.floor_kept.specs.steps.Cut.{IsCut, IsNotOne, IsUncut, Passed}
+use Rattle.floor_kept.specs.steps.Cut.{IsCut, IsHeadBefore, IsNotOne, IsUncut, Passed}
 use Rattle.floor_kept.proofs.Cuts.{is_feed, line_is_one, parts, rest_is_one}
 
 both : (a b : Bool) → a ≡ true → b ≡ true → (a && b) ≡ true
@@ -99,6 +99,23 @@ head_is text rest table behind count bytes lines config e cut read b n =
       bytes_are = omega (arith, b, ap length whole, length-append (head_text cut.lines) behind);
       lines_are = omega (arith, n, cut.count_is);
     }
+
+-- the head of a text, and what stands behind it
+pub head_before : (text rest table behind : List ℕ) (count bytes lines : ℕ) (config : Configuration) → text ≡ first_line ++ rest → IsCut rest table count behind
+    → reading table ≡ Ok (config ∷ []) → bytes ≡ length text - length behind → lines ≡ count → IsHeadBefore text config bytes lines behind
+head_before text rest table behind count bytes lines config e cut read b n =
+    let whole = divided text rest table behind count e cut in (
+      record {
+        lines = cut.lines;
+        are = cut.are;
+        behind = behind;
+        parts = whole;
+        read = ap reading (sym cut.table_is) ∙ read;
+        bytes_are = omega (arith, b, ap length whole, length-append (head_text cut.lines) behind);
+        lines_are = omega (arith, n, cut.count_is);
+      },
+      refl,
+    )
 
 -- what stands behind is within the text
 pub behind_within : (text rest table behind : List ℕ) (count : ℕ) → text ≡ first_line ++ rest → IsCut rest table count behind → length behind ≤ length text

@@ -8,3 +8,4 @@ pub mod Written
 pub mod Bodies
 pub mod Heads
 pub mod Leading
+pub mod Files

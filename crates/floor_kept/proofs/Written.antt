@@ -1,11 +1,14 @@
 -- What is written one part behind another, and the lines of a journal's events.
-use Rattle.std.proofs.Common.{◌≡◌, ℕ, ◌+◌, ◌-◌, ◌<◌, ◌≤◌, List, [], ◌∷◌, ◌++◌, length, take, drop, Option, refl, sym, ap, subst, ◌∙◌, arith, append_assoc, length-drop, length-take-le}
+use Rattle.std.proofs.Common.{◌≡◌, ℕ, ◌+◌, ◌-◌, ◌<◌, ◌≤◌, List, [], ◌∷◌, ◌++◌, length, take, drop, get_or, Option, refl, sym, ap, subst, ◌∙◌, arith, append_assoc, length-drop, length-take-le}
 use Rattle.std.proofs.KnownBytes.{Appends-trans}
 use Rattle.std.proofs.Math.Seq.{take-add, take-length}
-use Rattle.std.proofs.lemmas.List.{drop-drop}
+use Rattle.std.proofs.lemmas.List.{append-nil, drop-drop, take_all, take_more}
 use Rattle.std.specs.Io.KnownBytes.{Appends}
 use Rattle.floor_machine.specs.declared.event.Event.{Event}
 use Rattle.floor_room.specs.Text.{line, lines}
+use Rattle.floor_kept.specs.Entries.{entry_line}
+use Rattle.floor_kept.specs.Writing.{note_lines}
+use Rattle.floor_kept.specs.declared.entry.Entry.{Entry}
 
 -- one more write of some bytes
 pub part_written : (xs : List ℕ) (at k : ℕ) (a b c : Option (List ℕ)) → at ≤ length xs → k ≤ length (take (length xs - at) (drop at xs)) → Appends a b (take at xs)
@@ -42,3 +45,25 @@ lines_more es done at added text new from within few before put =
     ∙ sym (lines-append (done + 1) (take (at - done) (drop done es)) (take added (drop (at - done) (drop done es))))
     ∙ ap (lines (done + 1)) (sym (take-add (at - done) added (drop done es)))
     ∙ ap (λ (n : ℕ). lines (done + 1) (take n (drop done es))) (omega (arith, from))
+
+notes-append : (place : ℕ) (xs ys : List Entry) → note_lines place (xs ++ ys) ≡ note_lines place xs ++ note_lines place ys
+notes-append place [] ys = refl
+notes-append place (x ∷ xs) ys =
+    ap (λ (l : List ℕ). entry_line place x ++ l) (notes-append place xs ys) ∙ sym (append_assoc (entry_line place x) (note_lines place xs) (note_lines place ys))
+
+-- one note more
+pub note_more : (place i : ℕ) (notes : List Entry) (note : Entry) (first text line new : List ℕ) → i < length notes → note ≡ get_or notes i note
+    → text ≡ first ++ note_lines place (take i notes) → line ≡ entry_line place note → new ≡ text ++ line
+    → new ≡ first ++ note_lines place (take (i + 1) notes)
+note_more place i notes note first text line new within at before printed grown =
+    let taken : take (i + 1) notes ≡ take i notes ++ note ∷ [] = take_more notes i note within ∙ ap (λ (x : Entry). take i notes ++ x ∷ []) (sym at) in
+    grown
+    ∙ ap (λ (t : List ℕ). t ++ line) before
+    ∙ ap (λ (l : List ℕ). (first ++ note_lines place (take i notes)) ++ l) (printed ∙ sym (append-nil (entry_line place note)))
+    ∙ append_assoc first (note_lines place (take i notes)) (note_lines place (note ∷ []))
+    ∙ ap (λ (l : List ℕ). first ++ l) (sym (notes-append place (take i notes) (note ∷ [])))
+    ∙ ap (λ (ns : List Entry). first ++ note_lines place ns) (sym taken)
+
+-- all notes were written
+pub notes_all : (place n : ℕ) (notes : List Entry) → length notes ≤ n → note_lines place (take n notes) ≡ note_lines place notes
+notes_all place n notes h = ap (note_lines place) (take_all n notes h)

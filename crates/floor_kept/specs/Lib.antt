@@ -2,6 +2,8 @@
 pub mod Entries
 pub mod Body
 pub mod Head
+pub mod NewHeads
+pub mod File
 pub mod Writing
 pub mod Opening
 -- the steps of the proofs

@@ -2,7 +2,7 @@
 
 ghost use Rattle.std.specs.Prelude.{◌≡◌, true, IfErr, IfOk, None, Some};
 ghost use Rattle.floor_kept.specs.Entries.{is_within, place_behind};
-ghost use Rattle.floor_kept.specs.Body.{IsBody, IsFault, is_end};
+ghost use Rattle.floor_kept.specs.Body.{IsBody, IsFault, is_end, next_place};
 
 use crate::entry::Entry;
 use crate::reading::read_entry;
@@ -17,6 +17,8 @@ pub struct Body {
     pub entries: Vec<Entry>,
     /// How many bytes their lines are.
     pub stands: usize,
+    /// The place of the next event behind them.
+    pub next: Place,
 }
 
 /// A whole line that can't be read.
@@ -64,6 +66,7 @@ impl<T: Drop> From<AllocFailed<T>> for BodyFault {
 /// no entry's at its place, or stands behind the journal's end.
 pub fn read_body(alloc: Global, text: &str) -> Result<Body, BodyFault>
     ensures value { IfOk result (λ body. IsBody text.now body.entries.items body.stands) }
+    ensures next { IfOk result (λ body. body.next ≡ next_place 1 body.entries.items) }
     ensures refused { IfErr result (IsFault text.now) }
 {
     let mut entries = Vec::new(alloc);
@@ -75,6 +78,7 @@ pub fn read_body(alloc: Global, text: &str) -> Result<Body, BodyFault>
             return Ok(Body {
                 entries,
                 stands: text.len() - rest.len(),
+                next: place,
             });
         };
         let bad = BadLine {

@@ -1,8 +1,11 @@
 //! The whole file of a kept conference.
 
+ghost use Rattle.std.specs.Prelude.{◌≡◌, ◌≤◌, ◌+◌, IfErr, IfOk};
+ghost use Rattle.floor_kept.specs.File.{IsFile, IsFileFault, IsTextBefore, line_of, place_of};
+
 use crate::body::{BadLine, BodyFault, read_body};
 use crate::entry::Entry;
-use crate::head::{HeadFault, read_head};
+use crate::head::{HeadFault, cut_head};
 use floor_config::Config;
 use floor_room::Place;
 use std::alloc::Global;
@@ -33,9 +36,21 @@ pub enum FileFault {
 
 impl FileFault {
     /// The place of the event that can't be read; 0 where the head is what can't. Takes no memory.
-    pub fn place(&self) -> Place {
+    pub fn place(&self) -> Place
+        ensures value { result ≡ place_of self.now }
+    {
         match self {
             FileFault::BadLine(bad) => bad.place,
+            FileFault::Head(_) | FileFault::Memory => 0,
+        }
+    }
+
+    /// The number of the line that can't be read; 0 where the head is what can't. Takes no memory.
+    pub fn line(&self) -> usize
+        ensures value { result ≡ line_of self.now }
+    {
+        match self {
+            FileFault::BadLine(bad) => bad.number,
             FileFault::Head(_) | FileFault::Memory => 0,
         }
     }
@@ -43,60 +58,72 @@ impl FileFault {
 
 /// What the bytes of a file say. Where they aren't UTF-8 they are read up to there: the line that has the
 /// first other byte is bad, unless it is the last and lacks its end.
-pub fn read_file(alloc: Global, bytes: &[u8]) -> Result<File, FileFault> {
-    let (text, rest) = text_of(bytes);
-    let head = match read_head(alloc, text) {
-        Ok(head) => head,
+pub fn read_file(alloc: Global, bytes: &[u8]) -> Result<File, FileFault>
+    ensures value { IfOk result (λ file.
+        IsFile bytes.now file.config file.entries.items file.head_lines file.stands) }
+    ensures refused { IfErr result (IsFileFault bytes.now) }
+{
+    let most = bytes.len();
+    let parts = text_of(bytes);
+    let cut = match cut_head(alloc, parts.text) {
+        Ok(cut) => cut,
         Err(HeadFault::Memory) => return Err(FileFault::Memory),
         Err(fault) => return Err(FileFault::Head(fault)),
     };
-    let lines = text.get(head.bytes..).unwrap_or("");
-    let body = match read_body(alloc, lines) {
+    let body = match read_body(alloc, cut.behind) {
         Ok(body) => body,
         Err(BodyFault::Memory) => return Err(FileFault::Memory),
-        Err(BodyFault::BadLine(bad)) => return Err(FileFault::BadLine(behind(head.lines, bad))),
+        Err(BodyFault::BadLine(bad)) => {
+            return Err(FileFault::BadLine(behind(cut.head.lines, bad, most)));
+        }
     };
-    if rest.contains(&b'\n') {
+    let has_more = parts.rest.contains(&b'\n');
+    if has_more {
         let bad = BadLine {
-            place: next_place(&body.entries),
+            place: body.next,
             number: body.entries.len() + 1,
         };
-        return Err(FileFault::BadLine(behind(head.lines, bad)));
+        return Err(FileFault::BadLine(behind(cut.head.lines, bad, most)));
     }
     Ok(File {
-        config: head.config,
+        config: cut.head.config,
         entries: body.entries,
-        head_lines: head.lines,
-        stands: head.bytes + body.stands,
+        head_lines: cut.head.lines,
+        stands: cut.head.bytes + body.stands,
     })
 }
 
-/// A bad line behind so many others.
-fn behind(lines: usize, bad: BadLine) -> BadLine {
+/// A bad line behind so many others, of so many lines at most.
+fn behind(lines: usize, bad: BadLine, most: usize) -> BadLine
+    requires { lines + bad.number ≤ most }
+    ensures place { result.place ≡ bad.place }
+    ensures number { result.number ≡ lines + bad.number }
+{
     BadLine {
         place: bad.place,
-        number: bad.number.saturating_add(lines),
+        number: lines + bad.number,
     }
+}
+
+/// Bytes, as far as they are text.
+#[derive(Clone, Copy, Debug)]
+struct TextBefore<'a> {
+    text: &'a str,
+    rest: &'a [u8],
 }
 
 /// The text that bytes begin with, and the bytes behind it.
-fn text_of(bytes: &[u8]) -> (&str, &[u8]) {
+fn text_of(bytes: &[u8]) -> TextBefore<'_>
+    ensures { IsTextBefore bytes.now result.text.now result.rest.now }
+{
     match std::str::from_utf8(bytes) {
-        Ok(text) => (text, &[]),
+        Ok(text) => TextBefore { text, rest: &[] },
         Err(error) => {
             let (front, rest) = bytes.split_at(error.valid_up_to());
-            (std::str::from_utf8(front).unwrap_or(""), rest)
+            match std::str::from_utf8(front) {
+                Ok(text) => TextBefore { text, rest },
+                Err(_) => unreachable!(),
+            }
         }
     }
-}
-
-/// The place of the next event behind these.
-fn next_place(entries: &[Entry]) -> Place {
-    let mut place: Place = 1;
-    for entry in entries {
-        if let Entry::Happened(_) = entry {
-            place = place.saturating_add(1);
-        }
-    }
-    place
 }

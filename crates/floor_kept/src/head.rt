@@ -1,11 +1,12 @@
 //! The head of the file in which a conference is kept: the configuration that it opened with.
 
-ghost use Rattle.std.specs.Prelude.{◌≡◌, ◌≤◌, ◌++◌, [], ◌∷◌, ℕ, IfErr, IfOk, List, MatchOption, string_bytes};
+ghost use Rattle.std.specs.Prelude.{◌≡◌, ◌≤◌, ◌++◌, [], ◌∷◌, ℕ, IfErr, IfOk, All, List, MatchOption, string_bytes};
 ghost use Rattle.toml.specs.Data.{members_depth};
 ghost use Rattle.toml.specs.Parse.{parse_document};
 ghost use Rattle.toml.specs.View.{table_view};
 ghost use Rattle.floor_kept.specs.Head.{IsHead, IsHeadFault, IsHeadOf, document_of, divider, first_line};
-ghost use Rattle.floor_kept.specs.steps.Cut.{IsCut, IsNotOne, IsUncut};
+ghost use Rattle.floor_kept.specs.NewHeads.{IsNewHead};
+ghost use Rattle.floor_kept.specs.steps.Cut.{IsCut, IsHeadBefore, IsNotOne, IsUncut};
 ghost use Rattle.floor_config.specs.Reading.{reading};
 
 use floor_config::{Config, ConfigFault, read_configs};
@@ -71,6 +72,23 @@ pub fn read_head(alloc: Global, text: &str) -> Result<Head, HeadFault>
     ensures value { IfOk result (λ head. IsHead text.now head.config head.bytes head.lines) }
     ensures refused { IfErr result (IsHeadFault text.now) }
 {
+    let cut = cut_head(alloc, text)?;
+    Ok(cut.head)
+}
+
+/// The head of a file's text, and what stands behind it.
+#[derive(Debug, Drop)]
+pub(crate) struct CutHead<'a> {
+    pub head: Head,
+    pub behind: &'a str,
+}
+
+/// Cuts the head off a file's text.
+pub(crate) fn cut_head(alloc: Global, text: &str) -> Result<CutHead<'_>, HeadFault>
+    ensures value { IfOk result (λ cut. IsHeadBefore text.now
+        cut.head.config cut.head.bytes cut.head.lines cut.behind.now) }
+    ensures refused { IfErr result (IsHeadFault text.now) }
+{
     let Some(rest) = text.strip_prefix(FIRST_LINE) else {
         return Err(HeadFault::FirstLine);
     };
@@ -81,10 +99,14 @@ pub fn read_head(alloc: Global, text: &str) -> Result<Head, HeadFault>
         Ok(config) => config,
         Err(fault) => return Err(fault),
     };
-    Ok(Head {
-        config,
-        bytes: text.len() - cut.behind.len(),
-        lines: cut.lines,
+    let bytes = text.len() - cut.behind.len();
+    Ok(CutHead {
+        head: Head {
+            config,
+            bytes,
+            lines: cut.lines,
+        },
+        behind: cut.behind,
     })
 }
 
@@ -160,6 +182,48 @@ pub fn head_of(alloc: Global, conference: Table) -> Result<NewHead, HeadFault>
         text,
         config: head.config,
     })
+}
+
+/// The heads of the conferences of a configuration's text, in its order. Refused as its reader refuses it, and
+/// where one of them has no head.
+pub fn heads_of(alloc: Global, text: &str) -> Result<Vec<NewHead>, HeadFault>
+    ensures each { IfOk result (λ heads. All IsNewHead heads.items) }
+{
+    match read_configs(alloc, text) {
+        Ok(_) => {}
+        Err(ConfigFault::Memory) => return Err(HeadFault::Memory),
+        Err(fault) => return Err(HeadFault::Refused(fault)),
+    }
+    let mut document = match toml::table_from_str(alloc, text) {
+        Ok(document) => document,
+        Err(error) if error.is_memory() => return Err(HeadFault::Memory),
+        Err(_) => return Err(HeadFault::Refused(ConfigFault::Syntax)),
+    };
+    match document.remove("conference") {
+        Some(Value::Array(conferences)) => heads_in(alloc, conferences),
+        _ => Err(HeadFault::Conferences),
+    }
+}
+
+/// The heads of the tables among values, which are tables all.
+fn heads_in(alloc: Global, conferences: Vec<Value>) -> Result<Vec<NewHead>, HeadFault>
+    ensures each { IfOk result (λ heads. All IsNewHead heads.items) }
+{
+    let mut heads = Vec::new(alloc);
+    for conference in conferences {
+        heads.push(head_in(alloc, conference)?)?;
+    }
+    Ok(heads)
+}
+
+/// The head of a value that is a conference's table.
+fn head_in(alloc: Global, conference: Value) -> Result<NewHead, HeadFault>
+    ensures value { IfOk result IsNewHead }
+{
+    match conference {
+        Value::Table(table) => head_of(alloc, table),
+        _ => Err(HeadFault::Refused(ConfigFault::WrongType)),
+    }
 }
 
 /// The document in which a table is the one conference.

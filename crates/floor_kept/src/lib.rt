@@ -25,7 +25,7 @@ pub use floor_config::{Config, ConfigFault, Text};
 pub use floor_machine::{AddedUser, Event};
 pub use floor_room::{Place, Room};
 pub use floor_wire::Octets;
-pub use head::{Head, HeadFault, NewHead, head_of, read_head};
+pub use head::{Head, HeadFault, NewHead, head_of, heads_of, read_head};
 pub use opening::{OpenFault, Opened, Unlawful, open_kept};
 pub use parsing::is_key;
 pub use printing::entry_line;

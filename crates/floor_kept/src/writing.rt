@@ -1,9 +1,9 @@
 //! What is new of a kept conference, written behind what stands in its file.
 
-ghost use Rattle.std.specs.Prelude.{◌≡◌, ◌+◌, ◌≤◌, false, IfOk, OnErr, OnOk, drop, length, string_bytes, take};
+ghost use Rattle.std.specs.Prelude.{◌≡◌, ◌+◌, ◌++◌, ◌≤◌, false, IfOk, OnErr, OnOk, drop, length, string_bytes, take};
 ghost use Rattle.std.specs.Io.KnownBytes.{Appends};
 ghost use Rattle.floor_kept.specs.Entries.{entry_line};
-ghost use Rattle.floor_kept.specs.Writing.{Failed, IsPart, Wrote, new_lines};
+ghost use Rattle.floor_kept.specs.Writing.{Failed, IsPart, Wrote, new_lines, note_lines, turn_lines};
 
 use crate::entry::Entry;
 use crate::printing::entry_line;
@@ -36,8 +36,8 @@ impl From<AllocError> for WriteFault {
     }
 }
 
-/// Writes a conference's file behind its head: `append` what is new of the journal, once for each turn
-/// before anything that the events tell is sent, and `note` what is kept beside it. After a fault it
+/// Writes a conference's file behind its head: `append` what is new of the journal and what is kept beside it,
+/// once for each turn before anything that the events tell is sent, and `note` what stands behind all events. After a fault it
 /// writes nothing more: what stands in the file then is a beginning of what was to stand there.
 #[derive(Debug, Drop)]
 pub struct Writer {
@@ -78,27 +78,29 @@ impl Writer {
         self.is_broken
     }
 
-    /// Writes the lines of the events of the journal that aren't written yet, and flushes.
+    /// Writes the lines of the events of the journal that aren't written yet, and behind them those of the notes,
+    /// and flushes.
     pub fn append<W: Write>(
         &mut self,
         alloc: Global,
         sink: &mut W,
         journal: &[Event],
+        notes: &[Entry],
     ) -> Result<(), WriteFault>
         requires { self.old.done ≤ length journal.now }
         ensures took { OnOk result (Wrote self.old self.new (length journal.now)
-            (W.contents sink.old) (W.contents sink.new) (new_lines self.old.done journal.now)) }
+            (W.contents sink.old) (W.contents sink.new)
+            (turn_lines self.old.done journal.now notes.now)) }
         ensures left { OnErr result (Failed self.old self.new
-            (W.contents sink.old) (W.contents sink.new) (new_lines self.old.done journal.now)) }
+            (W.contents sink.old) (W.contents sink.new)
+            (turn_lines self.old.done journal.now notes.now)) }
     {
         if self.is_broken {
             return Err(WriteFault::Broken);
         }
-        if self.done == journal.len() {
-            return Ok(());
-        }
         self.is_broken = true;
-        let text = lines_behind(alloc, journal, self.done)?;
+        let mut text = lines_behind(alloc, journal, self.done)?;
+        add_notes(alloc, &mut text, journal.len() + 1, notes)?;
         match write_whole(sink, text.as_bytes()) {
             Ok(()) => {}
             Err(_) => return Err(WriteFault::CannotWrite),
@@ -146,6 +148,24 @@ fn lines_behind(alloc: Global, journal: &[Event], done: usize) -> Result<String,
         at += add_lines(alloc, &mut text, journal, at)?;
     }
     Ok(text)
+}
+
+/// Adds the lines of notes, where the next event is the one at this place.
+#[tactic(auto, using(crate::proofs::Written::notes_all))]
+fn add_notes(
+    alloc: Global,
+    text: &mut String,
+    place: usize,
+    notes: &[Entry],
+) -> Result<(), AllocError>
+    ensures { OnOk result (string_bytes text.new
+        ≡ string_bytes text.old ++ note_lines place notes.now) }
+{
+    for note in notes {
+        let line = entry_line(alloc, place, note)?;
+        text.push_str(line.as_str())?;
+    }
+    Ok(())
 }
 
 /// Writes all bytes, and flushes. After a fault a beginning of them was written. An interrupted write

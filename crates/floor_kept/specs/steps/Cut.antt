@@ -5,7 +5,7 @@ use Rattle.floor_config.specs.Configuration.{Configuration}
 use Rattle.floor_config.specs.Outcome.{Fails}
 use Rattle.floor_config.specs.Reading.{reading}
 use Rattle.floor_kept.specs.Body.{is_one_line}
-use Rattle.floor_kept.specs.Head.{divider, is_table_line, lines_of}
+use Rattle.floor_kept.specs.Head.{IsHead, divider, is_table_line, lines_of}
 use Rattle.floor_kept.specs.declared.head.HeadFault.{HeadFault}
 use Rattle.floor_kept.specs.declared.head.HeadFault.TheVariants as head
 
@@ -40,3 +40,7 @@ IsNotOne text head.Divider = ⊥
 IsNotOne text (head.Refused fault) = Fails fault (reading text)
 IsNotOne text head.Conferences = (configs : List Configuration) × (reading text ≡ Ok configs) × (length configs ≢ 1)
 IsNotOne text head.Memory = Unit {0}
+
+-- The text is such a head, and this behind it.
+abbrev pub IsHeadBefore : List ℕ → Configuration → ℕ → ℕ → List ℕ → Type 0
+IsHeadBefore text config bytes lines behind = (h : IsHead text config bytes lines) × (h.behind ≡ behind)

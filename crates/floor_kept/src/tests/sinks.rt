@@ -57,7 +57,7 @@ fn kept<R: Abort + AllocGlobal>(rt: &R, room: usize) -> Result<(Disk, Option<Wri
     let mut writer = Writer::new(0);
     conference.join(10, &mut told)?;
     conference.leave(1, &mut told)?;
-    let first = writer.append(alloc, &mut disk, conference.journal());
+    let first = writer.append(alloc, &mut disk, conference.journal(), &[]);
     let mut octets = Vec::new(alloc);
     octets.push(0u8)?;
     let word = Entry::Word {
@@ -68,7 +68,7 @@ fn kept<R: Abort + AllocGlobal>(rt: &R, room: usize) -> Result<(Disk, Option<Wri
     conference.join(10, &mut told)?;
     conference.admin(Act::Close, &mut told)?;
     let third = if writer.done() <= conference.journal().len() {
-        writer.append(alloc, &mut disk, conference.journal())
+        writer.append(alloc, &mut disk, conference.journal(), &[])
     } else {
         Err(WriteFault::Broken)
     };

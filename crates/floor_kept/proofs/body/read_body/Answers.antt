@@ -26,3 +26,6 @@ loop-line-preserved c =
       read_more c.args.text.now c.loop-line.entries.items c.push.new.self.items c.loop-line.rest.now c.in-Some.line.now c.in-Some.behind.now c.loop-line.place _ c.loop-line.is_ended _ c.in-Some-2.entry
           c.loop-line.invariant.1 c.if-is_ended.false h.0 h.1 h.2 (rw c.in-Some-2.is at c.in_ok-entry.ensures.found) c.in_ok-push.ensures.items c.place_behind-place.ensures c.is_end-is_ended.ensures,
     )
+
+pub returns-in_default-clause-next : goal.returns-in_default-clause-next
+returns-in_default-clause-next c = c.loop-line.invariant.1.place_is
