@@ -621,7 +621,7 @@ async function meetByControl() {
     await tab.shows("Connected", 20_000);
   }
   await operator.shows("1 conference, 2 connections");
-  await operator.shows("Ann has connected");
+  await operator.shows("Ann (10) has connected");
   await ann.fill("Microphone", "info", "A question");
   await ann.press("Microphone", "Raise hand");
   await operator.shows("asks the chair");

@@ -243,13 +243,25 @@ async function order(what, line, back) {
   if (back.isConnected) back.focus();
 }
 
+let questions = 0;
+
 function isSure(what) {
+  const question = ++questions;
   const dialog = $("sure");
   dialog.querySelector("h2").textContent = texts.ask(what);
   dialog.querySelector("button[value=do]").textContent = what;
   dialog.returnValue = "";
   dialog.showModal();
-  return new Promise((resolve) => dialog.addEventListener("close", () => resolve(dialog.returnValue === "do"), { once: true }));
+  return new Promise((resolve) => {
+    const closed = () => {
+      const isLast = question === questions;
+      // A browser tells that a dialog was closed a moment later: the question before may be meant.
+      if (isLast && dialog.open) return;
+      dialog.removeEventListener("close", closed);
+      resolve(isLast && dialog.returnValue === "do");
+    };
+    dialog.addEventListener("close", closed);
+  });
 }
 
 // What is said besides

@@ -10,6 +10,8 @@ const ANSWER_WAIT = 10_000;
 /** The codes by which floorweb closes where nobody is at the server's port, and where the server takes no connection of the user's. */
 const NO_SERVER = 4404;
 const NOT_TAKEN = 4403;
+// The error code of a floor that the conference hasn't (RFC 8855, section 5.2.6).
+const INVALID_FLOOR = 6;
 /** At which of them running nothing is tried any more: a server that starts anew is back before. */
 const MAX_REFUSED = 3;
 
@@ -43,6 +45,7 @@ export class Session extends EventTarget {
   #waiting = new Map();
   #wait = FIRST_WAIT;
   #refused = 0;
+  #unknown = 0;
   #timer;
 
   constructor(token, meeting) {
@@ -55,6 +58,7 @@ export class Session extends EventTarget {
   again() {
     this.#wait = FIRST_WAIT;
     this.#refused = 0;
+    this.#unknown = 0;
     this.connect();
   }
 
@@ -109,10 +113,14 @@ export class Session extends EventTarget {
       this.#take(await this.ask(floorQuery(this.#meeting.floors.map((floor) => floor.id))));
       this.#wait = FIRST_WAIT;
       this.#refused = 0;
+      this.#unknown = 0;
       this.#enter("open");
     } catch (error) {
+      if (error instanceof Lost) return;
+      // A server that began anew may not have a floor of before; which it has the page is told besides.
+      if (error.code === INVALID_FLOOR && ++this.#unknown < MAX_REFUSED) return this.#socket.close();
       // An Error 1 says that the conference doesn't exist (RFC 8855, section 5.2.6).
-      if (!(error instanceof Lost)) this.#end(error.code === 1 ? "meeting" : "refused");
+      this.#end(error.code === 1 ? "meeting" : "refused");
     }
   }
 
