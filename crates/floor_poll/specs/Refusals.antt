@@ -22,6 +22,14 @@ refusal_of (hub.ByRoom refusal) = control.ByBoard (board.ByRoom refusal)
 abbrev pub ended : ControlRefusal
 ended = control.ByBoard (board.ByRoom (room.Refused machine.Ended))
 
+-- where a conference is broken off
+abbrev pub broken : ControlRefusal
+broken = control.ByBoard (board.ByRoom (room.Refused machine.Broken))
+
+-- where memory was refused
+abbrev pub out_of_memory : ControlRefusal
+out_of_memory = control.ByBoard board.Memory
+
 -- where the hub refuses to act upon a conference: a forgotten one is a closed one
 abbrev pub refusal_of_act : HubRefusal → ControlRefusal
 refusal_of_act hub.Forgotten = ended

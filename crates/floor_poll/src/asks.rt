@@ -4,29 +4,34 @@ use crate::inbox::{Asker, Note};
 use crate::mailbox::{Answer, Ask, Mailbox};
 use crate::worker::Worker;
 use floor_room::Phase;
+use std::fs::File;
+use std::rt::Files;
 use std::sync::Wait;
 use std::time::Clock;
 
 /// How many are answered between two turns.
 const MAX_ASKS: u32 = 64;
 
-impl<R: Clock + Wait + Copy + Drop> Worker<R> {
+impl<R: Files<File = File> + Clock + Wait + Copy + Drop> Worker<R> {
     /// Answers what is asked, 64 at most at a time.
     pub fn answer_asks(&mut self, mailbox: &Mailbox) {
         let rt = self.rt;
         self.has_asks = false;
         for _ in 0..MAX_ASKS {
             match mailbox.next_ask(&rt) {
-                Some(ask) => self.answer_ask(ask),
+                Some(ask) => self.answer_ask(mailbox, ask),
                 None => return,
             }
         }
         self.has_asks = !mailbox.is_idle(&rt);
     }
 
-    /// Does what is asked, and answers.
-    fn answer_ask(&mut self, ask: Ask) {
+    /// Does what is asked, and answers; once the turn is kept, where it is.
+    fn answer_ask(&mut self, mailbox: &Mailbox, ask: Ask) {
         let Ask { asker, asked } = ask;
+        if self.keeps() {
+            return self.hold(mailbox, Some(asker), asked);
+        }
         if let Some(answer) = self.carry_out(asked) {
             self.put(Note::Answered { asker, answer });
         }
@@ -62,7 +67,7 @@ impl<R: Clock + Wait + Copy + Drop> Worker<R> {
 
 impl<R: Clock + Drop> Worker<R> {
     fn is_open(&self, conference: u32) -> bool {
-        match self.hub.status(conference) {
+        match self.standing(conference) {
             Ok(status) => status.phase == Phase::Running,
             Err(_) => false,
         }

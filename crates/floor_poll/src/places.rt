@@ -16,6 +16,14 @@ pub struct Places {
     /// How many of them may be one user's.
     most: u16,
     ports: Vec<u64>,
+    /// Whether the conference has events that its file may lack.
+    pub is_changed: bool,
+    /// Whether it is kept no more, where the server keeps its conferences.
+    pub is_unkept: bool,
+    /// How many of its events its file has.
+    pub kept: u32,
+    /// Whether it is broken off since its file has failed: what its journal has besides is told to nobody.
+    pub is_broken: bool,
 }
 
 impl Places {
@@ -29,6 +37,10 @@ impl Places {
             users: Vec::new(alloc),
             most,
             ports: Vec::new(alloc),
+            is_changed: false,
+            is_unkept: false,
+            kept: 0,
+            is_broken: false,
         }
     }
 

@@ -14,7 +14,8 @@ use floor_control::{
 };
 use floor_loop::Act;
 use floor_poll::{Asked, Asker, Question, ended, no_counts};
-use std::alloc::AllocError;
+use std::alloc::{AllocError, Global};
+use std::fs::File;
 use std::net::Net;
 use std::rt::Files;
 use std::sync::Wait;
@@ -23,7 +24,16 @@ use std::time::Clock;
 
 impl<R> Desk<R>
 where
-    R: Net + Files + AllocGlobal + Clock + Threads + Wait + Copy + Drop + Send + 'static,
+    R: Net
+        + Files<File = File>
+        + AllocGlobal
+        + Clock
+        + Threads
+        + Wait
+        + Copy
+        + Drop
+        + Send
+        + 'static,
 {
     /// Begins what a line asks for.
     pub fn begin(&mut self, number: u64, mut task: Task, line: Line) -> Result<Went, AllocError> {
@@ -121,7 +131,7 @@ where
                 conference,
                 key,
                 value,
-            } => self.keep_word(task, conference, key, value),
+            } => self.keep_word(number, task, conference, key, value),
             Line::Words { conference } => self.tell_words(task, conference),
             Line::Drain => self.drain(task),
             reader => self.begin_reader(number, reader),
@@ -279,6 +289,53 @@ where
 
     fn keep_word(
         &mut self,
+        number: u64,
+        task: &mut Task,
+        conference: u32,
+        key: Text,
+        value: Option<Octets>,
+    ) -> Result<Step, ControlRefusal> {
+        let keeps = self.server.keeps();
+        let meeting = match self.meeting(conference) {
+            Ok(meeting) => meeting,
+            Err(refusal) => return Err(of_act(refusal)),
+        };
+        match &value {
+            Some(value) if !meeting.words.fits(key.as_str(), value.as_slice()) => {
+                return Err(ControlRefusal::from(ConfigFault::OutOfRange));
+            }
+            _ => {}
+        }
+        if keeps {
+            return self.ask_to_keep(number, conference, key, value);
+        }
+        self.take_word(task, conference, key, value)
+    }
+
+    /// Has a word stand in the conference's file before it is answered.
+    fn ask_to_keep(
+        &mut self,
+        number: u64,
+        conference: u32,
+        key: Text,
+        value: Option<Octets>,
+    ) -> Result<Step, ControlRefusal> {
+        let asked = Asked::Word {
+            conference,
+            key: key.copy(self.alloc)?,
+            value: copy_of(self.alloc, &value)?,
+        };
+        self.ask(number, conference, asked)?;
+        Ok(Step::Wording {
+            conference,
+            key,
+            value,
+        })
+    }
+
+    /// Keeps a word beside a conference, and answers.
+    pub fn take_word(
+        &mut self,
         task: &mut Task,
         conference: u32,
         key: Text,
@@ -290,12 +347,7 @@ where
         };
         add_word_kept(task.text(), conference, key.as_str())?;
         match value {
-            Some(value) => {
-                if !meeting.words.fits(key.as_str(), value.as_slice()) {
-                    return Err(ControlRefusal::from(ConfigFault::OutOfRange));
-                }
-                meeting.words.keep(key, value)?;
-            }
+            Some(value) => meeting.words.keep(key, value)?,
             None => meeting.words.remove(key.as_str()),
         }
         Ok(Step::End)
@@ -326,6 +378,14 @@ where
         let outcome = self.stop(number);
         add_stopped(task.text(), outcome)?;
         Ok(Step::End)
+    }
+}
+
+/// The same octets, where there are some.
+fn copy_of(alloc: Global, value: &Option<Octets>) -> Result<Option<Octets>, AllocError> {
+    match value {
+        Some(value) => Ok(Some(value.copy(alloc)?)),
+        None => Ok(None),
     }
 }
 

@@ -14,6 +14,7 @@ use floor_control::{ControlRefusal, Watcher};
 use floor_poll::Answer;
 use floor_server::Config;
 use std::alloc::{AllocError, Global};
+use std::fs::File;
 use std::net::Net;
 use std::rt::Files;
 use std::sync::Wait;
@@ -132,7 +133,16 @@ impl Followed {
 
 impl<R> Desk<R>
 where
-    R: Net + Files + AllocGlobal + Clock + Threads + Wait + Copy + Drop + Send + 'static,
+    R: Net
+        + Files<File = File>
+        + AllocGlobal
+        + Clock
+        + Threads
+        + Wait
+        + Copy
+        + Drop
+        + Send
+        + 'static,
 {
     /// A conference that was opened and isn't forgotten.
     pub fn meeting(&mut self, conference: u32) -> Result<&mut Meeting, ControlRefusal> {

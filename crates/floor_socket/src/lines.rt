@@ -10,6 +10,7 @@ use floor_control::{
     Asking, ControlRefusal, Line, LineFault, Next, add_refused, add_unread, read_line,
 };
 use std::alloc::{AllocError, Global};
+use std::fs::File;
 use std::mem;
 use std::net::Net;
 use std::rt::Files;
@@ -32,7 +33,16 @@ pub enum Went {
 
 impl<R> Desk<R>
 where
-    R: Net + Files + AllocGlobal + Clock + Threads + Wait + Copy + Drop + Send + 'static,
+    R: Net
+        + Files<File = File>
+        + AllocGlobal
+        + Clock
+        + Threads
+        + Wait
+        + Copy
+        + Drop
+        + Send
+        + 'static,
 {
     /// Goes on with the line that a client has at work, or begins its next one, and says whether it came any further.
     /// A client for whom memory is refused is closed.

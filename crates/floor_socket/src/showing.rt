@@ -8,6 +8,7 @@ use floor_control::{Client, ControlRefusal, Notice, add_notice};
 use floor_poll::{Answer, Asked, Asker, Question};
 use std::alloc::AllocError;
 use std::collections::VecDeque;
+use std::fs::File;
 use std::net::Net;
 use std::rt::Files;
 use std::sync::Wait;
@@ -16,7 +17,16 @@ use std::time::Clock;
 
 impl<R> Desk<R>
 where
-    R: Net + Files + AllocGlobal + Clock + Threads + Wait + Copy + Drop + Send + 'static,
+    R: Net
+        + Files<File = File>
+        + AllocGlobal
+        + Clock
+        + Threads
+        + Wait
+        + Copy
+        + Drop
+        + Send
+        + 'static,
 {
     /// Takes it that a conference has more events than those who have caught up know.
     pub fn take_growth(&mut self, conference: u32) {
@@ -123,6 +133,31 @@ where
         }
     }
 
+    /// Tells those who watch a conference what is no event, now or never.
+    pub fn tell_watchers(&mut self, conference: u32, notice: Notice) {
+        let mut text = String::new(self.alloc);
+        if add_notice(&mut text, conference, notice).is_err() {
+            return;
+        }
+        for place in 0..self.clients.len() {
+            let Some(number) = self.clients.get_index(place).map(|(number, _)| *number) else {
+                return;
+            };
+            self.tell_watcher(number, conference, text.as_str());
+        }
+    }
+
+    fn tell_watcher(&mut self, number: u64, conference: u32, text: &str) {
+        let Some(seat) = self.clients.get_mut(&number) else {
+            return;
+        };
+        if seat.watched.get(&conference).is_some() {
+            let told = seat.lines.tell(text);
+            seat.has_failed = seat.has_failed || told.is_err();
+            self.queue(number);
+        }
+    }
+
     /// One of those who have caught up with a conference.
     fn follower(&self, conference: u32, place: usize) -> Option<Follower> {
         let followed = self.meetings.get(&conference)?.followed.as_ref()?;
@@ -181,7 +216,16 @@ where
 
 impl<R> Desk<R>
 where
-    R: Net + Files + AllocGlobal + Clock + Threads + Wait + Copy + Drop + Send + 'static,
+    R: Net
+        + Files<File = File>
+        + AllocGlobal
+        + Clock
+        + Threads
+        + Wait
+        + Copy
+        + Drop
+        + Send
+        + 'static,
 {
     /// Tells a client more of what it is behind with, where it takes more, and says whether it came any further.
     pub fn catch_up(&mut self, number: u64) -> bool {

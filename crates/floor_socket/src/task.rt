@@ -3,8 +3,8 @@
 ghost use Rattle.std.specs.Prelude.{◌≡◌, ◌<◌, ◌≤◌, ℕ, false, length};
 ghost use Rattle.floor_socket.specs.declared.task.Step.TheVariants.{Hold};
 
-use floor_control::{Done, Metrics, Opening, Standing, Tag, add_tagged};
-use floor_server::Config;
+use floor_control::{Done, Metrics, Octets, Opening, Standing, Tag, Text, add_tagged};
+use floor_poll::Fresh;
 use std::alloc::{AllocError, Global};
 use std::collections::VecDeque;
 
@@ -34,18 +34,24 @@ pub enum Step {
     Read,
     /// The next conference of a configuration is opened.
     Open {
-        configs: VecDeque<Config>,
+        configs: VecDeque<Fresh>,
         count: usize,
     },
     /// A loop opens a conference, and these are left.
     Opening {
-        configs: VecDeque<Config>,
+        configs: VecDeque<Fresh>,
         count: usize,
     },
     /// A loop does something to a conference.
     Acting {
         conference: u32,
         done: Done,
+    },
+    /// A loop keeps a word in a conference's file.
+    Wording {
+        conference: u32,
+        key: Text,
+        value: Option<Octets>,
     },
     /// The answer waits until what the client watches has come to its place.
     Hold {

@@ -12,6 +12,7 @@ use floor_control::{
 };
 use floor_poll::{Answer, Asked, Asker, Lines, Question, both};
 use std::alloc::AllocError;
+use std::fs::File;
 use std::mem;
 use std::net::Net;
 use std::rt::Files;
@@ -27,7 +28,16 @@ const MAX_LISTED: usize = 256;
 
 impl<R> Desk<R>
 where
-    R: Net + Files + AllocGlobal + Clock + Threads + Wait + Copy + Drop + Send + 'static,
+    R: Net
+        + Files<File = File>
+        + AllocGlobal
+        + Clock
+        + Threads
+        + Wait
+        + Copy
+        + Drop
+        + Send
+        + 'static,
 {
     /// Takes what a loop answers.
     pub fn take_answer(&mut self, asker: Asker, answer: Answer) {
@@ -72,13 +82,17 @@ where
         let step = mem::replace(&mut task.step, Step::End);
         let next = match answer {
             Answer::Done(done) => self.done(number, &mut task, step, done),
-            Answer::Stands(status) => self.stood(number, &mut task, step, status),
+            Answer::Stands(status, is_unkept) => {
+                self.stood(number, &mut task, step, status, is_unkept)
+            }
             Answer::Lines(lines) => listed(&mut task, step, lines),
             Answer::Standings(found) => stood_together(step, found),
             Answer::Counts(counts) => Ok(counted(step, counts)),
             Answer::Events(_piece) => Ok(step),
             Answer::Drained => Ok(step),
             Answer::Stopped(_report) => Ok(step),
+            Answer::Resumed(_outcome) => Ok(step),
+            Answer::Lost => Ok(step),
         };
         match next {
             Ok(step) => {
@@ -111,6 +125,11 @@ where
                     place: u64::from(place),
                 })
             }
+            Step::Wording {
+                conference,
+                key,
+                value,
+            } => self.take_word(task, conference, key, value),
             Step::Forgetting { conference } => {
                 add_forgotten(task.text(), conference)?;
                 Ok(Step::End)
@@ -126,6 +145,7 @@ where
         task: &mut Task,
         step: Step,
         status: Result<Status, ControlRefusal>,
+        is_unkept: bool,
     ) -> Result<Step, ControlRefusal> {
         let status = status?;
         let Step::Standing { conference, then } = step else {
@@ -136,7 +156,7 @@ where
                 let standing = Standing {
                     conference,
                     status,
-                    is_unkept: false,
+                    is_unkept,
                 };
                 add_standing(task.text(), standing)?;
                 Ok(Step::End)

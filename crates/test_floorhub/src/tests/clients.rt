@@ -3,6 +3,7 @@
 use floor_server::Program;
 use floor_socket::{Descriptors, run};
 use std::alloc::Global;
+use std::fs::File;
 use std::io::{Write, sink};
 use std::net::{Net, TcpListener, TcpStream};
 use std::os::fd::AsRawFd;
@@ -21,7 +22,7 @@ pub use test_clients::{
 pub fn start_with_socket<R>(rt: R, config: &str, path: &str, port: u16) -> Result<Server, Fail>
 where
     R: Net<Listener = TcpListener, Stream = TcpStream>
-        + Files
+        + Files<File = File>
         + AllocGlobal
         + Clock
         + Threads
@@ -45,7 +46,7 @@ where
 pub fn run_to_end<R>(rt: R, alloc: Global, start: Start) -> u8
 where
     R: Net<Listener = TcpListener, Stream = TcpStream>
-        + Files
+        + Files<File = File>
         + AllocGlobal
         + Clock
         + Threads
@@ -62,7 +63,7 @@ where
 pub fn run_logged<R, L>(rt: R, alloc: Global, start: Start, log: L) -> u8
 where
     R: Net<Listener = TcpListener, Stream = TcpStream>
-        + Files
+        + Files<File = File>
         + AllocGlobal
         + Clock
         + Threads
