@@ -7,7 +7,7 @@ use Rattle.std.proofs.lemmas.Bool.{eqb-true, eqb-false}
 use Rattle.std.proofs.lemmas.Bool.Decides.{nat_tests}
 use Rattle.std.proofs.lemmas.List.Elements.{All-nil, All-cons, All-append}
 use Rattle.std.proofs.lemmas.Map.{update_here}
-use Rattle.std.proofs.lemmas.Option.{none-some}
+use Rattle.std.proofs.lemmas.Option.{none-some, slice_get_within}
 use Rattle.floor_config.specs.Configuration.{Configuration}
 use Rattle.floor_wire.specs.Message.{IsMessage, messages}
 use Rattle.floor_wire.proofs.Messages.{messages-concat}
@@ -32,12 +32,14 @@ use Rattle.floor_hub.specs.declared.refusal.HubRefusal.TheVariants.{ByRoom}
 use Rattle.floor_hub.specs.declared.step.Step.{Step}
 use Rattle.floor_hub.specs.declared.step.Step.TheVariants.{Open, Attach, Piece, Serve, Took, Leave, Admin}
 use Rattle.floor_hub.specs.World as world
-use Rattle.floor_hub.specs.World.{World, Part, Arrival, Place, Aim, aim, aimed, arrival, if_live, is_full, joined, nothing, offer, opened, place, put, refused, ledger_of, state_of, turn, turn_at, unserved, with_arrival, with_events}
+use Rattle.floor_hub.specs.World.{World, Part, Arrival, Place, Aim, aim, aimed, arrival, if_live, is_full, joined, nothing, offer, opened, place, places_after, put, refused, ledger_of, state_of, turn, turn_at, unserved, with_arrival, with_events}
 use Rattle.floor_hub.specs.Kept.{IsKeptPart, KeptIn, arrivals_in}
-use Rattle.floor_hub.specs.Runs.{events_in, run, steps_for, steps_of}
-use Rattle.floor_hub.specs.Laws.{JournalsAreEvents, JournalsAreOpened}
-use Rattle.floor_hub.proofs.Alone.{IsKnown, Same, known, offer_counts, solo, step_own}
-use Rattle.floor_hub.proofs.Arrivals.{arrival_set, arrival_set_other, there_live}
+use Rattle.floor_hub.specs.Runs.{events_in, resuming_of, run, steps_for, steps_from, steps_of}
+use Rattle.floor_hub.specs.Laws.{JournalsAreEvents, JournalsAreOpened, JournalsAreResumed}
+use Rattle.floor_hub.specs.declared.step.Answer.{Answer}
+use Rattle.floor_hub.specs.declared.step.Answer.TheVariants.{Done, Attached, Nothing, Served, Refused}
+use Rattle.floor_hub.proofs.Alone.{Counts, offer_counts}
+use Rattle.floor_hub.proofs.Arrivals.{arrival_set, arrival_set_other, lt_or_le, there_live}
 use Rattle.floor_hub.proofs.Keeping.{IsSetFrom, kept_event, offer_kept, opened_kept, set_from, state_more}
 use Rattle.floor_hub.proofs.Sent.{left_is, run_append}
 
@@ -67,34 +69,61 @@ accepted p e framed lawful few =
     by true true h f = cc
     by false b h f = cc
 
--- the world has this part under c, and is of c alone
-pub record At (c : ℕ) (v : World) (p : Part) : Type 0 where
+-- The world has this part under c, and the place of its arrival n is n behind the first so many.
+pub record At (base c : ℕ) (v : World) (p : Part) : Type 0 where
   pub is : v.parts c ≡ Some p
-  pub same : Same c v v
+  pub count : length v.places ≡ base + length p.arrivals
+  pub places : (n : ℕ) → 1 ≤ n → n ≤ length p.arrivals → place v.places (base + n) ≡ Some record { conference = c; n = n }
 
--- a step for c leads to what is offered
-moved : (c : ℕ) (v : World) (p q : Part) (s : Step) → At c v p → aimed v s ≡ Some record { conference = c; step = s } → (offer (Some p) s).part ≡ Some q → At c (turn v s).world q
-moved c v p q s h aims is =
-    let same_turn : turn v s ≡ put v c (offer (v.parts c) s) = ap (turn_at v) aims in record {
-      is =
-          ap (λ (t : world.Turn). t.world.parts c) same_turn
-          ∙ update_here v.parts c (offer (v.parts c) s).part
-          ∙ ap (λ (z : Option Part). (offer z s).part) h.is
-          ∙ is;
-      same =
-          subst (λ (t : world.Turn). Same c t.world t.world) (sym same_turn)
-          (step_own c v v (offer (v.parts c) s) (offer_counts (v.parts c) s) h.same);
+place_kept : (ps : List Place) (q r : Place) (n : ℕ) → place ps n ≡ Some r → place (ps ++ q ∷ []) n ≡ Some r
+place_kept ps q r zero h = absurd (none-some r h)
+place_kept [] q r (suc k) h = absurd (none-some r h)
+place_kept (x ∷ ps) q r (suc zero) h = h
+place_kept (x ∷ ps) q r (suc (suc k)) h = place_kept ps q r (suc k) h
+
+place_last : (ps : List Place) (q : Place) (n : ℕ) → n ≡ length ps + 1 → place (ps ++ q ∷ []) n ≡ Some q
+place_last ps q zero e = absurd (omega (arith, e))
+place_last [] q (suc zero) e = refl
+place_last [] q (suc (suc k)) e = absurd (omega (arith, e))
+place_last (x ∷ ps) q (suc zero) e = absurd (omega (arith, e))
+place_last (x ∷ ps) q (suc (suc k)) e = place_last ps q (suc k) (omega (arith, e))
+
+-- the places behind a step for c whose answer counts so
+places_at : (base c : ℕ) (ps : List Place) (k l : ℕ) (x : Answer) → Counts k x l → length ps ≡ base + k → ((n : ℕ) → 1 ≤ n → n ≤ k → place ps (base + n) ≡ Some record { conference = c; n = n }) →
+    (length (places_after ps c x) ≡ base + l) × ((n : ℕ) → 1 ≤ n → n ≤ l → place (places_after ps c x) (base + n) ≡ Some record { conference = c; n = n })
+places_at base c ps k l (Attached m) counts count known = (
+  omega (arith, count, counts.1, length-append ps (record { conference = c; n = m } ∷ [])),
+  λ n first within. by n first within (lt_or_le k n),
+)
+  where
+    by : (n : ℕ) → 1 ≤ n → n ≤ l → (k < n) ⊎ (n ≤ k) → place (ps ++ record { conference = c; n = m } ∷ []) (base + n) ≡ Some record { conference = c; n = n }
+    by n first within (inr h) = place_kept ps (record { conference = c; n = m }) (record { conference = c; n = n }) (base + n) (known n first h)
+    by n first within (inl h) =
+        let same : m ≡ n = omega (arith, h, within, counts.0, counts.1) in
+        place_last ps (record { conference = c; n = m }) (base + n) (omega (arith, count, h, within, counts.1))
+        ∙ ap (λ (i : ℕ). Some (record { conference = c; n = i })) same
+places_at base c ps k l Done counts count known = (count ∙ ap (λ (i : ℕ). base + i) (sym counts), λ n first within. known n first (omega (arith, within, counts)))
+places_at base c ps k l Nothing counts count known = (count ∙ ap (λ (i : ℕ). base + i) (sym counts), λ n first within. known n first (omega (arith, within, counts)))
+places_at base c ps k l Served counts count known = (count ∙ ap (λ (i : ℕ). base + i) (sym counts), λ n first within. known n first (omega (arith, within, counts)))
+places_at base c ps k l (Refused r) counts count known = (count ∙ ap (λ (i : ℕ). base + i) (sym counts), λ n first within. known n first (omega (arith, within, counts)))
+
+-- a step for c leads to what is offered to the step that bears n
+moved : (base c : ℕ) (v : World) (p q : Part) (s t : Step) → At base c v p → aimed v s ≡ Some record { conference = c; step = t } → (offer (Some p) t).part ≡ Some q → At base c (turn v s).world q
+moved base c v p q s t h aims is =
+    let same_turn : turn v s ≡ put v c (offer (v.parts c) t) = ap (turn_at v) aims in
+    let own : turn v s ≡ put v c (offer (Some p) t) = same_turn ∙ ap (λ (z : Option Part). put v c (offer z t)) h.is in
+    let counts : Counts (length p.arrivals) (offer (Some p) t).answer (length q.arrivals) = subst (λ (z : Option Part). Counts (length p.arrivals) (offer (Some p) t).answer (arrivals_in z)) is (offer_counts (Some p) t) in
+    let known = places_at base c v.places (length p.arrivals) (length q.arrivals) (offer (Some p) t).answer counts h.count h.places in
+    record {
+      is = ap (λ (u : world.Turn). u.world.parts c) own ∙ update_here v.parts c (offer (Some p) t).part ∙ is;
+      count = ap (λ (u : world.Turn). length u.world.places) own ∙ known.0;
+      places = λ n first within. ap (λ (u : world.Turn). place u.world.places (base + n)) own ∙ known.1 n first within;
     }
 
 -- the place of an arrival is known by n
-placed : (c : ℕ) (v : World) (p : Part) (n : ℕ) (a : Arrival) → At c v p → arrival p n ≡ Some a → place v.places n ≡ Some record { conference = c; n = n }
-placed c v p n a h there =
-    ap (λ (ps : List Place). place ps n) (h.same.places ∙ ap (λ (z : Option Part). solo c (arrivals_in z)) h.is)
-    ∙ by (place (solo c (length p.arrivals)) n) (known c (length p.arrivals) n)
-  where
-    by : (x : Option Place) → IsKnown c (length p.arrivals) n x → x ≡ Some record { conference = c; n = n }
-    by x (inl e) = e
-    by x (inr e) = absurd (none-some a (sym (e.1 p refl) ∙ there))
+placed : (base c : ℕ) (v : World) (p : Part) (n : ℕ) (a : Arrival) → At base c v p → arrival p n ≡ Some a → place v.places (base + n) ≡ Some record { conference = c; n = n }
+placed base c v p zero a h there = absurd (none-some a there)
+placed base c v p (suc k) a h there = h.places (suc k) (omega arith) (omega (arith, slice_get_within p.arrivals k a there))
 
 -- all that came from an arrival are messages, and they are served
 pub record AllServed (a : Arrival) : Type 0 where
@@ -104,8 +133,8 @@ pub record AllServed (a : Arrival) : Type 0 where
   pub served : a.served ≡ length ms
 
 -- the world follows its events: the arrivals of live members are live, and have nothing left to be served
-pub record Follows (c : ℕ) (v : World) (p : Part) : Type 0 where
-  pub at : At c v p
+pub record Follows (base c : ℕ) (v : World) (p : Part) : Type 0 where
+  pub at : At base c v p
   pub kept : IsKeptPart p
   pub here : (n : ℕ) → is_live (state_of p) n ≡ true → (a : Arrival) × (arrival p n ≡ Some a) × (a.live ≡ true)
   pub idle : (n : ℕ) (a : Arrival) → arrival p n ≡ Some a → AllServed a
@@ -114,8 +143,8 @@ kept_by : (p q : Part) (s : Step) → IsKeptPart p → (offer (Some p) s).part �
 kept_by p q s k is = subst KeptIn is (offer_kept (Some p) s k)
 
 -- what an event makes of a part that follows
-abbrev Goes : ℕ → World → Part → Event → Type 0
-Goes c v p e = (q : Part) × Follows c (run v (steps_for c e)) q × (q.config ≡ p.config) × (q.events ≡ p.events ++ e ∷ [])
+abbrev Goes : ℕ → ℕ → World → Part → Event → Type 0
+Goes base c v p e = (q : Part) × Follows base c (run v (steps_from base c e)) q × (q.config ≡ p.config) × (q.events ≡ p.events ++ e ∷ [])
 
 -- who is live after an event that nobody joins by was live before
 was_live : (p : Part) (e : Event) (n : ℕ) → joins e ≡ 0 → is_live (next (state_of p) e) n ≡ true → is_live (state_of p) n ≡ true
@@ -126,13 +155,13 @@ was_live p e n none h = by (live-before (state_of p) e n h)
     by (inr x) = absurd (omega (arith, none, x.0))
 
 -- an act of the administrator
-goes_act : (c : ℕ) (v : World) (p : Part) (act : Act) → Follows c v p → IsLawful (state_of p) (event_of_act act) → length p.events < 2000000 →
-    Follows c (turn v (Admin c act)).world (with_events p (event_of_act act ∷ []))
-goes_act c v p act f lawful few =
+goes_act : (base c : ℕ) (v : World) (p : Part) (act : Act) → Follows base c v p → IsLawful (state_of p) (event_of_act act) → length p.events < 2000000 →
+    Follows base c (turn v (Admin c act)).world (with_events p (event_of_act act ∷ []))
+goes_act base c v p act f lawful few =
     let e : Event = event_of_act act in
     let is : (offer (Some p) (Admin c act)).part ≡ Some (with_events p (event_of_act act ∷ [])) =
     ap (λ (r : Option RoomRefusal). (world.add_event p (event_of_act act) r).part) (accepted p (event_of_act act) (framed act) lawful few) in record {
-      at = moved c v p (with_events p (event_of_act act ∷ [])) (Admin c act) f.at refl is;
+      at = moved base c v p (with_events p (event_of_act act ∷ [])) (Admin c act) (Admin c act) f.at refl is;
       kept = kept_by p (with_events p (event_of_act act ∷ [])) (Admin c act) f.kept is;
       here = λ n h. f.here n (was_live p (event_of_act act) n (none act) (sym (ap (λ (s : Conference). is_live s n) (state_more p.config p.events (event_of_act act))) ∙ h));
       idle = f.idle;
@@ -153,14 +182,14 @@ goes_act c v p act f lawful few =
     none (Act.SetChair floor chair) = refl
 
 -- some of the parcels to a live member are acknowledged
-goes_took : (c : ℕ) (v : World) (p : Part) (n k : ℕ) (a : Arrival) → Follows c v p → IsLawful (state_of p) (Takes n k) → length p.events < 2000000 →
-    arrival p n ≡ Some a → a.live ≡ true → Follows c (turn v (Took n k)).world (with_events p (Takes n k ∷ []))
-goes_took c v p n k a f lawful few there live =
+goes_took : (base c : ℕ) (v : World) (p : Part) (n k : ℕ) (a : Arrival) → Follows base c v p → IsLawful (state_of p) (Takes n k) → length p.events < 2000000 →
+    arrival p n ≡ Some a → a.live ≡ true → Follows base c (turn v (Took (base + n) k)).world (with_events p (Takes n k ∷ []))
+goes_took base c v p n k a f lawful few there live =
     let e : Event = Takes n k in
     let is : (offer (Some p) (Took n k)).part ≡ Some (with_events p (Takes n k ∷ [])) =
     ap (λ (x : Option Arrival). (world.took p n k x).part) (there_live (arrival p n) a there live)
     ∙ ap (λ (r : Option RoomRefusal). (world.add_event p (Takes n k) r).part) (accepted p (Takes n k) tt lawful few) in record {
-      at = moved c v p (with_events p (Takes n k ∷ [])) (Took n k) f.at (ap (aim (λ i. Took i k)) (placed c v p n a f.at there)) is;
+      at = moved base c v p (with_events p (Takes n k ∷ [])) (Took (base + n) k) (Took n k) f.at (ap (aim (λ i. Took i k)) (placed base c v p n a f.at there)) is;
       kept = kept_by p (with_events p (Takes n k ∷ [])) (Took n k) f.kept is;
       here = λ i h. f.here i (was_live p (Takes n k) i refl (sym (ap (λ (s : Conference). is_live s i) (state_more p.config p.events (Takes n k))) ∙ h));
       idle = f.idle;
@@ -191,12 +220,12 @@ new = record { bytes = []; served = 0; live = true }
 new_idle : AllServed new
 new_idle = record { ms = []; messages = All-nil IsMessage; bytes = refl; served = refl }
 
-goes_join : (c : ℕ) (v : World) (p : Part) (user : ℕ) → Follows c v p → IsLawful (state_of p) (Join user) → length p.events < 2000000 →
-    Follows c (turn v (Attach c user)).world (joined p user)
-goes_join c v p user f lawful few =
+goes_join : (base c : ℕ) (v : World) (p : Part) (user : ℕ) → Follows base c v p → IsLawful (state_of p) (Join user) → length p.events < 2000000 →
+    Follows base c (turn v (Attach c user)).world (joined p user)
+goes_join base c v p user f lawful few =
     let is : (offer (Some p) (Attach c user)).part ≡ Some (joined p user) =
     ap (λ (r : Option RoomRefusal). (world.attach p user r).part) (accepted p (Join user) tt lawful few) in record {
-      at = moved c v p (joined p user) (Attach c user) f.at refl is;
+      at = moved base c v p (joined p user) (Attach c user) (Attach c user) f.at refl is;
       kept = kept_by p (joined p user) (Attach c user) f.kept is;
       here = λ n h. by n (live-before (state_of p) (Join user) n (sym (ap (λ (s : Conference). is_live s n) (state_more p.config p.events (Join user))) ∙ h));
       idle = idle;
@@ -244,14 +273,14 @@ dead a = record { bytes = a.bytes; served = a.served; live = false }
 abbrev gone : Part → ℕ → Arrival → List Event → Part
 gone p n a es = with_arrival (with_events p es) n (dead a)
 
-goes_leave : (c : ℕ) (v : World) (p : Part) (n : ℕ) (a : Arrival) → Follows c v p → IsLawful (state_of p) (Leaves n) → length p.events < 2000000 →
-    arrival p n ≡ Some a → a.live ≡ true → Follows c (turn v (Leave n)).world (gone p n a (Leaves n ∷ []))
-goes_leave c v p n a f lawful few there live =
+goes_leave : (base c : ℕ) (v : World) (p : Part) (n : ℕ) (a : Arrival) → Follows base c v p → IsLawful (state_of p) (Leaves n) → length p.events < 2000000 →
+    arrival p n ≡ Some a → a.live ≡ true → Follows base c (turn v (Leave (base + n))).world (gone p n a (Leaves n ∷ []))
+goes_leave base c v p n a f lawful few there live =
     let left : world.left p n ≡ Leaves n ∷ [] = left_is p n ∙ leaves (state_of p).is_open (is_full p) lawful.0 (unfull (length p.events) few) in
     let is : (offer (Some p) (Leave n)).part ≡ Some (gone p n a (Leaves n ∷ [])) =
     ap (λ (x : Option Arrival). (world.leave p n x).part) (there_live (arrival p n) a there live)
     ∙ ap (λ (es : List Event). Some (gone p n a es)) left in record {
-      at = moved c v p (gone p n a (Leaves n ∷ [])) (Leave n) f.at (ap (aim Leave) (placed c v p n a f.at there)) is;
+      at = moved base c v p (gone p n a (Leaves n ∷ [])) (Leave (base + n)) (Leave n) f.at (ap (aim Leave) (placed base c v p n a f.at there)) is;
       kept = kept_by p (gone p n a (Leaves n ∷ [])) (Leave n) f.kept is;
       here = λ m h. here m (m == n) refl (sym (ap (λ (s : Conference). is_live s m) (state_more p.config p.events (Leaves n))) ∙ h);
       idle = λ m b h. idle m b (set_from (with_events p (Leaves n ∷ [])) n m a b (dead a) (arrival_events p (Leaves n ∷ []) n ∙ there) h);
@@ -297,7 +326,7 @@ next_unserved a m live idle framed =
     ∙ ap (slice_get ((idle.ms ++ m ∷ []) ++ messages [])) idle.served
     ∙ get_next idle.ms (messages []) m
 
-module _ (c : ℕ) (v : World) (p : Part) (n : ℕ) (m : List ℕ) (a : Arrival) (f : Follows c v p) (lawful : IsLawful (state_of p) (Message n m)) (few : length p.events < 2000000)
+module _ (base c : ℕ) (v : World) (p : Part) (n : ℕ) (m : List ℕ) (a : Arrival) (f : Follows base c v p) (lawful : IsLawful (state_of p) (Message n m)) (few : length p.events < 2000000)
     (there : arrival p n ≡ Some a) (live : a.live ≡ true) where
   -- the arrival when the message has come, and when it is served
   abbrev come : Arrival
@@ -328,11 +357,11 @@ module _ (c : ℕ) (v : World) (p : Part) (n : ℕ) (m : List ℕ) (a : Arrival)
       ∙ ap (λ (x : Option (List ℕ)). (world.serve_message first n come x).part) (next_unserved a m a.live (f.idle n a there) lawful.3)
       ∙ ap (λ (x : Option RoomRefusal). (world.take_message first n come m x).part) (accepted first (Message n m) lawful.3 lawful few)
 
-  at_first : At c (turn v (Piece n m)).world first
-  at_first = moved c v p first (Piece n m) f.at (ap (aim (λ i. Piece i m)) (placed c v p n a f.at there)) piece_is
+  at_first : At base c (turn v (Piece (base + n) m)).world first
+  at_first = moved base c v p first (Piece (base + n) m) (Piece n m) f.at (ap (aim (λ i. Piece i m)) (placed base c v p n a f.at there)) piece_is
 
-  at_last : At c (turn (turn v (Piece n m)).world (Serve n)).world last
-  at_last = moved c (turn v (Piece n m)).world first last (Serve n) at_first (ap (aim Serve) (placed c (turn v (Piece n m)).world first n come at_first come_there)) serve_is
+  at_last : At base c (turn (turn v (Piece (base + n) m)).world (Serve (base + n))).world last
+  at_last = moved base c (turn v (Piece (base + n) m)).world first last (Serve (base + n)) (Serve n) at_first (ap (aim Serve) (placed base c (turn v (Piece (base + n) m)).world first n come at_first come_there)) serve_is
 
   others : (k : ℕ) → k ≢ n → arrival last k ≡ arrival p k
   others k ne = arrival_set_other behind n k done ne ∙ arrival_events first (Message n m ∷ []) k ∙ arrival_set_other p n k come ne
@@ -361,7 +390,7 @@ module _ (c : ℕ) (v : World) (p : Part) (n : ℕ) (m : List ℕ) (a : Arrival)
       same x y i = cc
   idle_at k b false e h = f.idle k b (sym (others k (eqb-false k n e)) ∙ h)
 
-  goes_message : Follows c (turn (turn v (Piece n m)).world (Serve n)).world last
+  goes_message : Follows base c (turn (turn v (Piece (base + n) m)).world (Serve (base + n))).world last
   goes_message = record {
     at = at_last;
     kept = kept_by first last (Serve n) (kept_by p first (Piece n m) f.kept piece_is) serve_is;
@@ -369,49 +398,51 @@ module _ (c : ℕ) (v : World) (p : Part) (n : ℕ) (m : List ℕ) (a : Arrival)
     idle = λ k b h. idle_at k b (k == n) refl h;
   }
 
-goes : (c : ℕ) (v : World) (p : Part) (e : Event) → Follows c v p → IsLawful (state_of p) e → length p.events < 2000000 → Goes c v p e
-goes c v p (Join user) f lawful few = (joined p user, goes_join c v p user f lawful few, refl, refl)
-goes c v p (Message n m) f lawful few =
+goes : (base c : ℕ) (v : World) (p : Part) (e : Event) → Follows base c v p → IsLawful (state_of p) e → length p.events < 2000000 → Goes base c v p e
+goes base c v p (Join user) f lawful few = (joined p user, goes_join base c v p user f lawful few, refl, refl)
+goes base c v p (Message n m) f lawful few =
     let found = f.here n lawful.1 in
-    (last c v p n m found.0 f lawful few found.1 found.2, goes_message c v p n m found.0 f lawful few found.1 found.2, refl, refl)
-goes c v p (Takes n k) f lawful few =
+    (last base c v p n m found.0 f lawful few found.1 found.2, goes_message base c v p n m found.0 f lawful few found.1 found.2, refl, refl)
+goes base c v p (Takes n k) f lawful few =
     let found = f.here n lawful.1 in
-    (with_events p (Takes n k ∷ []), goes_took c v p n k found.0 f lawful few found.1 found.2, refl, refl)
-goes c v p (Leaves n) f lawful few =
+    (with_events p (Takes n k ∷ []), goes_took base c v p n k found.0 f lawful few found.1 found.2, refl, refl)
+goes base c v p (Leaves n) f lawful few =
     let found = f.here n lawful.1 in
-    (gone p n found.0 (Leaves n ∷ []), goes_leave c v p n found.0 f lawful few found.1 found.2, refl, refl)
-goes c v p (Revoke request) f lawful few = (with_events p (Revoke request ∷ []), goes_act c v p (Act.Revoke request) f lawful few, refl, refl)
-goes c v p Close f lawful few = (with_events p (Close ∷ []), goes_act c v p Act.Close f lawful few, refl, refl)
-goes c v p (AddUser user) f lawful few = (with_events p (AddUser user ∷ []), goes_act c v p (Act.AddUser user) f lawful few, refl, refl)
-goes c v p (AddFloor floor) f lawful few = (with_events p (AddFloor floor ∷ []), goes_act c v p (Act.AddFloor floor) f lawful few, refl, refl)
-goes c v p (SetChair floor chair) f lawful few = (with_events p (SetChair floor chair ∷ []), goes_act c v p (Act.SetChair floor chair) f lawful few, refl, refl)
+    (gone p n found.0 (Leaves n ∷ []), goes_leave base c v p n found.0 f lawful few found.1 found.2, refl, refl)
+goes base c v p (Revoke request) f lawful few = (with_events p (Revoke request ∷ []), goes_act base c v p (Act.Revoke request) f lawful few, refl, refl)
+goes base c v p Close f lawful few = (with_events p (Close ∷ []), goes_act base c v p Act.Close f lawful few, refl, refl)
+goes base c v p (AddUser user) f lawful few = (with_events p (AddUser user ∷ []), goes_act base c v p (Act.AddUser user) f lawful few, refl, refl)
+goes base c v p (AddFloor floor) f lawful few = (with_events p (AddFloor floor ∷ []), goes_act base c v p (Act.AddFloor floor) f lawful few, refl, refl)
+goes base c v p (SetChair floor chair) f lawful few = (with_events p (SetChair floor chair ∷ []), goes_act base c v p (Act.SetChair floor chair) f lawful few, refl, refl)
 
 -- the world has under c the part with these events more
 abbrev Ends : ℕ → World → Part → List Event → Type 0
 Ends c v p es = (q : Part) × (v.parts c ≡ Some q) × (q.config ≡ p.config) × (q.events ≡ p.events ++ es)
 
-follow : (c : ℕ) (v : World) (p : Part) (es : List Event) → Follows c v p → IsLawfulFrom (state_of p) es → length p.events + length es ≤ 2000000 →
-    Ends c (run v (flat_map (steps_for c) es)) p es
-follow c v p [] f lawful few = (p, f.at.is, refl, sym (append-nil p.events))
-follow c v p (e ∷ es) f lawful few =
-    let one : Goes c v p e = goes c v p e f lawful.0 (omega (arith, few)) in
+follow : (base c : ℕ) (v : World) (p : Part) (es : List Event) → Follows base c v p → IsLawfulFrom (state_of p) es → length p.events + length es ≤ 2000000 →
+    Ends c (run v (flat_map (steps_from base c) es)) p es
+follow base c v p [] f lawful few = (p, f.at.is, refl, sym (append-nil p.events))
+follow base c v p (e ∷ es) f lawful few =
+    let one : Goes base c v p e = goes base c v p e f lawful.0 (omega (arith, few)) in
     let q : Part = one.0 in
     let state : state_of one.0 ≡ next (state_of p) e =
     ap (λ (x : Configuration). after x one.0.events) one.2 ∙ ap (after p.config) one.3 ∙ state_more p.config p.events e in
-    let rest : Ends c (run (run v (steps_for c e)) (flat_map (steps_for c) es)) one.0 es =
-    follow c (run v (steps_for c e)) one.0 es one.1 (subst (λ (s : Conference). IsLawfulFrom s es) (sym state) lawful.1)
+    let rest : Ends c (run (run v (steps_from base c e)) (flat_map (steps_from base c) es)) one.0 es =
+    follow base c (run v (steps_from base c e)) one.0 es one.1 (subst (λ (s : Conference). IsLawfulFrom s es) (sym state) lawful.1)
     (omega (arith, few, ap length one.3, length-append p.events (e ∷ []))) in (
       rest.0,
-      ap (λ (w : World). w.parts c) (run_append v (steps_for c e) (flat_map (steps_for c) es)) ∙ rest.1,
+      ap (λ (w : World). w.parts c) (run_append v (steps_from base c e) (flat_map (steps_from base c) es)) ∙ rest.1,
       rest.2 ∙ one.2,
       rest.3 ∙ ap (λ (xs : List Event). xs ++ es) one.3 ∙ append_assoc p.events (e ∷ []) es,
     )
 
-starts : (config : Configuration) → Follows config.conference (turn nothing (Open config)).world (opened config)
-starts config = record {
+-- a conference that is opened in a world without it
+starts : (w : World) (config : Configuration) → w.parts config.conference ≡ None → Follows (length w.places) config.conference (turn w (Open config)).world (opened config)
+starts w config absent = record {
   at = record {
-    is = update_here (λ c. None) config.conference (Some (opened config));
-    same = record { part = refl; places = sym (ap (λ (z : Option Part). solo config.conference (arrivals_in z)) (update_here (λ c. None) config.conference (Some (opened config)))) };
+    is = update_here w.parts config.conference (offer (w.parts config.conference) (Open config)).part ∙ ap (λ (z : Option Part). (offer z (Open config)).part) absent;
+    count = ap (λ (z : Option Part). length (places_after w.places config.conference (offer z (Open config)).answer)) absent ∙ omega arith;
+    places = λ n first within. absurd (omega (arith, first, within));
   };
   kept = opened_kept config;
   here = λ n h. cc;
@@ -422,11 +453,48 @@ starts config = record {
     none zero a h = none-some a h
     none (suc k) a h = none-some a h
 
-ran : (config : Configuration) (es : List Event) → IsJournal config es → Ends config.conference (run nothing (steps_of config es)) (opened config) es
-ran config es j = follow config.conference (turn nothing (Open config)).world (opened config) es (starts config) j.lawful (omega (arith, j.count))
+ran : (w : World) (config : Configuration) (es : List Event) → w.parts config.conference ≡ None → IsJournal config es →
+    Ends config.conference (run w (resuming_of (length w.places) config es)) (opened config) es
+ran w config es absent j = follow (length w.places) config.conference (turn w (Open config)).world (opened config) es (starts w config absent) j.lawful (omega (arith, j.count))
+
+pub journals_are_resumed : JournalsAreResumed
+journals_are_resumed w config es absent j =
+    let end = ran w config es absent j in
+    record {
+      part = end.0;
+      there = end.1;
+      opening = end.2;
+      events = end.3;
+      state = ap (λ (x : Configuration). after x end.0.events) end.2 ∙ ap (after config) end.3;
+    }
+
+-- in the first world the steps bear n
+steps-first : (c : ℕ) (e : Event) → steps_from 0 c e ≡ steps_for c e
+steps-first c (Join user) = refl
+steps-first c (Message n bytes) = ap (λ (i : ℕ). Piece i bytes ∷ Serve i ∷ []) (zero-more n)
+  where
+    zero-more : (n : ℕ) → 0 + n ≡ n
+    zero-more n = omega arith
+steps-first c (Takes n k) = let same : 0 + n ≡ n = omega arith in ap (λ (i : ℕ). Took i k ∷ []) same
+steps-first c (Leaves n) = let same : 0 + n ≡ n = omega arith in ap (λ (i : ℕ). Leave i ∷ []) same
+steps-first c (Revoke request) = refl
+steps-first c Close = refl
+steps-first c (AddUser user) = refl
+steps-first c (AddFloor floor) = refl
+steps-first c (SetChair floor chair) = refl
+
+all-first : (c : ℕ) (es : List Event) → flat_map (steps_from 0 c) es ≡ flat_map (steps_for c) es
+all-first c [] = refl
+all-first c (e ∷ es) = ap (λ (ss : List Step). ss ++ flat_map (steps_from 0 c) es) (steps-first c e) ∙ ap (λ (ss : List Step). steps_for c e ++ ss) (all-first c es)
+
+resuming-first : (config : Configuration) (es : List Event) → resuming_of 0 config es ≡ steps_of config es
+resuming-first config es = ap (λ (ss : List Step). Open config ∷ ss) (all-first config.conference es)
+
+ran-first : (config : Configuration) (es : List Event) → IsJournal config es → Ends config.conference (run nothing (steps_of config es)) (opened config) es
+ran-first config es j = subst (λ (ss : List Step). Ends config.conference (run nothing ss) (opened config) es) (resuming-first config es) (ran nothing config es refl j)
 
 pub journals_are_events : JournalsAreEvents
-journals_are_events config es j = let end = ran config es j in ap events_in end.1 ∙ end.3
+journals_are_events config es j = let end = ran-first config es j in ap events_in end.1 ∙ end.3
 
 pub journals_are_opened : JournalsAreOpened
-journals_are_opened config es j = let end = ran config es j in ap (option_map (λ p. p.config)) end.1 ∙ ap Some end.2
+journals_are_opened config es j = let end = ran-first config es j in ap (option_map (λ p. p.config)) end.1 ∙ ap Some end.2

@@ -1,14 +1,14 @@
 -- The laws of worlds: what holds of each world and step, and of every list of steps.
-use Rattle.std.specs.Prelude.{◌≡◌, ℕ, ◌≤◌, List, [], ◌∷◌, ◌++◌, Some, length, map}
+use Rattle.std.specs.Prelude.{◌≡◌, ℕ, ◌≤◌, List, [], ◌∷◌, ◌++◌, Some, None, length, map}
 use Rattle.floor_config.specs.Configuration.{Configuration}
 use Rattle.floor_machine.specs.declared.event.Event.{Event}
-use Rattle.floor_machine.specs.Journal.{IsJournal, Q}
+use Rattle.floor_machine.specs.Journal.{IsJournal, Q, after}
 use Rattle.floor_hub.specs.declared.step.Step.{Step}
 use Rattle.floor_hub.specs.declared.step.Step.TheVariants.{Open, Attach, Piece, Serve, Took, Leave, Admin}
 use Rattle.floor_hub.specs.declared.transcript.Transcript.{Transcript}
-use Rattle.floor_hub.specs.World.{IsIdle, World, nothing, turn}
+use Rattle.floor_hub.specs.World.{IsIdle, Part, World, nothing, state_of, turn}
 use Rattle.floor_hub.specs.Kept.{IsKept, IsNumbered, first_numbers, joins}
-use Rattle.floor_hub.specs.Runs.{IsRunOf, added, alone, answers, answers_to, called_for, configuration, events, queued, queued_in, run, steps_of}
+use Rattle.floor_hub.specs.Runs.{IsRunOf, added, alone, answers, answers_to, called_for, configuration, events, queued, queued_in, resuming_of, run, steps_of}
 
 -- a step of a kept world leaves a kept world
 abbrev pub StepKeeps : Type 0
@@ -45,6 +45,19 @@ JournalsAreOpened = (config : Configuration) (es : List Event) → IsJournal con
 abbrev pub JournalsAreQueued : Type 0
 JournalsAreQueued = (config : Configuration) (es : List Event) → IsJournal config es →
     (n : ℕ) → queued config.conference (steps_of config es) n ≡ Q config es n
+
+-- The world has a conference that opened with this configuration, in which these events happened: its state is the machine's after them.
+pub record IsResumed (config : Configuration) (es : List Event) (w : World) : Type 0 where
+  pub part : Part
+  pub there : w.parts config.conference ≡ Some part
+  pub opening : part.config ≡ config
+  pub events : part.events ≡ es
+  pub state : state_of part ≡ after config es
+
+-- in a world without the conference each journal is resumed by its own steps, behind all arrivals that were there
+abbrev pub JournalsAreResumed : Type 0
+JournalsAreResumed = (w : World) (config : Configuration) (es : List Event) → w.parts config.conference ≡ None → IsJournal config es →
+    IsResumed config es (run w (resuming_of (length w.places) config es))
 
 -- a conference has the same events alone
 abbrev pub EventsAlone : Type 0

@@ -110,6 +110,22 @@ steps_for c (SetChair floor chair) = Admin c (Act.SetChair floor chair) ∷ []
 abbrev pub steps_of : Configuration → List Event → List Step
 steps_of config es = Open config ∷ flat_map (steps_for config.conference) es
 
+-- the same behind so many arrivals of other conferences, and of its own n that joined as n has the number behind those
+abbrev pub steps_from : ℕ → ℕ → Event → List Step
+steps_from base c (Join user) = Attach c user ∷ []
+steps_from base c (Message n bytes) = Piece (base + n) bytes ∷ Serve (base + n) ∷ []
+steps_from base c (Takes n k) = Took (base + n) k ∷ []
+steps_from base c (Leaves n) = Leave (base + n) ∷ []
+steps_from base c (Revoke request) = Admin c (Act.Revoke request) ∷ []
+steps_from base c Close = Admin c Act.Close ∷ []
+steps_from base c (AddUser user) = Admin c (Act.AddUser user) ∷ []
+steps_from base c (AddFloor floor) = Admin c (Act.AddFloor floor) ∷ []
+steps_from base c (SetChair floor chair) = Admin c (Act.SetChair floor chair) ∷ []
+
+-- the steps that resume a conference behind so many arrivals: its Open, then those of each event
+abbrev pub resuming_of : ℕ → Configuration → List Event → List Step
+resuming_of base config es = Open config ∷ flat_map (steps_from base config.conference) es
+
 -- the messages that these events have for n, as bytes
 abbrev pub parcels_after : Conference → List Event → ℕ → List (List ℕ)
 parcels_after s es n = map outgoing_bytes (told_from s es n)

@@ -1,7 +1,7 @@
 //! Laws of worlds. Each is the contract of a function that does nothing.
 
 ghost use Rattle.floor_hub.specs.Kept.{IsKept};
-ghost use Rattle.floor_hub.specs.Laws.{AnswersAlone, ArrivalsFit, ConfigurationStays, EventsAlone, EventsAreAJournal, Headline, IdleStays, JournalsAreEvents, JournalsAreOpened, JournalsAreQueued, NumbersAlone, QueuedIsCalledFor, StepAdds, StepKeeps, StepNumbers, TwoWorlds};
+ghost use Rattle.floor_hub.specs.Laws.{AnswersAlone, ArrivalsFit, ConfigurationStays, EventsAlone, EventsAreAJournal, Headline, IdleStays, JournalsAreEvents, JournalsAreOpened, JournalsAreQueued, JournalsAreResumed, NumbersAlone, QueuedIsCalledFor, StepAdds, StepKeeps, StepNumbers, TwoWorlds};
 ghost use Rattle.floor_hub.specs.World.{nothing};
 
 /// The first world is kept, and each step keeps it: so the events of every conference are a journal
@@ -28,6 +28,12 @@ pub fn each_journal_is_run()
     ensures events { JournalsAreEvents }
     ensures configuration { JournalsAreOpened }
     ensures queued { JournalsAreQueued }
+{}
+
+/// Each journal is resumed by its own steps, in any world that hasn't its conference and behind all connections that
+/// were attached there: its events are the journal, and its state is the floor machine's after it.
+pub fn each_journal_is_resumed()
+    ensures { JournalsAreResumed }
 {}
 
 /// A conference alone has the same events, its steps have the same answers, and each of its

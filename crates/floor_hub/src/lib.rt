@@ -27,8 +27,8 @@ pub use floor_room::{
 pub use floor_wire::Octets;
 pub use hub::Hub;
 pub use laws::{
-    arrivals_fit, conference_alone, each_journal_is_run, headline, kept_worlds, step_adds,
-    two_worlds,
+    arrivals_fit, conference_alone, each_journal_is_resumed, each_journal_is_run, headline,
+    kept_worlds, step_adds, two_worlds,
 };
 pub use refusal::HubRefusal;
 pub use running::{Memory, run};

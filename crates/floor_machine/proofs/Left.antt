@@ -21,10 +21,10 @@ use Rattle.floor_machine.proofs.Asked.{none-ended}
 use Rattle.floor_machine.proofs.Ended.{ended_entry, ending_if, ongoing_of-ends, ended_of-ends, numbers_in-ends}
 
 -- what is left of a conference that a connection of this user left, with these requests
-abbrev left_change : Conference → ℕ → List Entry → Change
+abbrev pub left_change : Conference → ℕ → List Entry → Change
 left_change s n entries = record { config = s.config; given = s.given; entries = entries; members = map (leaving n) s.members; is_open = s.is_open }
 
-change-leave : (s : Conference) (n : ℕ) → change s (Leave n) ≡ left_change s n (ending s (ends_without (map (leaving n) s.members) (user_of s n)))
+pub change-leave : (s : Conference) (n : ℕ) → change s (Leave n) ≡ left_change s n (ending s (ends_without (map (leaving n) s.members) (user_of s n)))
 unfolding change
 change-leave s n = refl
 
@@ -33,15 +33,15 @@ map-same f g same [] = refl
 map-same {B = B} f g same (x ∷ xs) = ap (λ (y : B). y ∷ map f xs) (same x) ∙ ap (λ (ys : List B). g x ∷ ys) (map-same f g same xs)
 
 -- a request that is given back, if it is said to be
-abbrev entry_if : Request → Bool → Entry
+abbrev pub entry_if : Request → Bool → Entry
 entry_if r b = record { request = r; ending = cond b (Some (released r)) None }
 
 -- a request that is given back where it is the user's and the user is gone
-abbrev entry_without : ℕ → Bool → Request → Entry
+abbrev pub entry_without : ℕ → Bool → Request → Entry
 entry_without user present r = entry_if r (r.beneficiary == user && not present)
 
 -- while the user is present, none of the requests ends
-none-without : (user : ℕ) (rs : List Request) → map (entry_without user true) rs ≡ map entry_of rs
+pub none-without : (user : ℕ) (rs : List Request) → map (entry_without user true) rs ≡ map entry_of rs
 none-without user rs = map-same (entry_without user true) entry_of (λ r. by r (r.beneficiary == user)) rs
   where
     by : (r : Request) (b : Bool) → entry_if r (b && false) ≡ entry_of r

@@ -31,6 +31,7 @@ pub mod Lawful
 pub mod Runs
 pub mod Bounds
 pub mod Staying
+pub mod Returning
 pub mod Live
 pub mod Counting
 pub mod Sender

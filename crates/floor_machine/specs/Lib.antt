@@ -17,6 +17,7 @@ pub mod Names
 pub mod Laws
 pub mod Reachable
 pub mod Membership
+pub mod Returning
 pub mod Amount
 pub mod Examples
 pub mod ActExamples

@@ -4,6 +4,7 @@ ghost use Rattle.floor_machine.specs.Amount.{CalledForIsFew, MessageIsShort, Tol
 ghost use Rattle.floor_machine.specs.Laws.{InfosSameIsEqual, SameIsEqual, SentIsTold, TakenIsLawful};
 ghost use Rattle.floor_machine.specs.Membership.{AfterBoth, BothLawful, JoinsAdd, JoinsLive, ParcelsOfBoth, SentToMembers, SettlesAsQueue, StaysLive, ToldByBoth, ToldOnceJoined, WasLive};
 ghost use Rattle.floor_machine.specs.Reachable.{Counted, Grown, Kept, Quiet, Sent, Silent, StaysCut};
+ghost use Rattle.floor_machine.specs.Returning.{LeaveEndsNothing, RequestsStay};
 
 use floor_message::what_is_asked_fits;
 use floor_queue::{positions_fit, settles_once};
@@ -84,6 +85,15 @@ pub fn members_come_and_stay()
     ensures sent { SentToMembers }
     ensures told { ToldOnceJoined }
 {}
+
+/// Where a user's new connection has joined before an old one leaves, no floor request ends by that leave, whoever's it
+/// is: the ongoing ones stay as they are, whatever else happens in between, while the new one is live.
+pub fn returns_end_nothing()
+    ensures ends { LeaveEndsNothing }
+    ensures stay { RequestsStay }
+{
+    journals_keep();
+}
 
 /// Whatever may happen after a journal, it tells a member at most 289 messages, so that a journal calls
 /// for at most 289 at a member for each of its events. A message that can be written has at most

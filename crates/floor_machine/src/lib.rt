@@ -35,8 +35,8 @@ pub use floor_message::{Ask, Head, Info, RequestStatus, SharedInfo, Tell};
 pub use floor_wire::{Frame, Numbers, Octets};
 pub use laws::{
     additions_grow_alone, backlogs_are_counted, cut_stays_silent, events_tell_few, journals_keep,
-    members_come_and_stay, refusals_are_quiet, runs_add_up, sent_is_called_for, sent_is_told,
-    settles_as_queue, shown_alike_is_equal, taken_is_lawful,
+    members_come_and_stay, refusals_are_quiet, returns_end_nothing, runs_add_up,
+    sent_is_called_for, sent_is_told, settles_as_queue, shown_alike_is_equal, taken_is_lawful,
 };
 pub use machine::{Machine, Refusal};
 pub use member::Member;
