@@ -16,3 +16,11 @@ pub mod Sparing
 pub mod Handing
 pub mod Forgetting
 pub mod Throwing
+pub mod Soonest
+pub mod Entering
+pub mod Carrying
+pub mod Gathering
+pub mod Losing
+pub mod Standing
+pub mod Ending
+pub mod Resumed

@@ -13,9 +13,10 @@ use Rattle.std.proofs.lemmas.Option.{none-some}
 use Rattle.floor_loop.specs.declared.line.Entry.{Entry}
 use Rattle.floor_loop.specs.declared.outgoing.Mark.{Mark}
 use Rattle.floor_loop.specs.declared.outgoing.Mark.TheVariants.{Ready, Ends, Fails}
+use Rattle.floor_loop.specs.Away.{Away}
 use Rattle.floor_loop.specs.Loop.{Attended, Outgoing, outgoing_in}
-use Rattle.floor_loop.specs.steps.Changed.{changed, given, mark_of, marked, or_time}
-use Rattle.floor_loop.specs.steps.Listed.{AscendFrom, IsListed, Line, Stands, Within, is_time, places, wanted}
+use Rattle.floor_loop.specs.steps.Changed.{changed, given, mark_of, marked, or_time, unended}
+use Rattle.floor_loop.specs.steps.Listed.{AscendFrom, HasMore, HasRoom, IsListed, Line, Stands, Within, is_time, places, wanted}
 use Rattle.floor_loop.proofs.Altering.{changed-none, look-here, look-other, sum-changed}
 use Rattle.floor_loop.proofs.Stepping.{some-out}
 
@@ -371,10 +372,10 @@ pub listed-maybe : (other : Mark) (r : Option ℕ) (es fs : List (ℕ × Outgoin
 listed-maybe other None es fs last line next same l = subst (λ (z : List (ℕ × Outgoing)). IsListed other z last line) (sym next) l
 listed-maybe other (Some number) es fs last line next same l = subst (λ (z : List (ℕ × Outgoing)). IsListed other z last line) (sym next) (listed-beside other given number es last line same l)
 
-pub next-is : (r : Option ℕ) (es fs : List (ℕ × Outgoing)) (time : ℕ) (old : Attended) → fs ≡ option_map_or (λ number. changed given number es) r es → record { outgoing = es; time = time } ≡ old →
-    MatchOption r (record { outgoing = fs; time = time } ≡ old) (λ number. record { outgoing = fs; time = time } ≡ record old { outgoing = changed given number old.outgoing })
-next-is None es fs time old next view = ap (λ (z : List (ℕ × Outgoing)). record { outgoing = z; time = time }) next ∙ view
-next-is (Some number) es fs time old next view = ap (λ (z : List (ℕ × Outgoing)). record { outgoing = z; time = time }) next ∙ ap (λ (z : Attended). record z { outgoing = changed given number z.outgoing }) view
+pub next-is : (r : Option ℕ) (es fs : List (ℕ × Outgoing)) (time : ℕ) (away : Away) (old : Attended) → fs ≡ option_map_or (λ number. changed given number es) r es → record { outgoing = es; time = time; away = away } ≡ old →
+    MatchOption r (record { outgoing = fs; time = time; away = away } ≡ old) (λ number. record { outgoing = fs; time = time; away = away } ≡ record old { outgoing = changed given number old.outgoing })
+next-is None es fs time away old next view = ap (λ (z : List (ℕ × Outgoing)). record { outgoing = z; time = time; away = away }) next ∙ view
+next-is (Some number) es fs time away old next view = ap (λ (z : List (ℕ × Outgoing)). record { outgoing = z; time = time; away = away }) next ∙ ap (λ (z : Attended). record z { outgoing = changed given number z.outgoing }) view
 
 ready-some : (o : Outgoing) (time : ℕ) → o.ready ≡ Some time → IsSome o.ready
 ready-some o time e = subst IsSome (sym e) refl
@@ -388,3 +389,29 @@ pub none-is : (r : Option ℕ) (es : List (ℕ × Outgoing)) (last : ℕ) (line 
     IfNone r ((last : ℕ) → IsListed Ready es last line → (number : ℕ) (o : Outgoing) → lookup (nat_eq number) es ≡ Some o → o.ready ≡ None) → IfNone r ((number : ℕ) (o : Outgoing) → outgoing_in old number ≡ Some o → o.ready ≡ None)
 none-is (Some number) es last line old same l f = tt
 none-is None es last line old same l f = λ number o is. f last l number o (ap (λ (z : List (ℕ × Outgoing)). lookup (nat_eq number) z) same ∙ is)
+
+length-changed : (f : Outgoing → Outgoing) (number : ℕ) (es : List (ℕ × Outgoing)) → length (changed f number es) ≡ length es
+length-changed f number [] = refl
+length-changed f number (e ∷ es) = by (nat_eq number e.0) (length-changed f number es)
+  where
+    by : (b : Bool) → length (changed f number es) ≡ length es → length (cond b ((e.0, f e.1) ∷ es) (e ∷ changed f number es)) ≡ length (e ∷ es)
+    by true rec = refl
+    by false rec = omega (arith, rec)
+
+-- a connection isn't to be shut down any more, where there is room for all
+pub listed-ended : (mark : Mark) (number : ℕ) (es : List (ℕ × Outgoing)) (last : ℕ) (line more : Line) → ((o : Outgoing) (t : ℕ) → mark_of mark (unended o) ≡ Some t → mark_of mark o ≡ Some t) → HasMore line more → HasRoom es more → IsListed mark es last line →
+    IsListed mark (changed unended number es) last more
+listed-ended mark number es last line more fewer has room l =
+    record {
+      found = λ k t p is_p has_p. subst (λ (z : List Entry). Stands z k t) (sym has.0) (found k t p has_p (found-changed unended number es k p is_p));
+      room =
+          let few = places-few mark (changed unended number es) in
+          let count = length-changed unended number es in
+          omega (arith, few, count, room);
+      ascending = subst (AscendFrom 0) (sym has.0) l.ascending;
+      within = subst (Within last) (sym has.0) l.within;
+    }
+  where
+    found : (k t : ℕ) (p : Outgoing) → mark_of mark p ≡ Some t → (((number ≡ k) × ((q : Outgoing) × (lookup (nat_eq number) es ≡ Some q) × (p ≡ unended q))) ⊎ ((number ≢ k) × (lookup (nat_eq k) es ≡ Some p))) → Stands line.entries k t
+    found k t p has_p (inr u) = l.found k t p u.1 has_p
+    found k t p has_p (inl u) = subst (λ (i : ℕ). Stands line.entries i t) u.0 (l.found number t u.1.0 u.1.1 (fewer u.1.0 t (ap (mark_of mark) (sym u.1.2) ∙ has_p)))

@@ -1,5 +1,5 @@
 -- A mark that is set.
-use Rattle.std.proofs.Common.{◌≡◌, ◌≢◌, ◌⊎◌, inl, inr, ◌≤◌, ℕ, true, false, List, refl, sym, ◌∙◌, ap, subst, Some, None}
+use Rattle.std.proofs.Common.{◌≡◌, ◌≢◌, ◌⊎◌, inl, inr, ◌≤◌, ℕ, true, false, List, [], refl, sym, ◌∙◌, ap, subst, Some, None}
 use Rattle.std.specs.Prelude.{Option, IsSome, nat_eq, option_and_then}
 use Rattle.std.specs.Map.{lookup}
 use Rattle.std.specs.Option.{option_map}
@@ -7,6 +7,7 @@ use Rattle.std.proofs.lemmas.Bool.Decides.{eqb_tells}
 use Rattle.std.proofs.lemmas.Option.{none-some}
 use Rattle.floor_loop.specs.declared.outgoing.Mark.{Mark}
 use Rattle.floor_loop.specs.declared.outgoing.Mark.TheVariants.{Ready, Ends, Fails}
+use Rattle.floor_loop.specs.Away.{Away}
 use Rattle.floor_loop.specs.Loop.{Attended, Outgoing, earlier, outgoing_in, until_of}
 use Rattle.floor_loop.specs.steps.Changed.{changed, mark_of, marked, or_time}
 use Rattle.floor_loop.specs.steps.Moved.{KeepsAll, KeptAt}
@@ -111,11 +112,15 @@ ready-changed f number a b next same k = ap (λ (es : List (ℕ × Outgoing)). o
         (ap (λ (z : Option Outgoing). option_and_then (λ o. o.ready) z) (look-here f number a.outgoing) ∙ mapped (outgoing_in a number))
     by (inr t) = ap (λ (z : Option Outgoing). option_and_then (λ o. o.ready) z) (look-other f number k a.outgoing t.0)
 
+-- nobody is away
+abbrev nobody : Away
+nobody = record { stays = []; grace = record { lost = 0; resumed = 0 }; keeps_place = false; back = [] }
+
 -- whose socket failed is to be shut down by then
 pub past-by : (es fs : List (ℕ × Outgoing)) (number time : ℕ) (line : Line) → fs ≡ changed (marked Fails time) number es → IsListed Fails fs time line → (o : Outgoing) → lookup (nat_eq number) fs ≡ Some o →
     (until : ℕ) × (o.fails ≡ Some until) × (until ≤ time)
 past-by es fs number time line next l o is =
-    by o.fails refl (marked-some Fails time number (record { outgoing = es; time = time }) (record { outgoing = fs; time = time }) next o is)
+    by o.fails refl (marked-some Fails time number (record { outgoing = es; time = time; away = nobody }) (record { outgoing = fs; time = time; away = nobody }) next o is)
   where
     not_true : false ≡ true → ⊥
     not_true e = cc

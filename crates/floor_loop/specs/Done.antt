@@ -1,7 +1,7 @@
 -- What a call of a loop has done: steps of its hub.
-use Rattle.std.specs.Prelude.{◌≡◌, ◌≤◌, ℕ, List, [], ◌∷◌, ◌++◌, length}
+use Rattle.std.specs.Prelude.{◌≡◌, ◌≤◌, ℕ, List, [], ◌∷◌, ◌++◌, length, Option, Some, None}
 use Rattle.floor_hub.specs.declared.step.Step.{Step}
-use Rattle.floor_hub.specs.declared.step.Step.TheVariants.{Piece, Serve}
+use Rattle.floor_hub.specs.declared.step.Step.TheVariants.{Attach, Leave, Piece, Serve}
 use Rattle.floor_hub.specs.Hub.{Hub}
 use Rattle.floor_hub.specs.Runs.{run}
 use Rattle.floor_hub.specs.StandsFor.{StandsFor}
@@ -42,6 +42,24 @@ Reads number bytes most = Then (AtMost 1 (Piece number bytes)) (AtMost most (Ser
 abbrev pub Hands : ℕ → List ℕ → ℕ → List Step → Type 0
 Hands number bytes most = Then (λ steps. steps ≡ Piece number bytes ∷ []) (AtMost most (Serve number))
 
+-- any
+abbrev pub AnySteps : List Step → Type 0
+AnySteps steps = Unit {0}
+
 -- none
 abbrev pub NoSteps : List Step → Type 0
 NoSteps steps = steps ≡ []
+
+-- these connections leave, one after another
+abbrev pub Leaves : List ℕ → List Step → Type 0
+Leaves [] = NoSteps
+Leaves (k ∷ ks) = Then (AtMost 1 (Leave k)) (Leaves ks)
+
+-- a connection of this user is attached, and behind it these leave
+abbrev pub Returns : ℕ → ℕ → List ℕ → List Step → Type 0
+Returns conference user back = Then (AtMost 1 (Attach conference user)) (Leaves back)
+
+-- this connection leaves, if there is one
+abbrev pub LeavesIf : Option ℕ → List Step → Type 0
+LeavesIf None = NoSteps
+LeavesIf (Some k) = AtMost 1 (Leave k)

@@ -1,5 +1,8 @@
 -- What a reader has to believe, in the order of reading.
+pub mod Away
 pub mod Loop
+pub mod Returned
+pub mod Resumed
 pub mod Written
 pub mod Done
 pub mod Laws

@@ -3,6 +3,8 @@ use Rattle.std.specs.Prelude.{◌≡◌, ◌≤◌, ℕ, List, [], nat_eq, min, 
 use Rattle.std.specs.Map.{lookup}
 use Rattle.std.specs.Option.{option_map_or}
 use Rattle.floor_hub.specs.Hub.{Hub}
+use Rattle.floor_loop.specs.declared.stay.Stay.{Stay}
+use Rattle.floor_loop.specs.Away.{Away, ends_of, stay_of}
 
 -- One connection: its conference; the bytes that were taken from the hub for it and that its socket has yet to take; how many parcels they
 -- are the end of; since when it has something to write or is to be shut down, where it wasn't given since; by when it is to be shut
@@ -15,10 +17,11 @@ pub record Outgoing : Type 0 where
   pub ends : Option ℕ
   pub fails : Option ℕ
 
--- the connections by number, and how late it was at last
+-- the connections by number, how late it was at last, and who is away
 pub record Attended : Type 0 where
   pub outgoing : List (ℕ × Outgoing)
   pub time : ℕ
+  pub away : Away
 
 -- the hub, and its live connections
 pub record Loop : Type 0 where
@@ -45,6 +48,11 @@ until_of o = earlier o.fails o.ends
 abbrev pub until_in : Attended → ℕ → Option ℕ
 until_in a number = option_and_then until_of (outgoing_in a number)
 
+-- until when the connection with this number is left alone, where that has an end: it is to be shut down by then, or its member is away
+-- until then
+abbrev pub over_in : Attended → ℕ → Option ℕ
+over_in a number = earlier (until_in a number) (ends_of a.away number)
+
 -- the bytes that are to be written to the connection with this number, and none without one
 abbrev pub rest_at : Loop → ℕ → List ℕ
 rest_at l number = option_map_or (λ o. o.rest) (outgoing_at l number) []
@@ -60,6 +68,18 @@ ready_at l number = option_and_then (λ o. o.ready) (outgoing_at l number)
 -- by when the connection with this number is to be shut down, where it is
 abbrev pub until_at : Loop → ℕ → Option ℕ
 until_at l number = until_in l.attended number
+
+-- what is known of the connection with this number, where it is away
+abbrev pub stay_at : Loop → ℕ → Option Stay
+stay_at l number = stay_of l.attended.away number
+
+-- until when its member stays, where it is away
+abbrev pub stays_until : Loop → ℕ → Option ℕ
+stays_until l number = ends_of l.attended.away number
+
+-- until when the connection with this number is left alone, where that has an end
+abbrev pub over_at : Loop → ℕ → Option ℕ
+over_at l number = over_in l.attended number
 
 -- the connection with this number, if there is one, is ready, and is to be shut down
 abbrev pub IsEnded : Attended → ℕ → Type 0

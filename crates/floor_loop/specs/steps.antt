@@ -5,3 +5,7 @@ pub mod Taken
 pub mod Joined
 pub mod Moved
 pub mod Thrown
+pub mod Soonest
+pub mod Carried
+pub mod Entered
+pub mod Replayed

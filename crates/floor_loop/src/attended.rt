@@ -1,18 +1,24 @@
-//! The connections of a loop: which of them are ready, and by when which are to be shut down.
+//! The connections of a loop: which of them are ready, by when which are to be shut down, and which are away.
 
-ghost use Rattle.std.specs.Prelude.{◌≡◌, ◌≤◌, ◌<◌, [], ℕ, IfNone, IfOk, IfSome, IsSome, MatchOption, None, OnErr, Some, drop, false, length, max, nat_eq, option_and_then, option_copied};
+ghost use Rattle.std.specs.Prelude.{◌≡◌, ◌≤◌, ◌<◌, [], ℕ, IfNone, IfOk, IfSome, IsSome, MatchOption, None, OnErr, OnOk, Some, drop, false, if◌then◌else◌, length, max, nat_eq, option_and_then, option_copied, true};
 ghost use Rattle.floor_hub.specs.StandsFor.{StandsFor};
 ghost use Rattle.floor_hub.specs.World.{World};
 ghost use Rattle.floor_loop.specs.declared.outgoing.Mark.TheVariants.{Ends, Fails, Ready};
-ghost use Rattle.floor_loop.specs.Loop.{Outgoing as Way, outgoing_in, until_in};
-ghost use Rattle.floor_loop.specs.steps.Changed.{changed, given, marked, whole_of, wrote_of};
+ghost use Rattle.floor_loop.specs.Away.{stay_from, stay_of};
+ghost use Rattle.floor_loop.specs.Loop.{Outgoing as Way, outgoing_in, over_in, until_in};
+ghost use Rattle.floor_loop.specs.steps.Changed.{changed, given, marked, unended, whole_of, wrote_of};
 ghost use Rattle.floor_loop.specs.steps.Joined.{Adds, Attaches};
 ghost use Rattle.floor_loop.specs.steps.Listed.{deadline};
 ghost use Rattle.floor_loop.specs.steps.Taken.{TakenFor};
 
-use crate::changing::{add_in, advance_in, earliest, first_of, mark_in, next_in, reserve, take_in};
+use crate::away::{Away, soonest, stay_over};
+use crate::changing::{
+    add_in, advance_in, earliest, first_of, mark_in, next_in, reserve, take_in, unend_in,
+};
+use crate::grace::Grace;
 use crate::line::Line;
 use crate::outgoing::{Mark, Outgoing};
+use crate::stay::Stay;
 use floor_hub::{ConnNo, Hub, HubRefusal};
 use indexmap::IndexMap;
 use std::alloc::{AllocError, Global};
@@ -32,6 +38,7 @@ pub(crate) struct Attended {
     ending: Line,
     failed: Line,
     time: u64,
+    away: Away,
 }
 
 impl Model for Attended {
@@ -40,15 +47,26 @@ impl Model for Attended {
 
     ghost Value = { Attended };
 
-    ghost view = { λ a. record { outgoing = a.outgoing.entries; time = a.time } };
+    ghost view = { λ a. record {
+      outgoing = a.outgoing.entries;
+      time = a.time;
+      away = a.away;
+    } };
 
     ghost invariant = { λ a. AreListed a.outgoing.entries a.time a.ready a.ending a.failed };
 }
 
 impl Attended {
-    /// No connection. Takes no memory.
-    pub(crate) fn new(alloc: Global) -> Attended
+    /// No connection, where members outlive theirs for so long, and the last place of a conference is kept for who
+    /// comes back or isn't. Takes no memory.
+    pub(crate) fn new(alloc: Global, grace: Grace, keeps_place: bool) -> Attended
         ensures value { result.outgoing ≡ [] }
+        ensures away { result.away ≡ record {
+          stays = [];
+          grace = grace;
+          keeps_place = keeps_place;
+          back = [];
+        } }
     {
         Attended {
             outgoing: IndexMap::new(alloc),
@@ -56,6 +74,7 @@ impl Attended {
             ending: Line::new(alloc),
             failed: Line::new(alloc),
             time: 0,
+            away: Away::new(alloc, grace, keeps_place),
         }
     }
 
@@ -113,14 +132,76 @@ impl Attended {
         self.failed.push(number, self.time);
     }
 
+    /// A connection is away from now on for so long, and isn't to be shut down. After an error what is on its way, and when
+    /// it is to be shut down, is as it was.
+    pub(crate) fn keep(&mut self, number: ConnNo, user: u16, millis: u64) -> Result<(), AllocError>
+        ensures outgoing { OnOk result
+            (self.new.outgoing ≡ changed unended number self.old.outgoing) }
+        ensures left { OnErr result (self.new.outgoing ≡ self.old.outgoing) }
+        ensures away { OnOk result (stay_of self.new.away number
+            ≡ Some (stay_from user self.old.time millis)) }
+        ensures time { self.new.time ≡ self.old.time }
+    {
+        // It may be to be shut down again.
+        reserve(
+            &mut self.outgoing,
+            &mut self.ready,
+            &mut self.ending,
+            &mut self.failed,
+        )?;
+        let stay = Stay {
+            user,
+            since: self.time,
+            until: self.time.saturating_add(millis),
+        };
+        self.away.put(number, stay)?;
+        unend_in(&mut self.outgoing, number);
+        Ok(())
+    }
+
+    /// How long the member of a connection stays that is lost.
+    pub(crate) fn lost_for(&self) -> u64
+        ensures value { result ≡ self.now.away.grace.lost }
+    {
+        self.away.grace().lost
+    }
+
+    /// Who is away.
+    pub(crate) fn away(&self) -> &Away
+        ensures value { result.now ≡ self.now.away }
+    {
+        &self.away
+    }
+
+    /// How late it was at last.
+    pub(crate) fn time(&self) -> u64
+        ensures value { result ≡ self.now.time }
+    {
+        self.time
+    }
+
+    /// These have left since their user came back.
+    pub(crate) fn set_back(&mut self, back: Vec<ConnNo>)
+        ensures next { self.new ≡ record self.old {
+          away = record self.old.away { back = back.items };
+        } }
+    {
+        self.away.set_back(back);
+    }
+
     /// Takes a connection out.
     pub(crate) fn remove(&mut self, number: ConnNo)
         ensures gone { outgoing_in self.new number ≡ None }
         ensures others { (k : ℕ) → nat_eq number k ≡ false
             → outgoing_in self.new k ≡ outgoing_in self.old k }
         ensures time { self.new.time ≡ self.old.time }
+        ensures back { stay_of self.new.away number ≡ None }
+        ensures stays { (k : ℕ) → nat_eq number k ≡ false
+            → stay_of self.new.away k ≡ stay_of self.old.away k }
+        ensures away { self.new.away ≡ record self.old.away { stays = self.new.away.stays } }
     {
         let _gone = self.outgoing.swap_remove(&number);
+        self.away.remove(number);
     }
 
     /// The connection that is ready since longest, which isn't any more.
@@ -173,6 +254,33 @@ impl Attended {
         earliest(failed, ending)
     }
 
+    /// A connection that isn't left alone any more: it is to be shut down, or its member has been away for as long as it may.
+    pub(crate) fn over(&mut self) -> Option<ConnNo>
+        ensures next { self.new ≡ self.old }
+        ensures found { IfSome result (λ number. (until : ℕ)
+            × (over_in self.old number ≡ Some until) × (until ≤ self.old.time)) }
+        ensures none { IfNone result ((number until : ℕ)
+            → over_in self.old number ≡ Some until → self.old.time < until) }
+    {
+        match self.due() {
+            Some(number) => return Some(number),
+            None => {}
+        }
+        stay_over(&self.away, self.time)
+    }
+
+    /// The earliest time from which a connection isn't left alone any more.
+    pub(crate) fn next_over(&mut self) -> Option<u64>
+        ensures next { self.new ≡ self.old }
+        ensures found { IfSome result (λ until. (number : ℕ) × (over_in self.old number ≡ Some until)) }
+        ensures first { IfSome result (λ first. (number until : ℕ)
+            → over_in self.old number ≡ Some until → first ≤ until) }
+        ensures none { IfNone result ((number : ℕ) → over_in self.old number ≡ None) }
+    {
+        let due = self.next_due();
+        soonest(due, self.away.first())
+    }
+
     /// The socket of a connection took so many bytes. Where it took all that was on its way, gives how many
     /// parcels are to be acknowledged.
     pub(crate) fn advance(&mut self, number: ConnNo, count: usize) -> Option<u32>
@@ -204,6 +312,7 @@ impl Attended {
     pub(crate) fn take_one(&mut self, hub: &mut Hub, number: ConnNo) -> Result<bool, HubRefusal>
         ensures next { TakenFor number self.old.outgoing self.new.outgoing hub.old hub.new }
         ensures time { self.new.time ≡ self.old.time }
+        ensures away { self.new.away ≡ self.old.away }
         ensures stands { (w : World) → StandsFor hub.old w → StandsFor hub.new w }
     {
         take_in(&mut self.outgoing, hub, number)

@@ -7,7 +7,7 @@ ghost use Rattle.floor_hub.specs.StandsFor.{StandsFor};
 ghost use Rattle.floor_hub.specs.World.{World};
 ghost use Rattle.floor_loop.specs.declared.outgoing.Mark.TheVariants.{Ready};
 ghost use Rattle.floor_loop.specs.Loop.{Outgoing as Way, earlier};
-ghost use Rattle.floor_loop.specs.steps.Changed.{changed, carrying, given, mark_of, marked, whole_of, wrote_of};
+ghost use Rattle.floor_loop.specs.steps.Changed.{changed, carrying, given, mark_of, marked, unended, whole_of, wrote_of};
 ghost use Rattle.floor_loop.specs.steps.Listed.{HasMore, HasRoom, IsListed, is_time};
 ghost use Rattle.floor_loop.specs.steps.Taken.{TakenFor};
 
@@ -161,6 +161,16 @@ fn stands(outgoing: &IndexMap<u64, Outgoing>, mark: Mark, entry: Entry) -> bool
             None => false,
         },
         None => false,
+    }
+}
+
+/// A connection isn't to be shut down.
+pub(crate) fn unend_in(outgoing: &mut IndexMap<u64, Outgoing>, number: ConnNo)
+    ensures next { outgoing.new.entries ≡ changed unended number outgoing.old.entries }
+{
+    match outgoing.get_mut(&number) {
+        Some(one) => one.unend(),
+        None => {}
     }
 }
 

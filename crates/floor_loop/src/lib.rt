@@ -7,16 +7,24 @@
 #![tactic(auto)]
 
 mod attended;
+mod away;
 mod changing;
+mod coming;
+mod grace;
 mod laws;
 mod line;
 mod outgoing;
+mod resuming;
+mod same;
 mod serving;
+mod stay;
 mod turn;
 
 pub use floor_hub::{
     Act, AddedUser, Config, ConnNo, Event, Floor, HubRefusal, Info, Live, Place, Refusal,
     RoomRefusal, SharedInfo, Status, User,
 };
+pub use grace::Grace;
 pub use laws::{hello_is_written, written_is_called_for};
+pub use resuming::ResumeRefusal;
 pub use serving::Loop;

@@ -6,7 +6,7 @@ ghost use Rattle.floor_hub.specs.Rooms.{KeptOf, TakenInto};
 ghost use Rattle.floor_hub.specs.StandsFor.{StandsFor};
 ghost use Rattle.floor_hub.specs.World.{World};
 ghost use Rattle.floor_loop.specs.Loop.{until_of};
-ghost use Rattle.floor_loop.specs.steps.Changed.{given, left_of, mark_of, marked, or_time, whole_of};
+ghost use Rattle.floor_loop.specs.steps.Changed.{given, left_of, mark_of, marked, or_time, unended, whole_of};
 
 use floor_hub::{ConnNo, Hub, HubRefusal};
 use std::alloc::Global;
@@ -128,6 +128,14 @@ impl Outgoing {
             Mark::Ends => set_time(&mut self.ends, time),
             Mark::Fails => set_time(&mut self.fails, time),
         }
+    }
+
+    /// It isn't to be shut down.
+    pub(crate) fn unend(&mut self)
+        ensures next { self.new ≡ unended self.old }
+    {
+        self.ends = None;
+        self.fails = None;
     }
 
     /// It was given.

@@ -4,21 +4,26 @@ ghost use Rattle.std.specs.Prelude.{◌≡◌, ◌≢◌, ◌≤◌, ◌<◌, �
 ghost use Rattle.floor_hub.specs.Connections.{connection_at};
 ghost use Rattle.floor_hub.specs.Hub.{is_forgotten, room_at};
 ghost use Rattle.floor_hub.specs.Members.{AreMembers, user_of};
-ghost use Rattle.floor_hub.specs.Rooms.{CutIs, Forgets, IsRemembered, Joins, OneRoom, Opens, admin_event, by_broken, refusal_in};
+ghost use Rattle.floor_hub.specs.Rooms.{CutIs, Forgets, IsRemembered, OneRoom, Opens, admin_event, by_broken, refusal_in};
 ghost use Rattle.floor_hub.specs.declared.connection.Connection.{Connection};
-ghost use Rattle.floor_hub.specs.declared.step.Step.TheVariants.{Admin, Attach, Leave, Open, Serve, Took as Takes};
+ghost use Rattle.floor_hub.specs.declared.step.Step.TheVariants.{Admin, Leave, Open, Serve, Took as Takes};
 ghost use Rattle.floor_room.specs.Room.{Room};
 ghost use Rattle.floor_room.specs.Standing.{backlog_of, config_of, shown_of};
 ghost use Rattle.floor_room.specs.Status.{IsStatus};
-ghost use Rattle.floor_loop.specs.Loop.{HasFailed, IsEnded, outgoing_at, parcels_at, ready_at, rest_at, until_at};
-ghost use Rattle.floor_loop.specs.Done.{AtMost, Each, Hands, NoSteps, Reads, Steps};
+ghost use Rattle.floor_loop.specs.Loop.{HasFailed, IsEnded, outgoing_at, over_at, parcels_at, ready_at, rest_at, stay_at, until_at};
+ghost use Rattle.floor_loop.specs.Done.{AtMost, Each, Hands, NoSteps, Reads, Returns, Steps};
+ghost use Rattle.floor_loop.specs.Returned.{IsKeptPlace, Returned};
 ghost use Rattle.floor_loop.specs.Written.{Acknowledges, Follow, IsOver, IsSparedOrOver, Spares, Took, TookNothing, Wakes, acknowledged_by};
 ghost use Rattle.floor_loop.specs.steps.Moved.{IsLoop, loop_of};
 
+mod away;
+
 use crate::attended::Attended;
 use crate::changing::MAX_WRITE;
+use crate::coming::come;
+use crate::grace::Grace;
 use crate::turn::{
-    acknowledge, attach, end, fail, fill, leave_from, read_turn, serve_turn, throw_away, wake,
+    acknowledge, end, fail, fill, leave_from, read_turn, serve_turn, throw_away, wake,
 };
 use floor_hub::{Act, Config, ConnNo, Event, Hub, HubRefusal, Live, Place, SharedInfo, Status};
 use std::alloc::Global;
@@ -67,7 +72,14 @@ impl Loop {
     {
         Loop {
             hub: Hub::new(alloc),
-            attended: Attended::new(alloc),
+            attended: Attended::new(
+                alloc,
+                Grace {
+                    lost: 0,
+                    resumed: 0,
+                },
+                false,
+            ),
         }
     }
 
@@ -81,8 +93,10 @@ impl Loop {
         self.hub.open(alloc, config)
     }
 
-    /// Attaches a connection of a user to a conference, and gives its number, as the hub does. It is ready at
-    /// once. After a `Memory` of the loop's own nothing has changed.
+    /// Attaches a connection of a user to a conference, and gives its number, as the hub does; then the members of that
+    /// user leave that are away there, whom `back` names. It is ready at once. Where the last place is kept for who comes
+    /// back, and it is the only one, who has no member away is refused by `Full`. After a `Memory` of the loop's own
+    /// nothing has changed.
     pub fn attach(
         &mut self,
         alloc: Global,
@@ -90,19 +104,20 @@ impl Loop {
         user: u16,
         now: u64,
     ) -> Result<ConnNo, HubRefusal>
-        ensures steps { Steps (AtMost 1 (Attach conference user)) self.old.hub self.new.hub }
+        ensures steps { Steps (Returns conference user self.new.attended.away.back)
+            self.old.hub self.new.hub }
         ensures took { TookNothing self.old self.new }
         ensures woke { Wakes self.old self.new }
         ensures spares { Spares self.old self.new }
-        ensures found { IfOk result (λ number. (x : Connection)
-            × (connection_at self.new.hub.connections number ≡ Some x)
-            × (x.conference ≡ conference)) }
-        ensures joined { IfOk result (λ number. Joins conference number
-            self.old.hub self.new.hub) }
+        ensures joined { IfOk result (λ number. Returned conference user number
+            self.old self.new) }
+        ensures full { (r : Room) → room_at self.old.hub conference ≡ Some r
+            → IsKeptPlace conference user r self.old → OnOk result ⊥ }
+        ensures left { OnErr result (self.new.attended.away.back ≡ []) }
         ensures ready { IfOk result (λ number. IsSome (ready_at self.new number)) }
     {
         self.attended.pass(now);
-        attach(&mut self.hub, &mut self.attended, alloc, conference, user)
+        come(&mut self.hub, &mut self.attended, alloc, conference, user)
     }
 
     /// Gives the memory of a conference back that has ended and of which no connection is live, as the hub
@@ -392,6 +407,7 @@ impl Loop {
         ensures woke { Wakes self.old self.new }
         ensures spares { Spares self.old self.new }
         ensures gone { outgoing_at self.new number ≡ None }
+        ensures away { stay_at self.new number ≡ None }
         ensures left { connection_at self.new.hub.connections number ≡ None }
     {
         self.attended.pass(now);
@@ -413,32 +429,33 @@ impl Loop {
         }
     }
 
-    /// A connection that is to be shut down by now, whatever is left to write to it.
+    /// A connection that is to be shut down by now, whatever is left to write to it, or whose member has been away for as long
+    /// as it may.
     pub fn due(&mut self, now: u64) -> Option<ConnNo>
         ensures hub { self.new.hub ≡ self.old.hub }
         ensures attended { self.new.attended ≡ record self.old.attended {
           time = max self.old.attended.time now;
         } }
         ensures found { IfSome result (λ number. (until : ℕ)
-            × (until_at self.old number ≡ Some until)
+            × (over_at self.old number ≡ Some until)
             × (until ≤ max self.old.attended.time now)) }
         ensures none { IfNone result ((number until : ℕ)
-            → until_at self.old number ≡ Some until
+            → over_at self.old number ≡ Some until
             → max self.old.attended.time now < until) }
     {
         self.attended.pass(now);
-        self.attended.due()
+        self.attended.over()
     }
 
-    /// The earliest time by which a connection is to be shut down.
+    /// The earliest time by which a connection is to be shut down, or until which a member that is away stays.
     pub fn next_due(&mut self) -> Option<u64>
         ensures next { self.new ≡ self.old }
         ensures found { IfSome result (λ until. (number : ℕ)
-            × (until_at self.old number ≡ Some until)) }
+            × (over_at self.old number ≡ Some until)) }
         ensures first { IfSome result (λ first. (number until : ℕ)
-            → until_at self.old number ≡ Some until → first ≤ until) }
-        ensures none { IfNone result ((number : ℕ) → until_at self.old number ≡ None) }
+            → over_at self.old number ≡ Some until → first ≤ until) }
+        ensures none { IfNone result ((number : ℕ) → over_at self.old number ≡ None) }
     {
-        self.attended.next_due()
+        self.attended.next_over()
     }
 }

@@ -8,6 +8,7 @@ ghost use Rattle.floor_hub.specs.Hub.{room_at};
 ghost use Rattle.floor_hub.specs.Rooms.{Joins};
 ghost use Rattle.floor_hub.specs.declared.connection.Connection.{Connection};
 ghost use Rattle.floor_hub.specs.declared.step.Step.TheVariants.{Attach, Leave, Serve, Took};
+ghost use Rattle.floor_loop.specs.Away.{stay_of};
 ghost use Rattle.floor_loop.specs.Loop.{HasFailed, IsEnded, Outgoing as Way, outgoing_in};
 ghost use Rattle.floor_loop.specs.Done.{AtMost, Hands, NoSteps, Reads, Steps};
 ghost use Rattle.floor_loop.specs.Written.{Acknowledges, IsOver, IsServing, IsSparedOrOver, IsTimed, Spares, TookNothing, Wakes};
@@ -146,6 +147,7 @@ pub(crate) fn wake(hub: &Hub, attended: &mut Attended)
     ensures kept { KeepsAll (outgoing_in attended.old) (outgoing_in attended.new) }
     ensures woken { AreWoken hub.now attended.new }
     ensures spared { (k : ℕ) → IsSpared hub.now attended.old attended.new k }
+    ensures away { attended.new.away ≡ attended.old.away }
 {
     for number in hub.concerned() {
         wake_one(hub, attended, *number);
@@ -157,6 +159,7 @@ pub(crate) fn wake_one(hub: &Hub, attended: &mut Attended, number: ConnNo)
     ensures kept { KeepsAll (outgoing_in attended.old) (outgoing_in attended.new) }
     ensures woken { IsWoken hub.now attended.new number }
     ensures spared { (k : ℕ) → IsSpared hub.now attended.old attended.new k }
+    ensures away { attended.new.away ≡ attended.old.away }
 {
     if is_over(hub, attended, number) {
         end(attended, number);
@@ -167,7 +170,7 @@ pub(crate) fn wake_one(hub: &Hub, attended: &mut Attended, number: ConnNo)
 
 /// Whether nothing more is told to a connection: its member is cut, or its conference is ended or broken
 /// off.
-fn is_over(hub: &Hub, attended: &Attended, number: ConnNo) -> bool
+pub(crate) fn is_over(hub: &Hub, attended: &Attended, number: ConnNo) -> bool
     ensures { (x : Connection) (r : Room) (o : Way)
         → connection_at hub.now.connections number ≡ Some x
         → room_at hub.now x.conference ≡ Some r → outgoing_in attended.now number ≡ Some o
@@ -217,6 +220,7 @@ pub(crate) fn end(attended: &mut Attended, number: ConnNo)
     ensures ended { IsEnded attended.new number }
     ensures others { (k : ℕ) → nat_eq number k ≡ false
         → outgoing_in attended.new k ≡ outgoing_in attended.old k }
+    ensures away { attended.new.away ≡ attended.old.away }
 {
     attended.end(number);
     attended.wake(number);
@@ -237,6 +241,7 @@ pub(crate) fn fail(attended: &mut Attended, number: ConnNo)
 /// keeps none of it.
 pub(crate) fn throw_away(hub: &mut Hub, attended: &mut Attended, number: ConnNo)
     ensures thrown { Thrown number (loop_of hub.old attended.old) (loop_of hub.new attended.new) }
+    ensures away { attended.new.away ≡ attended.old.away }
 {
     for _parcel in 0..MAX_THROWN {
         if !throw_next(hub, attended, number) {
@@ -249,6 +254,7 @@ pub(crate) fn throw_away(hub: &mut Hub, attended: &mut Attended, number: ConnNo)
 /// taken.
 fn throw_next(hub: &mut Hub, attended: &mut Attended, number: ConnNo) -> bool
     ensures thrown { Thrown number (loop_of hub.old attended.old) (loop_of hub.new attended.new) }
+    ensures away { attended.new.away ≡ attended.old.away }
 {
     attended.throw(number);
     let taken = attended.take_one(hub, number);
@@ -269,6 +275,11 @@ pub(crate) fn leave_from(
         → Spares (loop_of hub.old attended.old) (loop_of hub.new attended.new) }
     ensures gone { outgoing_in attended.new number ≡ None }
     ensures left { connection_at hub.new.connections number ≡ None }
+    ensures others { (k : ℕ) → nat_eq number k ≡ false
+        → connection_at hub.new.connections k ≡ connection_at hub.old.connections k }
+    ensures back { stay_of attended.new.away number ≡ None }
+    ensures stays { (k : ℕ) → nat_eq number k ≡ false
+        → stay_of attended.new.away k ≡ stay_of attended.old.away k }
 {
     let left = hub.leave(number);
     attended.remove(number);

@@ -6,6 +6,8 @@
 #![tactic(auto)]
 
 #[cfg(test)]
+mod away;
+#[cfg(test)]
 mod cases;
 #[cfg(test)]
 mod client;

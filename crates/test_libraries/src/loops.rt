@@ -86,7 +86,7 @@ const EACH_CALL: &str = "\
 10008 next_due > none";
 
 /// What a call answers that gives nothing.
-fn push_done(text: &mut String, done: Result<(), HubRefusal>) -> Result<(), AllocError> {
+pub(crate) fn push_done(text: &mut String, done: Result<(), HubRefusal>) -> Result<(), AllocError> {
     match done {
         Ok(()) => text.push_str("ok"),
         Err(refusal) => text.push_str(refusal.name()),
@@ -94,7 +94,7 @@ fn push_done(text: &mut String, done: Result<(), HubRefusal>) -> Result<(), Allo
 }
 
 /// A number, or that there is none.
-fn push_number(text: &mut String, number: Option<u64>) -> Result<(), AllocError> {
+pub(crate) fn push_number(text: &mut String, number: Option<u64>) -> Result<(), AllocError> {
     match number {
         None => text.push_str("none"),
         Some(number) => write!(text, "{number}"),
@@ -146,7 +146,7 @@ fn wrote(served: &mut Loop, number: ConnNo, count: usize, now: u64) {
 }
 
 /// What a line of a script answers: the time, what is called, and on whom.
-fn answer(alloc: Global, served: &mut Loop, line: &str) -> Result<String, AllocError> {
+pub(crate) fn answer(alloc: Global, served: &mut Loop, line: &str) -> Result<String, AllocError> {
     let (time, call) = line.split_once(' ').unwrap_or((line, ""));
     let (word, rest) = call.split_once(' ').unwrap_or((call, ""));
     let now = u64::from(read_u32(time).unwrap_or(0));

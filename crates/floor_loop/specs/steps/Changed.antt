@@ -21,6 +21,10 @@ marked Ready time o = record o { ready = or_time o.ready time }
 marked Ends time o = record o { ends = or_time o.ends time }
 marked Fails time o = record o { fails = or_time o.fails time }
 
+-- a connection that isn't to be shut down
+abbrev pub unended : Outgoing → Outgoing
+unended o = record o { ends = None; fails = None }
+
 -- a connection that was given
 abbrev pub given : Outgoing → Outgoing
 given o = record o { ready = None }

@@ -30,4 +30,4 @@ pub record Attaches (conference user : ℕ) (old new : Hub) (result : Result ℕ
 -- the connection with this number, if one was attached, is there now, and each other is as it was
 abbrev pub Adds : ℕ → Attended → Attended → Result ℕ HubRefusal → Type 0
 Adds conference old new (Err r) = new ≡ old
-Adds conference old new (Ok number) = (outgoing_in new number ≡ Some (fresh conference)) × ((k : ℕ) → nat_eq number k ≡ false → outgoing_in new k ≡ outgoing_in old k) × (new.time ≡ old.time)
+Adds conference old new (Ok number) = (outgoing_in new number ≡ Some (fresh conference)) × ((k : ℕ) → nat_eq number k ≡ false → outgoing_in new k ≡ outgoing_in old k) × (new.time ≡ old.time) × (new.away ≡ old.away)

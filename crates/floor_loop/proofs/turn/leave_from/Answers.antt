@@ -1,3 +1,5 @@
+use Rattle.std.proofs.Common.{ap, ◌∙◌}
+use Rattle.floor_loop.specs.Away.{Away, stay_of}
 use Rattle.floor_loop.specs.Loop.{outgoing_in}
 use Rattle.floor_loop.specs.steps.Moved.{loop_of}
 use Rattle.floor_loop.proofs.Calls.{moved-leave}
@@ -22,5 +24,8 @@ returns c =
           (λ k x y is_x is_y. others-spared c.leave-left.new.self c.args.attended.now c.remove.new.self c.wake.new.attended c.args.number k y c.leave-left.ensures.gone.here is_y (c.remove.ensures.others k) (c.wake.ensures.spared k));
       woke = λ l. wakes-on old new c.leave-left.ensures.concerned (stays-gone f g h c.args.number c.remove.ensures.gone c.remove.ensures.others c.wake.ensures.kept) c.wake.ensures.woken;
       left = c.leave-left.ensures.gone.here;
+      others = c.leave-left.ensures.gone.others;
+      back = ap (λ (z : Away). stay_of z c.args.number) c.wake.ensures.away ∙ c.remove.ensures.back;
+      stays = λ k ne. ap (λ (z : Away). stay_of z k) c.wake.ensures.away ∙ c.remove.ensures.stays k ne;
       gone = gone-stays g h c.args.number c.wake.ensures.kept c.remove.ensures.gone;
     }

@@ -1,4 +1,4 @@
-use Rattle.std.proofs.Common.{ap}
+use Rattle.std.proofs.Common.{ap, ◌∙◌}
 use Rattle.floor_loop.specs.Loop.{Attended}
 use Rattle.floor_loop.specs.steps.Moved.{loop_of}
 use Rattle.floor_loop.proofs.Throwing.{thrown-both, thrown-taken, thrown-wrote}
@@ -9,6 +9,7 @@ returns c =
     let n = c.args.number in
     let t = c.throw.ensures.next in
     record {
+      away = c.take_one-taken.ensures.away ∙ ap (λ (z : Attended). z.away) t.1;
       thrown =
           thrown-both n (loop_of c.args.hub.now c.args.attended.now) (loop_of c.args.hub.now c.throw.new.self) (loop_of c.take_one-taken.new.hub c.take_one-taken.new.self)
           (thrown-wrote c.args.hub.now c.args.attended.now c.throw.new.self n t.0 (ap (λ (z : Attended). z.outgoing) t.1))

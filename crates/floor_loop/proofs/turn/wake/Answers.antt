@@ -1,4 +1,4 @@
-use Rattle.std.proofs.Common.{◌≡◌, inl, inr, ℕ, List, ◌+◌, ◌<◌, ◌≤◌, ap, arith, length, subst, sym, ◌∙◌}
+use Rattle.std.proofs.Common.{◌≡◌, inl, inr, ℕ, List, ◌+◌, ◌<◌, ◌≤◌, ap, arith, length, refl, subst, sym, ◌∙◌}
 use Rattle.std.specs.Prelude.{slice_index_or}
 use Rattle.std.specs.List.{Contains}
 use Rattle.std.proofs.lemmas.Bool.{cases_lt}
@@ -14,6 +14,7 @@ loop-number-init c = record {
   kept = keeps-refl (outgoing_in c.args.attended.now);
   woken = λ k n less. absurd (omega (arith, less));
   spared = λ k. spared-refl c.args.hub.now c.args.attended.now k;
+  away = refl;
 }
 
 -- the number at this place
@@ -32,6 +33,7 @@ loop-number-preserved c =
         | inr at ↦ subst (IsWoken c.args.hub.now b) (here c.concerned-number-items.result.now c.loop-number.number-index k n c.loop-number-test.true less at e) c.wake_one.ensures.woken
       ];
       spared = λ k. spared-both c.args.hub.now first a b k c.loop-number.invariant.kept (c.loop-number.invariant.spared k) (c.wake_one.ensures.spared k);
+      away = c.wake_one.ensures.away ∙ c.loop-number.invariant.away;
     }
 
 pub returns : goal.returns
@@ -41,4 +43,5 @@ returns c = record {
       let there = subst (λ (xs : List ℕ). Contains xs n) (sym c.concerned-number-items.ensures.value) named in
       c.loop-number.invariant.woken there.0 n (omega (arith, there.1, c.loop-number-test.false)) there.2;
   spared = c.loop-number.invariant.spared;
+  away = c.loop-number.invariant.away;
 }

@@ -11,4 +11,5 @@ invariant-loop-number l =
       kept : KeepsAll (outgoing_in l.fn.attended) (outgoing_in l.attended);
       woken : (k n : ℕ) → k < l.number-index → slice_index_or l.number-items k n ≡ n → IsWoken l.hub l.attended n;
       spared : (k : ℕ) → IsSpared l.hub l.fn.attended l.attended k;
+      away : l.attended.away ≡ l.fn.attended.away;
     }

@@ -13,6 +13,7 @@ pub returns-then-is_over : goal.returns-then-is_over
 returns-then-is_over c =
     record {
       kept = c.end.ensures.kept;
+      away = c.end.ensures.away;
       woken = record {
         ready = λ o is. (c.end.ensures.ended o is).0;
         over = λ x r o is_x is_r is conference over. ends-until o (c.end.ensures.ended o is).1;
@@ -29,6 +30,7 @@ returns c =
     let keeps = keeps-marked Ready old.time c.args.number old new next in
     record {
       kept = keeps;
+      away = ap (λ (z : Attended). z.away) c.wake.ensures.next;
       woken = record {
         ready = marked-some Ready old.time c.args.number old new next;
         over = λ x r o is_x is_r is conference over.

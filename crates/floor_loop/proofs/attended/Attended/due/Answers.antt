@@ -9,7 +9,7 @@ invariant_of-self c = record { ready = c.self.invariant.ready; ending = c.self.i
 
 pub returns-in-Some-clause-found : goal.returns-in-Some-clause-found
 returns-in-Some-clause-found c =
-    let a : Attended = record { outgoing = c.self.inside.outgoing.entries; time = c.self.inside.time } in
+    let a : Attended = record { outgoing = c.self.inside.outgoing.entries; time = c.self.inside.time; away = c.self.inside.away } in
     let f = c.in-Some.ensures.first c.self.inside.time c.self.invariant.failed in
     subst (λ (z : Attended). (until : ℕ) × (until_in z c.in-Some.entry.number ≡ Some until) × (until ≤ z.time)) c.self.view_is (due-failed a c.in-Some.entry c.in-Some.ensures.found f.0)
 
@@ -27,20 +27,20 @@ invariant_of-self-2 c =
 
 pub returns-then-entry-self-clause-found : goal.returns-then-entry-self-clause-found
 returns-then-entry-self-clause-found c =
-    let a : Attended = record { outgoing = c.self.inside.outgoing.entries; time = c.self.inside.time } in
+    let a : Attended = record { outgoing = c.self.inside.outgoing.entries; time = c.self.inside.time; away = c.self.inside.away } in
     let entry = c.in-Some-first_of.entry in
     subst (λ (z : Attended). (until : ℕ) × (until_in z entry.number ≡ Some until) × (until ≤ z.time)) c.self.view_is
     (due-ending a entry (c.in-None.ensures.none c.self.inside.time c.self.invariant.failed) c.in-Some-first_of.ensures.found c.if-entry-self.true)
 
 pub returns-in-None-first_of-clause-none : goal.returns-in-None-first_of-clause-none
 returns-in-None-first_of-clause-none c =
-    let a : Attended = record { outgoing = c.self.inside.outgoing.entries; time = c.self.inside.time } in
+    let a : Attended = record { outgoing = c.self.inside.outgoing.entries; time = c.self.inside.time; away = c.self.inside.away } in
     subst (λ (z : Attended). (number until : ℕ) → until_in z number ≡ Some until → z.time < until) c.self.view_is
     (none-due a (c.in-None.ensures.none c.self.inside.time c.self.invariant.failed) (c.in-None-first_of.ensures.none (deadline c.self.inside.time) c.self.invariant.ending))
 
 pub returns-clause-none : goal.returns-clause-none
 returns-clause-none c =
-    let a : Attended = record { outgoing = c.self.inside.outgoing.entries; time = c.self.inside.time } in
+    let a : Attended = record { outgoing = c.self.inside.outgoing.entries; time = c.self.inside.time; away = c.self.inside.away } in
     let entry = c.in-Some-first_of.entry in
     subst (λ (z : Attended). (number until : ℕ) → until_in z number ≡ Some until → z.time < until) c.self.view_is
     (later-due a entry (c.in-None.ensures.none c.self.inside.time c.self.invariant.failed) (c.in-Some-first_of.ensures.first (deadline c.self.inside.time) c.self.invariant.ending).1 c.if-entry-self.false)

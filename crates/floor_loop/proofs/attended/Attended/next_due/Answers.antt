@@ -13,7 +13,7 @@ invariant_of-self c = record {
 }
 
 abbrev inside : goal.After-earliest → Attended
-inside c = record { outgoing = c.self.inside.outgoing.entries; time = c.self.inside.time }
+inside c = record { outgoing = c.self.inside.outgoing.entries; time = c.self.inside.time; away = c.self.inside.away }
 
 least-failed : (c : goal.After-earliest) → Least (λ o. o.fails) (inside c) c.first_of-failed.result
 least-failed c = if-some c.first_of-failed.result (λ e f. (f c.self.inside.time c.self.invariant.failed).1) c.first_of-failed.ensures.first

@@ -21,7 +21,7 @@ returns c =
     let fs = c.next_in.new.outgoing.entries in
     let same = ap (λ (z : Attended). z.outgoing) c.self.view_is in
     record {
-      next = next-is c.next_in.result es fs c.self.inside.time c.args.self.now c.next_in.ensures.next c.self.view_is;
+      next = next-is c.next_in.result es fs c.self.inside.time c.self.inside.away c.args.self.now c.next_in.ensures.next c.self.view_is;
       found = found-is c.next_in.result es c.args.self.now same c.next_in.ensures.found;
       none = none-is c.next_in.result es c.self.inside.time c.self.inside.ready c.args.self.now same c.self.invariant.ready c.next_in.ensures.none;
     }

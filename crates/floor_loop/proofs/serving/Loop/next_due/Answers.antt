@@ -10,5 +10,5 @@ use Rattle.floor_loop.proofs.serving.Loop.next_due.Goals as goal
 pub invariant_of-self : goal.invariant_of-self
 invariant_of-self c =
     let old = loop_of c.self.inside.hub c.self.inside.attended in
-    let new = loop_of c.self.inside.hub c.next_due.new.self in
-    loop-moves NoSteps old new (moved-kept old new refl (keeps-passed c.self.inside.attended c.next_due.new.self (ap (λ (z : Attended). z.outgoing) c.next_due.ensures.next))) c.self.invariant
+    let new = loop_of c.self.inside.hub c.next_over.new.self in
+    loop-moves NoSteps old new (moved-kept old new refl (keeps-passed c.self.inside.attended c.next_over.new.self (ap (λ (z : Attended). z.outgoing) c.next_over.ensures.next))) c.self.invariant

@@ -1,0 +1,12 @@
+use Rattle.floor_loop.specs.steps.Moved.{loop_of}
+use Rattle.floor_loop.proofs.Carrying.{carries-both}
+use Rattle.floor_loop.proofs.resuming.keep_all.Goals as goal
+
+pub loop-turn-preserved : goal.loop-turn-preserved
+loop-turn-preserved c =
+    carries-both (loop_of c.args.hub.now c.args.attended.now) (loop_of c.loop-turn.hub c.loop-turn.attended) (loop_of c.keep_one.new.hub c.keep_one.new.attended) c.loop-turn.invariant c.keep_one.ensures.carries
+
+pub returns-in_err-keep_one-in-Some : goal.returns-in_err-keep_one-in-Some
+returns-in_err-keep_one-in-Some c = record {
+  carries = carries-both (loop_of c.args.hub.now c.args.attended.now) (loop_of c.loop-turn.hub c.loop-turn.attended) (loop_of c.keep_one.new.hub c.keep_one.new.attended) c.loop-turn.invariant c.keep_one.ensures.carries;
+}

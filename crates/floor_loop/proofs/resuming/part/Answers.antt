@@ -1,0 +1,10 @@
+use Rattle.floor_hub.specs.declared.step.Step.TheVariants.{Leave}
+use Rattle.floor_loop.specs.Done.{AtMost}
+use Rattle.floor_loop.specs.steps.Moved.{loop_of}
+use Rattle.floor_loop.proofs.Carrying.{carries-moved}
+use Rattle.floor_loop.proofs.resuming.part.Goals as goal
+
+pub returns : goal.returns
+returns c = record {
+  carries = carries-moved (AtMost 1 (Leave c.args.number)) (loop_of c.args.hub.now c.args.attended.now) (loop_of c.send_off.new.hub c.send_off.new.attended) c.send_off.ensures.moved;
+}

@@ -1,0 +1,13 @@
+use Rattle.std.proofs.Common.{sym, ◌∙◌}
+use Rattle.std.proofs.lemmas.Option.{none-some}
+use Rattle.floor_loop.proofs.Losing.{nobody-live}
+use Rattle.floor_hub.specs.World.{nothing}
+use Rattle.floor_loop.proofs.serving.Loop.with_grace.Goals as goal
+
+pub invariant_of-result : goal.invariant_of-result
+invariant_of-result c = record {
+  world = nothing;
+  stands = c.new.ensures.value;
+  serving = λ number x is. absurd (none-some x (sym (nobody-live c.new.result c.new.ensures.value number) ∙ is));
+  timed = λ number x r o is. absurd (none-some x (sym (nobody-live c.new.result c.new.ensures.value number) ∙ is));
+}

@@ -1,0 +1,36 @@
+-- Who comes back to a conference in which members of its own are away.
+use Rattle.std.specs.Prelude.{◌≡◌, ℕ, ◌+◌, List, true, false, nat_eq, Some, None}
+use Rattle.std.specs.List.{Contains}
+use Rattle.floor_room.specs.Room.{Room}
+use Rattle.floor_hub.specs.declared.attached.Live.{Live}
+use Rattle.floor_hub.specs.declared.connection.Connection.{Connection}
+use Rattle.floor_hub.specs.Connections.{connection_at}
+use Rattle.floor_hub.specs.Members.{AreMembers}
+use Rattle.floor_hub.specs.Hub.{Hub}
+use Rattle.floor_loop.specs.Away.{Away, IsOldest, are_live, away_among, is_stay_of, stay_of}
+use Rattle.floor_loop.specs.Loop.{Loop, stay_at}
+
+-- A connection of this user has come to the conference, with the next number; those of the user's members that were away there have left, and no
+-- other has gone.
+pub record Returned (conference user number : ℕ) (old new : Loop) : Type 0 where
+  pub live : List Live
+  pub members : AreMembers old.hub conference live
+  pub back : new.attended.away.back ≡ away_among old.attended.away user live
+  pub next : number ≡ old.hub.arrivals + 1
+  pub connection : Connection
+  pub there : connection_at new.hub.connections number ≡ Some connection
+  pub place : connection.conference ≡ conference
+  pub left : (k : ℕ) → Contains new.attended.away.back k → connection_at new.hub.connections k ≡ None
+  pub others : (k : ℕ) → nat_eq number k ≡ false → ¬ Contains new.attended.away.back k → connection_at new.hub.connections k ≡ connection_at old.hub.connections k
+
+-- nothing but the last place of the conference is left, which is kept for who comes back, and none of this user's members there is away
+pub record IsKeptPlace (conference user : ℕ) (r : Room) (l : Loop) : Type 0 where
+  pub keeps : l.attended.away.keeps_place ≡ true
+  pub live : are_live 63 r user ≡ true
+  pub nobody : (k : ℕ) (x : Connection) → connection_at l.hub.connections k ≡ Some x → x.conference ≡ conference → is_stay_of user (stay_at l k) ≡ false
+
+-- this one is away since longest of this user's members in the conference
+pub record IsOldestOf (hub : Hub) (a : Away) (conference user number : ℕ) : Type 0 where
+  pub live : List Live
+  pub members : AreMembers hub conference live
+  pub oldest : IsOldest (stay_of a) (away_among a user live) number
