@@ -4,7 +4,7 @@ use Rattle.floor_config.specs.Names as configuration
 use Rattle.floor_listen.specs.declared.ending.Ending.{Ending}
 use Rattle.floor_listen.specs.declared.ending.Ending.TheVariants.{InOrder, Refused, Fault}
 use Rattle.floor_listen.specs.declared.ending.ServerFault.{ServerFault}
-use Rattle.floor_listen.specs.declared.ending.ServerFault.TheVariants.{CannotRead, CannotWrite, ByConfiguration, CannotListen, Broken, Mismatch, Memory}
+use Rattle.floor_listen.specs.declared.ending.ServerFault.TheVariants.{CannotRead, CannotWrite, ByConfiguration, CannotListen, CannotKeep, Lost, NotAJournal, Broken, Mismatch, Memory}
 
 -- the fault's own name, or the configuration's
 abbrev pub name_of : ServerFault → List ℕ
@@ -12,6 +12,9 @@ name_of CannotRead = codes "CannotRead"
 name_of CannotWrite = codes "CannotWrite"
 name_of (ByConfiguration fault) = configuration.name_of fault
 name_of CannotListen = codes "CannotListen"
+name_of CannotKeep = codes "CannotKeep"
+name_of Lost = codes "Lost"
+name_of NotAJournal = codes "NotAJournal"
 name_of Broken = codes "Broken"
 name_of Mismatch = codes "Mismatch"
 name_of Memory = codes "Memory"

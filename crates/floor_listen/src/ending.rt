@@ -17,6 +17,12 @@ pub enum ServerFault {
     ByConfiguration(ConfigFault),
     /// A port can't be had.
     CannotListen,
+    /// The folder of kept conferences can't be had, or another server has it.
+    CannotKeep,
+    /// The folder of kept conferences is another server's now.
+    Lost,
+    /// A kept conference's file is none.
+    NotAJournal,
     /// A conference is broken.
     Broken,
     /// What a member sent isn't what the journal has.
@@ -37,6 +43,9 @@ impl ServerFault {
             ServerFault::CannotWrite => "CannotWrite",
             ServerFault::ByConfiguration(fault) => fault.name(),
             ServerFault::CannotListen => "CannotListen",
+            ServerFault::CannotKeep => "CannotKeep",
+            ServerFault::Lost => "Lost",
+            ServerFault::NotAJournal => "NotAJournal",
             ServerFault::Broken => "Broken",
             ServerFault::Mismatch => "Mismatch",
             ServerFault::Memory => "Memory",

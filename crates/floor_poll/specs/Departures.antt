@@ -46,3 +46,18 @@ refused_by hub.Running = refused.NoConference
 refused_by hub.NoConnection = refused.NoConference
 refused_by hub.Memory = refused.Memory
 refused_by (hub.ByRoom refusal) = refused.ByRoom refusal
+
+-- whether a connection was lost that isn't served any more for this reason: one that ended in order where that is asked for
+abbrev pub is_lost : Departure → Bool → Bool
+is_lost left.EndOfStream for_all = for_all
+is_lost left.InsideMessage for_all = true
+is_lost left.Reset for_all = true
+is_lost (left.Message refusal) for_all = false
+is_lost left.Slow for_all = false
+is_lost left.Closed for_all = false
+is_lost left.BrokenOff for_all = false
+is_lost left.Stopped for_all = false
+is_lost left.Removed for_all = false
+is_lost left.TurnLimit for_all = false
+is_lost left.NoThread for_all = false
+is_lost left.Memory for_all = false

@@ -5,6 +5,8 @@ use Rattle.floor_control.specs.declared.refusal.ControlRefusal.{ControlRefusal}
 use Rattle.floor_control.specs.declared.refusal.ControlRefusal.TheVariants as control
 use Rattle.floor_hub.specs.declared.refusal.HubRefusal.{HubRefusal}
 use Rattle.floor_hub.specs.declared.refusal.HubRefusal.TheVariants as hub
+use Rattle.floor_kept.specs.declared.head.HeadFault.{HeadFault}
+use Rattle.floor_kept.specs.declared.head.HeadFault.TheVariants as head
 use Rattle.floor_machine.specs.declared.machine.Refusal.TheVariants as machine
 use Rattle.floor_room.specs.declared.refusal.RoomRefusal.TheVariants as room
 
@@ -18,9 +20,25 @@ refusal_of hub.Running = control.Running
 refusal_of hub.Memory = control.ByBoard board.Memory
 refusal_of (hub.ByRoom refusal) = control.ByBoard (board.ByRoom refusal)
 
+-- where a conference that is to be kept has no head
+abbrev pub refusal_of_head : HeadFault → BoardRefusal
+refusal_of_head (head.Refused fault) = board.ByConfiguration fault
+refusal_of_head head.Memory = board.Memory
+refusal_of_head head.FirstLine = board.CannotRead
+refusal_of_head head.Divider = board.CannotRead
+refusal_of_head head.Conferences = board.CannotRead
+
 -- where a conference is closed
 abbrev pub ended : ControlRefusal
 ended = control.ByBoard (board.ByRoom (room.Refused machine.Ended))
+
+-- where a conference is broken off
+abbrev pub broken : ControlRefusal
+broken = control.ByBoard (board.ByRoom (room.Refused machine.Broken))
+
+-- where memory was refused
+abbrev pub out_of_memory : ControlRefusal
+out_of_memory = control.ByBoard board.Memory
 
 -- where the hub refuses to act upon a conference: a forgotten one is a closed one
 abbrev pub refusal_of_act : HubRefusal → ControlRefusal

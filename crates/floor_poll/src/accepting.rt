@@ -8,9 +8,10 @@ use crate::port::{Accepted, accept};
 use crate::worker::Worker;
 use floor_console::{Refusal, RoomRefusal};
 use floor_loop::ConnNo;
-use floor_server::{Entry, Peer, Refused, UserPort};
+use floor_server::{Entry, Peer, Refused, UserPort, keep_alive};
 use mio::net::TcpStream;
 use mio::{Interest, Token};
+use std::alloc::AllocError;
 use std::mem;
 use std::sync::Wait;
 use std::time::Clock;
@@ -145,10 +146,12 @@ impl<R: Clock + Wait + Copy + Drop> Worker<R> {
         };
         places.take(to.user)?;
         let before = self.before(to.conference);
+        self.make_room(to);
         let attached = self
             .hub
             .attach(self.alloc, to.conference, to.user, self.now);
         let _count = self.note_events(before);
+        self.note_back();
         match attached {
             Ok(number) => Ok(number),
             Err(refusal) => {
@@ -157,6 +160,19 @@ impl<R: Clock + Wait + Copy + Drop> Worker<R> {
                 }
                 Err(refused_by(refusal))
             }
+        }
+    }
+
+    /// Where a conference has as many members as it may, the user's own member that was lost first leaves.
+    fn make_room(&mut self, to: UserPort) {
+        if !self.lasts {
+            return;
+        }
+        let gone = self
+            .hub
+            .make_room(self.alloc, to.conference, to.user, self.now);
+        if let Some(number) = gone {
+            self.take_back(number);
         }
     }
 
@@ -173,7 +189,21 @@ impl<R: Clock + Wait + Copy + Drop> Worker<R> {
         if self.connections.reserve(1).is_err() || self.turns.reserve(count).is_err() {
             return Err(Refused::Memory);
         }
-        Ok(())
+        if !self.lasts {
+            return Ok(());
+        }
+        match self.reserve_lasting(count) {
+            Ok(()) => Ok(()),
+            Err(_) => Err(Refused::Memory),
+        }
+    }
+
+    /// Takes room for so many that may be lost, and that may be written and shut down once a turn is kept.
+    fn reserve_lasting(&mut self, count: usize) -> Result<(), AllocError> {
+        self.away.reserve(count)?;
+        let over = self.over_count();
+        self.over.reserve(over)?;
+        self.unblocked.reserve(count)
     }
 
     /// Takes a connection in that has joined.
@@ -181,6 +211,7 @@ impl<R: Clock + Wait + Copy + Drop> Worker<R> {
         let n = self.hub.place(number).map_or(0, |place| place.n);
         self.joined = self.joined.saturating_add(1);
         self.tell(&Entry::Joined { peer, n });
+        let _is_told = keep_alive(&stream);
         // Without it a small answer waits for the next.
         let _outcome = stream.set_nodelay(true);
         let token = Token((number as usize).saturating_mul(2));

@@ -35,6 +35,8 @@ pub struct Connection {
     pub has_failed: bool,
     /// Whether it stands among those that are to be served.
     pub is_queued: bool,
+    /// Whether it stands among those that are to be shut down, or whose socket has failed.
+    pub is_over: bool,
     /// How its reading ended, if it did.
     pub end: Option<End>,
 }
@@ -79,6 +81,7 @@ impl Connection {
             is_blocked: false,
             has_failed: false,
             is_queued: false,
+            is_over: false,
             end: None,
         }
     }

@@ -1,8 +1,10 @@
 //! The events of a conference, as the first thread follows them, and how long they took.
 
-ghost use Rattle.std.specs.Prelude.{◌≡◌, drop, IfOk, length, Some};
+ghost use Rattle.std.specs.Prelude.{◌≡◌, drop, IfOk, length, nat_eq, Some};
 ghost use Rattle.floor_hub.specs.Hub.{room_at};
 ghost use Rattle.floor_poll.specs.Pieces.{IsFront, IsPiece, taken, taken_by};
+ghost use Rattle.floor_poll.specs.Told.{broken_at, told_of};
+ghost use Rattle.indexmap.specs.IndexMap.{get};
 ghost use Rattle.floor_room.specs.Room.{Room};
 
 use crate::counters::note_times;
@@ -45,23 +47,23 @@ impl<R: Clock + Drop> Worker<R> {
 
     /// How a conference stands before something comes, where that is to be counted and told.
     pub fn before(&self, conference: u32) -> Option<Before> {
-        match self.inbox {
-            Some(_) => Some(Before {
-                conference,
-                events: self.events_of(conference),
-                begun: Instant::now(&self.rt).ok(),
-            }),
-            None => None,
+        if self.inbox.is_none() && !self.keeps() {
+            return None;
         }
+        Some(Before {
+            conference,
+            events: self.events_of(conference),
+            begun: Instant::now(&self.rt).ok(),
+        })
     }
 
     /// The same of a connection's conference.
     pub fn before_of(&self, number: ConnNo) -> Option<Before> {
-        if self.inbox.is_none() {
+        if self.inbox.is_none() && !self.keeps() {
             return None;
         }
-        match self.connections.get(&number) {
-            Some(connection) => self.before(connection.peer.to.conference),
+        match self.hub.place(number) {
+            Some(place) => self.before(place.conference),
             None => None,
         }
     }
@@ -83,10 +85,14 @@ impl<R: Clock + Wait + Copy + Drop> Worker<R> {
         let Ok(status) = self.hub.status(conference) else {
             return 0;
         };
+        let is_broken = self.is_broken(conference);
         let count = status.events.saturating_sub(events);
+        if 0 < count {
+            self.note_changed(conference);
+        }
         let nanoseconds = nanoseconds_since(&self.rt, begun);
         note_times(&mut self.counters, nanoseconds, count);
-        self.tell_growth(conference, status.events, status.phase == Phase::Broken);
+        self.tell_growth(conference, status.events, is_broken);
         count
     }
 
@@ -139,13 +145,11 @@ impl<R: Clock + Wait + Copy + Drop> Worker<R> {
     /// there are more.
     pub fn piece(&mut self, conference: u32, done: usize) -> Result<Piece, ControlRefusal>
         ensures front { (r : Room) → room_at self.old.hub.hub conference ≡ Some r
-            → IfOk result (λ piece. IsPiece done r.ledger.journal piece) }
+            → IfOk result (λ piece. IsPiece done (told_of
+            (broken_at (get nat_eq self.old.conferences conference)) r.ledger.journal) piece) }
         ensures hub { self.new.hub ≡ self.old.hub }
     {
-        let all = match self.hub.journal(conference) {
-            Ok(events) => events,
-            Err(refusal) => return Err(refusal_of(refusal)),
-        };
+        let all = self.told_events(conference)?;
         let count = all.len();
         let events = copies_behind(self.alloc, all, done)?;
         let known = done.saturating_add(events.len());
@@ -161,6 +165,22 @@ impl<R: Clock + Wait + Copy + Drop> Worker<R> {
         })
     }
 
+    /// What is told of a conference's events.
+    fn told_events(&self, conference: u32) -> Result<&[Event], ControlRefusal>
+        ensures found { (r : Room) → room_at self.entry.now.hub.hub conference ≡ Some r
+            → IfOk result (λ all. all.now ≡ told_of
+            (broken_at (get nat_eq self.entry.now.conferences conference)) r.ledger.journal) }
+    {
+        let all = match self.hub.journal(conference) {
+            Ok(events) => events,
+            Err(refusal) => return Err(refusal_of(refusal)),
+        };
+        match self.broken_at(conference) {
+            Some(events) => Ok(all.get(..events as usize).unwrap_or(all)),
+            None => Ok(all),
+        }
+    }
+
     /// Has the first thread told once a conference has more events than so many.
     fn follow(&mut self, conference: u32, known: usize) -> Result<(), AllocError>
         ensures hub { self.new.hub ≡ self.old.hub }
@@ -173,7 +193,7 @@ impl<R: Clock + Wait + Copy + Drop> Worker<R> {
     }
 
     fn is_broken(&self, conference: u32) -> bool {
-        match self.hub.status(conference) {
+        match self.standing(conference) {
             Ok(status) => status.phase == Phase::Broken,
             Err(_) => false,
         }

@@ -1,8 +1,8 @@
 //! What the loops tell the first thread, which doesn't wait for it.
 
+use crate::fresh::Fresh;
 use crate::mailbox::Answer;
 use floor_console::BoardRefusal;
-use floor_server::Config;
 use mio::Waker;
 use std::alloc::{AllocError, Global};
 use std::collections::VecDeque;
@@ -40,8 +40,26 @@ pub enum Note {
     /// A configuration was read that a client asked for.
     Read {
         client: u64,
-        read: Result<VecDeque<Config>, Unread>,
+        read: Result<VecDeque<Fresh>, Unread>,
     },
+    /// Member n has lost its connection and stays.
+    Away {
+        conference: u32,
+        user: u16,
+        n: u32,
+    },
+    /// The user of member n, which was away, is back, and n has left.
+    Back {
+        conference: u32,
+        user: u16,
+        n: u32,
+    },
+    /// A conference can't be kept any more, and goes on.
+    Unkept {
+        conference: u32,
+    },
+    /// The folder of the kept conferences is another server's.
+    Lost,
 }
 
 /// Why a configuration isn't opened, before any of its conferences is.
@@ -58,6 +76,8 @@ pub struct Unread {
 #[derive(Drop)]
 pub struct Inbox {
     notes: Mutex<VecDeque<Note>>,
+    /// What nobody has asked for.
+    news: Mutex<VecDeque<Note>>,
     waker: Waker,
 }
 
@@ -66,6 +86,7 @@ impl Inbox {
     pub fn new(alloc: Global, waker: Waker) -> Inbox {
         Inbox {
             notes: Mutex::new(VecDeque::new(alloc)),
+            news: Mutex::new(VecDeque::new(alloc)),
             waker,
         }
     }
@@ -81,13 +102,24 @@ impl Inbox {
         let _woken = self.waker.wake();
     }
 
+    /// Tells the first thread something that it didn't ask for, where memory can be had for that.
+    pub fn tell<R: Wait>(&self, rt: &R, note: Note) {
+        let _told = self.news.lock(rt).push_back(note);
+        let _woken = self.waker.wake();
+    }
+
     /// How many notes wait.
     pub fn waiting<R: Wait>(&self, rt: &R) -> usize {
-        self.notes.lock(rt).len()
+        let notes = self.notes.lock(rt).len();
+        notes.saturating_add(self.news.lock(rt).len())
     }
 
     /// The first note that waits.
     pub fn take<R: Wait>(&self, rt: &R) -> Option<Note> {
+        let news = self.news.lock(rt).pop_front();
+        if news.is_some() {
+            return news;
+        }
         self.notes.lock(rt).pop_front()
     }
 }

@@ -1,10 +1,16 @@
 //! What the first thread asks of a loop, and what the loop answers; and who comes to it by a door.
 
+ghost use Rattle.std.specs.Prelude.{◌≡◌};
+ghost use Rattle.floor_poll.specs.Asked.{conference_of};
+
 use crate::arrival::Arrival;
+use crate::fresh::Fresh;
 use crate::inbox::Asker;
 use crate::port::Port;
+use crate::refusals::out_of_memory;
 use floor_config::Config;
 use floor_control::{ControlRefusal, Metrics, Standing};
+use floor_keep::{KeepReason, NotAJournal, Note as Beside, Octets, Text};
 use floor_loop::{Act, Event, Status, User};
 use mio::Waker;
 use std::alloc::{AllocError, Global};
@@ -15,10 +21,25 @@ use std::thread::Parker;
 /// What is asked of a loop.
 #[derive(Drop)]
 pub enum Asked {
-    /// To open a conference with these ports, which are listened on.
+    /// To open a conference with these ports, which are listened on. Where conferences are kept it has a head.
     Open {
-        config: Config,
+        fresh: Fresh,
         ports: Vec<Port>,
+    },
+    /// To let a conference go on that the folder has.
+    Resume {
+        conference: u32,
+    },
+    /// To take in the ports of a conference that goes on, which are listened on.
+    Ports {
+        conference: u32,
+        ports: Vec<Port>,
+    },
+    /// To keep a word beside a conference, in its file; `None` takes away what is kept by the key.
+    Word {
+        conference: u32,
+        key: Text,
+        value: Option<Octets>,
     },
     /// To add a user to a conference, with a port that is listened on, where there is one.
     AddUser {
@@ -42,10 +63,31 @@ pub enum Asked {
     },
     /// To tell something, and to do nothing.
     Tell(Question),
+    /// To begin to count the time.
+    Begin,
     /// To answer once none of the conferences is open.
     Drain,
     /// To end.
     Stop,
+}
+
+impl Asked {
+    /// The conference to which something is to be done, where it is one's.
+    pub fn conference(&self) -> Option<u32>
+        ensures value { result ≡ conference_of self.now }
+    {
+        match self {
+            Asked::Open { fresh, ports: _ } => Some(fresh.config.conference()),
+            Asked::Resume { conference }
+            | Asked::Ports { conference, .. }
+            | Asked::Word { conference, .. }
+            | Asked::AddUser { conference, .. }
+            | Asked::Admin { conference, .. }
+            | Asked::Leave { conference, .. }
+            | Asked::Forget { conference } => Some(*conference),
+            Asked::Tell(_) | Asked::Begin | Asked::Drain | Asked::Stop => None,
+        }
+    }
 }
 
 /// What a loop is to tell.
@@ -91,8 +133,10 @@ pub enum Question {
 pub enum Answer {
     /// It is done, and the conference's journal has so many events; or it is refused.
     Done(Result<u32, ControlRefusal>),
-    /// How the conference stands.
-    Stands(Result<Status, ControlRefusal>),
+    /// The conference goes on, or was closed and has its last name now; or why it doesn't go on.
+    Resumed(Result<Option<Resumed>, Unresumed>),
+    /// How the conference stands, and whether it isn't kept any more that was.
+    Stands(Result<Status, ControlRefusal>, bool),
     /// Some lines.
     Lines(Result<Lines, ControlRefusal>),
     /// Some events, and whether there are more.
@@ -105,6 +149,34 @@ pub enum Answer {
     Drained,
     /// It has ended.
     Stopped(Report),
+    /// It has ended, since the folder of the kept conferences is another server's.
+    Lost,
+}
+
+/// A conference of the folder that goes on.
+#[derive(Drop)]
+pub struct Resumed {
+    /// The configuration that it was opened with.
+    pub config: Config,
+    /// What stands beside its events.
+    pub notes: Vec<Beside>,
+}
+
+impl From<AllocError> for Unresumed {
+    fn from(_e: AllocError) -> Unresumed {
+        Unresumed::Refused(out_of_memory())
+    }
+}
+
+/// Why a conference that the folder has doesn't go on.
+#[derive(Debug, Drop)]
+pub enum Unresumed {
+    /// The machine doesn't take the event of this place.
+    NotAJournal(NotAJournal),
+    /// The hub refuses it.
+    Refused(ControlRefusal),
+    /// Its file can't be had.
+    Unkept(KeepReason),
 }
 
 /// Some events of a journal.

@@ -1,43 +1,69 @@
 //! What the first thread asks for: conferences and their ports, and what their administrators do.
 
-ghost use Rattle.std.specs.Prelude.{◌≡◌};
+ghost use Rattle.std.specs.Prelude.{◌≡◌, ℕ, Err, Some, nat_eq};
+ghost use Rattle.indexmap.specs.IndexMap.{get};
 ghost use Rattle.floor_hub.specs.declared.step.Step.TheVariants.{Admin};
 ghost use Rattle.floor_loop.specs.Done.{AtMost, Steps};
 ghost use Rattle.floor_loop.specs.Written.{TookNothing};
+ghost use Rattle.floor_poll.specs.Refusals.{broken};
+ghost use Rattle.floor_poll.specs.Told.{broken_at};
+ghost use Rattle.floor_poll.specs.Unkept.{unkept_of};
 
+use crate::fresh::Fresh;
 use crate::mailbox::{Answer, Asked, Mailbox};
 use crate::places::Places;
 use crate::port::Port;
-use crate::refusals::{refusal_of, refusal_of_act};
+use crate::refusals::{broken, out_of_memory, refusal_of, refusal_of_act};
 use crate::worker::Worker;
 use floor_config::Config;
 use floor_console::BoardRefusal;
 use floor_control::ControlRefusal;
+use floor_keep::{
+    KeepFault, KeepReason, KeptFault, Left, NewHead, NoteFault, Octets, Text, Unkept, begin_file,
+};
 use floor_loop::{Act, AddedUser, HubRefusal, User};
 use floor_room::Phase;
-use floor_server::Entry;
+use floor_server::{Entry, UserPort};
 use mio::{Interest, Token};
 use std::alloc::AllocError;
+use std::fs::File;
+use std::rt::Files;
 use std::sync::Wait;
 use std::time::Clock;
 
-impl<R: Clock + Wait + Copy + Drop> Worker<R> {
-    /// Does what is asked, and answers. A stop is answered once nobody is connected.
+/// How long what is queued is written at most once the server stops, in milliseconds.
+const STOP_MILLIS: u64 = 10_000;
+
+impl<R: Files<File = File> + Clock + Wait + Copy + Drop> Worker<R> {
+    /// Does what is asked, and answers; once the turn is kept, where it is. A stop is answered once nobody is
+    /// connected.
     pub fn answer(&mut self, mailbox: &Mailbox) {
         let rt = self.rt;
         let Some(asked) = mailbox.take(&rt) else {
             return;
         };
+        if self.keeps() {
+            return self.hold(mailbox, None, asked);
+        }
         if let Some(answer) = self.carry_out(asked) {
             mailbox.reply(&rt, answer);
         }
-        self.write_ready();
+        self.write_turn();
     }
 
     /// Does what is asked, and gives the answer, where it has one at once.
     pub fn carry_out(&mut self, asked: Asked) -> Option<Answer> {
         match asked {
-            Asked::Open { config, ports } => Some(Answer::Done(self.open(config, ports))),
+            Asked::Open { fresh, ports } => Some(Answer::Done(self.open(fresh, ports))),
+            Asked::Resume { conference } => Some(Answer::Resumed(self.resume(conference))),
+            Asked::Ports { conference, ports } => {
+                Some(Answer::Done(self.add_ports(conference, ports)))
+            }
+            Asked::Word {
+                conference,
+                key,
+                value,
+            } => Some(Answer::Done(self.note_word(conference, key, value))),
             Asked::AddUser {
                 conference,
                 user,
@@ -47,6 +73,10 @@ impl<R: Clock + Wait + Copy + Drop> Worker<R> {
             Asked::Leave { conference, n } => Some(Answer::Done(self.show_out(conference, n))),
             Asked::Forget { conference } => Some(Answer::Done(self.forget(conference))),
             Asked::Tell(question) => Some(self.answer_to(question)),
+            Asked::Begin => {
+                self.begin();
+                Some(Answer::Done(Ok(0)))
+            }
             Asked::Drain => {
                 self.is_draining = true;
                 None
@@ -59,7 +89,8 @@ impl<R: Clock + Wait + Copy + Drop> Worker<R> {
     }
 
     /// Opens a conference with its ports. Where it is refused they are given back.
-    fn open(&mut self, config: Config, ports: Vec<Port>) -> Result<u32, ControlRefusal> {
+    fn open(&mut self, fresh: Fresh, ports: Vec<Port>) -> Result<u32, ControlRefusal> {
+        let Fresh { config, head } = fresh;
         let conference = config.conference();
         let mut places = Places::new(self.alloc, config.connections());
         let outcome = self.open_with(&mut places, config, ports);
@@ -67,10 +98,59 @@ impl<R: Clock + Wait + Copy + Drop> Worker<R> {
             Ok(()) => {
                 let _added = self.conferences.insert(conference, places);
                 self.tell(&Entry::Opened { conference });
+                self.begin_file(conference, head);
             }
             Err(_) => self.close_ports(&mut places),
         }
         outcome.map(|()| 0)
+    }
+
+    /// Makes the file of a conference that was opened, where conferences are kept.
+    fn begin_file(&mut self, conference: u32, head: Option<NewHead>) {
+        if !self.keeps() || !self.is_ours() {
+            return;
+        }
+        let Some(head) = head else {
+            return;
+        };
+        match self.make_file(&head) {
+            Ok(()) => {}
+            Err(reason) => {
+                self.give_up(unkept_of(conference, reason.fault));
+            }
+        }
+    }
+
+    fn make_file(&mut self, head: &NewHead) -> Result<(), KeepReason> {
+        let Some(keeper) = &mut self.keeper else {
+            return Ok(());
+        };
+        keeper.reserve()?;
+        let kept = begin_file(&self.rt, self.alloc, keeper.folder(), head)?;
+        match keeper.add(kept) {
+            Ok(()) => Ok(()),
+            Err(_) => Err(KeepReason::memory()),
+        }
+    }
+
+    /// Has a word stand in a conference's file.
+    fn note_word(
+        &mut self,
+        conference: u32,
+        key: Text,
+        value: Option<Octets>,
+    ) -> Result<u32, ControlRefusal> {
+        let Some(keeper) = &mut self.keeper else {
+            return Ok(0);
+        };
+        match keeper.note_word(conference, key, value) {
+            Ok(()) => {
+                self.note_changed(conference);
+                Ok(0)
+            }
+            Err(NoteFault::Memory) => Err(out_of_memory()),
+            Err(NoteFault::NotKept | NoteFault::NotAKey) => Ok(0),
+        }
     }
 
     /// Takes the ports in, and then opens the conference, with room for what is kept of it.
@@ -80,16 +160,41 @@ impl<R: Clock + Wait + Copy + Drop> Worker<R> {
         config: Config,
         ports: Vec<Port>,
     ) -> Result<(), ControlRefusal> {
+        self.reserve_conference()?;
+        self.take_ports(places, ports)?;
+        match self.hub.open(self.alloc, config) {
+            Ok(()) => Ok(()),
+            Err(refusal) => Err(refusal_of(refusal)),
+        }
+    }
+
+    /// Takes room for one conference more.
+    pub fn reserve_conference(&mut self) -> Result<(), AllocError> {
+        let count = self.conferences.len().saturating_add(1);
         self.conferences.reserve(1)?;
+        self.changed.reserve(count)
+    }
+
+    /// Takes the ports of a conference in.
+    fn take_ports(&mut self, places: &mut Places, ports: Vec<Port>) -> Result<(), ControlRefusal> {
         for port in ports {
             places.reserve()?;
             let number = self.take_in(port)?;
             places.add(number)?;
         }
-        match self.hub.open(self.alloc, config) {
-            Ok(()) => Ok(()),
-            Err(refusal) => Err(refusal_of(refusal)),
+        Ok(())
+    }
+
+    /// Takes the ports of a conference in that goes on.
+    fn add_ports(&mut self, conference: u32, ports: Vec<Port>) -> Result<u32, ControlRefusal> {
+        for port in ports {
+            if let Some(places) = self.conferences.get_mut(&conference) {
+                places.reserve()?;
+            }
+            let number = self.take_in(port)?;
+            self.keep_port(conference, number);
         }
+        Ok(0)
     }
 
     /// Takes in a port that is listened on, with room for what is kept of it, and is told of who connects. Gives
@@ -131,10 +236,14 @@ impl<R: Clock + Wait + Copy + Drop> Worker<R> {
         if let Some(places) = self.conferences.get_mut(&conference) {
             places.reserve()?;
         }
+        let place = port.place;
         let number = self.take_in(port)?;
         let outcome = self.add_to(conference, user);
         match outcome {
-            Ok(_) => self.keep_port(conference, number),
+            Ok(_) => {
+                self.keep_port(conference, number);
+                self.note_port(place);
+            }
             Err(_) => self.close_port(number),
         }
         outcome
@@ -153,9 +262,34 @@ impl<R: Clock + Wait + Copy + Drop> Worker<R> {
         }
     }
 
+    /// Has the port of a user who was added stand in the conference's file.
+    fn note_port(&mut self, place: UserPort) {
+        let UserPort {
+            conference,
+            user,
+            port,
+        } = place;
+        if let Some(keeper) = &mut self.keeper {
+            let _noted = keeper.note_port(conference, user, port);
+        }
+    }
+
     /// Does what a conference's administrator does, and gives its place in the journal. A closed conference has no
     /// port any more.
     fn admin(&mut self, conference: u32, act: Act) -> Result<u32, ControlRefusal>
+        ensures steps { Steps (AtMost 1 (Admin conference act)) self.old.hub.hub self.new.hub.hub }
+        ensures broken { (events : ℕ)
+            → broken_at (get nat_eq self.old.conferences conference) ≡ Some events
+            → (result ≡ Err broken) × (self.new.hub ≡ self.old.hub) }
+    {
+        match self.broken_at(conference) {
+            Some(_) => Err(broken()),
+            None => self.admin_open(conference, act),
+        }
+    }
+
+    /// The same of a conference that isn't broken off since its file has failed.
+    fn admin_open(&mut self, conference: u32, act: Act) -> Result<u32, ControlRefusal>
         ensures steps { Steps (AtMost 1 (Admin conference act)) self.old.hub.hub self.new.hub.hub }
     {
         let closes = matches!(act, Act::Close);
@@ -186,11 +320,11 @@ impl<R: Clock + Wait + Copy + Drop> Worker<R> {
     }
 
     /// Tells the log of a conference that is broken off.
-    fn tell_if_broken(&self, conference: u32) {
+    pub fn tell_if_broken(&self, conference: u32) {
         let Some(log) = &self.log else {
             return;
         };
-        if let Ok(status) = self.hub.status(conference) {
+        if let Ok(status) = self.standing(conference) {
             if status.phase == Phase::Broken {
                 log.tell_broken(&self.rt, conference);
             }
@@ -236,6 +370,10 @@ impl<R: Clock + Wait + Copy + Drop> Worker<R> {
     /// Accepts nobody any more, and ends each connection once what is queued to it is written.
     fn stop(&mut self) {
         self.is_stopping = true;
+        self.stops_by = self.now.saturating_add(STOP_MILLIS);
+        if !self.keeps() {
+            self.leave_all_away();
+        }
         for _ in 0..self.ports.len() {
             let Some((number, _)) = self.ports.first() else {
                 break;
@@ -249,6 +387,21 @@ impl<R: Clock + Wait + Copy + Drop> Worker<R> {
                 self.hear_out(number);
             }
         }
-        self.write_ready();
+        self.write_turn();
+    }
+}
+
+/// A conference that has no file, since the folder takes none.
+fn unkept_of(conference: u32, fault: KeepFault) -> Unkept
+    ensures value { result ≡ unkept_of conference fault }
+{
+    let cause = match fault {
+        KeepFault::Memory => KeptFault::Memory,
+        KeepFault::CannotKeep | KeepFault::Lost => KeptFault::CannotWrite,
+    };
+    Unkept {
+        conference,
+        cause,
+        left: Left::Renamed,
     }
 }

@@ -1,6 +1,8 @@
 //! Whose connections a conference has, and its ports.
 
-ghost use Rattle.std.specs.Prelude.{◌≡◌, ◌++◌, ◌∷◌, ◌<◌, ◌≤◌, ◌↔◌, ◌⊎◌, [], ℕ, Err, filter, length, nat_eq, None, OnErr, OnOk, position, remove, Some};
+ghost use Rattle.std.specs.Prelude.{◌≡◌, ◌++◌, ◌∷◌, ◌<◌, ◌≤◌, ◌↔◌, ◌⊎◌, [], ℕ, Err, false, filter, length, nat_eq, None, OnErr, OnOk, position, remove, Some};
+ghost use Rattle.std.specs.List.{list_any};
+ghost use Rattle.floor_poll.specs.Told.{broken_of, broken_off, kept_of, unkept};
 ghost use Rattle.floor_server.specs.declared.departure.Refused.{Refused as Cause};
 ghost use Rattle.floor_server.specs.declared.departure.Refused.TheVariants.{Connections, Memory, UserConnections};
 
@@ -16,6 +18,14 @@ pub struct Places {
     /// How many of them may be one user's.
     most: u16,
     ports: Vec<u64>,
+    /// Whether the conference has events that its file may lack.
+    pub is_changed: bool,
+    /// Whether it is kept no more, where the server keeps its conferences.
+    pub is_unkept: bool,
+    /// How many of its events its file has.
+    pub kept: u32,
+    /// Whether it is broken off since its file has failed: what its journal has besides is told to nobody.
+    pub is_broken: bool,
 }
 
 impl Places {
@@ -24,11 +34,17 @@ impl Places {
         ensures users { result.users.items ≡ [] }
         ensures most { result.most ≡ most }
         ensures ports { result.ports.items ≡ [] }
+        ensures kept { result.kept ≡ 0 }
+        ensures goes_on { result.is_broken ≡ false }
     {
         Places {
             users: Vec::new(alloc),
             most,
             ports: Vec::new(alloc),
+            is_changed: false,
+            is_unkept: false,
+            kept: 0,
+            is_broken: false,
         }
     }
 
@@ -50,6 +66,7 @@ impl Places {
         ensures left { OnErr result (self.new.users.items ≡ self.old.users.items) }
         ensures most { self.new.most ≡ self.old.most }
         ensures ports { self.new.ports ≡ self.old.ports }
+        ensures broken { broken_of self.new ≡ broken_of self.old }
     {
         if usize::from(self.most) <= count_of(self.users.as_slice(), user) {
             return Err(Refused::UserConnections);
@@ -71,10 +88,41 @@ impl Places {
             → self.new.users.items ≡ self.old.users.items }
         ensures most { self.new.most ≡ self.old.most }
         ensures ports { self.new.ports ≡ self.old.ports }
+        ensures broken { broken_of self.new ≡ broken_of self.old }
     {
         if let Some(place) = place_of(self.users.as_slice(), user) {
             let _user = self.users.remove(place);
         }
+    }
+
+    /// Whether a connection of a user has a place.
+    pub fn has(&self, user: u16) -> bool
+        ensures value { result ≡ list_any (nat_eq user) self.now.users.items }
+    {
+        self.users.iter().any(|other| user == *other)
+    }
+
+    /// Takes it that the file has so many events. What a file has that failed stays what it was.
+    pub fn note_kept(&mut self, events: u32)
+        ensures next { self.new ≡ kept_of events self.old }
+    {
+        if !self.is_broken {
+            self.kept = events;
+        }
+    }
+
+    /// Takes it that the file has failed, where that breaks the conference off.
+    pub fn break_off(&mut self)
+        ensures next { self.new ≡ broken_off self.old }
+    {
+        self.is_broken = true;
+    }
+
+    /// Takes it that the file has failed, where the conference goes on without one.
+    pub fn unkeep(&mut self)
+        ensures next { self.new ≡ unkept self.old }
+    {
+        self.is_unkept = true;
     }
 
     /// Takes room for a port more.
@@ -82,6 +130,7 @@ impl Places {
         ensures users { self.new.users ≡ self.old.users }
         ensures most { self.new.most ≡ self.old.most }
         ensures ports { self.new.ports.items ≡ self.old.ports.items }
+        ensures broken { broken_of self.new ≡ broken_of self.old }
     {
         self.ports.reserve(1)
     }
@@ -92,6 +141,7 @@ impl Places {
         ensures most { self.new.most ≡ self.old.most }
         ensures took { OnOk result (self.new.ports.items ≡ self.old.ports.items ++ port ∷ []) }
         ensures left { OnErr result (self.new.ports.items ≡ self.old.ports.items) }
+        ensures broken { broken_of self.new ≡ broken_of self.old }
     {
         match self.ports.push(port) {
             Ok(()) => Ok(()),
@@ -112,6 +162,7 @@ impl Places {
         ensures most { self.new.most ≡ self.old.most }
         ensures given { result.items ≡ self.old.ports.items }
         ensures left { self.new.ports.items ≡ [] }
+        ensures broken { broken_of self.new ≡ broken_of self.old }
     {
         mem::replace(&mut self.ports, Vec::new(alloc))
     }

@@ -11,9 +11,10 @@ ghost use Rattle.floor_hub.specs.Members.{AreMembers, Stands};
 ghost use Rattle.floor_hub.specs.Rooms.{Forgets};
 ghost use Rattle.floor_hub.specs.declared.attached.Live.{Live};
 ghost use Rattle.floor_hub.specs.declared.connection.Connection.{Connection};
-ghost use Rattle.floor_poll.specs.Readers.{floors_text, line_of, members_text, next_place};
+ghost use Rattle.floor_poll.specs.Readers.{away_seconds, floors_text, line_of, members_text, next_place};
 ghost use Rattle.floor_room.specs.Room.{Room};
-ghost use Rattle.floor_room.specs.Status.{IsStatus};
+ghost use Rattle.floor_poll.specs.Told.{IsToldAs, broken_at, is_unkept_at, told_until};
+ghost use Rattle.indexmap.specs.IndexMap.{get};
 ghost use Rattle.floor_room.specs.Text.{lines};
 
 use crate::counters::with_conference;
@@ -37,12 +38,17 @@ impl<R: Clock + Wait + Copy + Drop> Worker<R> {
         ensures hub { self.new.hub ≡ self.old.hub }
     {
         match question {
-            Question::Status { conference } => Answer::Stands(self.stands(conference)),
+            Question::Status { conference } => {
+                Answer::Stands(self.stands(conference), self.is_unkept(conference))
+            }
             Question::Journal {
                 conference,
                 done,
                 until,
-            } => Answer::Lines(self.lines(conference, done, until)),
+            } => {
+                let until = self.until_of(conference, until);
+                Answer::Lines(self.lines(conference, done, until))
+            }
             Question::Users { conference } => Answer::Lines(self.users(conference)),
             Question::Members { conference } => Answer::Lines(self.members(conference)),
             Question::Floors { conference } => Answer::Lines(self.floors(conference)),
@@ -54,11 +60,23 @@ impl<R: Clock + Wait + Copy + Drop> Worker<R> {
         }
     }
 
+    /// How a conference stands: as its room does, or broken off since its file has failed.
     fn stands(&self, conference: u32) -> Result<Status, ControlRefusal>
-        ensures found { (r : Room) → room_at self.entry.now.hub.hub conference ≡ Some r
-            → MatchResult result (IsStatus r.ledger) (λ _. ⊥) }
+        ensures found { (r : Room) → room_at self.entry.now.hub.hub conference ≡ Some r → MatchResult result
+            (IsToldAs (broken_at (get nat_eq self.entry.now.conferences conference)) r.ledger) (λ _. ⊥) }
     {
-        self.hub.status(conference).map_err(refusal_of)
+        self.standing(conference).map_err(refusal_of)
+    }
+
+    /// Up to which event a journal is told, where that many were asked for.
+    fn until_of(&self, conference: u32, until: usize) -> usize
+        ensures value { result ≡ told_until
+            (broken_at (get nat_eq self.entry.now.conferences conference)) until }
+    {
+        match self.broken_at(conference) {
+            Some(events) => until.min(events as usize),
+            None => until,
+        }
     }
 
     /// Some lines of a journal behind the first `done` events and up to the first `until`.
@@ -85,11 +103,11 @@ impl<R: Clock + Wait + Copy + Drop> Worker<R> {
     fn standings(&self, conferences: &[u32]) -> Result<Vec<Standing>, AllocError> {
         let mut found = Vec::with_capacity(self.alloc, conferences.len())?;
         for conference in conferences {
-            if let Ok(status) = self.hub.status(*conference) {
+            if let Ok(status) = self.standing(*conference) {
                 found.push(Standing {
                     conference: *conference,
                     status,
-                    is_unkept: false,
+                    is_unkept: self.is_unkept(*conference),
                 })?;
             }
         }
@@ -101,11 +119,31 @@ impl<R: Clock + Wait + Copy + Drop> Worker<R> {
         let mut counts = self.counters;
         counts.connections = self.connections.len() as u64;
         for (conference, _) in self.conferences.iter() {
-            if let Ok(status) = self.hub.status(*conference) {
+            if let Ok(status) = self.standing(*conference) {
                 counts = with_conference(counts, status);
             }
         }
         counts
+    }
+
+    /// Whether a conference isn't kept any more that was.
+    fn is_unkept(&self, conference: u32) -> bool
+        ensures value { result ≡ is_unkept_at (get nat_eq self.entry.now.conferences conference) }
+    {
+        match self.conferences.get(&conference) {
+            Some(places) => places.is_unkept,
+            None => false,
+        }
+    }
+
+    /// For how many seconds a member has been away, where it is.
+    fn away_seconds(&self, number: ConnNo) -> Option<u64>
+        ensures value { result ≡ away_seconds self.entry.now.hub self.entry.now.now number }
+    {
+        match self.hub.away_for(number, self.now) {
+            Some(millis) => Some(millis / 1_000),
+            None => None,
+        }
     }
 
     /// Shows a member out: its member leaves, and its connection is shut down. Gives the place of that in the journal.
@@ -125,7 +163,7 @@ impl<R: Clock + Wait + Copy + Drop> Worker<R> {
             × (connection_at self.entry.now.hub.hub.connections number ≡ Some x)
             × (x.conference ≡ conference) × (x.n ≡ n)) }
     {
-        match self.hub.status(conference) {
+        match self.standing(conference) {
             Ok(status) => check_running(status.phase)?,
             Err(refusal) => return Err(refusal_of_act(refusal)),
         }
@@ -214,7 +252,7 @@ impl<R: Clock + Wait + Copy + Drop> Worker<R> {
     fn members(&self, conference: u32) -> Result<Lines, ControlRefusal>
         ensures found { (r : Room) → room_at self.entry.now.hub.hub conference ≡ Some r
             → IfOk result (λ found. (live : List Live) × AreMembers self.entry.now.hub.hub conference live
-            × (string_bytes found.text ≡ members_text r.ledger live)) }
+            × (string_bytes found.text ≡ members_text self.entry.now.hub self.entry.now.now r.ledger live)) }
     {
         match self.hub.members(conference) {
             Ok(live) => self.member_lines(conference, live),
@@ -225,7 +263,7 @@ impl<R: Clock + Wait + Copy + Drop> Worker<R> {
     /// The lines of the members of live connections.
     fn member_lines(&self, conference: u32, live: &[Live]) -> Result<Lines, ControlRefusal>
         ensures found { (r : Room) → room_at self.entry.now.hub.hub conference ≡ Some r
-            → IfOk result (λ found. string_bytes found.text ≡ members_text r.ledger live.now) }
+            → IfOk result (λ found. string_bytes found.text ≡ members_text self.entry.now.hub self.entry.now.now r.ledger live.now) }
     {
         let mut text = String::new(self.alloc);
         self.add_members(&mut text, conference, live)?;
@@ -242,7 +280,8 @@ impl<R: Clock + Wait + Copy + Drop> Worker<R> {
     ) -> Result<(), ControlRefusal>
         ensures found { (r : Room) → room_at self.entry.now.hub.hub conference ≡ Some r
             → OnOk result (string_bytes text.new
-            ≡ string_bytes text.old ++ flat_map (λ one. member_line (line_of r.ledger one)) live.now) }
+            ≡ string_bytes text.old ++ flat_map
+            (λ one. member_line (line_of self.entry.now.hub self.entry.now.now r.ledger one)) live.now) }
     {
         for one in live {
             let line = self.member_line(conference, one)?;
@@ -254,7 +293,7 @@ impl<R: Clock + Wait + Copy + Drop> Worker<R> {
     /// What the line of a live connection's member says.
     fn member_line(&self, conference: u32, one: &Live) -> Result<MemberLine, ControlRefusal>
         ensures found { (r : Room) → room_at self.entry.now.hub.hub conference ≡ Some r
-            → IfOk result (λ line. line ≡ line_of r.ledger one.now) }
+            → IfOk result (λ line. line ≡ line_of self.entry.now.hub self.entry.now.now r.ledger one.now) }
     {
         let user = self.hub.user_of(conference, one.n).map_err(refusal_of)?;
         let behind = self.hub.backlog(conference, one.n).map_err(refusal_of)?;
@@ -263,7 +302,7 @@ impl<R: Clock + Wait + Copy + Drop> Worker<R> {
             user: user.unwrap_or(0),
             behind,
             is_cut: one.is_cut,
-            away: None,
+            away: self.away_seconds(one.number),
         })
     }
 

@@ -1,7 +1,7 @@
 //! What a line is answered whom the hub refuses.
 
 ghost use Rattle.std.specs.Prelude.{◌≡◌};
-ghost use Rattle.floor_poll.specs.Refusals.{board_refusal, ended, refusal_of, refusal_of_act};
+ghost use Rattle.floor_poll.specs.Refusals.{board_refusal, broken, ended, out_of_memory, refusal_of, refusal_of_act};
 
 use floor_console::{BoardRefusal, Refusal, RoomRefusal};
 use floor_control::ControlRefusal;
@@ -38,6 +38,20 @@ pub fn ended() -> ControlRefusal
     ensures value { result ≡ ended }
 {
     ControlRefusal::ByBoard(BoardRefusal::ByRoom(RoomRefusal::Refused(Refusal::Ended)))
+}
+
+/// What a conference that is broken off refuses each act by.
+pub fn broken() -> ControlRefusal
+    ensures value { result ≡ broken }
+{
+    ControlRefusal::ByBoard(BoardRefusal::ByRoom(RoomRefusal::Refused(Refusal::Broken)))
+}
+
+/// What is answered where memory was refused.
+pub fn out_of_memory() -> ControlRefusal
+    ensures value { result ≡ out_of_memory }
+{
+    ControlRefusal::ByBoard(BoardRefusal::Memory)
 }
 
 /// What the administrator of a board is answered where a line of the control socket is so. A board forgets no

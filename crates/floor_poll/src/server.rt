@@ -1,7 +1,9 @@
 //! The server as its administrator sees it: the loops, and which of them has which conference.
 
 use crate::doors::{Gate, Listening, Ways, serve_doors};
+use crate::fresh::{Fresh, fresh_of};
 use crate::inbox::{Asker, Inbox};
+use crate::lasting::Lasting;
 use crate::log::share;
 use crate::mailbox::{Answer, Ask, Asked, Mailbox, Question, Report};
 use crate::owners::Owners;
@@ -10,13 +12,16 @@ use crate::refusals::board_refusal;
 use crate::worker::{Room, WAKER, serve};
 use floor_config::Config;
 use floor_console::{Board, BoardRefusal, Floor, StopRefusal, Stopped, Text, User};
+use floor_keep::{Listing, Lock};
 use floor_loop::{Act, Status};
 use floor_room::add_end;
-use floor_server::{Door, Log, PortFault, Reason, UserPort, configurations, read_text};
+use floor_server::{Door, Log, PortFault, Reason, UserPort, read_text};
 use mio::{Poll, Waker};
 use std::alloc::{AllocError, Global};
+use std::fs::File;
 use std::net::Net;
 use std::rt::Files;
+use std::sync::atomic::{AtomicBool, Ordering};
 use std::sync::{Arc, Mutex, Wait};
 use std::thread::{JoinHandle, Threads};
 use std::time::Clock;
@@ -25,14 +30,23 @@ use std::{fs, thread};
 /// The loops of a server, and their conferences.
 #[derive(Drop)]
 pub struct Server<R> {
-    rt: R,
-    alloc: Global,
+    pub(crate) rt: R,
+    pub(crate) alloc: Global,
     loops: Vec<Serving>,
     owners: Arc<Mutex<Owners>, Global>,
     doors: Option<ServingDoors>,
     outcome: Option<Result<Stopped, StopRefusal>>,
     /// What a person has yet to be told of the last refusal.
-    told: Option<String>,
+    pub(crate) told: Option<String>,
+    pub(crate) lasting: Lasting,
+    /// The hold of this process on the folder of the kept conferences.
+    lock: Option<Lock>,
+    /// What the folder had at the start.
+    pub(crate) listing: Option<Listing>,
+    /// How many of its conferences were looked at.
+    pub(crate) looked: usize,
+    /// Whether the folder is another server's.
+    is_lost: AtomicBool,
 }
 
 /// A loop that runs.
@@ -51,9 +65,20 @@ struct ServingDoors {
 
 impl<R> Server<R>
 where
-    R: Net + Files + AllocGlobal + Clock + Threads + Wait + Copy + Drop + Send + 'static,
+    R: Net
+        + Files<File = File>
+        + AllocGlobal
+        + Clock
+        + Threads
+        + Wait
+        + Copy
+        + Drop
+        + Send
+        + 'static,
+    R::Dir: Send,
 {
-    /// Starts so many loops, which tell the inbox what is asked by somebody who isn't waited for. Without memory,
+    /// Starts so many loops, which tell the inbox what is asked by somebody who isn't waited for; members last and
+    /// conferences are kept as is said, in a folder that is held as long as the server lives. Without memory,
     /// descriptors or threads for all of them none runs.
     pub fn start(
         rt: R,
@@ -61,6 +86,8 @@ where
         loops: usize,
         log: &Option<Arc<Log, Global>>,
         inbox: &Option<Arc<Inbox, Global>>,
+        lasting: Lasting,
+        lock: Option<Lock>,
     ) -> Result<Server<R>, AllocError> {
         let mut server = Server {
             rt,
@@ -70,9 +97,14 @@ where
             doors: None,
             outcome: None,
             told: None,
+            lasting,
+            lock,
+            listing: None,
+            looked: 0,
+            is_lost: AtomicBool::new(false),
         };
         for _ in 0..loops {
-            match start_one(rt, alloc, log, inbox) {
+            match start_one(rt, alloc, log, inbox, &server.lasting) {
                 Ok(one) => server.loops.push(one)?,
                 Err(error) => {
                     let _outcome = server.stop();
@@ -197,15 +229,18 @@ fn start_one<R>(
     alloc: Global,
     log: &Option<Arc<Log, Global>>,
     inbox: &Option<Arc<Inbox, Global>>,
+    lasting: &Lasting,
 ) -> Result<Serving, AllocError>
 where
-    R: Net + Clock + Threads + Wait + Copy + Drop + Send + 'static,
+    R: Net + Files<File = File> + Clock + Threads + Wait + Copy + Drop + Send + 'static,
+    R::Dir: Send,
 {
     let (poll, waker) = poll_of(&rt)?;
     let (mailbox, theirs) = mailboxes(alloc, waker)?;
     let log = share(log)?;
     let inbox = share(inbox)?;
-    let thread = start_thread(rt, alloc, poll, log, inbox, theirs)?;
+    let lasting = lasting.copy()?;
+    let thread = start_thread(rt, alloc, poll, log, inbox, lasting, theirs)?;
     Ok(Serving { mailbox, thread })
 }
 
@@ -241,22 +276,24 @@ fn start_thread<R>(
     poll: Poll,
     log: Option<Arc<Log, Global>>,
     inbox: Option<Arc<Inbox, Global>>,
+    lasting: Lasting,
     mailbox: Arc<Mailbox, Global>,
 ) -> Result<JoinHandle<()>, AllocError>
 where
-    R: Clock + Threads + Wait + Copy + Drop + Send + 'static,
+    R: Files<File = File> + Clock + Threads + Wait + Copy + Drop + Send + 'static,
+    R::Dir: Send,
 {
     let room = Room::new(alloc)?;
     match thread::spawn(
         &rt,
-        move || serve(rt, alloc, poll, log, inbox, room, &mailbox),
+        move || serve(rt, alloc, poll, log, inbox, lasting, room, &mailbox),
     ) {
         Ok(thread) => Ok(thread),
         Err(_) => Err(AllocError),
     }
 }
 
-impl<R: Net + Files + AllocGlobal + Clock + Threads + Wait + Drop> Server<R> {
+impl<R: Net + Files<File = File> + AllocGlobal + Clock + Threads + Wait + Drop> Server<R> {
     /// What the stop found, once it was asked for.
     pub fn outcome(&self) -> Option<Result<Stopped, StopRefusal>> {
         self.outcome
@@ -265,6 +302,16 @@ impl<R: Net + Files + AllocGlobal + Clock + Threads + Wait + Drop> Server<R> {
     /// What a person is to be told of the last refusal, a line, once.
     pub fn take_told(&mut self) -> Option<String> {
         self.told.take()
+    }
+
+    /// Whether the folder of the kept conferences is another server's.
+    pub fn is_lost(&self) -> bool {
+        self.is_lost.load(Ordering::SeqCst)
+    }
+
+    /// Whether conferences are kept.
+    pub fn keeps(&self) -> bool {
+        self.lasting.folder.is_some()
     }
 
     /// Waits until the threads of the loops have ended, behind a stop.
@@ -276,7 +323,7 @@ impl<R: Net + Files + AllocGlobal + Clock + Threads + Wait + Drop> Server<R> {
     }
 
     /// Keeps what a person is to be told, and gives the refusal.
-    fn refuse(&mut self, reason: Reason) -> BoardRefusal {
+    pub(crate) fn refuse(&mut self, reason: Reason) -> BoardRefusal {
         let Reason { refusal, line } = reason;
         self.told = line;
         refusal
@@ -285,17 +332,17 @@ impl<R: Net + Files + AllocGlobal + Clock + Threads + Wait + Drop> Server<R> {
     /// Opens the conferences of a file, and tells how many.
     pub fn open_file(&mut self, path: &str) -> Result<usize, BoardRefusal> {
         let mut count = 0usize;
-        for config in self.read_file(path)? {
-            self.open_one(config)?;
+        for fresh in self.read_file(path)? {
+            self.open_one(fresh)?;
             count = count.saturating_add(1);
         }
         Ok(count)
     }
 
-    /// The configurations of a file.
-    pub fn read_file(&mut self, path: &str) -> Result<Vec<Config>, BoardRefusal> {
+    /// The conferences of a configuration's file.
+    pub fn read_file(&mut self, path: &str) -> Result<Vec<Fresh>, BoardRefusal> {
         match self.read(path) {
-            Ok(configs) => Ok(configs),
+            Ok(all) => Ok(all),
             Err(reason) => Err(self.refuse(reason)),
         }
     }
@@ -314,15 +361,15 @@ impl<R: Net + Files + AllocGlobal + Clock + Threads + Wait + Drop> Server<R> {
     }
 
     /// Reads and checks a file whole.
-    fn read(&self, path: &str) -> Result<Vec<Config>, Reason> {
+    fn read(&self, path: &str) -> Result<Vec<Fresh>, Reason> {
         let text = read_text(&self.rt, self.alloc, path)?;
-        configurations(self.alloc, path, text.as_str())
+        fresh_of(self.alloc, path, text.as_str(), self.keeps())
     }
 
     /// Opens one conference, in the loop whose turn it is.
-    pub fn open_one(&mut self, config: Config) -> Result<(), BoardRefusal> {
-        let conference = config.conference();
-        let asked = self.opening_of(config)?;
+    pub fn open_one(&mut self, fresh: Fresh) -> Result<(), BoardRefusal> {
+        let conference = fresh.config.conference();
+        let asked = self.opening_of(fresh)?;
         let next = self.next_loop(0);
         match self.ask_at(next, asked) {
             Some(Answer::Done(Ok(_))) => self.take_opened(conference, next),
@@ -332,15 +379,30 @@ impl<R: Net + Files + AllocGlobal + Clock + Threads + Wait + Drop> Server<R> {
     }
 
     /// What is asked of a loop that is to open a conference: its ports are listened on, and there is room for it.
-    pub fn opening_of(&mut self, config: Config) -> Result<Asked, BoardRefusal> {
-        if self.owner(config.conference()).is_some() {
+    /// One that the folder has or had is used.
+    pub fn opening_of(&mut self, fresh: Fresh) -> Result<Asked, BoardRefusal> {
+        let conference = fresh.config.conference();
+        if self.owner(conference).is_some() || self.is_taken(conference) {
             return Err(BoardRefusal::Used);
         }
-        self.owners.lock(&self.rt).reserve()?;
-        match self.listen_all(&config) {
-            Ok(ports) => Ok(Asked::Open { config, ports }),
+        self.reserve_owner()?;
+        match self.listen_all(&fresh.config) {
+            Ok(ports) => Ok(Asked::Open { fresh, ports }),
             Err(reason) => Err(self.refuse(reason)),
         }
+    }
+
+    /// Whether the folder had a file of a conference at the start, which goes on or was closed.
+    fn is_taken(&self, conference: u32) -> bool {
+        match &self.listing {
+            Some(listing) => listing.has_journal(conference) || listing.is_closed(conference),
+            None => false,
+        }
+    }
+
+    /// Takes room for a conference more.
+    pub(crate) fn reserve_owner(&self) -> Result<(), AllocError> {
+        self.owners.lock(&self.rt).reserve()
     }
 
     /// The loop whose turn it is behind so many that are opened.
@@ -354,7 +416,7 @@ impl<R: Net + Files + AllocGlobal + Clock + Threads + Wait + Drop> Server<R> {
     }
 
     /// Listens on the port of each user of a configuration who has one.
-    fn listen_all(&self, config: &Config) -> Result<Vec<Port>, Reason> {
+    pub(crate) fn listen_all(&self, config: &Config) -> Result<Vec<Port>, Reason> {
         let mut ports = Vec::new(self.alloc);
         for user in config.users() {
             if let Some(port) = user.port {
@@ -368,7 +430,7 @@ impl<R: Net + Files + AllocGlobal + Clock + Threads + Wait + Drop> Server<R> {
     }
 
     /// Listens on a user's port.
-    fn listen(&self, conference: u32, user: u16, port: u16) -> Result<Port, Reason> {
+    pub(crate) fn listen(&self, conference: u32, user: u16, port: u16) -> Result<Port, Reason> {
         let place = UserPort {
             conference,
             user,
@@ -427,10 +489,34 @@ impl<R: Net + Files + AllocGlobal + Clock + Threads + Wait + Drop> Server<R> {
     }
 
     /// Asks a loop, and waits for its answer.
-    fn ask_at(&self, place: usize, asked: Asked) -> Option<Answer> {
+    pub(crate) fn ask_at(&self, place: usize, asked: Asked) -> Option<Answer> {
         let one = self.loops.get(place)?;
+        if self.is_lost() {
+            return None;
+        }
         one.mailbox.ask(&self.rt, asked);
-        one.mailbox.answer(&self.rt)
+        let answer = one.mailbox.answer(&self.rt);
+        if matches!(answer, Some(Answer::Lost)) {
+            self.lose();
+        }
+        answer
+    }
+
+    /// Asks a loop to let a conference go on, and doesn't wait for the answer.
+    pub(crate) fn ask_to_resume(&self, place: usize, conference: u32) {
+        if let Some(one) = self.loops.get(place) {
+            one.mailbox.ask(&self.rt, Asked::Resume { conference });
+        }
+    }
+
+    /// Waits for the answer of a loop that was asked.
+    pub(crate) fn last_answer(&self, place: usize) -> Option<Answer> {
+        self.last_of(self.loops.get(place)?)
+    }
+
+    /// Takes it that the folder of the kept conferences is another server's: nothing is asked of the loops any more.
+    pub fn lose(&self) {
+        self.is_lost.store(true, Ordering::SeqCst);
     }
 
     /// Asks the loop of a conference, and waits for its answer.
@@ -461,7 +547,7 @@ impl<R: Net + Files + AllocGlobal + Clock + Threads + Wait + Drop> Server<R> {
     fn stands(&self, conference: u32) -> Result<Status, BoardRefusal> {
         let question = Question::Status { conference };
         match self.ask(conference, Asked::Tell(question))? {
-            Answer::Stands(found) => found.map_err(board_refusal),
+            Answer::Stands(found, _) => found.map_err(board_refusal),
             _ => Err(BoardRefusal::Memory),
         }
     }
@@ -516,13 +602,15 @@ impl<R: Net + Files + AllocGlobal + Clock + Threads + Wait + Drop> Server<R> {
     /// Has all loops end, beside each other, and gives what they had together.
     fn stop_all(&self) -> Result<Stopped, StopRefusal> {
         for one in self.loops.iter() {
-            one.mailbox.ask(&self.rt, Asked::Stop);
+            if !self.is_lost() {
+                one.mailbox.ask(&self.rt, Asked::Stop);
+            }
         }
         let mut seats = 0usize;
         let mut events = 0u128;
         let mut broken = None;
         for one in self.loops.iter() {
-            if let Some(Answer::Stopped(report)) = one.mailbox.answer(&self.rt) {
+            if let Some(Answer::Stopped(report)) = self.last_of(one) {
                 seats = seats.saturating_add(report.joined);
                 events = events.saturating_add(report.events);
                 broken = self.first(broken, report);
@@ -532,6 +620,18 @@ impl<R: Net + Files + AllocGlobal + Clock + Threads + Wait + Drop> Server<R> {
             Some(conference) => Err(StopRefusal::Broken { conference }),
             None => Ok(Stopped { seats, events }),
         }
+    }
+
+    /// What a loop answers at the end. It isn't waited for where the folder is another server's.
+    fn last_of(&self, one: &Serving) -> Option<Answer> {
+        if self.is_lost() {
+            return None;
+        }
+        let answer = one.mailbox.answer(&self.rt);
+        if matches!(answer, Some(Answer::Lost)) {
+            self.lose();
+        }
+        answer
     }
 
     /// Of two conferences the one that was opened first.
@@ -550,7 +650,8 @@ impl<R: Net + Files + AllocGlobal + Clock + Threads + Wait + Drop> Server<R> {
     }
 }
 
-impl<R: Net + Files + AllocGlobal + Clock + Threads + Wait + Drop> Board for Server<R> {
+impl<R: Net + Files<File = File> + AllocGlobal + Clock + Threads + Wait + Drop> Board
+    for Server<R> {
     ghost opens = { λ _ _ _ _. Unit {0} };
 
     ghost closes = { λ _ _ _ _. Unit {0} };

@@ -1,17 +1,20 @@
 //! A connection's turn: what came is read and served, what is queued is written, and who is to be shut down is.
 
-ghost use Rattle.std.specs.Prelude.{◌≡◌, None, OnOk};
-ghost use Rattle.floor_hub.specs.Connections.{connection_at};
+ghost use Rattle.std.specs.Prelude.{◌≡◌, ℕ, [], OnOk, false, nat_eq};
 ghost use Rattle.floor_hub.specs.declared.step.Step.TheVariants.{Leave, Serve};
 ghost use Rattle.floor_loop.specs.Done.{AtMost, Each, Hands, Reads, Steps};
 ghost use Rattle.floor_loop.specs.Loop.{HasFailed, IsEnded};
-ghost use Rattle.floor_loop.specs.Written.{TookNothing};
+ghost use Rattle.floor_loop.specs.Written.{Took, TookNothing};
+ghost use Rattle.floor_poll.specs.Ends.{IsLetGo};
 
+use crate::away::Closed;
 use crate::connection::{Connection, Found, Written, shut_down};
 use crate::departure::{End, departure_of};
+use crate::keeping::MaySend;
 use crate::worker::Worker;
 use floor_loop::{ConnNo, HubRefusal, Loop};
 use floor_room::Phase;
+use floor_server::{Departure, Peer};
 use std::sync::Wait;
 use std::time::{Clock, Instant};
 
@@ -49,7 +52,7 @@ impl<R: Clock + Wait + Copy + Drop> Worker<R> {
                 return;
             };
             self.serve_turn(number);
-            self.write_ready();
+            self.write_turn();
         }
     }
 
@@ -213,33 +216,55 @@ impl<R: Clock + Wait + Copy + Drop> Worker<R> {
         }
     }
 
+    /// The same as `write_ready`, but where conferences are kept: then nothing is written before the turn is kept.
+    pub fn write_turn(&mut self) {
+        if let Some(may) = self.may_send() {
+            self.write_ready(may);
+        }
+    }
+
     /// Writes to each connection that has something to write, and shuts down each that is to be.
-    pub fn write_ready(&mut self) {
+    pub fn write_ready(&mut self, may: MaySend) {
         for _ in 0..u64::MAX {
             match self.hub.ready() {
-                Some(number) => self.write(number),
+                Some(number) => self.write(number, may),
                 None => return,
             }
         }
     }
 
     /// Writes what is to be written to a connection, as far as its socket takes it, and shuts it down where it is
-    /// to be and nothing is left.
-    pub fn write(&mut self, number: ConnNo) {
+    /// to be and nothing is left; once all that is kept is sent, where conferences are kept.
+    pub fn write(&mut self, number: ConnNo, may: MaySend) {
         let before = self.before_of(number);
-        let is_written = self.write_whole(number);
+        let is_written = self.write_whole(number, may);
         self.note_taken(before);
-        // Whoever's socket failed is among them.
-        if is_written && self.hub.until(number).is_some() {
+        if !is_written || (self.hub.until(number).is_none() && !self.has_failed(number)) {
+            return;
+        }
+        if self.keeps() {
+            self.put_over(number);
+        } else {
+            self.finish(number);
+        }
+    }
+
+    /// Serves what came from a connection whose socket has failed, and shuts it down where it is to be.
+    pub fn finish(&mut self, number: ConnNo) {
+        if self.has_failed(number) {
+            self.fail(number);
+        }
+        if self.hub.until(number).is_some() {
             self.end(number);
         }
     }
 
     /// Writes what is to be written to a connection, as far as its socket takes it, and says whether nothing is left
-    /// or its socket has failed.
-    fn write_whole(&mut self, number: ConnNo) -> bool {
+    /// or its socket has failed. What is told to a member without a connection is dropped.
+    fn write_whole(&mut self, number: ConnNo, _may: MaySend) -> bool {
         let Some(connection) = self.connections.get_mut(&number) else {
-            return false;
+            self.hub.discard(number);
+            return true;
         };
         if connection.has_failed && connection.has_more {
             return false;
@@ -253,12 +278,8 @@ impl<R: Clock + Wait + Copy + Drop> Worker<R> {
                 Written::Failure => {
                     connection.end = connection.end.or(Some(End::Failure));
                     connection.has_failed = true;
-                    if connection.has_more {
-                        // What it has sent is served turn by turn before it is shut down.
-                        return false;
-                    }
-                    self.fail(number);
-                    break;
+                    // What it has sent is served turn by turn before it is shut down.
+                    return !connection.has_more;
                 }
             }
         }
@@ -267,60 +288,106 @@ impl<R: Clock + Wait + Copy + Drop> Worker<R> {
 
     /// Shuts down each connection whose time is over.
     pub fn end_due(&mut self) {
+        if self.is_pausing() {
+            return self.end_stopped();
+        }
         for _ in 0..u64::MAX {
             match self.hub.due(self.now) {
                 Some(number) => self.end(number),
                 None => break,
             }
         }
-        self.write_ready();
+        self.write_turn();
     }
 
-    /// Shuts a connection down: its member leaves.
+    /// Shuts each connection down once a stop has lasted long enough.
+    fn end_stopped(&mut self) {
+        if self.now < self.stops_by {
+            return;
+        }
+        for _ in 0..self.connections.len() {
+            let Some((number, _)) = self.connections.first() else {
+                return;
+            };
+            let number = *number;
+            self.end(number);
+        }
+    }
+
+    /// Shuts a connection down: its member leaves, or stays where it was lost and may.
     pub fn end(&mut self, number: ConnNo)
         ensures steps { Steps (AtMost 1 (Leave number)) self.old.hub.hub self.new.hub.hub }
-        ensures took { TookNothing self.old.hub self.new.hub }
-        ensures left { connection_at self.new.hub.hub.connections number ≡ None }
+        ensures others { (k : ℕ) → nat_eq number k ≡ false
+            → Took self.old.hub self.new.hub k [] 0 }
+        ensures gone { IsLetGo self.old.is_stopping self.new.hub number }
     {
         let before = self.before_of(number);
-        self.close(number);
-        let _left = self.hub.leave(number, self.now);
+        self.part_with(number);
         let _count = self.note_events(before);
     }
 
-    /// Closes a connection's socket, and gives its place back.
-    fn close(&mut self, number: ConnNo)
-        ensures hub { self.new.hub ≡ self.old.hub }
+    /// The same, whatever follows here.
+    fn part_with(&mut self, number: ConnNo)
+        ensures steps { Steps (AtMost 1 (Leave number)) self.old.hub.hub self.new.hub.hub }
+        ensures others { (k : ℕ) → nat_eq number k ≡ false
+            → Took self.old.hub self.new.hub k [] 0 }
+        ensures gone { IsLetGo self.old.is_stopping self.new.hub number }
     {
-        let Some(mut connection) = self.connections.swap_remove(&number) else {
-            return;
-        };
-        self.tell_left(number, &connection);
-        shut_down(&mut connection.stream, self.buffer.as_mut_slice());
-        let to = connection.peer.to;
-        if let Some(places) = self.conferences.get_mut(&to.conference) {
-            places.give_back(to.user);
+        match self.close(number) {
+            Some(closed) => self.let_go(number, closed),
+            None => self.leave_away(number),
         }
     }
 
-    /// Tells the log, where there is one, why a member leaves.
-    fn tell_left(&mut self, number: ConnNo, connection: &Connection)
+    /// Closes a connection's socket, gives its place back, and says who it was and why it isn't served any more;
+    /// `None` where there is none.
+    fn close(&mut self, number: ConnNo) -> Option<Closed>
         ensures hub { self.new.hub ≡ self.old.hub }
+        ensures stopping { self.new.is_stopping ≡ self.old.is_stopping }
     {
-        if self.hub.is_cut(number) {
+        let mut connection = self.connections.swap_remove(&number)?;
+        let departure = self.departure(number, &connection);
+        shut_down(&mut connection.stream, self.buffer.as_mut_slice());
+        let Peer { to, port: _ } = connection.peer;
+        if let Some(places) = self.conferences.get_mut(&to.conference) {
+            places.give_back(to.user);
+        }
+        Some(Closed {
+            peer: connection.peer,
+            n: connection.n,
+            departure,
+        })
+    }
+
+    /// Why a connection isn't served any more.
+    fn departure(&mut self, number: ConnNo, connection: &Connection) -> Departure
+        ensures hub { self.new.hub ≡ self.old.hub }
+        ensures stopping { self.new.is_stopping ≡ self.old.is_stopping }
+    {
+        let is_cut = self.hub.is_cut(number);
+        self.count_cut(is_cut);
+        let phase = self
+            .standing(connection.peer.to.conference)
+            .map_or(Phase::Ended, |status| status.phase);
+        departure_of(phase, is_cut, self.is_stopping, connection.end)
+    }
+
+    /// Counts one that leaves, where it is cut.
+    pub fn count_cut(&mut self, is_cut: bool)
+        ensures hub { self.new.hub ≡ self.old.hub }
+        ensures stopping { self.new.is_stopping ≡ self.old.is_stopping }
+    {
+        if is_cut {
             self.counters.cut = self.counters.cut.saturating_add(1);
         }
-        let Some(log) = &self.log else {
-            return;
-        };
-        let conference = connection.peer.to.conference;
-        let phase = self
-            .hub
-            .status(conference)
-            .map_or(Phase::Ended, |status| status.phase);
-        let is_cut = self.hub.is_cut(number);
-        let departure = departure_of(phase, is_cut, self.is_stopping, connection.end);
-        log.tell_left(&self.rt, connection.peer, connection.n, departure);
+    }
+
+    /// Tells the log, where there is one, why a member has left.
+    pub fn tell_left(&self, closed: Closed) {
+        match &self.log {
+            Some(log) => log.tell_left(&self.rt, closed.peer, closed.n, closed.departure),
+            None => {}
+        }
     }
 }
 

@@ -1,15 +1,19 @@
 //! A loop's thread: it waits for its sockets, and for what the first thread asks.
 
+use crate::away::Away;
 use crate::connection::Connection;
 use crate::counters::no_counts;
-use crate::elapsed::Elapsed;
+use crate::elapsed::{Elapsed, earlier};
 use crate::inbox::Inbox;
+use crate::keeping::{Held, LAST_MILLIS};
+use crate::lasting::Lasting;
 use crate::log::tell;
 use crate::mailbox::{Answer, Mailbox, Report};
 use crate::places::Places;
 use crate::port::Port;
 use floor_control::Metrics;
-use floor_loop::{ConnNo, Loop};
+use floor_keep::{Folder, Keeper};
+use floor_loop::{ConnNo, Grace, Loop};
 use floor_room::Phase;
 use floor_server::{Entry, Log};
 use indexmap::IndexMap;
@@ -17,6 +21,8 @@ use mio::event::Event;
 use mio::{Events, Poll, Token};
 use std::alloc::{AllocError, Global};
 use std::collections::VecDeque;
+use std::fs::File;
+use std::rt::Files;
 use std::sync::{Arc, Wait};
 use std::thread;
 use std::time::{Clock, Duration};
@@ -55,6 +61,25 @@ pub struct Worker<R> {
     pub buffer: Vec<u8>,
     pub log: Option<Arc<Log, Global>>,
     pub is_stopping: bool,
+    /// By when a stop ends.
+    pub stops_by: u64,
+    /// Whether members outlive their connections, and conferences are kept or aren't.
+    pub lasts: bool,
+    /// Whether a connection that ended in order is lost too.
+    pub is_for_all: bool,
+    /// Who is away.
+    pub away: IndexMap<ConnNo, Away>,
+    /// The files of the conferences, where they are kept.
+    pub keeper: Option<Keeper<File>>,
+    /// The conferences that have events which their files may lack, each once.
+    pub changed: VecDeque<u32>,
+    /// Who may be written to again, and who is to be shut down, once the turn is kept.
+    pub unblocked: VecDeque<ConnNo>,
+    pub over: VecDeque<ConnNo>,
+    /// What waits to be told until the turn is kept.
+    pub held: VecDeque<Held>,
+    /// Whether the folder of the kept conferences is another server's.
+    pub is_lost: bool,
     pub joined: usize,
     /// What the first thread is told by, where it serves a control socket.
     pub inbox: Option<Arc<Inbox, Global>>,
@@ -68,6 +93,8 @@ pub struct Worker<R> {
     pub last_open: u32,
     pub counters: Metrics,
     elapsed: Elapsed,
+    /// Whether time goes by: not before the conferences of the folder go on, where they are kept.
+    is_begun: bool,
     /// How late it is, in milliseconds since the loop began.
     pub now: u64,
 }
@@ -80,14 +107,32 @@ impl<R: Clock + Drop> Worker<R> {
         poll: Poll,
         log: Option<Arc<Log, Global>>,
         inbox: Option<Arc<Inbox, Global>>,
+        lasting: Lasting,
         buffer: Vec<u8>,
     ) -> Worker<R> {
+        let lasts = lasting.is_asked();
+        let Lasting {
+            grace,
+            is_for_all,
+            folder,
+        } = lasting;
         Worker {
             elapsed: Elapsed::begin(&rt),
             rt,
             alloc,
             poll,
-            hub: Loop::new(alloc),
+            hub: hub_of(alloc, lasts, grace),
+            is_begun: folder.is_none(),
+            stops_by: 0,
+            lasts,
+            is_for_all,
+            away: IndexMap::new(alloc),
+            keeper: keeper_of(folder),
+            changed: VecDeque::new(alloc),
+            unblocked: VecDeque::new(alloc),
+            over: VecDeque::new(alloc),
+            held: VecDeque::new(alloc),
+            is_lost: false,
             conferences: IndexMap::new(alloc),
             ports: IndexMap::new(alloc),
             last_port: WAKER.0 as u64 + 1,
@@ -111,8 +156,19 @@ impl<R: Clock + Drop> Worker<R> {
 
     /// Looks at the clock.
     fn look(&mut self) {
+        if !self.is_begun {
+            return;
+        }
         if let Some(millis) = self.elapsed.millis(&self.rt) {
             self.now = millis;
+        }
+    }
+
+    /// Time goes by from now on.
+    pub fn begin(&mut self) {
+        if !self.is_begun {
+            self.is_begun = true;
+            self.elapsed = Elapsed::begin(&self.rt);
         }
     }
 
@@ -121,13 +177,27 @@ impl<R: Clock + Drop> Worker<R> {
         if !self.turns.is_empty() || self.has_asks {
             return Some(Duration::ZERO);
         }
-        let next = match (self.hub.next_due(), self.again) {
-            (Some(due), Some(again)) => due.min(again),
-            (Some(due), None) => due,
-            (None, Some(again)) => again,
-            (None, None) => return None,
-        };
+        let next = earlier(self.next_due(), earlier(self.again, self.next_keep()))?;
         Some(Duration::from_millis(next.saturating_sub(self.now)))
+    }
+
+    /// When the next of its connections is to be shut down.
+    fn next_due(&mut self) -> Option<u64> {
+        if self.is_pausing() {
+            return Some(self.stops_by);
+        }
+        self.hub.next_due()
+    }
+
+    /// When something is to be written to the files, or the disk is to be asked for it.
+    fn next_keep(&self) -> Option<u64> {
+        let keeper = self.keeper.as_ref()?;
+        let next = if self.changed.is_empty() {
+            None
+        } else {
+            Some(self.now.saturating_add(LAST_MILLIS))
+        };
+        earlier(next, keeper.next_sync())
     }
 
     /// What the loop had.
@@ -135,7 +205,7 @@ impl<R: Clock + Drop> Worker<R> {
         let mut events = u128::from(self.counters.events);
         let mut broken = None;
         for (conference, _) in self.conferences.iter() {
-            if let Ok(status) = self.hub.status(*conference) {
+            if let Ok(status) = self.standing(*conference) {
                 events = events.saturating_add(u128::from(status.events));
                 if status.phase == Phase::Broken && broken.is_none() {
                     broken = Some(*conference);
@@ -150,8 +220,9 @@ impl<R: Clock + Drop> Worker<R> {
     }
 }
 
-impl<R: Clock + Wait + Copy + Drop> Worker<R> {
-    /// Serves until it is asked to end and nobody is connected any more.
+impl<R: Files<File = File> + Clock + Wait + Copy + Drop> Worker<R> {
+    /// Serves until it is asked to end and nobody is connected any more; or until the folder of its conferences is
+    /// another server's.
     fn run(mut self, mailbox: &Mailbox, mut events: Events<Global>) {
         let rt = self.rt;
         for _ in rt.forever() {
@@ -176,14 +247,31 @@ impl<R: Clock + Wait + Copy + Drop> Worker<R> {
                 self.answer_asks(mailbox);
             }
             self.end_due();
+            self.send_kept(mailbox);
             self.tell_drained();
-            if self.is_stopping && self.connections.is_empty() {
-                mailbox.reply(&rt, Answer::Stopped(self.report()));
+            if self.is_over(mailbox) {
                 return;
             }
         }
     }
 
+    /// Whether it has ended, which the first thread is told then.
+    fn is_over(&mut self, mailbox: &Mailbox) -> bool {
+        if self.is_stopping && self.connections.is_empty() {
+            self.keep_last();
+            if !self.is_lost {
+                mailbox.reply(&self.rt, Answer::Stopped(self.report()));
+                return true;
+            }
+        }
+        if self.is_lost {
+            self.tell_lost(mailbox);
+        }
+        self.is_lost
+    }
+}
+
+impl<R: Clock + Wait + Copy + Drop> Worker<R> {
     /// Takes down what a socket is ready for.
     fn note(&mut self, event: &Event) {
         let token = event.token().0 as u64;
@@ -210,7 +298,21 @@ impl<R: Clock + Wait + Copy + Drop> Worker<R> {
             self.queue(number);
         }
         if writes {
-            self.write(number);
+            self.write_again(number);
+        }
+    }
+
+    /// Writes to a connection that takes something again; once the turn is kept, where it is. There is room for it
+    /// since it was accepted.
+    fn write_again(&mut self, number: ConnNo) {
+        if let Some(may) = self.may_send() {
+            return self.write(number, may);
+        }
+        if let Some(connection) = self.connections.get_mut(&number) {
+            if connection.is_blocked {
+                connection.is_blocked = false;
+                let _put = self.unblocked.push_back(number);
+            }
         }
     }
 }
@@ -241,15 +343,33 @@ impl Room {
 }
 
 /// What a loop's thread does: it serves until it is asked to end and nobody is connected any more.
-pub fn serve<R: Clock + Wait + Copy + Drop>(
+pub fn serve<R: Files<File = File> + Clock + Wait + Copy + Drop>(
     rt: R,
     alloc: Global,
     poll: Poll,
     log: Option<Arc<Log, Global>>,
     inbox: Option<Arc<Inbox, Global>>,
+    lasting: Lasting,
     room: Room,
     mailbox: &Mailbox,
 ) {
     let Room { events, buffer } = room;
-    Worker::new(rt, alloc, poll, log, inbox, buffer).run(mailbox, events);
+    Worker::new(rt, alloc, poll, log, inbox, lasting, buffer).run(mailbox, events);
+}
+
+/// The files of a loop without a conference, where there is a folder for them. Takes no memory.
+fn keeper_of(folder: Option<Folder>) -> Option<Keeper<File>> {
+    match folder {
+        Some(folder) => Some(Keeper::new(folder)),
+        None => None,
+    }
+}
+
+/// The hub of a loop without a conference. Takes no memory.
+fn hub_of(alloc: Global, lasts: bool, grace: Grace) -> Loop {
+    if lasts {
+        Loop::with_grace(alloc, grace)
+    } else {
+        Loop::new(alloc)
+    }
 }

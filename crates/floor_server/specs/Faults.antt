@@ -8,8 +8,10 @@ use Rattle.floor_console.specs.declared.board.BoardRefusal.{BoardRefusal}
 use Rattle.floor_console.specs.declared.board.BoardRefusal.TheVariants as board
 use Rattle.floor_console.specs.declared.board.StopRefusal.{StopRefusal}
 use Rattle.floor_console.specs.declared.board.StopRefusal.TheVariants as stop
+use Rattle.floor_keep.specs.declared.fault.KeepFault.{KeepFault}
+use Rattle.floor_keep.specs.declared.fault.KeepFault.TheVariants as keep
 use Rattle.floor_listen.specs.declared.ending.ServerFault.{ServerFault}
-use Rattle.floor_listen.specs.declared.ending.ServerFault.TheVariants.{CannotRead, ByConfiguration, CannotListen, Broken, Mismatch, Memory}
+use Rattle.floor_listen.specs.declared.ending.ServerFault.TheVariants.{CannotRead, ByConfiguration, CannotListen, CannotKeep, Lost, Broken, Mismatch, Memory}
 use Rattle.floor_server.specs.declared.reason.PortFault.{PortFault}
 use Rattle.floor_server.specs.declared.reason.PortFault.TheVariants as port
 
@@ -27,6 +29,12 @@ fault_of_opening board.Memory = Memory
 abbrev pub fault_of_stop : StopRefusal → ServerFault
 fault_of_stop (stop.Broken conference) = Broken
 fault_of_stop (stop.Mismatch conference n) = Mismatch
+
+-- the fault of a server that can't keep its conferences
+abbrev pub fault_of_keeping : KeepFault → ServerFault
+fault_of_keeping keep.CannotKeep = CannotKeep
+fault_of_keeping keep.Lost = Lost
+fault_of_keeping keep.Memory = Memory
 
 -- what is answered where a file can't be read, by the kind of the system's error
 abbrev pub refusal_of_reading : ErrorKind → BoardRefusal

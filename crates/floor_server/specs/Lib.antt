@@ -1,4 +1,5 @@
 pub mod Words
+pub mod Keeping
 pub mod Console
 pub mod Faults
 pub mod Departures

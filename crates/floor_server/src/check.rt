@@ -1,14 +1,21 @@
 //! A configuration that is checked and not served.
 
+ghost use Rattle.std.specs.Prelude.{◌≡◌, ◌≢◌, IfOk, Some};
+ghost use Rattle.floor_listen.specs.declared.ending.Ending.TheVariants.{InOrder};
+ghost use Rattle.floor_server.specs.Faults.{fault_of_keeping, fault_of_opening};
+
 use crate::entry::Door;
-use crate::fault::fault_of_opening;
+use crate::fault::{fault_of_keeping, fault_of_opening};
 use crate::lines::print;
 use crate::reason::{PortFault, Reason, configurations, read_text};
 use crate::words::Program;
 use floor_config::{Config, User};
 use floor_diagnosis::unknown_keys;
+use floor_keep::{
+    CheckFault, KeepReason, Keeping, NotAJournal, check_kept, list_folder, name_folder,
+};
 use floor_listen::{Ending, ServerFault, listening_address};
-use std::alloc::Global;
+use std::alloc::{AllocError, Global};
 use std::io::Write;
 use std::net::{Net, TcpListener, TcpStream};
 use std::rt::Files;
@@ -27,6 +34,87 @@ pub fn check_configuration<
         Ok(None) => Ending::InOrder,
         Ok(Some(fault)) | Err(fault) => Ending::Fault(fault),
     }
+}
+
+/// Reads each file of a folder of kept conferences as a start of the program does, runs its events, and prints each
+/// fault with its name. Nothing is changed, so a server may have the folder. Gives the ending of a check that has
+/// come to one already, or else that of the first fault.
+pub fn check_keeping<R: Files, O: Write>(
+    rt: &R,
+    alloc: Global,
+    keeping: &Keeping,
+    so_far: Ending,
+    output: &mut O,
+) -> Ending
+    ensures { so_far ≢ InOrder → result ≡ so_far }
+{
+    let found = match check_kept_files(rt, alloc, keeping, output) {
+        Ok(None) => Ending::InOrder,
+        Ok(Some(fault)) | Err(fault) => Ending::Fault(fault),
+    };
+    match so_far {
+        Ending::InOrder => found,
+        before => before,
+    }
+}
+
+/// The first fault of a folder's files, all of which are printed; an `Err` where they can't be.
+fn check_kept_files<R: Files, O: Write>(
+    rt: &R,
+    alloc: Global,
+    keeping: &Keeping,
+    output: &mut O,
+) -> Result<Option<ServerFault>, ServerFault> {
+    let folder = name_folder(alloc, keeping)?;
+    let listing = match list_folder(rt, alloc, &folder) {
+        Ok(listing) => listing,
+        Err(reason) => return tell_reason(alloc, output, &reason),
+    };
+    let mut first = None;
+    for conference in listing.journals() {
+        let found = match check_kept(rt, alloc, &folder, *conference) {
+            Ok(()) => None,
+            Err(CheckFault::Refused(reason)) => tell_reason(alloc, output, &reason)?,
+            Err(CheckFault::NotAJournal(at, line)) => {
+                let told = not_a_journal(alloc, folder.path(), at, line.as_str())?;
+                print(output, told.as_str())?;
+                Some(ServerFault::NotAJournal)
+            }
+        };
+        first = first.or(found);
+    }
+    Ok(first)
+}
+
+/// Where a file of a folder is none.
+fn not_a_journal(
+    alloc: Global,
+    folder: &str,
+    at: NotAJournal,
+    line: &str,
+) -> Result<String, AllocError> {
+    let (conference, place, number) = (at.conference, at.place, at.line);
+    if number == 0 {
+        return format!(in alloc;
+            "NotAJournal 0: {folder}/{conference}.journal: it has no head of this conference\n"
+        );
+    }
+    format!(in alloc; "NotAJournal {place}: {folder}/{conference}.journal: line {number}: {line}\n")
+}
+
+/// Prints why a folder or a file of it can't be had, with its name, and gives it.
+fn tell_reason<O: Write>(
+    alloc: Global,
+    output: &mut O,
+    reason: &KeepReason,
+) -> Result<Option<ServerFault>, ServerFault>
+    ensures value { IfOk result (λ found. found ≡ Some (fault_of_keeping reason.now.fault)) }
+{
+    let fault = fault_of_keeping(reason.fault);
+    let line = reason.line.as_ref().map_or("", |line| line.as_str());
+    let told = format!(in alloc; "{}: {line}\n", fault.name())?;
+    print(output, told.as_str())?;
+    Ok(Some(fault))
 }
 
 /// The first fault of a file, all of which are printed; an `Err` where they can't be.
@@ -147,7 +235,9 @@ fn tell<O: Write>(
     alloc: Global,
     output: &mut O,
     reason: &Reason,
-) -> Result<Option<ServerFault>, ServerFault> {
+) -> Result<Option<ServerFault>, ServerFault>
+    ensures value { IfOk result (λ found. found ≡ Some (fault_of_opening reason.now.refusal)) }
+{
     let fault = fault_of_opening(reason.refusal);
     let line = reason.line.as_ref().map_or("", |line| line.as_str());
     let told = format!(in alloc; "{}: {line}\n", fault.name())?;

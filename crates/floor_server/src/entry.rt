@@ -4,6 +4,7 @@ ghost use Rattle.std.specs.Prelude.{◌≡◌};
 ghost use Rattle.floor_server.specs.Doors.{name_of_door};
 
 use crate::departure::{Departure, Refused};
+use floor_keep::{Left, Unkept};
 use std::alloc::{AllocError, Global};
 
 /// What became of a conference, a port or a connection.
@@ -59,6 +60,51 @@ pub enum Entry {
         n: u32,
         departure: Departure,
     },
+    /// The connection of member n is lost, and the member stays, away.
+    Away {
+        peer: Peer,
+        n: u32,
+        departure: Departure,
+    },
+    /// The user of member n is back, by another member.
+    Back {
+        conference: u32,
+        user: u16,
+        n: u32,
+    },
+    /// Member n, which was away, has left: its time is over, or it was shown out or cut.
+    Gone {
+        conference: u32,
+        user: u16,
+        n: u32,
+    },
+    /// A conference isn't kept any more.
+    Unkept(Unkept),
+    /// A conference goes on from its file, which has so many events. So many bytes of a last line that lacked its end
+    /// were cut off.
+    Resumed {
+        conference: u32,
+        events: u32,
+        torn: usize,
+    },
+    /// A conference that the configuration has too goes on from its file.
+    FromFile {
+        conference: u32,
+    },
+    /// A conference of the configuration was closed before the start, and isn't opened.
+    WasClosed {
+        conference: u32,
+    },
+    /// A conference's file is none: the conference isn't opened.
+    NotAJournal {
+        conference: u32,
+        /// The place of the event that can't be read or isn't taken; 0 where the head can't be read.
+        place: u32,
+        /// The number of the line; 0 for the head.
+        line: usize,
+    },
+    /// The folder of kept conferences is another server's now.
+    Lost,
 }
 
 /// A port that is no user's.
@@ -136,6 +182,38 @@ impl Entry {
                 let told = format!(in alloc; "left {}", departure.name())?;
                 of_member(alloc, peer, *n, told.as_str())
             }
+            Entry::Away { peer, n, departure } => {
+                let told = format!(in alloc; "away {}", departure.name())?;
+                of_member(alloc, peer, *n, told.as_str())
+            }
+            Entry::Back {
+                conference,
+                user,
+                n,
+            } => format!(in alloc; "conference {conference} user {user} member {n} back"),
+            Entry::Gone {
+                conference,
+                user,
+                n,
+            } => format!(in alloc; "conference {conference} user {user} member {n} gone"),
+            Entry::Unkept(unkept) => of_unkept(alloc, unkept),
+            Entry::Resumed {
+                conference,
+                events,
+                torn,
+            } => format!(in alloc; "conference {conference} resumed events {events} torn {torn}"),
+            Entry::FromFile { conference } => {
+                format!(in alloc; "conference {conference} goes on from its file")
+            }
+            Entry::WasClosed { conference } => {
+                format!(in alloc; "conference {conference} was closed")
+            }
+            Entry::NotAJournal {
+                conference,
+                place,
+                line,
+            } => format!(in alloc; "conference {conference} NotAJournal {place} line {line}"),
+            Entry::Lost => String::from_str(alloc, "folder lost"),
         }
     }
 }
@@ -157,4 +235,17 @@ fn of_peer(alloc: Global, peer: &Peer, told: &str) -> Result<String, AllocError>
 fn of_member(alloc: Global, peer: &Peer, n: u32, told: &str) -> Result<String, AllocError> {
     let told = format!(in alloc; "n {n} {told}")?;
     of_peer(alloc, peer, told.as_str())
+}
+
+/// Why a conference isn't kept any more, and what became of its file.
+fn of_unkept(alloc: Global, unkept: &Unkept) -> Result<String, AllocError> {
+    let conference = unkept.conference;
+    let cause = unkept.cause.name();
+    let left = match unkept.left {
+        Left::Renamed => "renamed",
+        Left::Spoiled => "spoiled",
+        Left::Emptied => "emptied",
+        Left::Stands => "stands",
+    };
+    format!(in alloc; "conference {conference} unkept {cause} file {left}")
 }

@@ -1,9 +1,10 @@
 //! The fault that a refusal of the board is where it ends the server.
 
 ghost use Rattle.std.specs.Prelude.{◌≡◌};
-ghost use Rattle.floor_server.specs.Faults.{fault_of_opening, fault_of_stop};
+ghost use Rattle.floor_server.specs.Faults.{fault_of_keeping, fault_of_opening, fault_of_stop};
 
 use floor_console::{BoardRefusal, StopRefusal};
+use floor_keep::KeepFault;
 use floor_listen::ServerFault;
 
 /// Why the server ends whose first conferences can't be opened.
@@ -32,5 +33,16 @@ pub fn fault_of_stop(refusal: StopRefusal) -> ServerFault
             conference: _,
             n: _,
         } => ServerFault::Mismatch,
+    }
+}
+
+/// Why the server ends that can't keep its conferences.
+pub fn fault_of_keeping(fault: KeepFault) -> ServerFault
+    ensures value { result ≡ fault_of_keeping fault }
+{
+    match fault {
+        KeepFault::CannotKeep => ServerFault::CannotKeep,
+        KeepFault::Lost => ServerFault::Lost,
+        KeepFault::Memory => ServerFault::Memory,
     }
 }

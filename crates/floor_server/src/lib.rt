@@ -7,6 +7,7 @@
 //! each server.
 #![tactic(auto)]
 
+mod alive;
 mod check;
 mod departure;
 mod entry;
@@ -17,16 +18,18 @@ mod reason;
 mod running;
 mod words;
 
-pub use check::check_configuration;
+pub use alive::keep_alive;
+pub use check::{check_configuration, check_keeping};
 pub use departure::{Departure, Refused};
 pub use entry::{Door, Entrance, Entry, Peer, UserPort};
-pub use fault::{fault_of_opening, fault_of_stop};
+pub use fault::{fault_of_keeping, fault_of_opening, fault_of_stop};
 pub use floor_config::{Config, ConfigFault};
 pub use floor_console::{BoardRefusal, Command, ConsoleFault, RoomRefusal, StopRefusal};
+pub use floor_keep::{KeepFault, KeepReason, Keeping, Syncing, Unkept};
 pub use floor_listen::{Ending, ServerFault, Unserved};
 pub use floor_proxy::ProxyRefusal;
 pub use lines::{next_command, print, tell};
 pub use log::Log;
 pub use reason::{PortFault, Reason, configurations, read_text};
 pub use running::{ending_of_words, log_of, tell_ending};
-pub use words::{MAX_LOOPS, Program, Task, Words, WordsFault, read_words};
+pub use words::{MAX_GRACE, MAX_LOOPS, Program, Task, Words, WordsFault, read_words};

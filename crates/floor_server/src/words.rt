@@ -1,9 +1,13 @@
 //! The words that a program is called with.
 
+ghost use Rattle.std.specs.Prelude.{◌≡◌};
+ghost use Rattle.floor_server.specs.Keeping.{syncing_of};
+
 use crate::entry::{Door, Entrance};
 use clap::builder::ValueParser;
 use clap::error::ErrorKind;
 use clap::{Arg, ArgAction, ArgMatches, Command, Error};
+use floor_keep::{Keeping, Syncing};
 use std::alloc::{AllocError, Global};
 
 /// The version, and the logic that the programs are proved with.
@@ -42,6 +46,15 @@ Exit status:
 /// How many event loops a program has at most: more than machines have processors for them.
 pub const MAX_LOOPS: u8 = 64;
 
+/// How many seconds a member outlives its connection at most: whoever comes back later has been given up.
+pub const MAX_GRACE: u64 = 600;
+
+/// Whom the grace is for, where that is said.
+const GRACE_FOR: &[&str] = &["all"];
+
+/// When the disk is asked for what was written.
+const SYNC_NAMES: &[&str] = &["second", "turn", "never"];
+
 /// A program whose words are read.
 #[derive(Clone, Copy, Debug)]
 pub struct Program {
@@ -49,8 +62,8 @@ pub struct Program {
     pub name: &'static str,
     /// What it does, a sentence of its help.
     pub about: &'static str,
-    /// Whether it serves by event loops, so that `--loops`, `--door`, `--door-by-id`, `--health` and
-    /// `--control` are of its words, and goes by `conference.connections`.
+    /// Whether it serves by event loops, so that `--loops`, `--door`, `--door-by-id`, `--health`,
+    /// `--control`, `--grace`, `--keep` and what goes with these are of its words, and goes by `conference.connections`.
     pub by_loops: bool,
 }
 
@@ -78,6 +91,13 @@ pub struct Words {
     pub doors: Vec<Door>,
     /// The path of the control socket, where one is asked for.
     pub control: Option<String>,
+    /// How many seconds a member outlives its connection, 0 to 600; 0 where nothing is said of them, or the
+    /// program has no such word.
+    pub grace: u64,
+    /// Whether also a member does whose connection ended in order.
+    pub grace_for_all: bool,
+    /// How conferences are kept, where they are.
+    pub keep: Option<Keeping>,
 }
 
 /// Why the words ask for nothing.
@@ -109,6 +129,9 @@ fn parsed(alloc: Global, words: &[String], program: &Program) -> Result<Words, E
         loops: matches.get_one::<u8>("loops"),
         doors: doors_of(alloc, &matches)?,
         control: control_of(alloc, &matches)?,
+        grace: matches.get_one::<u64>("grace").unwrap_or(0),
+        grace_for_all: matches.get_str("grace-for").is_some(),
+        keep: keeping_of(alloc, &matches)?,
     })
 }
 
@@ -117,6 +140,33 @@ fn control_of(alloc: Global, matches: &ArgMatches) -> Result<Option<String>, All
     match matches.get_str("control") {
         Some(path) => Ok(Some(String::from_str(alloc, path)?)),
         None => Ok(None),
+    }
+}
+
+/// How conferences are to be kept, where the words ask for that.
+fn keeping_of(alloc: Global, matches: &ArgMatches) -> Result<Option<Keeping>, AllocError> {
+    let Some(folder) = matches.get_str("keep") else {
+        return Ok(None);
+    };
+    Ok(Some(Keeping {
+        folder: String::from_str(alloc, folder)?,
+        or_stop: matches.get_flag("keep-or-stop"),
+        syncing: match matches.get_str("sync") {
+            Some(word) => syncing_of(word),
+            None => Syncing::Second,
+        },
+        epoch: matches.get_one::<u64>("epoch"),
+    }))
+}
+
+/// When the disk is asked, by its word.
+fn syncing_of(word: &str) -> Syncing
+    ensures value { result ≡ syncing_of word.now }
+{
+    match word {
+        "turn" => Syncing::Turn,
+        "never" => Syncing::Never,
+        _ => Syncing::Second,
     }
 }
 
@@ -156,7 +206,8 @@ fn command<'a>(alloc: Global, program: &Program) -> Result<Command<'a>, Error> {
         .arg(check)?
         .arg(log)?;
     let command = if program.by_loops {
-        with_doors(alloc, command.arg(loops(alloc))?)?
+        let command = with_doors(alloc, command.arg(loops(alloc))?)?;
+        with_keeping(alloc, with_grace(alloc, command)?)?
     } else {
         command
     };
@@ -176,6 +227,61 @@ fn with_doors<'a>(alloc: Global, command: Command<'a>) -> Result<Command<'a>, Er
     );
     let command = command.arg(by_certificate)?.arg(by_id)?.arg(health)?;
     Ok(command.arg(control(alloc))?)
+}
+
+/// The words of a program whose members outlive their connections.
+fn with_grace<'a>(alloc: Global, command: Command<'a>) -> Result<Command<'a>, Error> {
+    let grace = Arg::new(alloc, "grace")
+        .long("grace")
+        .value_name("seconds")
+        .action(ArgAction::Set)
+        .value_parser(ValueParser::unsigned(0, MAX_GRACE))
+        .help(
+            "How long a member whose connection is lost stays for its user to come back, 0 to 600; else it leaves at once",
+        );
+    let grace_for = Arg::new(alloc, "grace-for")
+        .long("grace-for")
+        .value_name("whom")
+        .action(ArgAction::Set)
+        .value_parser(GRACE_FOR)
+        .requires_arg("grace")?
+        .help(
+            "Has a member stay also whose connection ends in order, as a proxy ends what it has lost",
+        );
+    Ok(command.arg(grace)?.arg(grace_for)?)
+}
+
+/// The words of a program that keeps its conferences.
+fn with_keeping<'a>(alloc: Global, command: Command<'a>) -> Result<Command<'a>, Error> {
+    let keep = Arg::new(alloc, "keep")
+        .long("keep")
+        .value_name("folder")
+        .action(ArgAction::Set)
+        .help(
+            "A folder in which each conference has a file, from which it goes on at the next start",
+        );
+    let or_stop = Arg::new(alloc, "keep-or-stop")
+        .long("keep-or-stop")
+        .action(ArgAction::SetTrue)
+        .requires_arg("keep")?
+        .help("Breaks a conference off whose file can't be written; else it goes on unkept");
+    let sync = Arg::new(alloc, "sync")
+        .long("sync")
+        .value_name("when")
+        .action(ArgAction::Set)
+        .value_parser(SYNC_NAMES)
+        .requires_arg("keep")?
+        .help(
+            "When the disk is asked for what was written: once a second, in each turn, or never; else once a second",
+        );
+    let epoch = Arg::new(alloc, "epoch")
+        .long("epoch")
+        .value_name("n")
+        .action(ArgAction::Set)
+        .value_parser(ValueParser::unsigned(0, u64::MAX))
+        .requires_arg("keep")?
+        .help("The epoch that the folder has to have; else the one that it has at the start");
+    Ok(command.arg(keep)?.arg(or_stop)?.arg(sync)?.arg(epoch)?)
 }
 
 /// The control socket.

@@ -1,1 +1,3 @@
+mod Ascending
+mod Cuts
 mod Ends

@@ -5,6 +5,7 @@ use floor_listen::ServerFault;
 use floor_poll::Server;
 use floor_server::{next_command, print, tell};
 use std::alloc::Global;
+use std::fs::File;
 use std::io::{BufReader, Read, Write};
 use std::net::Net;
 use std::rt::Files;
@@ -23,7 +24,7 @@ pub fn answer_lines<R, I: Read, O: Write, E: Write>(
     errors: &mut E,
 ) -> Result<(), ServerFault>
 where
-    R: Net + Files + AllocGlobal + Clock + Threads + Wait + Copy + Drop,
+    R: Net + Files<File = File> + AllocGlobal + Clock + Threads + Wait + Copy + Drop,
 {
     let mut reader = BufReader::new(alloc, &mut *input).map_err(|_| ServerFault::Memory)?;
     let mut piece = String::new(alloc);
@@ -32,6 +33,9 @@ where
         let text = run_command(alloc, server, command)?;
         tell(errors, server.take_told());
         print(output, text.as_str())?;
+        if server.is_lost() {
+            return Err(ServerFault::Lost);
+        }
         if server.outcome().is_some() {
             break;
         }

@@ -5,8 +5,8 @@ ghost use Rattle.floor_control.specs.declared.refusal.ControlRefusal.TheVariants
 ghost use Rattle.floor_poll.specs.Refusals.{ended};
 
 use crate::desk::{CONSOLE, Desk};
-use crate::lines::{Went, refused};
-use crate::task::{List, Step, Task, Then};
+use crate::lines::refused;
+use crate::task::{List, Step, Task, Then, Went};
 use floor_console::{BoardRefusal, Command};
 use floor_control::{
     ConfigFault, ControlRefusal, Done, Line, Octets, Opening, Text, User, add_draining, add_end,
@@ -14,7 +14,8 @@ use floor_control::{
 };
 use floor_loop::Act;
 use floor_poll::{Asked, Asker, Question, ended, no_counts};
-use std::alloc::AllocError;
+use std::alloc::{AllocError, Global};
+use std::fs::File;
 use std::net::Net;
 use std::rt::Files;
 use std::sync::Wait;
@@ -23,7 +24,16 @@ use std::time::Clock;
 
 impl<R> Desk<R>
 where
-    R: Net + Files + AllocGlobal + Clock + Threads + Wait + Copy + Drop + Send + 'static,
+    R: Net
+        + Files<File = File>
+        + AllocGlobal
+        + Clock
+        + Threads
+        + Wait
+        + Copy
+        + Drop
+        + Send
+        + 'static,
 {
     /// Begins what a line asks for.
     pub fn begin(&mut self, number: u64, mut task: Task, line: Line) -> Result<Went, AllocError> {
@@ -121,7 +131,7 @@ where
                 conference,
                 key,
                 value,
-            } => self.keep_word(task, conference, key, value),
+            } => self.keep_word(number, task, conference, key, value),
             Line::Words { conference } => self.tell_words(task, conference),
             Line::Drain => self.drain(task),
             reader => self.begin_reader(number, reader),
@@ -273,11 +283,58 @@ where
     ) -> Result<Step, ControlRefusal> {
         let _meeting = self.meeting(conference)?;
         self.unwatch(number, conference);
-        add_unwatched(task.text(), conference)?;
+        add_unwatched(&mut task.text, conference)?;
         Ok(Step::End)
     }
 
     fn keep_word(
+        &mut self,
+        number: u64,
+        task: &mut Task,
+        conference: u32,
+        key: Text,
+        value: Option<Octets>,
+    ) -> Result<Step, ControlRefusal> {
+        let keeps = self.server.keeps();
+        let meeting = match self.meeting(conference) {
+            Ok(meeting) => meeting,
+            Err(refusal) => return Err(of_act(refusal)),
+        };
+        match &value {
+            Some(value) if !meeting.words.fits(key.as_str(), value.as_slice()) => {
+                return Err(ControlRefusal::from(ConfigFault::OutOfRange));
+            }
+            _ => {}
+        }
+        if keeps {
+            return self.ask_to_keep(number, conference, key, value);
+        }
+        self.take_word(task, conference, key, value)
+    }
+
+    /// Has a word stand in the conference's file before it is answered.
+    fn ask_to_keep(
+        &mut self,
+        number: u64,
+        conference: u32,
+        key: Text,
+        value: Option<Octets>,
+    ) -> Result<Step, ControlRefusal> {
+        let asked = Asked::Word {
+            conference,
+            key: key.copy(self.alloc)?,
+            value: copy_of(self.alloc, &value)?,
+        };
+        self.ask(number, conference, asked)?;
+        Ok(Step::Wording {
+            conference,
+            key,
+            value,
+        })
+    }
+
+    /// Keeps a word beside a conference, and answers.
+    pub fn take_word(
         &mut self,
         task: &mut Task,
         conference: u32,
@@ -288,14 +345,9 @@ where
             Ok(meeting) => meeting,
             Err(refusal) => return Err(of_act(refusal)),
         };
-        add_word_kept(task.text(), conference, key.as_str())?;
+        add_word_kept(&mut task.text, conference, key.as_str())?;
         match value {
-            Some(value) => {
-                if !meeting.words.fits(key.as_str(), value.as_slice()) {
-                    return Err(ControlRefusal::from(ConfigFault::OutOfRange));
-                }
-                meeting.words.keep(key, value)?;
-            }
+            Some(value) => meeting.words.keep(key, value)?,
             None => meeting.words.remove(key.as_str()),
         }
         Ok(Step::End)
@@ -305,9 +357,9 @@ where
         let meeting = self.meeting(conference)?;
         let words = meeting.words.items();
         for word in words {
-            add_word(task.text(), word.key.as_str(), word.value.as_slice())?;
+            add_word(&mut task.text, word.key.as_str(), word.value.as_slice())?;
         }
-        add_end(task.text(), words.len())?;
+        add_end(&mut task.text, words.len())?;
         Ok(Step::End)
     }
 
@@ -318,14 +370,22 @@ where
             self.send(place, Asker::Drain, Asked::Drain)?;
             self.asked_to_drain = place.saturating_add(1);
         }
-        add_draining(task.text())?;
+        add_draining(&mut task.text)?;
         Ok(Step::End)
     }
 
     fn stop_for(&mut self, number: u64, task: &mut Task) -> Result<Step, ControlRefusal> {
         let outcome = self.stop(number);
-        add_stopped(task.text(), outcome)?;
+        add_stopped(&mut task.text, outcome)?;
         Ok(Step::End)
+    }
+}
+
+/// The same octets, where there are some.
+fn copy_of(alloc: Global, value: &Option<Octets>) -> Result<Option<Octets>, AllocError> {
+    match value {
+        Some(value) => Ok(Some(value.copy(alloc)?)),
+        None => Ok(None),
     }
 }
 

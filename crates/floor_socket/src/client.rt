@@ -3,15 +3,16 @@
 ghost use Rattle.std.specs.Prelude.{◌≡◌, ◌≤◌, ◌+◌, ℕ, MatchOption, false, length, true};
 ghost use Rattle.floor_control.specs.Incoming.{room_of};
 ghost use Rattle.floor_control.specs.Outgoing.{is_full, is_over};
+ghost use Rattle.floor_socket.specs.Lines.{has_moved, with_line};
 ghost use Rattle.floor_socket.specs.declared.client.Due.TheVariants.{Nothing};
 ghost use Rattle.floor_socket.specs.declared.client.Moved.TheVariants.{Bytes};
 
 use crate::replica::Replica;
-use crate::task::Task;
+use crate::task::{Task, Went};
 use floor_control::Client;
 use indexmap::IndexMap;
 use mio::net::UnixStream;
-use std::alloc::Global;
+use std::alloc::{AllocError, Global};
 use std::collections::VecDeque;
 use std::io::{ErrorKind, Read, Write};
 
@@ -169,6 +170,29 @@ impl Seat {
             return false;
         }
         self.is_deaf || self.lines.is_done()
+    }
+
+    /// Puts a line at work back, and says whether it came any further. Where memory was refused it is to be closed.
+    pub fn put_back(&mut self, went: Result<Went, AllocError>) -> bool
+        ensures value { result ≡ has_moved went }
+        ensures next { self.new ≡ with_line went self.old }
+    {
+        match went {
+            Ok(Went::On(task)) => {
+                self.task = Some(task);
+                true
+            }
+            Ok(Went::Waits(task)) => {
+                self.task = Some(task);
+                false
+            }
+            Ok(Went::Over) => true,
+            Ok(Went::Idle) => false,
+            Err(_) => {
+                self.has_failed = true;
+                true
+            }
+        }
     }
 
     /// Whether something may be read, and there is room for it.

@@ -11,6 +11,7 @@ use crate::desk::{CONSOLE, Desk};
 use floor_server::tell;
 use mio::unix::SourceFd;
 use mio::{Interest, Registry, Token};
+use std::fs::File;
 use std::io::{Read, Write};
 use std::net::Net;
 use std::os::fd::RawFd;
@@ -119,7 +120,16 @@ fn write_piece<O: Write>(output: &mut O, bytes: &[u8]) -> Moved
 
 impl<R> Desk<R>
 where
-    R: Net + Files + AllocGlobal + Clock + Threads + Wait + Copy + Drop + Send + 'static,
+    R: Net
+        + Files<File = File>
+        + AllocGlobal
+        + Clock
+        + Threads
+        + Wait
+        + Copy
+        + Drop
+        + Send
+        + 'static,
 {
     /// Asks whether standard input has something to read, where there is room for it, and whether standard output
     /// takes something, where there is something to write.

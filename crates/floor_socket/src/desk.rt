@@ -5,7 +5,7 @@ use crate::console::{Descriptors, Standard};
 use crate::following::Meeting;
 use crate::listening::ControlSocket;
 use crate::opening::Opened;
-use floor_control::{ControlRefusal, add_refused};
+use floor_control::{ControlRefusal, Notice, add_refused};
 use floor_poll::{
     ACCEPT_AGAIN_MILLIS, Elapsed, Inbox, MAX_ACCEPTS, Note, REST_MILLIS, Server, WAKER, earlier,
 };
@@ -15,6 +15,7 @@ use mio::net::UnixStream;
 use mio::{Events, Interest, Poll, Token};
 use std::alloc::{AllocError, Global};
 use std::collections::VecDeque;
+use std::fs::File;
 use std::io::{Read, Write};
 use std::net::Net;
 use std::rt::Files;
@@ -74,6 +75,10 @@ pub struct Desk<R> {
     /// The number of the last ask for events.
     pub last_ask: u64,
     pub is_draining: bool,
+    /// Whether the end of the console ends the server, as where there is no control socket.
+    pub ends_with_console: bool,
+    /// Whether it couldn't be written, and the server ends by that.
+    pub has_lost_console: bool,
     /// How many loops were asked to tell once none of their conferences is open, and how many have told.
     pub asked_to_drain: usize,
     pub drained: usize,
@@ -88,7 +93,16 @@ pub struct Desk<R> {
 
 impl<R> Desk<R>
 where
-    R: Net + Files + AllocGlobal + Clock + Threads + Wait + Copy + Drop + Send + 'static,
+    R: Net
+        + Files<File = File>
+        + AllocGlobal
+        + Clock
+        + Threads
+        + Wait
+        + Copy
+        + Drop
+        + Send
+        + 'static,
 {
     /// A server without a socket yet. Takes no memory.
     pub fn new(
@@ -121,6 +135,8 @@ where
             following: 0,
             last_ask: 0,
             is_draining: false,
+            ends_with_console: false,
+            has_lost_console: false,
             asked_to_drain: 0,
             drained: 0,
             stops_by: None,
@@ -171,7 +187,11 @@ where
             self.serve_turns();
             self.feed_all();
             self.serve_console(input, output, errors);
+            self.stop_at_end();
             self.stop_drained();
+            if self.server.is_lost() {
+                return;
+            }
             if self.server.outcome().is_some() {
                 break;
             }
@@ -253,6 +273,18 @@ where
             Note::Answered { asker, answer } => self.take_answer(asker, answer),
             Note::Grown { conference } => self.take_growth(conference),
             Note::Read { client, read } => self.take_read(client, read),
+            Note::Away {
+                conference,
+                user,
+                n,
+            } => self.tell_watchers(conference, Notice::Away { n, user }),
+            Note::Back {
+                conference,
+                user,
+                n,
+            } => self.tell_watchers(conference, Notice::Back { n, user }),
+            Note::Unkept { conference } => self.tell_watchers(conference, Notice::Unkept),
+            Note::Lost => self.server.lose(),
         }
     }
 

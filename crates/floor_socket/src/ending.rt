@@ -7,6 +7,7 @@ use floor_control::add_stopped;
 use floor_poll::REST_MILLIS;
 use mio::Events;
 use std::alloc::Global;
+use std::fs::File;
 use std::io::Write;
 use std::net::Net;
 use std::rt::Files;
@@ -19,7 +20,16 @@ const LAST_MILLIS: u64 = 10_000;
 
 impl<R> Desk<R>
 where
-    R: Net + Files + AllocGlobal + Clock + Threads + Wait + Copy + Drop + Send + 'static,
+    R: Net
+        + Files<File = File>
+        + AllocGlobal
+        + Clock
+        + Threads
+        + Wait
+        + Copy
+        + Drop
+        + Send
+        + 'static,
 {
     /// Stops the server for a client, or for the console. It is stopped once: whoever asks for it later, before the
     /// first is answered, is told the same.
@@ -46,6 +56,11 @@ where
             Some(until) if until <= self.now || self.is_idle() => {}
             _ => return,
         }
+        self.stop_and_tell();
+    }
+
+    /// Stops the server, and tells the console.
+    fn stop_and_tell(&mut self) {
         let outcome = self.stop(CONSOLE);
         let mut text = String::new(self.alloc);
         if add_stopped(&mut text, outcome).is_err() {
@@ -53,6 +68,23 @@ where
         }
         if let Some(seat) = self.clients.get_mut(&CONSOLE) {
             let _told = seat.lines.tell(text.as_str());
+        }
+    }
+
+    /// Stops the server where the console has ended, there is no control socket, and all lines are answered.
+    pub fn stop_at_end(&mut self) {
+        if !self.ends_with_console || self.server.outcome().is_some() {
+            return;
+        }
+        let is_over = match self.clients.get(&CONSOLE) {
+            Some(seat) => seat.lines.is_done() && seat.task.is_none(),
+            None => {
+                self.has_lost_console = true;
+                true
+            }
+        };
+        if is_over {
+            self.stop_and_tell();
         }
     }
 

@@ -3,7 +3,8 @@
 //! Those who have caught up with a conference share one replica of it. Who is behind has a replica of its own until
 //! then, and is told as it takes it.
 
-ghost use Rattle.std.specs.Prelude.{◌≡◌, ◌<◌, ◌≤◌, IfOk, MatchOption, None, false, true};
+ghost use Rattle.std.specs.Prelude.{◌≡◌, ◌<◌, ◌≤◌, EachIndex, IfOk, MatchOption, None, false, slice_index, true};
+ghost use Rattle.floor_socket.specs.Followers.{lasts_ahead};
 
 use crate::client::Behind;
 use crate::desk::Desk;
@@ -14,6 +15,7 @@ use floor_control::{ControlRefusal, Watcher};
 use floor_poll::Answer;
 use floor_server::Config;
 use std::alloc::{AllocError, Global};
+use std::fs::File;
 use std::net::Net;
 use std::rt::Files;
 use std::sync::Wait;
@@ -117,22 +119,39 @@ impl Followed {
     }
 
     /// Up to which place all are shown the same: those who begin behind it are left out until then.
-    pub fn until(&self) -> u64 {
-        let place = self.replica.place();
-        let mut until = u64::MAX;
-        for follower in self.followers.iter() {
-            let last = follower.from.saturating_sub(1);
-            if place < last {
-                until = until.min(last);
-            }
-        }
-        until
+    pub fn until(&self) -> u64
+        ensures none { let lasts = lasts_ahead self.now.replica.watcher.place self.now.followers.items in
+            EachIndex lasts (λ k. result ≤ slice_index lasts k) }
+    {
+        until_of(self.replica.place(), &self.followers)
     }
+}
+
+/// Up to which place those are all shown the same who have come to one place: up to where the next of them begins.
+fn until_of(place: u64, followers: &[Follower]) -> u64
+    ensures none { let lasts = lasts_ahead place followers.now in
+        EachIndex lasts (λ k. result ≤ slice_index lasts k) }
+{
+    followers
+        .iter()
+        .map(|follower| follower.from.saturating_sub(1))
+        .filter(|last| place < *last)
+        .min()
+        .unwrap_or(u64::MAX)
 }
 
 impl<R> Desk<R>
 where
-    R: Net + Files + AllocGlobal + Clock + Threads + Wait + Copy + Drop + Send + 'static,
+    R: Net
+        + Files<File = File>
+        + AllocGlobal
+        + Clock
+        + Threads
+        + Wait
+        + Copy
+        + Drop
+        + Send
+        + 'static,
 {
     /// A conference that was opened and isn't forgotten.
     pub fn meeting(&mut self, conference: u32) -> Result<&mut Meeting, ControlRefusal> {

@@ -1,15 +1,18 @@
 //! A client's lines, one after another: each is begun, and goes on as its answer is taken.
 
 ghost use Rattle.std.specs.Str.Lines.{strip_carriage_return};
-ghost use Rattle.std.specs.Prelude.{◌≡◌};
+ghost use Rattle.std.specs.Prelude.{◌≡◌, IfOk, None};
+ghost use Rattle.floor_control.specs.Answer.{refused};
+ghost use Rattle.floor_socket.specs.Lines.{IsAnswered};
 
 use crate::desk::{CONSOLE, Desk};
-use crate::task::{Step, Task};
+use crate::task::{Step, Task, Went};
 use floor_console::parse_line;
 use floor_control::{
     Asking, ControlRefusal, Line, LineFault, Next, add_refused, add_unread, read_line,
 };
 use std::alloc::{AllocError, Global};
+use std::fs::File;
 use std::mem;
 use std::net::Net;
 use std::rt::Files;
@@ -17,22 +20,18 @@ use std::sync::Wait;
 use std::thread::Threads;
 use std::time::Clock;
 
-/// What became of a line at work.
-#[derive(Drop)]
-pub enum Went {
-    /// It goes on at once.
-    On(Task),
-    /// It goes on once something comes.
-    Waits(Task),
-    /// It is answered, or has no answer.
-    Over,
-    /// There is none.
-    Idle,
-}
-
 impl<R> Desk<R>
 where
-    R: Net + Files + AllocGlobal + Clock + Threads + Wait + Copy + Drop + Send + 'static,
+    R: Net
+        + Files<File = File>
+        + AllocGlobal
+        + Clock
+        + Threads
+        + Wait
+        + Copy
+        + Drop
+        + Send
+        + 'static,
 {
     /// Goes on with the line that a client has at work, or begins its next one, and says whether it came any further.
     /// A client for whom memory is refused is closed.
@@ -53,24 +52,9 @@ where
 
     /// Puts a line at work back, and says whether it came any further.
     pub fn put_back(&mut self, number: u64, went: Result<Went, AllocError>) -> bool {
-        let Some(seat) = self.clients.get_mut(&number) else {
-            return false;
-        };
-        match went {
-            Ok(Went::On(task)) => {
-                seat.task = Some(task);
-                true
-            }
-            Ok(Went::Waits(task)) => {
-                seat.task = Some(task);
-                false
-            }
-            Ok(Went::Over) => true,
-            Ok(Went::Idle) => false,
-            Err(_) => {
-                seat.has_failed = true;
-                true
-            }
+        match self.clients.get_mut(&number) {
+            Some(seat) => seat.put_back(went),
+            None => false,
         }
     }
 
@@ -162,25 +146,32 @@ where
 }
 
 /// A line whose answer is a refusal, without a tag.
-pub fn refuse(alloc: Global, refusal: ControlRefusal) -> Result<Went, AllocError> {
+pub fn refuse(alloc: Global, refusal: ControlRefusal) -> Result<Went, AllocError>
+    ensures value { IfOk result (IsAnswered None (refused refusal)) }
+{
     refused(Task::new(alloc, None, Step::End), refusal)
 }
 
 /// A line that isn't done.
-pub fn refused(mut task: Task, refusal: ControlRefusal) -> Result<Went, AllocError> {
+pub fn refused(mut task: Task, refusal: ControlRefusal) -> Result<Went, AllocError>
+    ensures value { IfOk result (IsAnswered task.tag (refused refusal)) }
+{
     task.clear();
-    add_refused(task.text(), refusal)?;
+    task.step = Step::End;
+    add_refused(&mut task.text, refusal)?;
     Ok(Went::On(task))
 }
 
 /// A line that asks for nothing.
 fn unread(mut task: Task, fault: LineFault) -> Result<Went, AllocError> {
-    add_unread(task.text(), fault)?;
+    add_unread(&mut task.text, fault)?;
     Ok(Went::On(task))
 }
 
 /// What a line of the console asks for.
-fn console_line(alloc: Global, line: &str) -> Asking {
+fn console_line(alloc: Global, line: &str) -> Asking
+    ensures tag { result.tag ≡ None }
+{
     let line = match parse_line(alloc, line) {
         Ok(command) => Ok(Line::Command(command)),
         Err(fault) => Err(LineFault::from(fault)),

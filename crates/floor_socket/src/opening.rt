@@ -1,16 +1,20 @@
 //! Conferences are opened for a client, one after another, and forgotten.
 
+ghost use Rattle.std.specs.Prelude.{◌≡◌, None};
+
 use crate::desk::Desk;
 use crate::following::Meeting;
-use crate::lines::{Went, refuse, refused, without_return};
-use crate::task::{Step, Task};
+use crate::lines::{refuse, refused, without_return};
+use crate::task::{Step, Task, Went};
+use crate::words::words_of;
 use floor_console::BoardRefusal;
 use floor_control::{ControlRefusal, Next, Opening, Sent, Text, add_faulty_at, add_opened};
 use floor_diagnosis::line_of_fault;
-use floor_poll::{Answer, Asker, Inbox, Note, Unread};
-use floor_server::{Config, Reason, configurations};
+use floor_poll::{Answer, Asker, Fresh, Inbox, Note, Resumed, Unread, fresh_of};
+use floor_server::{Config, Log, Reason, ServerFault};
 use std::alloc::{AllocError, Global};
 use std::collections::VecDeque;
+use std::fs::File;
 use std::net::Net;
 use std::rt::Files;
 use std::sync::{Arc, Wait};
@@ -34,19 +38,61 @@ pub struct Opened {
 
 impl<R> Desk<R>
 where
-    R: Net + Files + AllocGlobal + Clock + Threads + Wait + Copy + Drop + Send + 'static,
+    R: Net
+        + Files<File = File>
+        + AllocGlobal
+        + Clock
+        + Threads
+        + Wait
+        + Copy
+        + Drop
+        + Send
+        + 'static,
 {
-    /// Opens the conferences of a file before the server is ready.
-    pub fn open_first(&mut self, path: &str) -> Result<(), BoardRefusal> {
-        for config in self.server.read_file(path)? {
-            let conference = config.conference();
-            let copy = config.copy(self.alloc)?;
+    /// Opens the conferences of a file before the server is ready: not those that the folder has or had, where
+    /// conferences are kept.
+    pub fn open_first(
+        &mut self,
+        path: &str,
+        log: &Option<Arc<Log, Global>>,
+    ) -> Result<(), BoardRefusal> {
+        for fresh in self.server.read_file(path)? {
+            let conference = fresh.config.conference();
+            if self.server.is_passed(conference, log) {
+                continue;
+            }
+            let copy = fresh.config.copy(self.alloc)?;
             self.meetings.reserve(1)?;
-            self.server.open_one(config)?;
+            self.server.open_one(fresh)?;
             let _added = self
                 .meetings
                 .insert(conference, Meeting::new(self.alloc, copy));
         }
+        Ok(())
+    }
+
+    /// Lets the conferences of the folder go on, where conferences are kept.
+    pub fn resume_all(&mut self, log: &Option<Arc<Log, Global>>) -> Result<(), ServerFault> {
+        self.server.list_kept()?;
+        for _ in 0..u64::MAX {
+            let Some(next) = self.server.resume_next(log)? else {
+                break;
+            };
+            for resumed in next {
+                self.take_resumed(resumed)?;
+            }
+        }
+        Ok(())
+    }
+
+    /// Takes a conference in that goes on, with its words.
+    fn take_resumed(&mut self, resumed: Resumed) -> Result<(), AllocError> {
+        let Resumed { config, notes } = resumed;
+        let conference = config.conference();
+        let mut meeting = Meeting::new(self.alloc, config);
+        meeting.words = words_of(self.alloc, notes)?;
+        self.meetings.reserve(1)?;
+        let _added = self.meetings.insert(conference, meeting);
         Ok(())
     }
 
@@ -95,7 +141,12 @@ where
         opening: &Opening,
     ) -> Result<Went, AllocError> {
         let text = String::from_str(self.alloc, opening.text())?;
-        match self.start_reader(number, Source { path: None, text }) {
+        let source = Source {
+            path: None,
+            text,
+            is_kept: false,
+        };
+        match self.start_reader(number, source) {
             Ok(step) => {
                 task.step = step;
                 Ok(Went::Waits(task))
@@ -108,7 +159,12 @@ where
     pub fn read_file(&mut self, number: u64, path: Text) -> Result<Step, ControlRefusal> {
         let text = self.server.text_of(path.as_str())?;
         let path = Some(path);
-        self.start_reader(number, Source { path, text })
+        let source = Source {
+            path,
+            text,
+            is_kept: false,
+        };
+        self.start_reader(number, source)
     }
 
     /// Has a configuration's text read by a thread of its own, since that may take long.
@@ -119,13 +175,17 @@ where
         self.readers.reserve(1)?;
         self.inbox.reserve(&self.rt, self.expected())?;
         let inbox = Arc::try_clone(&self.inbox)?;
+        let source = Source {
+            is_kept: self.server.keeps(),
+            ..source
+        };
         let thread = spawn_reader(self.rt, self.alloc, number, source, inbox)?;
         let _added = self.readers.insert(number, thread);
         Ok(Step::Read)
     }
 
     /// Takes a configuration that was read.
-    pub fn take_read(&mut self, number: u64, read: Result<VecDeque<Config>, Unread>) {
+    pub fn take_read(&mut self, number: u64, read: Result<VecDeque<Fresh>, Unread>) {
         if let Some(thread) = self.readers.swap_remove(&number) {
             thread.join(&self.rt);
         }
@@ -162,7 +222,7 @@ where
         match (refusal, line) {
             (BoardRefusal::ByConfiguration(fault), Some(line)) => {
                 task.step = Step::End;
-                add_faulty_at(task.text(), fault, line)?;
+                add_faulty_at(&mut task.text, fault, line)?;
                 Ok(Went::On(task))
             }
             _ => {
@@ -177,14 +237,14 @@ where
         &mut self,
         number: u64,
         mut task: Task,
-        mut configs: VecDeque<Config>,
+        mut configs: VecDeque<Fresh>,
         count: usize,
     ) -> Result<Went, AllocError> {
-        let Some(config) = configs.pop_front() else {
-            add_opened(task.text(), count)?;
+        let Some(fresh) = configs.pop_front() else {
+            add_opened(&mut task.text, count)?;
             return Ok(Went::On(task));
         };
-        let asked = self.ask_to_open(number, config);
+        let asked = self.ask_to_open(number, fresh);
         self.take_told(number);
         match asked {
             Ok(()) => {
@@ -196,18 +256,18 @@ where
     }
 
     /// Asks the loop whose turn it is to open a conference.
-    fn ask_to_open(&mut self, number: u64, config: Config) -> Result<(), ControlRefusal> {
+    fn ask_to_open(&mut self, number: u64, fresh: Fresh) -> Result<(), ControlRefusal> {
         if self.is_draining {
             return Err(ControlRefusal::Draining);
         }
-        let conference = config.conference();
+        let conference = fresh.config.conference();
         if self.opening.get(&conference).is_some() {
             return Err(ControlRefusal::ByBoard(BoardRefusal::Used));
         }
-        let copy = config.copy(self.alloc)?;
+        let copy = fresh.config.copy(self.alloc)?;
         self.meetings.reserve(self.opening.len().saturating_add(1))?;
         self.opening.reserve(1)?;
-        let asked = self.server.opening_of(config)?;
+        let asked = self.server.opening_of(fresh)?;
         let place = self.server.next_loop(self.opening.len());
         let asker = Asker::Opening {
             client: number,
@@ -254,6 +314,8 @@ struct Source {
     /// The path of its file; `None` where a client has sent it.
     path: Option<Text>,
     text: String,
+    /// Whether conferences are kept.
+    is_kept: bool,
 }
 
 /// Has a configuration read by a thread of its own.
@@ -277,23 +339,28 @@ where
 fn read_for<R: Wait + Drop>(rt: R, alloc: Global, client: u64, source: Source, inbox: &Inbox) {
     let text = source.text.as_str();
     let read = match &source.path {
-        Some(path) => read_configs_of(alloc, path.as_str(), text),
-        None => read_sent(alloc, text),
+        Some(path) => read_fresh(alloc, path.as_str(), text, source.is_kept),
+        None => read_sent(alloc, text, source.is_kept),
     };
     inbox.put(&rt, Note::Read { client, read });
 }
 
 /// The configurations of a text that a client has sent.
-fn read_sent(alloc: Global, text: &str) -> Result<VecDeque<Config>, Unread> {
-    match read_configs_of(alloc, HERE, text) {
+fn read_sent(alloc: Global, text: &str, is_kept: bool) -> Result<VecDeque<Fresh>, Unread> {
+    match read_fresh(alloc, HERE, text, is_kept) {
         Ok(configs) => Ok(configs),
         Err(unread) => Err(with_line(alloc, text, unread)),
     }
 }
 
 /// The configurations of a text.
-fn read_configs_of(alloc: Global, path: &str, text: &str) -> Result<VecDeque<Config>, Unread> {
-    match configurations(alloc, path, text) {
+fn read_fresh(
+    alloc: Global,
+    path: &str,
+    text: &str,
+    is_kept: bool,
+) -> Result<VecDeque<Fresh>, Unread> {
+    match fresh_of(alloc, path, text, is_kept) {
         Ok(configs) => match queue_of(alloc, configs) {
             Ok(queue) => Ok(queue),
             Err(_) => Err(Unread {
@@ -307,7 +374,7 @@ fn read_configs_of(alloc: Global, path: &str, text: &str) -> Result<VecDeque<Con
 }
 
 /// Configurations that are taken from the front.
-fn queue_of(alloc: Global, configs: Vec<Config>) -> Result<VecDeque<Config>, AllocError> {
+fn queue_of(alloc: Global, configs: Vec<Fresh>) -> Result<VecDeque<Fresh>, AllocError> {
     let mut queue = VecDeque::new(alloc);
     queue.reserve(configs.len())?;
     for config in configs {
@@ -319,7 +386,10 @@ fn queue_of(alloc: Global, configs: Vec<Config>) -> Result<VecDeque<Config>, All
 }
 
 /// Why a configuration isn't opened, with the line of the fault where it has one.
-fn with_line(alloc: Global, text: &str, unread: Unread) -> Unread {
+fn with_line(alloc: Global, text: &str, unread: Unread) -> Unread
+    ensures refusal { result.refusal ≡ unread.refusal }
+    ensures told { result.told ≡ unread.told }
+{
     let line = match unread.refusal {
         BoardRefusal::ByConfiguration(_) => line_of_fault(alloc, text).unwrap_or(None),
         _ => None,
@@ -327,7 +397,11 @@ fn with_line(alloc: Global, text: &str, unread: Unread) -> Unread {
     Unread { line, ..unread }
 }
 
-fn unread(reason: Reason) -> Unread {
+fn unread(reason: Reason) -> Unread
+    ensures refusal { result.refusal ≡ reason.refusal }
+    ensures line { result.line ≡ None }
+    ensures told { result.told ≡ reason.line }
+{
     let Reason { refusal, line } = reason;
     Unread {
         refusal,

@@ -1,5 +1,7 @@
 //! What a conference's events show is told to those who watch it.
 
+ghost use Rattle.std.specs.Prelude.{◌≡◌, ◌+◌, nat_le};
+
 use crate::client::{Behind, Due};
 use crate::desk::Desk;
 use crate::following::Follower;
@@ -8,6 +10,7 @@ use floor_control::{Client, ControlRefusal, Notice, add_notice};
 use floor_poll::{Answer, Asked, Asker, Question};
 use std::alloc::AllocError;
 use std::collections::VecDeque;
+use std::fs::File;
 use std::net::Net;
 use std::rt::Files;
 use std::sync::Wait;
@@ -16,7 +19,16 @@ use std::time::Clock;
 
 impl<R> Desk<R>
 where
-    R: Net + Files + AllocGlobal + Clock + Threads + Wait + Copy + Drop + Send + 'static,
+    R: Net
+        + Files<File = File>
+        + AllocGlobal
+        + Clock
+        + Threads
+        + Wait
+        + Copy
+        + Drop
+        + Send
+        + 'static,
 {
     /// Takes it that a conference has more events than those who have caught up know.
     pub fn take_growth(&mut self, conference: u32) {
@@ -115,11 +127,36 @@ where
             let Some(seat) = self.clients.get_mut(&follower.client) else {
                 continue;
             };
-            if follower.from <= before.saturating_add(1) && !text.is_empty() {
+            if is_told(follower, before) && !text.is_empty() {
                 let told = seat.lines.tell(text);
                 seat.has_failed = seat.has_failed || told.is_err();
             }
             self.queue(follower.client);
+        }
+    }
+
+    /// Tells those who watch a conference what is no event, now or never.
+    pub fn tell_watchers(&mut self, conference: u32, notice: Notice) {
+        let mut text = String::new(self.alloc);
+        if add_notice(&mut text, conference, notice).is_err() {
+            return;
+        }
+        for place in 0..self.clients.len() {
+            let Some(number) = self.clients.get_index(place).map(|(number, _)| *number) else {
+                return;
+            };
+            self.tell_watcher(number, conference, text.as_str());
+        }
+    }
+
+    fn tell_watcher(&mut self, number: u64, conference: u32, text: &str) {
+        let Some(seat) = self.clients.get_mut(&number) else {
+            return;
+        };
+        if seat.watched.get(&conference).is_some() {
+            let told = seat.lines.tell(text);
+            seat.has_failed = seat.has_failed || told.is_err();
+            self.queue(number);
         }
     }
 
@@ -181,7 +218,16 @@ where
 
 impl<R> Desk<R>
 where
-    R: Net + Files + AllocGlobal + Clock + Threads + Wait + Copy + Drop + Send + 'static,
+    R: Net
+        + Files<File = File>
+        + AllocGlobal
+        + Clock
+        + Threads
+        + Wait
+        + Copy
+        + Drop
+        + Send
+        + 'static,
 {
     /// Tells a client more of what it is behind with, where it takes more, and says whether it came any further.
     pub fn catch_up(&mut self, number: u64) -> bool {
@@ -337,6 +383,13 @@ where
         }
         self.queue(number);
     }
+}
+
+/// Whether one who has caught up is told what the events behind a place show.
+fn is_told(follower: Follower, before: u64) -> bool
+    ensures value { result ≡ nat_le follower.from (before + 1) }
+{
+    follower.from <= before.saturating_add(1)
 }
 
 /// Tells a client lines between two answers.

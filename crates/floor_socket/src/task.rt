@@ -1,10 +1,12 @@
 //! The line that a client has at work, and its answer.
 
-ghost use Rattle.std.specs.Prelude.{◌≡◌, ◌<◌, ◌≤◌, ℕ, false, length};
-ghost use Rattle.floor_socket.specs.declared.task.Step.TheVariants.{Hold};
+ghost use Rattle.std.specs.Prelude.{◌≡◌, ◌==◌, ◌&&◌, IfOk, OnOk, drop, length, nat_lt, not, position, string_bytes, take};
+ghost use Rattle.std.specs.Str.{IsCharBoundary};
+ghost use Rattle.floor_control.specs.Tag.{tagged};
+ghost use Rattle.floor_socket.specs.Tasks.{HandedOut, HasSame, IsClear, IsNew, IsWhole, first_of, is_held, left, len_at_once};
 
-use floor_control::{Done, Metrics, Opening, Standing, Tag, add_tagged};
-use floor_server::Config;
+use floor_control::{Done, Metrics, Octets, Opening, Standing, Tag, Text, add_tagged};
+use floor_poll::Fresh;
 use std::alloc::{AllocError, Global};
 use std::collections::VecDeque;
 
@@ -15,7 +17,8 @@ const ENOUGH_AT_ONCE: usize = 32_768;
 #[derive(Drop)]
 pub struct Task {
     tag: Option<Tag>,
-    text: String,
+    /// What is added to.
+    pub text: String,
     /// How many bytes of the text were handed out.
     at: usize,
     /// Whether a part of the answer was handed out.
@@ -34,18 +37,24 @@ pub enum Step {
     Read,
     /// The next conference of a configuration is opened.
     Open {
-        configs: VecDeque<Config>,
+        configs: VecDeque<Fresh>,
         count: usize,
     },
     /// A loop opens a conference, and these are left.
     Opening {
-        configs: VecDeque<Config>,
+        configs: VecDeque<Fresh>,
         count: usize,
     },
     /// A loop does something to a conference.
     Acting {
         conference: u32,
         done: Done,
+    },
+    /// A loop keeps a word in a conference's file.
+    Wording {
+        conference: u32,
+        key: Text,
+        value: Option<Octets>,
     },
     /// The answer waits until what the client watches has come to its place.
     Hold {
@@ -124,9 +133,24 @@ pub struct List {
     pub count: usize,
 }
 
+/// What became of a line at work.
+#[derive(Drop)]
+pub enum Went {
+    /// It goes on at once.
+    On(Task),
+    /// It goes on once something comes.
+    Waits(Task),
+    /// It is answered, or has no answer.
+    Over,
+    /// There is none.
+    Idle,
+}
+
 impl Task {
     /// A line with nothing of its answer yet.
-    pub fn new(alloc: Global, tag: Option<Tag>, step: Step) -> Task {
+    pub fn new(alloc: Global, tag: Option<Tag>, step: Step) -> Task
+        ensures value { IsNew tag step result }
+    {
         Task {
             tag,
             text: String::new(alloc),
@@ -137,49 +161,95 @@ impl Task {
     }
 
     /// Lets go of what isn't handed out.
-    pub fn clear(&mut self) {
+    pub fn clear(&mut self)
+        ensures value { IsClear self.old self.new }
+    {
         self.text.clear();
         self.at = 0;
     }
 
-    /// The text that is added to.
-    pub fn text(&mut self) -> &mut String {
-        &mut self.text
-    }
-
     /// Whether text is left that may be handed out: not while it waits for what the client watches.
     pub fn has_text(&self) -> bool
-        ensures held { (conference place : ℕ) → self.now.step ≡ Hold conference place
-            → result ≡ false }
+        ensures value { result ≡ (nat_lt 0 (length (left self.now)) && not (is_held self.now.step)) }
     {
-        self.at < self.text.len() && !matches!(self.step, Step::Hold { .. })
+        self.at < self.text.len() && !is_held(&self.step)
     }
 
     /// The next lines of the text, each behind the tag.
-    pub fn next_text(&mut self, alloc: Global) -> Result<String, AllocError> {
-        let rest = self.text.as_str().get(self.at..).unwrap_or("");
-        let len = lines_len(rest);
+    pub fn next_text(&mut self, alloc: Global) -> Result<String, AllocError>
+        ensures out { IfOk result (λ out. IsWhole self.old
+            → string_bytes out ≡ tagged self.old.tag (first_of (left self.old))) }
+        ensures next { OnOk result (IsWhole self.old → HandedOut self.old self.new) }
+    {
+        let lines = first_lines(rest_of(self.text.as_str(), self.at));
         let mut out = String::new(alloc);
-        add_tagged(&mut out, &self.tag, rest.get(..len).unwrap_or(rest))?;
-        self.at = self.at.saturating_add(len);
+        add_tagged(&mut out, &self.tag, lines)?;
+        self.at = self.at.saturating_add(lines.len());
         self.is_begun = true;
+        self.let_go();
+        Ok(out)
+    }
+
+    /// Lets go of the text where all of it is handed out.
+    fn let_go(&mut self)
+        ensures value { IsWhole self.old → HasSame self.old self.new }
+    {
         if self.text.len() <= self.at {
             self.clear();
         }
-        Ok(out)
     }
 }
 
-/// How many bytes the lines have that are handed out at once: whole lines, and at least one.
+/// Whether an answer waits for what its client watches.
+fn is_held(step: &Step) -> bool
+    ensures value { result ≡ is_held step.now }
+{
+    matches!(step, Step::Hold { .. })
+}
+
+/// What stands behind so many bytes of a text; nothing where a character doesn't begin there.
+fn rest_of(text: &str, at: usize) -> &str
+    ensures value { IsCharBoundary text.now at → result.now ≡ drop at text.now }
+{
+    text.get(at..).unwrap_or("")
+}
+
+/// The lines that are handed out at once: whole lines, and at least one.
+fn first_lines(text: &str) -> &str
+    ensures value { result.now ≡ first_of text.now }
+    ensures behind { IsCharBoundary text.now (len_at_once text.now) }
+{
+    front_of(text, lines_len(text))
+}
+
+/// So many bytes of a text; all where a character doesn't begin there.
+fn front_of(text: &str, len: usize) -> &str
+    ensures value { IsCharBoundary text.now len → result.now ≡ take len text.now }
+{
+    text.get(..len).unwrap_or(text)
+}
+
+/// How many bytes they have.
 fn lines_len(text: &str) -> usize
-    ensures within { result ≤ length text.now }
-    ensures some { 0 < length text.now → 0 < result }
+    ensures value { result ≡ len_at_once text.now }
 {
     let bytes = text.as_bytes();
-    let from = ENOUGH_AT_ONCE.min(bytes.len());
-    let rest = bytes.get(from..).unwrap_or(&[]);
-    match rest.iter().position(|byte| *byte == b'\n') {
-        Some(place) => from.saturating_add(place).saturating_add(1),
+    match line_end(behind(bytes)) {
+        Some(place) => ENOUGH_AT_ONCE + place + 1,
         None => bytes.len(),
     }
+}
+
+/// Where the first line feed of these bytes is.
+fn line_end(bytes: &[u8]) -> Option<usize>
+    ensures value { result ≡ position (λ b. b == 10) bytes.now }
+{
+    bytes.iter().position(|byte| *byte == b'\n')
+}
+
+/// What stands behind the bytes that are handed out in any case.
+fn behind(bytes: &[u8]) -> &[u8]
+    ensures value { result.now ≡ drop 32768 bytes.now }
+{
+    &bytes[ENOUGH_AT_ONCE.min(bytes.len())..]
 }

@@ -1,17 +1,19 @@
 //! What the loops answer, and what follows for the line that asked.
 
-ghost use Rattle.std.specs.Prelude.{◌≡◌, ◌≤◌, ◌<◌, ◌+◌, ℕ, Err, None, Ok, Some, length};
+ghost use Rattle.std.specs.Prelude.{◌≡◌, ◌≤◌, ◌<◌, ◌+◌, ◌==◌, ℕ, Err, None, Ok, Some, if◌then◌else◌, length};
 ghost use Rattle.floor_control.specs.declared.refusal.ControlRefusal.TheVariants.{BadPlace};
+ghost use Rattle.floor_socket.specs.Counting.{counted};
 
 use crate::desk::{CONSOLE, Desk};
-use crate::lines::{Went, refused};
-use crate::task::{Journal, List, Step, Task, Then};
+use crate::lines::refused;
+use crate::task::{Journal, List, Step, Task, Then, Went};
 use floor_control::{
     ControlRefusal, Metrics, Standing, Status, add_done, add_end, add_forgotten, add_metrics,
     add_standing, add_watching,
 };
 use floor_poll::{Answer, Asked, Asker, Lines, Question, both};
 use std::alloc::AllocError;
+use std::fs::File;
 use std::mem;
 use std::net::Net;
 use std::rt::Files;
@@ -27,7 +29,16 @@ const MAX_LISTED: usize = 256;
 
 impl<R> Desk<R>
 where
-    R: Net + Files + AllocGlobal + Clock + Threads + Wait + Copy + Drop + Send + 'static,
+    R: Net
+        + Files<File = File>
+        + AllocGlobal
+        + Clock
+        + Threads
+        + Wait
+        + Copy
+        + Drop
+        + Send
+        + 'static,
 {
     /// Takes what a loop answers.
     pub fn take_answer(&mut self, asker: Asker, answer: Answer) {
@@ -72,13 +83,17 @@ where
         let step = mem::replace(&mut task.step, Step::End);
         let next = match answer {
             Answer::Done(done) => self.done(number, &mut task, step, done),
-            Answer::Stands(status) => self.stood(number, &mut task, step, status),
+            Answer::Stands(status, is_unkept) => {
+                self.stood(number, &mut task, step, status, is_unkept)
+            }
             Answer::Lines(lines) => listed(&mut task, step, lines),
             Answer::Standings(found) => stood_together(step, found),
             Answer::Counts(counts) => Ok(counted(step, counts)),
             Answer::Events(_piece) => Ok(step),
             Answer::Drained => Ok(step),
             Answer::Stopped(_report) => Ok(step),
+            Answer::Resumed(_outcome) => Ok(step),
+            Answer::Lost => Ok(step),
         };
         match next {
             Ok(step) => {
@@ -104,15 +119,20 @@ where
                 count: count.saturating_add(1),
             }),
             Step::Acting { conference, done } => {
-                let told = if number == CONSOLE { None } else { Some(place) };
-                add_done(task.text(), conference, done, told)?;
+                let told = place_told(number, place);
+                add_done(&mut task.text, conference, done, told)?;
                 Ok(Step::Hold {
                     conference,
                     place: u64::from(place),
                 })
             }
+            Step::Wording {
+                conference,
+                key,
+                value,
+            } => self.take_word(task, conference, key, value),
             Step::Forgetting { conference } => {
-                add_forgotten(task.text(), conference)?;
+                add_forgotten(&mut task.text, conference)?;
                 Ok(Step::End)
             }
             other => Ok(other),
@@ -126,6 +146,7 @@ where
         task: &mut Task,
         step: Step,
         status: Result<Status, ControlRefusal>,
+        is_unkept: bool,
     ) -> Result<Step, ControlRefusal> {
         let status = status?;
         let Step::Standing { conference, then } = step else {
@@ -136,9 +157,9 @@ where
                 let standing = Standing {
                     conference,
                     status,
-                    is_unkept: false,
+                    is_unkept,
                 };
-                add_standing(task.text(), standing)?;
+                add_standing(&mut task.text, standing)?;
                 Ok(Step::End)
             }
             Then::Journal { from } => {
@@ -152,7 +173,7 @@ where
             Then::Watch { from } => {
                 let from = place_within(from, status)?;
                 self.reserve_watch(number)?;
-                add_watching(task.text(), conference, status.events.saturating_add(1))?;
+                add_watching(&mut task.text, conference, status.events.saturating_add(1))?;
                 Ok(Step::Watch { conference, from })
             }
         }
@@ -166,7 +187,7 @@ where
         journal: Journal,
     ) -> Result<Went, AllocError> {
         if journal.until <= journal.done {
-            add_end(task.text(), journal.until)?;
+            add_end(&mut task.text, journal.until)?;
             return Ok(Went::On(task));
         }
         let question = Question::Journal {
@@ -191,11 +212,11 @@ where
         mut list: List,
     ) -> Result<Went, AllocError> {
         if list.conferences.len() <= list.at {
-            add_end(task.text(), list.count)?;
+            add_end(&mut task.text, list.count)?;
             return Ok(Went::On(task));
         }
         if self.server.loops() <= list.place {
-            list.print(task.text())?;
+            list.print(&mut task.text)?;
             task.step = Step::List(list);
             return Ok(Went::On(task));
         }
@@ -232,7 +253,7 @@ where
         counts: Metrics,
     ) -> Result<Went, AllocError> {
         if self.server.loops() <= place {
-            add_metrics(task.text(), counts)?;
+            add_metrics(&mut task.text, counts)?;
             return Ok(Went::On(task));
         }
         let asked = Asked::Tell(Question::Counts);
@@ -253,6 +274,13 @@ where
             self.stops_by = Some(self.now.saturating_add(ANSWER_MILLIS));
         }
     }
+}
+
+/// The place in a journal that a client is told; the console isn't.
+fn place_told(number: u64, place: u32) -> Option<u32>
+    ensures value { result ≡ (if number == CONSOLE then None else Some place) }
+{
+    if number == CONSOLE { None } else { Some(place) }
 }
 
 /// The place from which a journal is told: 1 at least and the next one at most; the next one where nothing is said.
@@ -279,7 +307,7 @@ fn listed(
     lines: Result<Lines, ControlRefusal>,
 ) -> Result<Step, ControlRefusal> {
     let lines = lines?;
-    task.text().push_str(lines.text.as_str())?;
+    task.text.push_str(lines.text.as_str())?;
     match step {
         Step::Listing(journal) => Ok(Step::Journal(Journal {
             done: journal.done.saturating_add(lines.added),
@@ -306,7 +334,9 @@ fn stood_together(
 }
 
 /// What follows where a loop has told what it counted.
-fn counted(step: Step, counts: Metrics) -> Step {
+fn counted(step: Step, counts: Metrics) -> Step
+    ensures value { result ≡ counted counts step }
+{
     match step {
         Step::Counting {
             place,

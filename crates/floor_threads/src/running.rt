@@ -97,6 +97,9 @@ where
                 loops: _,
                 doors,
                 control: _control,
+                grace: _grace,
+                grace_for_all: _grace_for_all,
+                keep: _keep,
             },
         ) => match task {
             Task::Serve => {

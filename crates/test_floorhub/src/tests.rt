@@ -6,4 +6,5 @@ mod control;
 mod control_hostile;
 mod doors;
 mod endings;
+mod lasting;
 mod logged;

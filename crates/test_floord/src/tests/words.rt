@@ -111,3 +111,64 @@ fn loops_are_1_to_64_where_the_program_has_them(rt: HostRuntime) -> Result<(), F
     }
     Ok(())
 }
+
+/// Words of grace and of keeping, and what they ask for: the seconds, whether for all, and of keeping the folder,
+/// whether it stops, when the disk is asked and the epoch; or the first line of why they are refused. Below the
+/// line of a dash, of a program without loops.
+const KEEPING: &str = "a.toml|0 false -
+--grace 30 a.toml|30 false -
+--grace 600 --grace-for all a.toml|600 true -
+--grace 0 a.toml|0 false -
+--grace 601 a.toml|error: invalid value '601' for '--grace <seconds>': 601 is not in 0..=600
+--grace 30 --grace-for some a.toml|error: invalid value 'some' for '--grace-for <whom>'
+--grace-for all a.toml|error: the following required arguments were not provided:
+--keep k a.toml|0 false k false Second None
+--keep k --sync second a.toml|0 false k false Second None
+--keep k --sync turn --keep-or-stop a.toml|0 false k true Turn None
+--keep k --sync never --epoch 18446744073709551615 a.toml|0 false k false Never Some(18446744073709551615)
+--keep k --grace 5 a.toml --check|5 false k false Second None
+--keep k --sync often a.toml|error: invalid value 'often' for '--sync <when>'
+--sync turn a.toml|error: the following required arguments were not provided:
+--keep-or-stop a.toml|error: the following required arguments were not provided:
+--epoch 1 a.toml|error: the following required arguments were not provided:
+-
+--keep k a.toml|error: unexpected argument '--keep' found
+--grace 5 a.toml|error: unexpected argument '--grace' found";
+
+#[test]
+fn grace_and_keeping_are_asked_for_together(rt: HostRuntime) -> Result<(), Fail> {
+    let alloc = rt.alloc();
+    let mut program = LOOPING;
+    for row in KEEPING.lines() {
+        let Some((said, wanted)) = row.split_once('|') else {
+            program = PLAIN;
+            continue;
+        };
+        let mut words = vec![in alloc; String::from_str(alloc, "program")?]?;
+        for word in said.split(' ') {
+            words.push(String::from_str(alloc, word)?)?;
+        }
+        let found = match read_words(alloc, &words, &program) {
+            Ok(found) => {
+                let (grace, for_all) = (found.grace, found.grace_for_all);
+                match &found.keep {
+                    None => format!(in alloc; "{grace} {for_all} -")?,
+                    Some(keeping) => {
+                        let folder = keeping.folder.as_str();
+                        format!(in alloc;
+                            "{grace} {for_all} {folder} {} {:?} {:?}",
+                            keeping.or_stop, keeping.syncing, keeping.epoch
+                        )?
+                    }
+                }
+            }
+            Err(WordsFault::Refused(text)) => {
+                String::from_str(alloc, text.lines().next().unwrap_or(""))?
+            }
+            Err(_) => String::from_str(alloc, "something else")?,
+        };
+        let is_found = found.as_str().starts_with(wanted);
+        assert!(rt; is_found, "{said}: {}", found.as_str());
+    }
+    Ok(())
+}

@@ -3,6 +3,7 @@
 use floor_server::Program;
 use floor_socket::{Descriptors, run};
 use std::alloc::Global;
+use std::fs::File;
 use std::io::{Write, sink};
 use std::net::{Net, TcpListener, TcpStream};
 use std::os::fd::AsRawFd;
@@ -21,7 +22,7 @@ pub use test_clients::{
 pub fn start_with_socket<R>(rt: R, config: &str, path: &str, port: u16) -> Result<Server, Fail>
 where
     R: Net<Listener = TcpListener, Stream = TcpStream>
-        + Files
+        + Files<File = File>
         + AllocGlobal
         + Clock
         + Threads
@@ -30,6 +31,7 @@ where
         + Drop
         + Send
         + 'static,
+    R::Dir: Send,
 {
     let alloc = rt.alloc();
     let (console, mut start) = prepare(&rt, config, &[(1, port)])?;
@@ -45,7 +47,7 @@ where
 pub fn run_to_end<R>(rt: R, alloc: Global, start: Start) -> u8
 where
     R: Net<Listener = TcpListener, Stream = TcpStream>
-        + Files
+        + Files<File = File>
         + AllocGlobal
         + Clock
         + Threads
@@ -54,6 +56,7 @@ where
         + Drop
         + Send
         + 'static,
+    R::Dir: Send,
 {
     run_logged(rt, alloc, start, sink())
 }
@@ -62,7 +65,7 @@ where
 pub fn run_logged<R, L>(rt: R, alloc: Global, start: Start, log: L) -> u8
 where
     R: Net<Listener = TcpListener, Stream = TcpStream>
-        + Files
+        + Files<File = File>
         + AllocGlobal
         + Clock
         + Threads
@@ -71,6 +74,7 @@ where
         + Drop
         + Send
         + 'static,
+    R::Dir: Send,
     L: Write + Send + Drop + 'static,
 {
     let Start {

@@ -4,6 +4,7 @@ use super::clients::{
     Server, ask, connect, free_port, hear, line, log_lines, prepare, run_logged, send, two_ends,
 };
 use std::alloc::Global;
+use std::fs::File;
 use std::io::{Read, Write};
 use std::net::{Net, Shutdown, TcpListener, TcpStream};
 use std::rt::Files;
@@ -61,7 +62,7 @@ struct Doors {
 fn open<R>(rt: R, path: &str, most: u8) -> Result<Doors, Fail>
 where
     R: Net<Listener = TcpListener, Stream = TcpStream>
-        + Files
+        + Files<File = File>
         + AllocGlobal
         + Clock
         + Threads
@@ -70,6 +71,7 @@ where
         + Drop
         + Send
         + 'static,
+    R::Dir: Send,
 {
     let alloc = rt.alloc();
     let port = free_port(&rt)?;

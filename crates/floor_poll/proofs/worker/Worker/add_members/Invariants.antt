@@ -9,4 +9,4 @@ use Rattle.floor_poll.proofs.worker.Worker.add_members.Given as goal
 abbrev pub invariant-loop-one : goal.invariant-loop-one
 invariant-loop-one g l =
     (r : Room) → room_at l.self.hub.hub l.conference ≡ Some r
-    → string_bytes l.text ≡ string_bytes l.fn.text ++ flat_map (λ one. member_line (line_of r.ledger one)) (take l.one-index l.live)
+    → string_bytes l.text ≡ string_bytes l.fn.text ++ flat_map (λ one. member_line (line_of l.self.hub l.self.now r.ledger one)) (take l.one-index l.live)
