@@ -1,22 +1,26 @@
 #!/usr/bin/env python3
-"""Does the hub behave by C as it does elsewhere? ./embedded.py FLOORSIM SERVER [SEEDS [PORT]]
+"""Does the hub behave by C as it does elsewhere? ./embedded.py FLOORSIM SERVER FLOORC [SEEDS [PORT]]
 
 Puts the library together (.ci/library), and then:
 
 - compiles floor.h, floor.hpp, the examples and embedded.c by gcc and clang, each with all warnings as errors, and runs the
   conference in C, in C++ and in Python, which have to print the same;
 - runs scripts, SEEDS of them (40) of each kind, through libfloor.so by floor.py beside FLOORSIM, a floorsim: conferences,
-  connections, messages of every kind, good and hostile, cut anywhere, slow readers, what an administrator does. Each line
-  has to be answered alike. The journal that is read by pieces has to be as long as the status says;
+  connections, messages of every kind, good and hostile, cut anywhere, slow readers, what an administrator does; more
+  connections than a conference takes; and a connection that reads nothing until it is cut. Each line has to be answered
+  alike, by messages that are taken into rooms of any size. The journal that is read by pieces has to be as long as the
+  status says;
 - has clients play scripts over TCP against examples/server.c, examples/server.py and SERVER, a floord or a floorhub, at ports from PORT (8900)
   on: each has to hear the bytes that the hub has for it. The server in C is built with the sanitizers of addresses and of undefined
-  behavior, and once more plain and run under valgrind;
+  behavior, and once more plain and run under valgrind. Two FLOORC, each a floorc, have to print the same at the server in C
+  as at SERVER;
 - refuses each allocation of a run of all calls in turn (embedded.c), under the same sanitizers: no call may end the
   process, and no block may be left.
 
-Prints what was compared. A difference is printed with its seed, and the status is 1. Takes some 6 minutes where the library
+Prints what was compared. A difference is printed with its seed, and the status is 1. Takes 3 to 9 minutes where the library
 is proved.
 """
+import ctypes
 import os
 import pathlib
 import random
@@ -32,8 +36,10 @@ from messages import (BENEFICIARY_ID, CHAIR_ACTION, FLOOR_QUERY, FLOOR_RELEASE, 
                       PRIORITY, USER_QUERY, attribute, floors, message, number, verdict)
 
 ROOT = pathlib.Path(__file__).resolve().parent.parent
-PORT = int(sys.argv[4]) if len(sys.argv) > 4 else 8900
+PORT = int(sys.argv[5]) if len(sys.argv) > 5 else 8900
 CONFERENCES, USERS, FLOORS = (1, 2), range(10, 14), (1, 2, 3)
+# So many connections of a conference are live at most.
+MOST_LIVE = 64
 # A client waits so long for bytes that it is due, and so long to hear that there are no more.
 DUE, QUIET = 10, 0.02
 WARNINGS = ['-Wall', '-Wextra', '-Wpedantic', '-Wshadow', '-Werror']
@@ -72,11 +78,11 @@ def good(chance, conference, user):
     return message(primitive, conference, chance.randint(1, 65535), user, payload)
 
 
-def script(seed, over_tcp):
+def script(seed, over_tcp=False):
     """Lines of a script: over TCP of attach, send and leave alone."""
     chance = random.Random(seed)
     nonsense = {(c, u): messages.hostile(chance, c, u) for c in CONFERENCES for u in USERS}
-    members, count = {}, 0
+    members, rests, count = {}, {}, 0
     for _ in range(60 if over_tcp else 150):
         word = chance.choice(('attach', 'leave') + ('send',) * 9 if over_tcp else
                              ('attach', 'attach', 'leave', 'slow', 'fast', 'act') + ('send',) * 9 + ('piece', 'serve') * 2)
@@ -91,16 +97,49 @@ def script(seed, over_tcp):
         else:
             connection = chance.choice(list(members))
             if word in ('send', 'piece'):
-                data = good(chance, *members[connection])
-                if chance.random() < 0.3:
-                    data = next(nonsense[members[connection]])[1]
-                if word == 'piece':
-                    data = (data + good(chance, *members[connection]))[: chance.randint(1, 40)]
-                yield f'{word} {connection} {data.hex()}'
+                is_good = chance.random() < 0.7
+                new = good(chance, *members[connection]) if is_good else next(nonsense[members[connection]])[1]
+                data = rests.pop(connection, b'') + new
+                # What a piece leaves comes with what the connection sends next.
+                cut = chance.randint(1, len(data)) if word == 'piece' else len(data)
+                rests[connection] = data[cut:]
+                yield f'{word} {connection} {data[:cut].hex()}'
             else:
                 if word == 'leave':
                     del members[connection]
                 yield f'{word} {connection}'
+
+
+def crowded(seed):
+    """Connections that come to a conference, more than it takes, and now and then go and speak."""
+    chance = random.Random(seed)
+    live, count = {}, 0
+    for _ in range(150):
+        word = chance.choice(('attach',) * 6 + ('leave', 'send')) if live else 'attach'
+        if word == 'attach':
+            user = chance.choice(USERS)
+            yield f'attach 1 {user}'
+            if len(live) < MOST_LIVE:
+                count += 1
+                live[count] = user
+            continue
+        connection = chance.choice(list(live))
+        if word == 'leave':
+            del live[connection]
+            yield f'leave {connection}'
+        else:
+            yield f'send {connection} {good(chance, 1, live[connection]).hex()}'
+
+
+def behind(seed):
+    """A connection watches floor 1, on which another's requests come and go, and reads nothing: it is cut, and later reads."""
+    chance = random.Random(seed)
+    query, request = message(FLOOR_QUERY, 1, 1, 11, floors(1)), message(FLOOR_REQUEST, 1, 1, 10, floors(1))
+    yield from ('attach 1 10', 'attach 1 11', 'attach 1 12', f'send 2 {query.hex()}', f'send 3 {query.hex()}', 'slow 2')
+    for number_ in range(1, chance.randint(500, 560)):
+        yield f'send 1 {request.hex()}'
+        yield f'send 1 {message(FLOOR_RELEASE, 1, 2, 10, number(FLOOR_REQUEST_ID, number_)).hex()}'
+    yield from (f'send 2 {message(HELLO, 1, 3, 11).hex()}', 'fast 2', f'send 1 {request.hex()}', f'send 2 {query.hex()}', 'leave 2')
 
 
 def act(chance):
@@ -117,8 +156,8 @@ class Played:
     """A script over the hub of libfloor.so, and the lines that floorsim prints of each of its lines."""
 
     def __init__(self, floor, text):
-        self.refused, self.hub = floor.Refused, floor.Hub()
-        self.members, self.slow = {}, set()
+        self.floor, self.refused, self.hub = floor, floor.Refused, floor.Hub()
+        self.members, self.slow, self.sizes = {}, set(), random.Random(text)
         self.hub.open(text)
 
     def line(self, line):
@@ -131,7 +170,7 @@ class Played:
         if words[0] == 'leave':
             self.members.pop(int(words[1]), None)
         for connection in sorted(it for it in self.members if self.members[it] == conference and it not in self.slow):
-            while some := self.hub.take_some(connection):
+            while some := self.take(connection):
                 parcels, data = some
                 while data:
                     length = 12 + 4 * int.from_bytes(data[2:4], 'big')
@@ -142,6 +181,24 @@ class Played:
                 except self.refused:
                     pass
         return printed
+
+    def take(self, connection):
+        """Some of what waits for a connection, into a room of any size, or of as much as is wanted then."""
+        size, end = self.sizes.randint(0, 400), b'end'
+        while True:
+            room = (ctypes.c_uint8 * (size + len(end)))()
+            room[size:] = end
+            taken = self.hub._call('floor_take', connection, room, size)
+            if bytes(room[size:]) != end:
+                raise Differs(f'a room of {size} bytes is written beyond')
+            if taken.result == self.floor.NOTHING:
+                return None
+            if taken.result != self.floor.TOO_SHORT:
+                self.hub._check(taken.result)
+                return taken.parcels, bytes(room[: taken.len])
+            if taken.len <= size:
+                raise Differs(f'{taken.len} bytes are wanted of a room of {size}')
+            size = taken.len
 
     def conference_of(self, words):
         of_connection = words[0] in ('send', 'piece', 'serve', 'leave', 'slow', 'fast')
@@ -164,9 +221,10 @@ class Played:
         elif word == 'leave':
             hub.leave(numbers[0])
         elif word in ('slow', 'fast'):
-            if numbers[0] not in self.members:
+            if numbers[0] in self.members:
+                (self.slow.add if word == 'slow' else self.slow.discard)(numbers[0])
+            else:
                 printed.append('refused NoConnection')
-            (self.slow.add if word == 'slow' else self.slow.discard)(numbers[0])
         elif word == 'revoke':
             hub.revoke(*numbers)
         elif word == 'close':
@@ -212,21 +270,26 @@ def compilers(folder):
     print('compiled by gcc, g++, clang and clang++; the conferences in C, C++ and Python print the same')
 
 
-def scripts(floor, floorsim, seeds):
-    lines = 0
+def scripts(floor, floorsim, kind, seeds, reaches):
+    """Scripts of a kind through the library beside floorsim; some line that is printed has to be this."""
+    lines, reached = 0, False
     text = configuration()[0]
     for seed in range(seeds):
         played, wanted = Played(floor, text), []
-        asked = list(script(seed, False))
+        asked = list(kind(seed))
         for line in asked:
             wanted += played.line(line)
         printed = run(floorsim, input=(text + '---\n' + '\n'.join(asked) + '\n').encode()).splitlines()
         if printed != wanted:
             at = next((at for at, (a, b) in enumerate(zip(printed, wanted)) if a != b), min(len(printed), len(wanted)))
-            raise Differs(f'seed {seed}, line {at + 1}: {printed[at:at + 1]} of floorsim, {wanted[at:at + 1]} of the library')
+            raise Differs(f'{kind.__name__}, seed {seed}, line {at + 1}: {printed[at:at + 1]} of floorsim, '
+                          f'{wanted[at:at + 1]} of the library')
         played.check_journals()
         lines += len(printed)
-    print(f'{seeds} scripts through libfloor.so beside floorsim: {lines} lines, none differs')
+        reached = reached or reaches in printed
+    if not reached:
+        raise Differs(f'{kind.__name__}: no script is answered by {reaches}')
+    print(f'{kind.__name__}: {seeds} scripts through libfloor.so beside floorsim: {lines} lines, none differs')
 
 
 class Client:
@@ -299,12 +362,56 @@ def play(played, ports, lines, where):
     return heard
 
 
+class Typed:
+    """A floorc of a user of conference 1, at the user's port; and what it prints."""
+
+    def __init__(self, floorc, port, user):
+        words = [str(floorc), f'127.0.0.1:{port}', '1', str(user)]
+        self.program = subprocess.Popen(words, stdin=subprocess.PIPE, stdout=subprocess.PIPE, text=True)
+
+    def ask(self, line, answers):
+        self.program.stdin.write(line + '\n')
+        self.program.stdin.flush()
+        return [self.program.stdout.readline() for _ in range(answers)]
+
+    def quit(self):
+        return self.program.communicate('quit\n', DUE)[0]
+
+
+def conversation(command, floorc):
+    """What two clients print: one watches a floor that the other asks for, and gives back as it goes."""
+    text, ports = configuration(PORT)
+    with tempfile.NamedTemporaryFile('w', suffix='.toml') as file:
+        file.write(text)
+        file.flush()
+        server = subprocess.Popen([*map(str, command), file.name], stdin=subprocess.PIPE, stdout=subprocess.PIPE)
+        try:
+            server.stdout.readline()
+            first = Typed(floorc, ports[1, 10], 10)
+            said = first.ask('hello', 1) + first.ask('request 1 info slides', 1) + first.ask('watch 1', 1)
+            second = Typed(floorc, ports[1, 12], 12)
+            said += second.ask('request 1 priority 3', 1) + [second.quit()]
+            said += first.ask('listen 2', 2) + [first.quit()]
+            server.communicate(b'stop\n', 60)
+        finally:
+            server.kill()
+            server.wait()
+    return said
+
+
+def clients(folder, server, floorc):
+    said = [conversation([command], floorc) for command in (folder / 'server', pathlib.Path(server).resolve())]
+    if said[0] != said[1] or '' in said[0][:4]:
+        raise Differs(f'two clients print at server.c {said[0]}, and at {pathlib.Path(server).name} {said[1]}')
+    print(f'two clients at server.c as at {pathlib.Path(server).name}: {sum(map(bool, said[0]))} lines, none differs')
+
+
 def servers(floor, folder, server, seeds):
     source = ROOT / 'examples/server.c'
     sanitized = compiled(folder, 'gcc', source, 'server-sanitized', *SANITIZERS)
     over_tcp(floor, 'server.c with sanitizers', [sanitized], seeds)
     valgrind = ['valgrind', '-q', '--leak-check=full', '--error-exitcode=9', compiled(folder, 'clang', source, 'server', '-O2')]
-    over_tcp(floor, 'server.c under valgrind', valgrind, max(1, seeds // 8))
+    over_tcp(floor, 'server.c under valgrind', valgrind, max(1, seeds // 2))
     over_tcp(floor, 'server.py', [sys.executable, ROOT / 'examples/server.py'], seeds)
     over_tcp(floor, pathlib.Path(server).name, [pathlib.Path(server).resolve()], seeds)
 
@@ -319,8 +426,8 @@ def refusals(folder):
 
 
 def main():
-    floorsim, server = sys.argv[1:3]
-    seeds = int(sys.argv[3]) if len(sys.argv) > 3 else 40
+    floorsim, server, floorc = sys.argv[1:4]
+    seeds = int(sys.argv[4]) if len(sys.argv) > 4 else 40
     began = time.monotonic()
     with tempfile.TemporaryDirectory() as name:
         folder = pathlib.Path(name)
@@ -332,8 +439,10 @@ def main():
         print(floor.Hub().version())
         try:
             compilers(folder)
-            scripts(floor, pathlib.Path(floorsim).resolve(), seeds)
+            for kind, reaches in ((script, 'refused Ended'), (crowded, 'refused Full'), (behind, 'refused Cut')):
+                scripts(floor, pathlib.Path(floorsim).resolve(), kind, seeds, reaches)
             servers(floor, folder, server, max(1, seeds // 4))
+            clients(folder, server, pathlib.Path(floorc).resolve())
             refusals(folder)
         except Differs as differs:
             print(differs)

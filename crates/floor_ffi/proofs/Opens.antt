@@ -1,5 +1,5 @@
 -- Conferences that are opened one after another.
-use Rattle.std.proofs.Common.{◌≡◌, ◌≤◌, ℕ, List, [], ◌∷◌, ◌++◌, length, take, drop, refl, sym, ap, subst, ◌∙◌, take_at, drop_at, length-append, append-nil, arith, append_assoc}
+use Rattle.std.proofs.Common.{◌≡◌, ℕ, List, [], ◌∷◌, ◌++◌, length, take, drop, refl, sym, ap, subst, ◌∙◌, take_at, drop_at, length-append, arith}
 use Rattle.std.specs.Prelude.{Result, Ok, Err}
 use Rattle.floor_config.specs.Configuration.{Configuration}
 use Rattle.floor_hub.specs.Hub.{Hub}

@@ -1,5 +1,5 @@
 -- Messages that are served one after another.
-use Rattle.std.proofs.Common.{◌≡◌, ◌<◌, ◌+◌, ℕ, suc, true, sym, subst, refl, ◌∙◌, add-one, inl, inr}
+use Rattle.std.proofs.Common.{◌≡◌, ◌<◌, ◌+◌, ℕ, true, sym, subst, refl, ◌∙◌, add-one, inl, inr}
 use Rattle.std.specs.Prelude.{Result, Ok}
 use Rattle.floor_hub.specs.Hub.{Hub}
 use Rattle.floor_hub.specs.declared.refusal.HubRefusal.{HubRefusal}

@@ -1,5 +1,5 @@
 -- Parcels that are taken one after another.
-use Rattle.std.proofs.Common.{◌≡◌, ◌≤◌, ◌<◌, ◌+◌, ◌-◌, ◌++◌, ℕ, zero, suc, List, [], ◌∷◌, length, take, drop, Option, Some, None, Result, Ok, Err, refl, sym, ap, subst, ◌∙◌, append_assoc, append-nil, length-append, arith, inl, inr, true≢false, take_at, suc-ne-zero, ◌≢◌}
+use Rattle.std.proofs.Common.{◌≡◌, ◌<◌, ◌+◌, ◌++◌, ℕ, zero, suc, List, [], ◌∷◌, length, take, Option, Some, None, Result, Ok, Err, refl, sym, ap, subst, ◌∙◌, append_assoc, append-nil, length-append, arith, inl, inr, true≢false, take_at, suc-ne-zero, ◌≢◌}
 use Rattle.std.specs.Prelude.{slice_get}
 use Rattle.std.specs.Option.{option_map_or}
 use Rattle.std.proofs.lemmas.Option.{none-some}
@@ -8,15 +8,14 @@ use Rattle.floor_machine.specs.Parcel.{Parcel}
 use Rattle.floor_room.specs.Outbox.{Outbox}
 use Rattle.floor_room.specs.Replay.{bytes_of}
 use Rattle.floor_room.specs.Room.{Room}
-use Rattle.floor_room.specs.Taking.{Gives, GivesFrom, GivesHeld, outbox_of}
-use Rattle.floor_room.specs.declared.outbox.NoMember.{NoMember}
+use Rattle.floor_room.specs.Taking.{GivesFrom, GivesHeld, outbox_of}
 use Rattle.floor_hub.specs.Connections.{connection_at}
 use Rattle.floor_hub.specs.Hub.{Hub, room_at}
 use Rattle.floor_hub.specs.Rooms.{TakenFrom, TakenOf, first_at, first_in}
 use Rattle.floor_hub.specs.declared.connection.Connection.{Connection}
 use Rattle.floor_hub.specs.declared.refusal.HubRefusal.{HubRefusal}
 use Rattle.floor_ffi.specs.Called.{Taking}
-use Rattle.floor_ffi.specs.Gives.{TakeEnds, TakeGives, TakesEach, WaitsLonger}
+use Rattle.floor_ffi.specs.Gives.{TakeGives, TakesEach, WaitsLonger}
 use Rattle.floor_ffi.specs.steps.Taken.{IsEnd, IsFirst, PutsOne, TakesOne, TakesSome}
 use Rattle.floor_ffi.specs.declared.taking.Next.{Next}
 use Rattle.floor_ffi.specs.declared.taking.Next.TheVariants as next

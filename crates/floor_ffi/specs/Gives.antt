@@ -1,5 +1,5 @@
 -- What each call from C gives: the hub at the pointer before and after, the number that is answered, and what is written for the caller.
-use Rattle.std.specs.Prelude.{◌≡◌, ◌⊎◌, ◌≤◌, ◌<◌, ◌+◌, ◌-◌, ◌++◌, ℕ, zero, suc, Bool, true, false, nat_eq, List, [], ◌∷◌, length, take, drop, IsUtf8, Option, Some, None, Result, Ok, Err, MatchResult, MatchOption, IfOk}
+use Rattle.std.specs.Prelude.{◌≡◌, ◌⊎◌, ◌≤◌, ◌<◌, ◌+◌, ◌-◌, ◌++◌, ℕ, zero, suc, Bool, true, false, nat_eq, List, [], ◌∷◌, length, take, drop, IsUtf8, Some, None, Result, Ok, Err, MatchOption, IfOk}
 use Rattle.std.specs.List.{list_all}
 use base.Fml.{Fml, fex, fsep, ftrue}
 use base.Fraction.{full_share}
@@ -8,7 +8,6 @@ use denote.RawPtr.{Ptr, lies_at}
 use Rattle.floor_config.specs.Configuration.{Configuration}
 use Rattle.floor_config.specs.Reading.{reading}
 use Rattle.floor_config.specs.declared.fault.ConfigFault.TheVariants.{Memory as NoMemory}
-use Rattle.floor_config.specs.declared.users.User.{User}
 use Rattle.floor_machine.specs.Parcel.{Parcel}
 use Rattle.floor_machine.specs.declared.act.Act.{Act}
 use Rattle.floor_machine.specs.declared.act.Act.TheVariants.{AddUser}
@@ -66,9 +65,10 @@ OpensText text old new opened outcome = IsUtf8 text × ((configs : List Configur
 abbrev pub OpenGives : Hub → List ℕ → Hub → ℕ → ℕ → Type 0
 OpenGives old text new number opened = (outcome : Outcome) × (number ≡ number_of outcome) × OpensText text old new opened outcome
 
--- the text is written with a zero behind it, where there is room for both, and its length is told
-abbrev pub PutsText : List ℕ → ℕ → ℕ → List ℕ → Type 0
-PutsText text len size room = (len ≡ length text) × (length text < size → take (length text + 1) room ≡ text ++ 0 ∷ [])
+-- the text is written with a zero behind it, where there is room for both, else nothing is, and its length is told
+abbrev pub PutsText : List ℕ → ℕ → List ℕ → List ℕ → Type 0
+PutsText text len before room =
+    (len ≡ length text) × (length text < length before → take (length text + 1) room ≡ text ++ 0 ∷ []) × (length before ≤ length text → room ≡ before)
 
 -- why a text is no configuration, or that it is one, unless memory was refused
 abbrev pub IsDiagnosis : List ℕ → Outcome → Type 0
@@ -79,9 +79,9 @@ IsDiagnosis text (Fault fault) = IsUtf8 text × (reading text ≡ Err fault)
 IsDiagnosis text outcome = ⊥
 
 -- what floor_diagnose gives: the fault of the text, and a line that tells its place, of which nothing is said
-abbrev pub DiagnoseGives : List ℕ → ℕ → ℕ → ℕ → List ℕ → Type 0
-DiagnoseGives text number len size room =
-    (outcome : Outcome) × (number ≡ number_of outcome) × IsDiagnosis text outcome × ((line : List ℕ) × PutsText line len size room)
+abbrev pub DiagnoseGives : List ℕ → ℕ → ℕ → List ℕ → List ℕ → Type 0
+DiagnoseGives text number len before room =
+    (outcome : Outcome) × (number ≡ number_of outcome) × IsDiagnosis text outcome × ((line : List ℕ) × PutsText line len before room)
 
 -- what floor_attach gives: the connection's number counts where it was attached
 abbrev pub AttachGives : Hub → ℕ → ℕ → Hub → ℕ → ℕ → Type 0
@@ -150,12 +150,12 @@ pub record TakeGives (old : Hub) (connection : ℕ) (new : Hub) (number parcels 
   pub takes : TakesEach connection taken old new
   pub ends : TakeEnds connection taken new len size room outcome
 
--- what floor_told gives: whom the last call concerned, where there is room for all, and how many they are
-pub record ToldGives (old new : Hub) (number count size : ℕ) (room : List ℕ) : Type 0 where
+-- what floor_told gives: whom the last call concerned, where there is room for all, and how many they are; else nothing is written
+pub record ToldGives (old new : Hub) (number count : ℕ) (before room : List ℕ) : Type 0 where
   pub same : new ≡ old
   pub all : count ≡ length old.concerned
-  pub fits : length old.concerned ≤ size → (number ≡ number_of Done) × (take (length old.concerned) room ≡ old.concerned)
-  pub too_short : size < length old.concerned → number ≡ number_of TooShort
+  pub fits : length old.concerned ≤ length before → (number ≡ number_of Done) × (take (length old.concerned) room ≡ old.concerned)
+  pub too_short : length before < length old.concerned → (number ≡ number_of TooShort) × (room ≡ before)
 
 -- what floor_took gives
 abbrev pub TookGives : Hub → ℕ → ℕ → Hub → ℕ → Type 0

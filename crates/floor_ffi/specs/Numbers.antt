@@ -5,7 +5,6 @@ use Rattle.floor_config.specs.declared.fault.ConfigFault.TheVariants as fault
 use Rattle.floor_config.specs.Names as config
 use Rattle.floor_machine.specs.declared.machine.Refusal.{Refusal}
 use Rattle.floor_machine.specs.declared.machine.Refusal.TheVariants as machine
-use Rattle.floor_room.specs.declared.refusal.RoomRefusal.{RoomRefusal}
 use Rattle.floor_room.specs.declared.refusal.RoomRefusal.TheVariants as room
 use Rattle.floor_room.specs.declared.status.Phase.{Phase}
 use Rattle.floor_hub.specs.declared.refusal.HubRefusal.{HubRefusal}

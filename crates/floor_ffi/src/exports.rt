@@ -2,6 +2,7 @@
 
 ghost use Rattle.std.specs.Prelude.{◌≡◌, ◌≢◌, ◌+◌, ◌++◌, ◌∷◌, ◌<◌, [], Some, None, if◌then◌else◌, length, take};
 ghost use Rattle.std.specs.Borrow.{full_share, sem};
+ghost use Rattle.std.specs.Mem.{type_size};
 ghost use Rattle.std.specs.Ptr.{lies_at, room_at};
 ghost use Rattle.floor_machine.specs.declared.act.Act.TheVariants.{AddFloor, Close, Revoke, SetChair};
 ghost use Rattle.floor_hub.specs.Hub.{Hub as Kept};
@@ -10,6 +11,7 @@ ghost use Rattle.floor_hub.specs.World.{nothing};
 ghost use Rattle.floor_hub.specs.contracts.hub.Hub.{the_row as HubRow};
 ghost use Rattle.floor_ffi.specs.Gives.{ActGives, AttachGives, CutGives, DiagnoseGives, ForgetGives, JournalGives, LeaveGives, Lies, OpenGives, PieceGives, PutsText, ServeGives, StatusGives, TakeGives, ToldGives, TookGives, UserGives};
 ghost use Rattle.floor_ffi.specs.Numbers.{name_of, number_of};
+ghost use Rattle.floor_ffi.specs.declared.exports.TheConstants.{VERSION};
 ghost use Rattle.floor_ffi.specs.declared.outcome.Outcome.{Outcome};
 
 use crate::acting::{add_floor, add_user, close, revoke, set_chair};
@@ -28,9 +30,14 @@ use std::alloc::Global;
 /// The version, and the logic that the library is proved with.
 const VERSION: &str = "libfloor 0.1.0 (logic dac8208d650f15bf)";
 
+/// floor.h asks for room that is aligned so.
+const _: () = prove!(std::mem::align_of::<Hub>() <= 16);
+
 /// Writes the version, and gives its length.
 #[unsafe(no_mangle)]
-pub extern "C" fn floor_version(room: &mut [u8]) -> usize {
+pub extern "C" fn floor_version(room: &mut [u8]) -> usize
+    ensures value { PutsText VERSION.now result room.old room.new }
+{
     put_text(VERSION, room)
 }
 
@@ -38,9 +45,9 @@ pub extern "C" fn floor_version(room: &mut [u8]) -> usize {
 #[unsafe(no_mangle)]
 pub extern "C" fn floor_name(number: u32, room: &mut [u8]) -> usize
     ensures named { (outcome : Outcome) → number_of outcome ≡ number
-        → PutsText (name_of outcome) result (length room.old) room.new }
+        → PutsText (name_of outcome) result room.old room.new }
     ensures unknown { ((outcome : Outcome) → number_of outcome ≢ number)
-        → PutsText [] result (length room.old) room.new }
+        → PutsText [] result room.old room.new }
 {
     put_text(name_of_number(number), room)
 }
@@ -48,14 +55,16 @@ pub extern "C" fn floor_name(number: u32, room: &mut [u8]) -> usize
 /// Says why a text is no configuration, and writes a line that tells the place.
 #[unsafe(no_mangle)]
 pub extern "C" fn floor_diagnose(alloc: Global, text: &[u8], room: &mut [u8]) -> FloorText
-    ensures gives { DiagnoseGives text.now result.result result.len (length room.old) room.new }
+    ensures gives { DiagnoseGives text.now result.result result.len room.old room.new }
 {
     diagnose_text(alloc, text, room)
 }
 
 /// How many bytes a hub takes.
 #[unsafe(no_mangle)]
-pub extern "C" fn floor_hub_size() -> usize {
+pub extern "C" fn floor_hub_size() -> usize
+    ensures value { result ≡ type_size HubRow }
+{
     std::mem::size_of::<Hub>()
 }
 
@@ -135,7 +144,7 @@ pub unsafe extern "C" fn floor_told(hub: *mut u8, room: &mut [u64]) -> FloorName
     ghost old: { Kept }
     requires* { sem 𝓛 (lies_at HubRow full_share hub old) }
     ensures* { sem 𝓛 (Lies HubRow hub (λ new.
-        ToldGives old new result.result result.count (length room.old) room.new)) }
+        ToldGives old new result.result result.count room.old room.new)) }
 {
     told(&mut *(hub as *mut Hub), room)
 }

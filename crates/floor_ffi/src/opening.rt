@@ -85,7 +85,7 @@ fn open_each(hub: &mut Hub, alloc: Global, configs: Vec<Config>) -> FloorOpened
 
 /// Says why a text is no configuration, and writes a line that tells the place.
 pub(crate) fn diagnose_text(alloc: Global, text: &[u8], room: &mut [u8]) -> FloorText
-    ensures gives { DiagnoseGives text.now result.result result.len (length room.old) room.new }
+    ensures gives { DiagnoseGives text.now result.result result.len room.old room.new }
 {
     let Ok(text) = std::str::from_utf8(text) else {
         return told(Outcome::NotUtf8, "the text isn't UTF-8", room);
@@ -104,7 +104,7 @@ pub(crate) fn diagnose_text(alloc: Global, text: &[u8], room: &mut [u8]) -> Floo
 /// An outcome, and a line that is written.
 fn told(outcome: Outcome, line: &str, room: &mut [u8]) -> FloorText
     ensures result { result.result ≡ number_of outcome }
-    ensures line { (written : List ℕ) × PutsText written result.len (length room.old) room.new }
+    ensures line { (written : List ℕ) × PutsText written result.len room.old room.new }
 {
     FloorText {
         result: outcome.number(),

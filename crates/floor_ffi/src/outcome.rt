@@ -1,6 +1,6 @@
 //! What a call from C comes to, as a number and as a name.
 
-ghost use Rattle.std.specs.Prelude.{◌≡◌, ◌≢◌, ◌++◌, ◌∷◌, ◌+◌, ◌<◌, [], length, take};
+ghost use Rattle.std.specs.Prelude.{◌≡◌, ◌≢◌, ◌++◌, ◌∷◌, ◌+◌, ◌≤◌, ◌<◌, [], length, take};
 ghost use Rattle.floor_ffi.specs.declared.outcome.Outcome.{Outcome};
 ghost use Rattle.floor_ffi.specs.declared.outcome.TheConstants.{OUTCOMES};
 ghost use Rattle.floor_ffi.specs.steps.Numbered.{find_numbered};
@@ -174,11 +174,13 @@ pub(crate) fn name_of_number(number: u32) -> &'static str
     }
 }
 
-/// Writes a text and a zero behind it, where there is room for both, and gives the text's length.
+/// Writes a text and a zero behind it, where there is room for both, else nothing, and gives the text's
+/// length.
 pub(crate) fn put_text(text: &str, room: &mut [u8]) -> usize
     ensures len { result ≡ length text.now }
     ensures bytes { length text.now < length room.old
         → take (length text.now + 1) room.new ≡ text.now ++ 0 ∷ [] }
+    ensures kept { length room.old ≤ length text.now → room.new ≡ room.old }
 {
     let len = text.len();
     if len < room.len() {

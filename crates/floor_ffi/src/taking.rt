@@ -111,7 +111,7 @@ fn fill(parcel: &Parcel, room: &mut [u8])
 
 /// Tells whom the last call concerned.
 pub(crate) fn told(hub: &mut Hub, room: &mut [u64]) -> FloorNamed
-    ensures gives { ToldGives hub.old hub.new result.result result.count (length room.old) room.new }
+    ensures gives { ToldGives hub.old hub.new result.result result.count room.old room.new }
 {
     let concerned = hub.concerned();
     let count = concerned.len();

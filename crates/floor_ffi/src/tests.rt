@@ -1,4 +1,4 @@
-//! Each call once with memory, by the functions that the exports lend the hub to.
+//! Each call with memory, by the functions that the exports lend the hub to.
 
 use crate::acting::{add_floor, add_user, close, revoke, set_chair};
 use crate::opening::{diagnose_text, end, forget, fresh, open};
@@ -71,4 +71,81 @@ fn a_conference_is_held_by_calls(rt: HostRuntime) {
     assert_eq!(&rt; leave(&mut hub, bob), 0);
     assert_eq!(&rt; forget(&mut hub, 1), 0);
     end(hub);
+}
+
+#[test]
+fn a_journal_is_read_by_pieces(rt: HostRuntime) {
+    let alloc = rt.alloc();
+    let mut hub = opened(alloc, &rt);
+    attach(&mut hub, alloc, 1, 10);
+    attach(&mut hub, alloc, 1, 11);
+    let cases = [
+        ("one byte too few", 0, 9, Outcome::TooShort, 0, 10, ""),
+        ("the first line", 0, 19, Outcome::Done, 1, 10, "1 join 10\n"),
+        (
+            "both lines",
+            0,
+            20,
+            Outcome::Done,
+            2,
+            20,
+            "1 join 10\n2 join 11\n",
+        ),
+        (
+            "the second line",
+            1,
+            64,
+            Outcome::Done,
+            1,
+            10,
+            "2 join 11\n",
+        ),
+        ("no line more", 2, 64, Outcome::Nothing, 0, 0, ""),
+    ];
+    for (name, done, size, outcome, events, len, text) in cases {
+        let mut bytes = [0u8; 64];
+        let (room, _) = bytes.split_at_mut(size.min(64));
+        let lines = journal(&mut hub, alloc, 1, done, room);
+        assert_eq!(&rt; lines.result, outcome.number(), "{name}");
+        assert_eq!(&rt; (lines.events, lines.len), (events, len), "{name}");
+        assert!(&rt; bytes.starts_with(text.as_bytes()), "{name}");
+    }
+    let unknown = journal(&mut hub, alloc, 3, 0, &mut []).result;
+    assert_eq!(&rt;
+        unknown,
+        Outcome::Refused(HubRefusal::NoConference).number()
+    );
+    end(hub);
+}
+
+/// A text is refused by the fault of this name, and told so by this line.
+fn tells(alloc: Global, rt: &impl Abort, text: &[u8], name: &str, line: &str) {
+    let mut room = [1u8; 256];
+    let told = diagnose_text(alloc, text, &mut room);
+    assert_eq!(rt; name_of_number(told.result), name);
+    assert_eq!(rt; told.len, line.len(), "{name}");
+    let is_written = room.starts_with(line.as_bytes()) && room.get(line.len()) == Some(&0);
+    assert!(rt; is_written, "{name}");
+}
+
+#[test]
+fn a_fault_has_its_name_and_tells_its_place(rt: HostRuntime) {
+    let alloc = rt.alloc();
+    tells(alloc, &rt, TEXT, "Done", "");
+    tells(
+        alloc,
+        &rt,
+        b"a =",
+        "Syntax",
+        "line 1, column 4: invalid value, expected a string, number, boolean, date-time, array or inline table",
+    );
+    tells(
+        alloc,
+        &rt,
+        b"",
+        "MissingKey",
+        "conference is missing; [] stands for none",
+    );
+    tells(alloc, &rt, b"\xff", "NotUtf8", "the text isn't UTF-8");
+    assert_eq!(&rt; name_of_number(99), "");
 }

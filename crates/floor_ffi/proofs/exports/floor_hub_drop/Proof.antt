@@ -1,5 +1,5 @@
 -- `floor_hub_drop` meets its contract: the hub is taken out of its place, and given to `end`.
-use Rattle.floor_ffi.proofs.Steps.{◌≡◌, ℕ, List, [], ◌∷◌, ◌++◌, refl, ap, proved, full_share, id⊢, Fml, ftrue, fat, froom, fex, fsep, Val, vint, vptr, vunit, fact, tables, WpFn, ‵, raw, ◌⊛◌, some, later, prop, ◌$◌, ◌∵◌, !, qed, done, move, keep, drop, use1, use2, split, join, fsplit, fjoin, fpack, feq_l, feq_i, pick, await, regoal, suffices, group, enter, of_opd, unit_lit, assigns, init, load, stop, no_more, and_then, returns, alloc_all, pass_all, free_all, look_at, get, through, sets, lands_as, yes, part_at, lone, Ptr, RawPtr, block_ptr, lies_at, room_at, in_a_block, rawptr_vals, rawptr_Tells, plain, nothing, heard, peeks, shows, Is, calls_at, lasts, on_entry, triple_of, Stays, walk_of, stay_dropped, Goes-dropped, ends_at, framed, unit, only, look}
+use Rattle.floor_ffi.proofs.Steps.{[], ◌∷◌, refl, ap, proved, full_share, id⊢, ftrue, fat, froom, Val, vunit, tables, WpFn, ‵, raw, ◌⊛◌, some, later, prop, ◌$◌, ◌∵◌, !, qed, done, move, drop, use1, use2, split, join, feq_l, feq_i, pick, await, regoal, suffices, group, enter, of_opd, unit_lit, load, stop, no_more, and_then, returns, alloc_all, pass_all, free_all, look_at, get, through, sets, lands_as, yes, lone, Ptr, RawPtr, block_ptr, lies_at, in_a_block, rawptr_vals, rawptr_Tells, plain, nothing, peeks, shows, Is, calls_at, on_entry, triple_of, Stays, walk_of, stay_dropped, Goes-dropped, ends_at, framed, unit, only, look}
 use borrow.Table.OneValue.{part_out}
 use Rattle.floor_hub.specs.contracts.hub.Hub.{the_row as R}
 use Rattle.floor_hub.proofs.hub.Hub.TheLaws as hub

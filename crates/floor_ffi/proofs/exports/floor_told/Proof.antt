@@ -2,7 +2,6 @@
 use Rattle.floor_ffi.proofs.Steps.{ℕ, List, [], ◌∷◌, ◌++◌, refl, MutBor, proved, full_share, id⊢, ftrue, fex, fsep, flft, flent, named, vptr, fact, tables, WpFn, ‵, raw, ◌⊛◌, some, later, prop, ◌$◌, ◌∵◌, !, qed, done, move, keep, use1, use2, use3, split, join, fsplit, fjoin, fpack, feq_l, pick, await, regoal, suffices, group, enter, of_opd, addr, from, fld, hop, get_in, look_in_at, whole, sub, agg, stop, no_more, and_then, returns, alloc_all, pass_all, free_all, look_at, get, through, sets, lands_as, Body, lft_new, lft_end, u64, yes, mem, lends_ref, ref_back, Ptr, RawPtr, block_ptr, lies_at, in_a_block, rawptr_vals, rawptr_Tells, MutRef, MutSlice, mut_slice_vals, mut_slice_Tells, plain, nothing, heard, peeks, shows, Is, calls_at, lasts, triple_of, Stays, walk_of, stay_dropped, gave_slice, Goes-dropped, Goes-gave_slice, ends_at, framed}
 use Rattle.floor_hub.specs.contracts.hub.Hub.{the_row as R}
 use Rattle.floor_ffi.specs.Gives.{ToldGives}
-use Rattle.std.specs.Prelude.{length}
 use Rattle.floor_ffi.specs.contracts.answers.FloorNamed.{the_row as Out}
 use Rattle.floor_ffi.proofs.answers.FloorNamed.TheLaws as out_laws
 use Rattle.floor_ffi.specs.contracts.exports.floor_told as f
@@ -37,14 +36,14 @@ floor_told_spec 𝓤 𝓛 𝓜 𝓡 wired =
     calls_at ! (framed 𝓤 𝓛.H 𝓜 𝓣) G (met 𝓤 𝓛 𝓜 𝓡 (code.calls-floor_ffi::taking::told 𝓡.env wired)) z
     (and_then ! (get ! refl) (and_then ! (get ! refl) (no_more !))) (λ v.
     use1 𝓛 (later (some (λ (n : Out.Denot). ((‵ (flft (α ∷ []) full_share) ⊛ (‵ (flft κs.0 qs.0) ⊛ ‵ ftrue)) ⊛ ‵ (Out.own_val n (v ∷ []))) ⊛
-    some (λ (ws : (R.Denot × (List ℕ × Unit {0}))). ‵ (lasts g.ended z.0.0 z.0.3 ws) ⊛ raw (fact 𝓤 (ToldGives h ws.0 n.result n.count (length a.1.0.now) ws.1.0)))))) (id⊢ 𝓤 _) $
+    some (λ (ws : (R.Denot × (List ℕ × Unit {0}))). ‵ (lasts g.ended z.0.0 z.0.3 ws) ⊛ raw (fact 𝓤 (ToldGives h ws.0 n.result n.count a.1.0.now ws.1.0)))))) (id⊢ 𝓤 _) $
     await ! tt $ pick ! (λ n. split ! $ split ! $ split ! $ lft_end ! tt $ move ! (2 ∷ []) $
     peeks ! Out (Is Out) (shows 𝓛 Out) n (v ∷ []) (λ is. lands_as ! refl refl ((out_laws.the_row_laws.lawful 𝓛).typed n _ is).0 $
     move ! (3 ∷ []) $ pick ! (λ ws. split ! $ move ! (1 ∷ []) $ heard ! _ (λ found.
     fsplit ! $ fsplit ! $ move ! (2 ∷ []) $ fsplit ! $ fsplit ! $ fsplit ! $ move ! (1 ∷ []) $ feq_l ! (λ len0. fjoin ! $ move ! (5 ∷ 7 ∷ 2 ∷ []) $
     use3 𝓛 (later (‵ (lies_at R full_share (block_ptr b o) ws.0))) (ref_back 𝓛 R (α ∷ []) δ ws.0 b o) $ await ! tt $
-    nothing ! $ fpack ! (ToldGives h ws.0 n.result n.count (length a.1.0.now) ws.1.0) (λ _. ftrue) found $ move ! (1 ∷ 0 ∷ []) $ fjoin ! $
-    fpack ! R.Denot (λ x. fsep (lies_at R full_share (block_ptr b o) x) (fex (ToldGives h x n.result n.count (length a.1.0.now) ws.1.0) (λ _. ftrue))) ws.0 $
+    nothing ! $ fpack ! (ToldGives h ws.0 n.result n.count a.1.0.now ws.1.0) (λ _. ftrue) found $ move ! (1 ∷ 0 ∷ []) $ fjoin ! $
+    fpack ! R.Denot (λ x. fsep (lies_at R full_share (block_ptr b o) x) (fex (ToldGives h x n.result n.count a.1.0.now ws.1.0) (λ _. ftrue))) ws.0 $
     returns ! (look_at ! 0 refl) $ free_all ! refl $ keep ! (0 ∷ 4 ∷ 5 ∷ 1 ∷ []) $
     suffices ! _ (ends_at 𝓛 f.ended stayed c (y (block_ptr b o)) v n (tt, (ws.1.0, tt)) (tt, (len0, tt))) $
     nothing ! $ nothing ! $ move ! (5 ∷ 0 ∷ []) $ join ! $ move ! (1 ∷ 0 ∷ []) $ join ! $ move ! (3 ∷ 0 ∷ 2 ∷ 1 ∷ []) $ group ! 3 $ done !)))))))))))
