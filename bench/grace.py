@@ -36,8 +36,8 @@ import tempfile
 import time
 
 from messages import (ACCEPTED, FLOOR_QUERY, FLOOR_RELEASE, FLOOR_REQUEST, FLOOR_REQUEST_ID,
-                      FLOOR_REQUEST_INFORMATION, FLOOR_REQUEST_STATUS, FLOOR_STATUS, GRANTED, HELLO,
-                      OVERALL_REQUEST_STATUS, REQUEST_STATUS, USER_QUERY, first, floors, message, number, read)
+                      FLOOR_REQUEST_STATUS, FLOOR_STATUS, GRANTED, HELLO, USER_QUERY, floors, message, number, read,
+                      requests_of)
 from proxies import DOOR, HEALTH, Proxy, certificate, context_of, openssl
 from server import Control, Server, proxy_header
 
@@ -116,16 +116,6 @@ class Network:
     def move(self, before, behind):
         run('ip', '-n', CLIENTS, 'addr', 'del', before + '/24', 'dev', 'eth0')
         run('ip', '-n', CLIENTS, 'addr', 'add', behind + '/24', 'dev', 'eth0')
-
-
-def requests_of(attributes):
-    """The status and the position of each floor request that attributes tell of."""
-    found = {}
-    for kind, _, contents in attributes:
-        if kind == FLOOR_REQUEST_INFORMATION:
-            status = first(first(contents[1], OVERALL_REQUEST_STATUS)[1], REQUEST_STATUS)
-            found[contents[0]] = status[0], status[1]
-    return found
 
 
 class Client:

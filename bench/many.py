@@ -42,9 +42,8 @@ import time
 sys.path.insert(0, os.path.join(os.path.dirname(os.path.abspath(__file__)), '../examples/many'))
 import machines
 from messages import (ACCEPTED, CHAIR_ACTION, FLOOR_QUERY, FLOOR_RELEASE, FLOOR_REQUEST, FLOOR_REQUEST_ID,
-                      FLOOR_REQUEST_INFORMATION, FLOOR_REQUEST_STATUS, FLOOR_STATUS, GRANTED, HELLO,
-                      OVERALL_REQUEST_STATUS, PENDING, REQUEST_STATUS, USER_QUERY, first, floors, message, number, read,
-                      verdict)
+                      FLOOR_REQUEST_STATUS, FLOOR_STATUS, GRANTED, HELLO, PENDING, USER_QUERY, floors, message, number,
+                      read, requests_of, verdict)
 from server import Control
 
 CONFERENCES, PEOPLE, CHAIR = 40, (10, 11, 12, 13), 20
@@ -55,16 +54,6 @@ EVERY, AGAIN, STANDING, DEADLINE = 20, 8, 20, 60
 
 class Failed(Exception):
     """What was otherwise."""
-
-
-def requests_of(attributes):
-    """The status and the position of each floor request that attributes tell of."""
-    found = {}
-    for kind, _, contents in attributes:
-        if kind == FLOOR_REQUEST_INFORMATION:
-            status = first(first(contents[1], OVERALL_REQUEST_STATUS)[1], REQUEST_STATUS)
-            found[contents[0]] = status[0], status[1]
-    return found
 
 
 class Link:

@@ -120,6 +120,16 @@ def first(attributes, kind):
     return next((contents for k, _, contents in attributes if k == kind), None)
 
 
+def requests_of(attributes):
+    """The status and the position of each floor request that attributes tell of."""
+    found = {}
+    for kind, _, contents in attributes:
+        if kind == FLOOR_REQUEST_INFORMATION:
+            status = first(first(contents[1], OVERALL_REQUEST_STATUS)[1], REQUEST_STATUS)
+            found[contents[0]] = status[0], status[1]
+    return found
+
+
 def verdicts(attributes):
     """Whether the FLOOR-REQUEST-INFORMATION of a ChairAction has a verdict on each floor."""
     overall = first(attributes, OVERALL_REQUEST_STATUS)
