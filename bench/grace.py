@@ -10,7 +10,7 @@ those that are named:
               then they come again
     early     the link is down for 5 s: nobody is away
     address   the clients' machine has another address from one moment to the next, and they come again at once, before
-              the system has given their first connections up
+              the system has given their first connections up: those leave then, and nobody is away
     ends      a connection that is reset, ends inside a message, ends in order or half, with `--grace-for all` and without
     over      nobody comes again, with a grace of 3 s
     none      without `--grace`
@@ -370,16 +370,16 @@ def address(network, floorhub, folder):
         came = time.monotonic() - moved
         wanted(meeting.members(), [(10, False), (10, False), (11, False), (11, False), (12, False)], 'the members')
         while meeting.members() != [(10, False), (11, False), (12, False)]:
-            within(time.monotonic() - moved, 0, LOST + GRACE + LATE, 'the first connections')
+            within(time.monotonic() - moved, 0, LOST + LATE, 'the first connections')
             time.sleep(0.2)
         ended = time.monotonic() - moved
-        lines = meeting.unmoved()
+        # Nobody is away: whoever was lost is there by another connection.
+        wanted([line for line in meeting.unmoved() if line.startswith('~')], [], 'the notices')
         meeting.goes_on(holder, following)
     finally:
         network.move(SECOND, FIRST)
         meeting.end()
-    return 'answered after %.1f s, the first connections have ended after %.1f s (%s)' % (
-        came, ended, ', '.join(line for line in lines if line.startswith('~')) or 'no notice')
+    return 'answered after %.1f s, the first connections have ended after %.1f s' % (came, ended)
 
 
 def inside_a_message(client):
