@@ -642,6 +642,10 @@ def figures(case):
     """`metrics`, read by Prometheus' own parser, where that is there."""
     flooded(case, 100)
     control = case.client()
+    # That its connection has ended is heard behind what it was answered.
+    limit = time.monotonic() + DEADLINE
+    while ' members 0 ' not in first_line(control, 'status 1') and time.monotonic() < limit:
+        time.sleep(0.01)
     lines_ = control.ask('metrics')
     wanted(lines_[-1], 'end %d' % (len(lines_) - 1))
     text = '\n'.join(lines_[:-1]) + '\n'

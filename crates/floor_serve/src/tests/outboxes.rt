@@ -9,9 +9,14 @@ use std::sync::Wait;
 use std::sync::atomic::{AtomicU32, Ordering};
 use std::test::*;
 use std::thread;
+use std::thread::Threads;
 
-/// How many outboxes are closed.
-const OUTBOXES: u32 = 20_000;
+/// How many pairs of threads run side by side: more threads than processors, so that each is stopped here and there
+/// while the other one of its pair runs on.
+const PAIRS: u32 = 8;
+
+/// How many outboxes a pair closes.
+const OUTBOXES: u32 = 5_000;
 
 /// How long a thread lingers, so that the other one looks or sleeps meanwhile.
 const LINGERS: u32 = 300;
@@ -90,17 +95,37 @@ fn outboxes(alloc: Global) -> Result<(Vec<(Sender, Frame)>, Vec<Taker>), Fail> {
     Ok((senders, takers))
 }
 
+/// How many outboxes of a pair of threads are taken whole, none where one couldn't be put into.
+fn whole_of<R: Threads + Wait + Sync>(
+    rt: &R,
+    senders: Vec<(Sender, Frame)>,
+    takers: Vec<Taker>,
+    waiting: Waiting,
+) -> u32 {
+    let (put, whole) = thread::join(
+        rt,
+        || close_each(rt, senders, waiting),
+        || take_each(rt, takers, waiting),
+    );
+    if put { whole } else { 0 }
+}
+
 #[test]
 fn what_is_put_before_the_mark_is_taken(rt: HostRuntime) -> Result<(), Fail> {
+    let alloc = rt.alloc();
     for waiting in [Waiting::Looks, Waiting::Sleeps] {
-        let (senders, takers) = outboxes(rt.alloc())?;
-        let (put, whole) = thread::join(
-            &rt,
-            || close_each(&rt, senders, waiting),
-            || take_each(&rt, takers, waiting),
-        );
-        assert!(rt; put);
-        assert_eq!(rt; whole, OUTBOXES);
+        let mut ends = Vec::new(alloc);
+        for _ in 0..PAIRS {
+            ends.push(outboxes(alloc)?)?;
+        }
+        let mut pairs = Vec::new(alloc);
+        for (senders, takers) in ends {
+            let pair = thread::spawn(&rt, move || whole_of(&rt, senders, takers, waiting))?;
+            pairs.push(pair)?;
+        }
+        for pair in pairs {
+            assert_eq!(rt; pair.join(&rt), OUTBOXES);
+        }
     }
     Ok(())
 }
