@@ -355,20 +355,20 @@ def told(client):
     return head + hear(client, 4 * struct.unpack('>H', head[2:4])[0])
 
 
-def moved_up(case, count):
+def moved_up(case, count, of=1):
     """A member that asks for floor 2 for everybody, and so many times gives back what holds it and asks again: so each
-    time all that wait move up."""
+    time all that wait in that conference move up."""
     client = connect(DOOR)
     client.settimeout(DEADLINE)
-    client.sendall(header_by_id('1.10') + message(HELLO, 1, 1, 10))
+    client.sendall(header_by_id('%d.10' % of) + message(HELLO, of, 1, 10))
     hear(client, 48)
     waiting = LIMIT * len(USERS)
-    asked = [message(FLOOR_REQUEST, 1, 1, 10, floors(2) + number(BENEFICIARY_ID, user)) for user in USERS]
+    asked = [message(FLOOR_REQUEST, of, 1, 10, floors(2) + number(BENEFICIARY_ID, user)) for user in USERS]
     answers = waiting
     for k in range(waiting):
         client.sendall(asked[k % len(USERS)])
     for k in range(count):
-        client.sendall(message(FLOOR_RELEASE, 1, 1, 10, number(FLOOR_REQUEST_ID, 1 + k)) + asked[k % len(USERS)])
+        client.sendall(message(FLOOR_RELEASE, of, 1, 10, number(FLOOR_REQUEST_ID, 1 + k)) + asked[k % len(USERS)])
         answers += 2
         while answers > 8:
             # A notice has transaction 0.
@@ -472,6 +472,57 @@ def two_close(case):
     for client in pair + [control]:
         client.close()
     return '%d conferences: one is told closed, the other Ended; one forgotten, the other Ended' % count
+
+
+def forgotten(case):
+    """A conference is forgotten while four who watch it never read, and by two who aren't told of all of it yet."""
+    control, text = case.client(), conference(50)
+    control.socket.sendall(b'open .\n%s.\n' % text.encode())
+    wanted(control.line(), 'ok opened 1')
+    moved_up(case, 900, 50)
+    while 'members 0' not in first_line(control, 'status 50'):
+        time.sleep(0.05)
+    silent, askers, heard = [case.raw() for _ in range(4)], [case.raw() for _ in range(2)], {}
+    for client in silent:
+        client.sendall(b'watch 50 from 1\n')
+    last = int(first_line(control, 'close 50').split()[-1])
+    reckoned, _ = reckoning.live_lines(reckoning.tables(text)[50], control.ask('journal 50')[:-1])
+    shown = ''.join('%s\n' % line for line in reckoned)
+    began = time.monotonic()
+
+    def listen(client):
+        client.sendall(b'watch 50 from 1\nforget 50\n')
+        said = b''
+        while not re.search(rb'\n(ok|error) .*\n$', said[-40:]):
+            piece = client.recv(1 << 16)
+            if not piece:
+                break
+            said += piece
+        heard[client] = said.decode()
+
+    threads = [threading.Thread(target=listen, args=(client,)) for client in askers]
+    for thread in threads:
+        thread.start()
+    for thread in threads:
+        thread.join(10 * DEADLINE)
+    took, answers = time.monotonic() - began, []
+    for client in askers:
+        first, _, rest = heard.get(client, '').partition('\n')
+        answers.append(rest[len(shown):])
+        if first != 'ok watching 50 %d' % (last + 1) or not rest.startswith(shown):
+            raise Failed('one that asked heard "%s" and %d of %d bytes' % (first, len(rest), len(shown)))
+        client.close()
+    wanted(sorted(answers), ['error Forgotten\n', 'ok forgotten 50\n'])
+    for client in silent:
+        said, is_closed = until_closed(client)
+        first, _, rest = said.decode().partition('\n')
+        if not is_closed or not shown.startswith(rest):
+            raise Failed('a silent one heard "%s" and %d bytes, and is %s' % (
+                first, len(rest), 'closed' if is_closed else 'not closed'))
+    wanted(control.ask('status 50'), ['error Forgotten'])
+    control.close()
+    return 'two were told of %d events in %d kB, and answered behind that, within %.1f s; the silent ones were closed' % (
+        last, len(shown) // 1000, took)
 
 
 def like_lines(case):
@@ -737,8 +788,8 @@ def compare(who, heard, reckoned):
         raise Failed('%s has %d lines, not %d' % (who, len(heard), len(reckoned)))
 
 
-CASES = (lines, long_lines, not_text, ends_sending, sixty_four, never_reads, read_as_it_comes, two_close, like_lines, no_console,
-         no_input, full_disk, the_file, drained, figures, resumed)
+CASES = (lines, long_lines, not_text, ends_sending, sixty_four, never_reads, read_as_it_comes, two_close, forgotten,
+         like_lines, no_console, no_input, full_disk, the_file, drained, figures, resumed)
 
 
 def main():

@@ -156,7 +156,8 @@ class Client:
         # (conference, place, act's words, how many live lines had come, the first place and the line from which on it
         # watched or none), and (kind, conference, place, rows).
         self.acts, self.stood = [], []
-        self.journals = {}
+        # Those that it has closed and that nobody has forgotten, and the journals of those that it tried to forget.
+        self.closed, self.journals = [], {}
 
     def step(self):
         chance, latest = self.chance, self.latest.value
@@ -169,8 +170,8 @@ class Client:
         for line, tag in zip(lines, tags):
             self.asking = line
             self.take(line, self.control.answer(tag))
-        if chance.random() < 0.1:
-            self.forget(latest - RUNNING - chance.randrange(4))
+        for conference in [it for it in self.closed if chance.random() < 0.3]:
+            self.forget(conference)
         if chance.random() < 0.3:
             self.control.listen(0.02 * chance.random())
 
@@ -197,6 +198,8 @@ class Client:
             segment = self.watched[int(words[1])][-1]
             segment[2] = len(self.control.live) if segment[2] is None else segment[2]
         elif last[0] == 'ok' and ' at ' in answer[-1]:
+            if words[0] == 'close':
+                self.closed.append(int(last[2]))
             segments = [it for it in self.watched[int(last[2])] if it[2] is None]
             self.acts.append((int(last[2]), int(last[-1]), last[1:-2], len(self.control.live), segments[:1]))
             self.last = int(last[-1]) // 9
@@ -209,11 +212,19 @@ class Client:
             self.stood.append(('journal', int(words[1]), len(answer) - 1, answer[:-1]))
 
     def forget(self, conference):
-        """Forgets a conference that is closed, whose journal was taken down before."""
+        """Forgets a conference that it has closed, whose journal is taken down before; where somebody is in it yet, or
+        it is to be forgotten later, it stays among those."""
         journal = self.control.ask('journal %d' % conference)[:-1]
-        if journal and journal[-1].endswith(' close'):
-            self.journals[conference] = journal
-            self.take('forget %d' % conference, self.control.ask('forget %d' % conference))
+        self.journals[conference] = journal
+        # What was asked before it was told is what it watches from the first place, and isn't told of yet.
+        lines = ['watch %d from 1' % conference] * (self.chance.random() < 0.5) + ['forget %d' % conference]
+        tags = [self.control.send(line) for line in lines]
+        for line, tag in zip(lines, tags):
+            self.asking = line
+            answer = self.control.answer(tag)
+            self.take(line, answer)
+        if answer[-1].startswith('ok '):
+            self.closed.remove(conference)
 
     def result(self):
         # So long a server that is starved may keep one waiting that is told of thousands of events.

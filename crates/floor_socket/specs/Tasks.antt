@@ -3,8 +3,9 @@ use Rattle.std.specs.Prelude.{◌≡◌, ℕ, ◌+◌, ◌==◌, Bool, true, fal
 use Rattle.std.specs.Option.{option_map_or}
 use Rattle.std.specs.Str.{IsCharBoundary}
 use Rattle.floor_socket.specs.declared.task.Step.{Step}
-use Rattle.floor_socket.specs.declared.task.Step.TheVariants.{Hold}
+use Rattle.floor_socket.specs.declared.task.Step.TheVariants.{Hold, Standing, Watch}
 use Rattle.floor_socket.specs.declared.task.Task.{Task}
+use Rattle.floor_socket.specs.declared.task.Then.TheVariants as then
 
 -- the text that is there and isn't handed out yet
 abbrev pub left : Task → List ℕ
@@ -57,3 +58,9 @@ pub record HasSame (before task : Task) : Type 0 where
   pub begun : task.is_begun ≡ before.is_begun
   pub left : left task ≡ left before
   pub whole : IsWhole task
+
+-- it is on the way to watch this conference
+abbrev pub watches : ℕ → Step → Bool
+watches of (Standing conference (then.Watch from)) = conference == of
+watches of (Watch conference from) = conference == of
+watches of _ = false

@@ -124,7 +124,7 @@ where
         match line {
             Line::OpenHere => Ok(Step::Gather(Opening::new(self.alloc))),
             Line::Leave { conference, n } => self.leave(number, conference, n),
-            Line::Forget { conference } => self.forget(number, conference),
+            Line::Forget { conference } => self.stand(number, conference, Then::Forget),
             Line::Watch { conference, from } => self.watch(number, conference, from),
             Line::Unwatch { conference } => self.unwatch_for(number, task, conference),
             Line::Word {
@@ -238,18 +238,6 @@ where
     ) -> Result<Step, ControlRefusal> {
         self.ask(number, conference, Asked::Tell(question))?;
         Ok(Step::Lines)
-    }
-
-    fn forget(&mut self, number: u64, conference: u32) -> Result<Step, ControlRefusal> {
-        let Some(place) = self.server.owner(conference) else {
-            return Err(ControlRefusal::ByBoard(BoardRefusal::NoConference));
-        };
-        let asker = Asker::Forgetting {
-            client: number,
-            conference,
-        };
-        self.send(place, asker, Asked::Forget { conference })?;
-        Ok(Step::Forgetting { conference })
     }
 
     fn list(&mut self) -> Result<Step, ControlRefusal> {

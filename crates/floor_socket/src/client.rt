@@ -40,6 +40,8 @@ pub struct Seat {
     pub task: Option<Task>,
     /// What it is behind with, one conference after another.
     pub behind: VecDeque<Behind>,
+    /// Whether some of that may be hurried.
+    is_hurried: bool,
     /// The conferences that it watches.
     pub watched: IndexMap<u32, ()>,
 }
@@ -52,6 +54,8 @@ pub struct Behind {
     pub from: u64,
     /// Its replica, once it is its turn.
     pub replica: Option<Replica>,
+    /// Whether it is shown at once, since the conference is to be forgotten.
+    pub is_hurried: bool,
 }
 
 impl Behind {
@@ -66,6 +70,14 @@ impl Behind {
             None => 0,
         };
         told.max(self.from.saturating_sub(1))
+    }
+
+    /// Whether events were asked for and haven't come yet.
+    fn is_asking(&self) -> bool {
+        match &self.replica {
+            Some(replica) => replica.is_asking(),
+            None => false,
+        }
     }
 
     /// What is due of it.
@@ -88,7 +100,7 @@ impl Behind {
 #[derive(Clone, Copy, Debug, PartialEq, Eq)]
 pub enum Due {
     /// Nothing: it is behind with nothing, or takes nothing more at present, or part of an answer was given and not
-    /// its end.
+    /// its end, and what comes next isn't hurried.
     Nothing,
     /// A replica of this conference, which is the next.
     Replica {
@@ -119,6 +131,7 @@ impl Seat {
             is_deaf: false,
             task: None,
             behind: VecDeque::new(alloc),
+            is_hurried: false,
             watched: IndexMap::new(alloc),
         }
     }
@@ -139,19 +152,102 @@ impl Seat {
         }
     }
 
-    /// What is due to it of what it is behind with: of the first conference, and between two answers.
+    /// Whether lines between two answers are made for it at present.
+    pub fn takes_more(&self) -> bool
+        ensures full { is_full self.now.lines.outgoing ≡ true → result ≡ false }
+        ensures inside { MatchOption self.now.task (Unit {0})
+            (λ task. task.is_begun ≡ true → result ≡ false) }
+    {
+        !self.lines.is_full() && !self.is_inside()
+    }
+
+    /// What is due to it of what it is behind with: of the first conference, and between two answers unless that is
+    /// hurried.
     pub fn due(&self) -> Due
         ensures failed { self.now.has_failed ≡ true → result ≡ Nothing }
-        ensures full { is_full self.now.lines.outgoing ≡ true → result ≡ Nothing }
-        ensures inside { MatchOption self.now.task (Unit {0})
-            (λ task. task.is_begun ≡ true → result ≡ Nothing) }
     {
-        if self.has_failed || self.lines.is_full() || self.is_inside() {
-            return Due::Nothing;
-        }
         match self.behind.front() {
-            Some(behind) => behind.due(),
-            None => Due::Nothing,
+            Some(behind) if self.may_show(behind) => behind.due(),
+            _ => Due::Nothing,
+        }
+    }
+
+    /// Whether it may be shown something of a conference that it is behind with.
+    fn may_show(&self, behind: &Behind) -> bool
+        ensures failed { self.now.has_failed ≡ true → result ≡ false }
+        ensures full { behind.now.is_hurried ≡ false → is_full self.now.lines.outgoing ≡ true
+            → result ≡ false }
+        ensures inside { behind.now.is_hurried ≡ false → MatchOption self.now.task (Unit {0})
+            (λ task. task.is_begun ≡ true → result ≡ false) }
+        ensures hurried { behind.now.is_hurried ≡ true → self.now.has_failed ≡ false → result ≡ true }
+    {
+        !self.has_failed && (behind.is_hurried || self.takes_more())
+    }
+
+    /// Has what it is behind with of a conference shown at once, and says whether that is new.
+    pub fn hurry(&mut self, conference: u32) -> bool {
+        if self.watched.get(&conference).is_none() {
+            return false;
+        }
+        for behind in self.behind.iter_mut() {
+            if behind.conference == conference {
+                let is_new = !behind.is_hurried;
+                behind.is_hurried = true;
+                self.is_hurried = true;
+                return is_new;
+            }
+        }
+        false
+    }
+
+    /// Puts what is hurried in front, but not while events are asked for of what stands there: one ask at a time is
+    /// open.
+    pub fn put_hurried_first(&mut self) {
+        let is_busy = match self.behind.front() {
+            Some(behind) => behind.is_hurried || behind.is_asking(),
+            None => false,
+        };
+        if !self.is_hurried || is_busy {
+            return;
+        }
+        let place = self.behind.iter().position(|behind| behind.is_hurried);
+        let hurried = match place {
+            Some(place) => self.behind.remove(place),
+            None => None,
+        };
+        match hurried {
+            Some(hurried) => {
+                let is_lost = self.behind.push_front(hurried).is_err();
+                self.has_failed = self.has_failed || is_lost;
+            }
+            None => self.is_hurried = false,
+        }
+    }
+
+    /// Up to which place it was told what is shown of a conference that it is behind with.
+    pub fn reached(&self, conference: u32) -> Option<u64> {
+        for behind in self.behind.iter() {
+            if behind.conference == conference {
+                return Some(behind.place());
+            }
+        }
+        None
+    }
+
+    /// Watches a conference no longer, and says whether it did.
+    pub fn leave(&mut self, conference: u32) -> bool {
+        self.behind.retain(|behind| behind.conference != conference);
+        self.watched.swap_remove(&conference).is_some()
+    }
+
+    /// Whether its line is about to watch a conference, and doesn't wait for it to take an answer.
+    pub fn is_about_to_watch(&self, conference: u32) -> bool
+        ensures full { is_full self.now.lines.outgoing ≡ true → result ≡ false }
+        ensures idle { self.now.task ≡ None → result ≡ false }
+    {
+        match &self.task {
+            Some(task) => task.step.watches(conference) && !self.lines.is_full(),
+            None => false,
         }
     }
 

@@ -72,6 +72,8 @@ pub struct Desk<R> {
     pub feeds: VecDeque<u32>,
     /// How many conferences are followed.
     pub following: usize,
+    /// Whether lines may wait until all are told of a conference that is to be forgotten.
+    pub is_forgetting: bool,
     /// The number of the last ask for events.
     pub last_ask: u64,
     pub is_draining: bool,
@@ -133,6 +135,7 @@ where
             readers: IndexMap::new(alloc),
             feeds: VecDeque::new(alloc),
             following: 0,
+            is_forgetting: false,
             last_ask: 0,
             is_draining: false,
             ends_with_console: false,
@@ -186,6 +189,7 @@ where
             self.accept_again();
             self.serve_turns();
             self.feed_all();
+            self.go_on_forgetting();
             self.serve_console(input, output, errors);
             self.stop_at_end();
             self.stop_drained();
@@ -350,7 +354,7 @@ where
 
     /// Has a client served, each once. Whoever has been served and isn't queued has nothing to be done until something
     /// comes for it, so whatever comes for a client queues it: what its socket is ready for, what a loop or a reader
-    /// answers it, and what is shown of a conference that it watches.
+    /// answers it, what is shown of a conference that it watches, and that all were told of one that it has forgotten.
     pub fn queue(&mut self, number: u64) {
         let Some(seat) = self.clients.get_mut(&number) else {
             return;

@@ -125,6 +125,15 @@ impl Followed {
     {
         until_of(self.replica.place(), &self.followers)
     }
+
+    /// Up to which place a client was told what is shown, where it is one of those who have caught up.
+    fn reached(&self, number: u64) -> Option<u64> {
+        let follower = self
+            .followers
+            .iter()
+            .find(|follower| follower.client == number)?;
+        Some(self.replica.place().max(follower.from.saturating_sub(1)))
+    }
 }
 
 /// Up to which place those are all shown the same who have come to one place: up to where the next of them begins.
@@ -203,6 +212,7 @@ where
                 conference,
                 from,
                 replica: None,
+                is_hurried: false,
             };
             self.fall_behind(number, behind)?;
         }
@@ -229,14 +239,7 @@ where
         let Some(seat) = self.clients.get_mut(&number) else {
             return;
         };
-        let _watched = seat.watched.swap_remove(&conference);
-        for _ in 0..seat.behind.len() {
-            if let Some(behind) = seat.behind.pop_front() {
-                if behind.conference != conference {
-                    let _kept = seat.behind.push_back(behind);
-                }
-            }
-        }
+        let _watched = seat.leave(conference);
     }
 
     /// Takes a client out of those who have caught up with a conference; with the last of them the replica goes.
@@ -260,49 +263,14 @@ where
         }
     }
 
-    /// Takes a forgotten conference from all who watch it. Who is behind with it is closed: the rest can't be told.
-    pub fn leave_all(&mut self, conference: u32, meeting: &Meeting) {
-        if meeting.followed.is_some() {
-            self.following = self.following.saturating_sub(1);
-        }
-        for place in 0..self.clients.len() {
-            let Some(number) = self.clients.get_index(place).map(|(number, _)| *number) else {
-                return;
-            };
-            let Some(seat) = self.clients.get_mut(&number) else {
-                return;
-            };
-            if seat.watched.swap_remove(&conference).is_some() {
-                let is_behind = seat
-                    .behind
-                    .iter()
-                    .any(|behind| behind.conference == conference);
-                seat.has_failed = seat.has_failed || is_behind;
-                self.queue(number);
-            }
-        }
-    }
-
     /// Up to which place a client has been told what a conference's events show; `None` where it doesn't watch it.
     pub fn reached(&self, number: u64, conference: u32) -> Option<u64> {
         let seat = self.clients.get(&number)?;
         let _watched = seat.watched.get(&conference)?;
-        for behind in seat.behind.iter() {
-            if behind.conference == conference {
-                return Some(behind.place());
-            }
-        }
-        let followed = self.meetings.get(&conference)?.followed.as_ref()?;
-        for follower in followed.followers.iter() {
-            if follower.client == number {
-                return Some(
-                    followed
-                        .replica
-                        .place()
-                        .max(follower.from.saturating_sub(1)),
-                );
-            }
-        }
-        None
+        let caught_up = match &self.meetings.get(&conference)?.followed {
+            Some(followed) => followed.reached(number),
+            None => None,
+        };
+        caught_up.or(seat.reached(conference))
     }
 }

@@ -13,6 +13,7 @@ mod console;
 mod desk;
 mod ending;
 mod following;
+mod forgetting;
 mod lines;
 mod listening;
 mod opening;

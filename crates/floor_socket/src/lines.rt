@@ -102,6 +102,7 @@ where
             Step::Open { configs, count } => self.open_next(number, task, configs, count),
             Step::Hold { conference, place } => Ok(self.hold(number, task, conference, place)),
             Step::Journal(journal) => self.journal_on(number, task, journal),
+            Step::Forget { conference, place } => self.forget_on(number, task, conference, place),
             Step::Watch { conference, from } => {
                 self.begin_watch(number, conference, from)?;
                 Ok(Went::On(task))

@@ -1,4 +1,4 @@
-//! Conferences are opened for a client, one after another, and forgotten.
+//! Conferences are opened for a client, one after another.
 
 ghost use Rattle.std.specs.Prelude.{◌≡◌, None};
 
@@ -294,16 +294,6 @@ where
             let _added = self
                 .meetings
                 .insert(conference, Meeting::new(self.alloc, config));
-        }
-    }
-
-    /// Takes it that a loop has forgotten a conference, or hasn't: who is behind with it can't be told the rest.
-    pub fn settle_forgetting(&mut self, conference: u32, answer: &Answer) {
-        if !matches!(answer, Answer::Done(Ok(_))) {
-            return;
-        }
-        if let Some(meeting) = self.meetings.swap_remove(&conference) {
-            self.leave_all(conference, &meeting);
         }
     }
 }

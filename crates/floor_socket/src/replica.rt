@@ -89,6 +89,13 @@ impl Replica {
         self.asked == Some(number)
     }
 
+    /// Whether an ask isn't answered yet.
+    pub fn is_asking(&self) -> bool
+        ensures none { result ≡ false → self.now.asked ≡ None }
+    {
+        self.asked.is_some()
+    }
+
     /// Takes what a loop answers who was asked for events, and says whether the conference is broken off.
     pub fn take_answer(&mut self, answer: Answer) -> Result<bool, ControlRefusal> {
         let Piece {

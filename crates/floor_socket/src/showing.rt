@@ -1,6 +1,7 @@
 //! What a conference's events show is told to those who watch it.
 
-ghost use Rattle.std.specs.Prelude.{◌≡◌, ◌+◌, nat_le};
+ghost use Rattle.std.specs.Prelude.{◌≡◌, ◌+◌, OnOk, false, nat_le};
+ghost use Rattle.floor_control.specs.Outgoing.{told};
 
 use crate::client::{Behind, Due};
 use crate::desk::Desk;
@@ -231,8 +232,11 @@ where
 {
     /// Tells a client more of what it is behind with, where it takes more, and says whether it came any further.
     pub fn catch_up(&mut self, number: u64) -> bool {
-        let due = match self.clients.get(&number) {
-            Some(seat) => seat.due(),
+        let due = match self.clients.get_mut(&number) {
+            Some(seat) => {
+                seat.put_hurried_first();
+                seat.due()
+            }
             None => Due::Nothing,
         };
         match self.catch_up_with(number, due) {
@@ -270,6 +274,7 @@ where
         let Some(seat) = self.clients.get_mut(&number) else {
             return Ok(false);
         };
+        let takes_more = seat.takes_more();
         let Some(behind) = seat.behind.front_mut() else {
             return Ok(false);
         };
@@ -278,7 +283,7 @@ where
             return Ok(false);
         };
         replica.show(&self.rt, &mut text, from, u64::MAX)?;
-        tell_between(&mut seat.lines, text.as_str())?;
+        show(&mut seat.lines, takes_more, text.as_str())?;
         Ok(true)
     }
 
@@ -390,6 +395,18 @@ fn is_told(follower: Follower, before: u64) -> bool
     ensures value { result ≡ nat_le follower.from (before + 1) }
 {
     follower.from <= before.saturating_add(1)
+}
+
+/// Tells a client lines of what it is behind with: between two answers where it takes them, else as live ones.
+fn show(lines: &mut Client, takes_more: bool, text: &str) -> Result<(), AllocError>
+    ensures live { takes_more ≡ false
+        → OnOk result (lines.new ≡ record lines.old { outgoing = told text.now lines.old.outgoing }) }
+{
+    if takes_more {
+        tell_between(lines, text)
+    } else {
+        lines.tell(text)
+    }
 }
 
 /// Tells a client lines between two answers.

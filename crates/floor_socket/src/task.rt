@@ -3,7 +3,7 @@
 ghost use Rattle.std.specs.Prelude.{◌≡◌, ◌==◌, ◌&&◌, IfOk, OnOk, drop, length, nat_lt, not, position, string_bytes, take};
 ghost use Rattle.std.specs.Str.{IsCharBoundary};
 ghost use Rattle.floor_control.specs.Tag.{tagged};
-ghost use Rattle.floor_socket.specs.Tasks.{HandedOut, HasSame, IsClear, IsNew, IsWhole, first_of, is_held, left, len_at_once};
+ghost use Rattle.floor_socket.specs.Tasks.{HandedOut, HasSame, IsClear, IsNew, IsWhole, first_of, is_held, left, len_at_once, watches};
 
 use floor_control::{Done, Metrics, Octets, Opening, Standing, Tag, Text, add_tagged};
 use floor_poll::Fresh;
@@ -72,6 +72,11 @@ pub enum Step {
     Listing(Journal),
     /// A loop tells lines that are the whole answer.
     Lines,
+    /// A conference is forgotten once all who watch it were told up to its last place.
+    Forget {
+        conference: u32,
+        place: u64,
+    },
     /// A loop forgets a conference.
     Forgetting {
         conference: u32,
@@ -97,6 +102,22 @@ pub enum Step {
     },
 }
 
+impl Step {
+    /// Whether it is on the way to watch a conference.
+    pub fn watches(&self, conference: u32) -> bool
+        ensures value { result ≡ watches conference self.now }
+    {
+        match self {
+            Step::Standing {
+                conference: of,
+                then: Then::Watch { .. },
+            } => *of == conference,
+            Step::Watch { conference: of, .. } => *of == conference,
+            _ => false,
+        }
+    }
+}
+
 /// What is told once it is known how a conference stands.
 #[derive(Clone, Copy, Debug)]
 pub enum Then {
@@ -106,6 +127,8 @@ pub enum Then {
     Journal { from: Option<u64> },
     /// That it is watched from this place on, or from the next.
     Watch { from: Option<u64> },
+    /// That it is forgotten.
+    Forget,
 }
 
 /// How far a journal is listed.

@@ -5,6 +5,7 @@ ghost use Rattle.floor_control.specs.declared.refusal.ControlRefusal.TheVariants
 ghost use Rattle.floor_socket.specs.Counting.{counted};
 
 use crate::desk::{CONSOLE, Desk};
+use crate::forgetting::check_over;
 use crate::lines::refused;
 use crate::task::{Journal, List, Step, Task, Then, Went};
 use floor_control::{
@@ -175,6 +176,13 @@ where
                 self.reserve_watch(number)?;
                 add_watching(&mut task.text, conference, status.events.saturating_add(1))?;
                 Ok(Step::Watch { conference, from })
+            }
+            Then::Forget => {
+                check_over(status.phase)?;
+                Ok(Step::Forget {
+                    conference,
+                    place: u64::from(status.events),
+                })
             }
         }
     }

@@ -3,6 +3,7 @@
 mod clients;
 mod console;
 mod control;
+mod control_forgets;
 mod control_hostile;
 mod doors;
 mod endings;

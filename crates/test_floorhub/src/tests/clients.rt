@@ -4,15 +4,16 @@ use floor_server::Program;
 use floor_socket::{Descriptors, run};
 use std::alloc::Global;
 use std::fs::File;
-use std::io::{Write, sink};
+use std::io::{Read, Write, sink};
 use std::net::{Net, TcpListener, TcpStream};
 use std::os::fd::AsRawFd;
+use std::os::unix::net::UnixStream;
 use std::rt::Files;
 use std::sync::Wait;
 use std::test::Fail;
 use std::thread;
 use std::thread::Threads;
-use std::time::Clock;
+use std::time::{Clock, Duration};
 pub use test_clients::{
     Server, Start, ask, ask_control, connect, control, control_lines, free_port, greet, hear, line,
     log_lines, prepare, send, two_ends, write_file,
@@ -103,4 +104,27 @@ where
         log,
         Some(descriptors),
     )
+}
+
+/// All that is left of a stream of the control socket, as a text.
+pub fn rest(alloc: Global, client: &mut UnixStream) -> Result<String, Fail> {
+    let mut bytes = Vec::new(alloc);
+    client.read_to_end(&mut bytes)?;
+    Ok(String::from_utf8(bytes)?)
+}
+
+/// Waits until what stands of conference 1 has such a part.
+pub fn await_status<R: AllocGlobal + Clock>(
+    rt: &R,
+    client: &mut UnixStream,
+    wanted: &str,
+) -> Result<(), Fail> {
+    for _ in 0..2_000 {
+        let found = ask_control(rt.alloc(), client, "status 1", 1)?;
+        if found.as_str().contains(wanted) {
+            return Ok(());
+        }
+        thread::sleep(rt, Duration::from_millis(10));
+    }
+    Err(Fail::from("it stands so"))
 }

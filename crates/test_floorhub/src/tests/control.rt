@@ -1,15 +1,14 @@
 //! The control socket: its lines with their answers, tags and order, and what is watched.
 
 use super::clients::{
-    ask, ask_control, connect, control, control_lines, free_port, hear, line, send,
+    ask, ask_control, await_status, connect, control, control_lines, free_port, hear, line, send,
     start_with_socket,
 };
+use std::fs;
 use std::net::{Net, Shutdown, TcpListener, TcpStream};
 use std::os::unix::fs::PermissionsExt;
 use std::os::unix::net::UnixStream;
 use std::test::Fail;
-use std::time::{Clock, Duration};
-use std::{fs, thread};
 
 /// A line, and behind an arrow the lines that answer it, with a comma between each two. Conference 1 is open, with user 10 at a port
 /// and floor 1, and nobody is connected. A stroke stands for a line feed.
@@ -116,13 +115,13 @@ fn what_is_watched_from_a_place_is_the_rest(rt: HostRuntime) -> Result<(), Fail>
     hear(&rt, &mut member, 48).ok_or("heard")?;
     let mut heard = control_lines(alloc, &mut first, 2)?;
     // Its answer is acknowledged, at place 3, before it asks.
-    await_events(&rt, &mut second, "events 3 ")?;
+    await_status(&rt, &mut second, "events 3 ")?;
     send(&rt, &mut member, "20010001 00000001 0002 000a 04040001").ok_or("sent")?;
     hear(&rt, &mut member, 40).ok_or("heard")?;
-    await_events(&rt, &mut second, "events 5 ")?;
+    await_status(&rt, &mut second, "events 5 ")?;
     let answer = ask_control(alloc, &mut second, "@r revoke 1 1", 1)?;
     assert_eq!(rt; answer.as_str(), "@r ok revoked 1 1 at 6");
-    await_events(&rt, &mut second, "events 7 ")?;
+    await_status(&rt, &mut second, "events 7 ")?;
     heard.push(',')?;
     heard.push_str(ask_control(alloc, &mut first, "@l leave 1 1", 6)?.as_str())?;
     assert_eq!(rt; heard.as_str(), WATCHED);
@@ -158,22 +157,6 @@ where
     let mut client = control(rt, path)?;
     let asked = format!(in alloc; "watch 1 from {place}")?;
     ask_control(alloc, &mut client, asked.as_str(), count.saturating_add(1))
-}
-
-/// Waits until conference 1 has so many events.
-fn await_events<R: AllocGlobal + Clock>(
-    rt: &R,
-    client: &mut UnixStream,
-    wanted: &str,
-) -> Result<(), Fail> {
-    for _ in 0..2_000 {
-        let found = ask_control(rt.alloc(), client, "status 1", 1)?;
-        if found.as_str().contains(wanted) {
-            return Ok(());
-        }
-        thread::sleep(rt, Duration::from_millis(10));
-    }
-    Err(Fail::from("so many events"))
 }
 
 /// The end of the console's input stops nothing, and a drained server ends once its last conference is closed.

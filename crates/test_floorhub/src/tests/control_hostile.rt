@@ -1,7 +1,8 @@
 //! Clients of the control socket that mean harm: each has its named answer, and holds nobody up.
 
 use super::clients::{
-    ask, ask_control, control, control_lines, free_port, prepare, run_to_end, start_with_socket,
+    ask, ask_control, control, control_lines, free_port, prepare, rest, run_to_end,
+    start_with_socket,
 };
 use std::alloc::Global;
 use std::fs;
@@ -12,13 +13,6 @@ use std::test::Fail;
 
 /// How many clients there are at most.
 const MAX_CLIENTS: usize = 64;
-
-/// All that is left of a stream, as a text.
-fn rest(alloc: Global, client: &mut UnixStream) -> Result<String, Fail> {
-    let mut bytes = Vec::new(alloc);
-    client.read_to_end(&mut bytes)?;
-    Ok(String::from_utf8(bytes)?)
-}
 
 #[test]
 fn the_65th_client_is_closed(rt: HostRuntime) -> Result<(), Fail> {
