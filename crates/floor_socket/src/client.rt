@@ -1,9 +1,10 @@
 //! A client of the control socket, or the console: its socket, its lines and what it watches.
 
-ghost use Rattle.std.specs.Prelude.{◌≡◌, ◌≤◌, ◌+◌, ℕ, MatchOption, false, length, true};
+ghost use Rattle.std.specs.Prelude.{◌≡◌, ◌≤◌, ◌+◌, ◌==◌, ◌&&◌, ℕ, MatchOption, false, filter, find, is_some, length, not, option_copied, slice_get, true};
 ghost use Rattle.floor_control.specs.Incoming.{room_of};
 ghost use Rattle.floor_control.specs.Outgoing.{is_full, is_over};
 ghost use Rattle.floor_socket.specs.Lines.{has_moved, with_line};
+ghost use Rattle.floor_socket.specs.Tasks.{watches};
 ghost use Rattle.floor_socket.specs.declared.client.Due.TheVariants.{Nothing};
 ghost use Rattle.floor_socket.specs.declared.client.Moved.TheVariants.{Bytes};
 
@@ -73,7 +74,10 @@ impl Behind {
     }
 
     /// Whether events were asked for and haven't come yet.
-    fn is_asking(&self) -> bool {
+    fn is_asking(&self) -> bool
+        ensures value { MatchOption self.now.replica (result ≡ false)
+            (λ replica. result ≡ is_some replica.asked) }
+    {
         match &self.replica {
             Some(replica) => replica.is_asking(),
             None => false,
@@ -155,8 +159,8 @@ impl Seat {
     /// Whether lines between two answers are made for it at present.
     pub fn takes_more(&self) -> bool
         ensures full { is_full self.now.lines.outgoing ≡ true → result ≡ false }
-        ensures inside { MatchOption self.now.task (Unit {0})
-            (λ task. task.is_begun ≡ true → result ≡ false) }
+        ensures free { is_full self.now.lines.outgoing ≡ false → MatchOption self.now.task
+            (result ≡ true) (λ task. result ≡ not task.is_begun) }
     {
         !self.lines.is_full() && !self.is_inside()
     }
@@ -165,6 +169,12 @@ impl Seat {
     /// hurried.
     pub fn due(&self) -> Due
         ensures failed { self.now.has_failed ≡ true → result ≡ Nothing }
+        ensures full { MatchOption (slice_get self.now.behind.items 0) (result ≡ Nothing)
+            (λ behind. behind.is_hurried ≡ false → is_full self.now.lines.outgoing ≡ true
+            → result ≡ Nothing) }
+        ensures inside { MatchOption (slice_get self.now.behind.items 0) (Unit {0})
+            (λ behind. behind.is_hurried ≡ false → MatchOption self.now.task (Unit {0})
+            (λ task. task.is_begun ≡ true → result ≡ Nothing)) }
     {
         match self.behind.front() {
             Some(behind) if self.may_show(behind) => behind.due(),
@@ -180,6 +190,9 @@ impl Seat {
         ensures inside { behind.now.is_hurried ≡ false → MatchOption self.now.task (Unit {0})
             (λ task. task.is_begun ≡ true → result ≡ false) }
         ensures hurried { behind.now.is_hurried ≡ true → self.now.has_failed ≡ false → result ≡ true }
+        ensures free { self.now.has_failed ≡ false → is_full self.now.lines.outgoing ≡ false
+            → MatchOption self.now.task (result ≡ true)
+            (λ task. task.is_begun ≡ false → result ≡ true) }
     {
         !self.has_failed && (behind.is_hurried || self.takes_more())
     }
@@ -226,24 +239,23 @@ impl Seat {
 
     /// Up to which place it was told what is shown of a conference that it is behind with.
     pub fn reached(&self, conference: u32) -> Option<u64> {
-        for behind in self.behind.iter() {
-            if behind.conference == conference {
-                return Some(behind.place());
-            }
-        }
-        None
+        let behind = find_conference(&self.behind, conference)?;
+        Some(behind.place())
     }
 
     /// Watches a conference no longer, and says whether it did.
-    pub fn leave(&mut self, conference: u32) -> bool {
+    pub fn leave(&mut self, conference: u32) -> bool
+        ensures behind { self.new.behind.items
+            ≡ filter (λ behind. not (behind.conference == conference)) self.old.behind.items }
+    {
         self.behind.retain(|behind| behind.conference != conference);
         self.watched.swap_remove(&conference).is_some()
     }
 
     /// Whether its line is about to watch a conference, and doesn't wait for it to take an answer.
     pub fn is_about_to_watch(&self, conference: u32) -> bool
-        ensures full { is_full self.now.lines.outgoing ≡ true → result ≡ false }
-        ensures idle { self.now.task ≡ None → result ≡ false }
+        ensures value { MatchOption self.now.task (result ≡ false)
+            (λ task. result ≡ (watches conference task.step && not (is_full self.now.lines.outgoing))) }
     {
         match &self.task {
             Some(task) => task.step.watches(conference) && !self.lines.is_full(),
@@ -368,6 +380,14 @@ impl Seat {
             hang_up(stream, buffer);
         }
     }
+}
+
+/// The first of those with a conference that a client is behind with.
+fn find_conference(behind: &VecDeque<Behind>, conference: u32) -> Option<&Behind>
+    ensures value { option_copied result
+        ≡ find (λ behind. behind.conference == conference) behind.now.items }
+{
+    behind.iter().find(|behind| behind.conference == conference)
 }
 
 /// Closes a socket once what has come is read: a close with unread bytes resets.

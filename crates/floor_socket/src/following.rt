@@ -3,7 +3,7 @@
 //! Those who have caught up with a conference share one replica of it. Who is behind has a replica of its own until
 //! then, and is told as it takes it.
 
-ghost use Rattle.std.specs.Prelude.{◌≡◌, ◌<◌, ◌≤◌, EachIndex, IfOk, MatchOption, None, false, slice_index, true};
+ghost use Rattle.std.specs.Prelude.{◌≡◌, ◌<◌, ◌≤◌, ◌-◌, ◌==◌, EachIndex, IfOk, MatchOption, None, false, find, max, option_copied, option_map, slice_index, true};
 ghost use Rattle.floor_socket.specs.Followers.{lasts_ahead};
 
 use crate::client::Behind;
@@ -127,13 +127,20 @@ impl Followed {
     }
 
     /// Up to which place a client was told what is shown, where it is one of those who have caught up.
-    fn reached(&self, number: u64) -> Option<u64> {
-        let follower = self
-            .followers
-            .iter()
-            .find(|follower| follower.client == number)?;
+    fn reached(&self, number: u64) -> Option<u64>
+        ensures value { result ≡ option_map (λ follower. max self.now.replica.watcher.place (follower.from - 1))
+            (find (λ follower. follower.client == number) self.now.followers.items) }
+    {
+        let follower = find_client(&self.followers, number)?;
         Some(self.replica.place().max(follower.from.saturating_sub(1)))
     }
+}
+
+/// The first of those who have caught up that is this client.
+fn find_client(followers: &[Follower], number: u64) -> Option<&Follower>
+    ensures value { option_copied result ≡ find (λ follower. follower.client == number) followers.now }
+{
+    followers.iter().find(|follower| follower.client == number)
 }
 
 /// Up to which place those are all shown the same who have come to one place: up to where the next of them begins.

@@ -1,6 +1,6 @@
 //! A conference once more, to say what its events show.
 
-ghost use Rattle.std.specs.Prelude.{◌≡◌, None, Some, false, true};
+ghost use Rattle.std.specs.Prelude.{◌≡◌, None, Some, false, is_some, true};
 ghost use Rattle.std.specs.VecDeque.{deque_len};
 
 use floor_control::{ControlRefusal, RoomRefusal, Watcher};
@@ -91,7 +91,7 @@ impl Replica {
 
     /// Whether an ask isn't answered yet.
     pub fn is_asking(&self) -> bool
-        ensures none { result ≡ false → self.now.asked ≡ None }
+        ensures value { result ≡ is_some self.now.asked }
     {
         self.asked.is_some()
     }

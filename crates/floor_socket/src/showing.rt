@@ -1,7 +1,7 @@
 //! What a conference's events show is told to those who watch it.
 
-ghost use Rattle.std.specs.Prelude.{◌≡◌, ◌+◌, OnOk, false, nat_le};
-ghost use Rattle.floor_control.specs.Outgoing.{told};
+ghost use Rattle.std.specs.Prelude.{◌≡◌, ◌<◌, ◌+◌, OnOk, false, length, nat_le, true};
+ghost use Rattle.floor_control.specs.Outgoing.{answered, ended_answer, is_full, told};
 
 use crate::client::{Behind, Due};
 use crate::desk::Desk;
@@ -401,6 +401,10 @@ fn is_told(follower: Follower, before: u64) -> bool
 fn show(lines: &mut Client, takes_more: bool, text: &str) -> Result<(), AllocError>
     ensures live { takes_more ≡ false
         → OnOk result (lines.new ≡ record lines.old { outgoing = told text.now lines.old.outgoing }) }
+    ensures between { takes_more ≡ true → 0 < length text.now → is_full lines.old.outgoing ≡ false
+        → OnOk result (lines.new ≡ record lines.old {
+          outgoing = ended_answer (answered text.now lines.old.outgoing);
+        }) }
 {
     if takes_more {
         tell_between(lines, text)
@@ -410,7 +414,12 @@ fn show(lines: &mut Client, takes_more: bool, text: &str) -> Result<(), AllocErr
 }
 
 /// Tells a client lines between two answers.
-fn tell_between(lines: &mut Client, text: &str) -> Result<(), AllocError> {
+fn tell_between(lines: &mut Client, text: &str) -> Result<(), AllocError>
+    ensures took { 0 < length text.now → is_full lines.old.outgoing ≡ false
+        → OnOk result (lines.new ≡ record lines.old {
+          outgoing = ended_answer (answered text.now lines.old.outgoing);
+        }) }
+{
     if text.is_empty() || lines.is_full() {
         return Ok(());
     }
