@@ -1,3 +1,4 @@
 pub mod Points
 pub mod Gathered
 pub mod Parts
+pub mod Epochs

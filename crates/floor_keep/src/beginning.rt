@@ -2,6 +2,7 @@
 
 use crate::ending::is_free;
 use crate::fault::KeepReason;
+use crate::file::check_plain;
 use crate::folder::Folder;
 use crate::kept::Kept;
 use crate::naming::{journal_name, new_name};
@@ -49,6 +50,7 @@ pub fn begin_file<R: Files<File = File>>(
 
 /// Writes a head to a file, and brings it to the disk.
 fn write_head<R: Files<File = File>>(rt: &R, path: &str, text: &str) -> io::Result<File> {
+    check_plain(rt, path)?;
     let mut file = File::create(rt, path)?;
     file.write_all(text.as_bytes())?;
     file.sync_all()?;

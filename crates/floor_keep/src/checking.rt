@@ -3,8 +3,9 @@
 use crate::fault::KeepReason;
 use crate::finding::bytes_of;
 use crate::folder::Folder;
-use crate::found::{FoundFault, NotAJournal, fault_at};
-use floor_kept::{FileFault, OpenFault, open_kept, read_file};
+use crate::found::{Finish, FoundFault, NotAJournal, fault_at, finish_behind};
+use floor_config::Config;
+use floor_kept::{Entry, FileFault, OpenFault, open_kept, read_file};
 use std::alloc::{AllocError, Global};
 use std::rt::Files;
 
@@ -20,19 +21,27 @@ pub enum CheckFault {
     Refused(KeepReason),
 }
 
-/// Reads the file of a conference, and runs its events. Nothing is changed.
+/// The port of a user of a conference that goes on.
+#[derive(Clone, Copy, Debug, PartialEq, Eq)]
+pub struct KeptPort {
+    pub user: u16,
+    pub port: u16,
+}
+
+/// Reads the file of a conference, and runs its events. Nothing is changed. Gives the ports at which it is listened once
+/// the conference goes on: of the users whom it was opened with and of those who were added; none where it was closed.
 pub fn check_kept<R: Files>(
     rt: &R,
     alloc: Global,
     folder: &Folder,
     conference: u32,
-) -> Result<(), CheckFault> {
+) -> Result<Vec<KeptPort>, CheckFault> {
     let bytes = match bytes_of(rt, alloc, folder, conference) {
         Ok(bytes) => bytes,
         Err(reason) => return Err(CheckFault::Refused(reason)),
     };
     match check_bytes(alloc, conference, &bytes) {
-        Ok(()) => Ok(()),
+        Ok(ports) => Ok(ports),
         Err(FoundFault::Memory) => Err(CheckFault::Refused(KeepReason::memory())),
         Err(FoundFault::NotAJournal(at)) => match line_at(alloc, &bytes, at.line) {
             Ok(line) => Err(CheckFault::NotAJournal(at, line)),
@@ -42,7 +51,11 @@ pub fn check_kept<R: Files>(
 }
 
 /// Whether bytes are a file of this conference, whose events the machine takes.
-pub(crate) fn check_bytes(alloc: Global, conference: u32, bytes: &[u8]) -> Result<(), FoundFault> {
+pub(crate) fn check_bytes(
+    alloc: Global,
+    conference: u32,
+    bytes: &[u8],
+) -> Result<Vec<KeptPort>, FoundFault> {
     let file = match read_file(alloc, bytes) {
         Ok(file) => file,
         Err(FileFault::Memory) => return Err(FoundFault::Memory),
@@ -55,9 +68,10 @@ pub(crate) fn check_bytes(alloc: Global, conference: u32, bytes: &[u8]) -> Resul
             line: 0,
         }));
     }
+    let ports = ports_of(alloc, &file.config, &file.entries)?;
     let head_lines = file.head_lines;
     match open_kept(alloc, file.config, file.entries) {
-        Ok(_) => Ok(()),
+        Ok(_) => Ok(ports),
         Err(OpenFault::Memory) => Err(FoundFault::Memory),
         Err(OpenFault::NotAJournal(unlawful)) => Err(FoundFault::NotAJournal(NotAJournal {
             conference,
@@ -65,6 +79,37 @@ pub(crate) fn check_bytes(alloc: Global, conference: u32, bytes: &[u8]) -> Resul
             line: head_lines.saturating_add(unlawful.number),
         })),
     }
+}
+
+/// The ports of a conference that goes on.
+fn ports_of(
+    alloc: Global,
+    config: &Config,
+    entries: &[Entry],
+) -> Result<Vec<KeptPort>, AllocError> {
+    let mut ports = Vec::new(alloc);
+    for user in config.users() {
+        if let Some(port) = user.port {
+            ports.push(KeptPort {
+                user: user.id,
+                port,
+            })?;
+        }
+    }
+    let mut finish = Finish::GoesOn;
+    for entry in entries {
+        finish = finish_behind(finish, entry);
+        if let Entry::Port { user, port } = entry {
+            ports.push(KeptPort {
+                user: *user,
+                port: *port,
+            })?;
+        }
+    }
+    if finish != Finish::GoesOn {
+        ports.clear();
+    }
+    Ok(ports)
 }
 
 /// The text of the line of this number, from 1 on, or the beginning of it.

@@ -2,7 +2,7 @@
 
 use crate::disk::Disk;
 use crate::fault::KeepReason;
-use crate::finding::take_up;
+use crate::finding::{open_file, take_up};
 use crate::folder::Folder;
 use crate::found::{Finish, Standing};
 use crate::keeping::Syncing;
@@ -29,9 +29,13 @@ pub enum Left {
     Spoiled,
     /// Nor could that be, and it was emptied: the same.
     Emptied,
-    /// It stands under its name: because the conference is broken off, which a restart lets go on from there; or
-    /// because nothing can be written at all, and whoever restarts the server has to remove it before.
+    /// It has its name still, since the conference is broken off: a restart lets it go on from there.
+    Resumes,
+    /// It has its name still, though the conference goes on unkept, since nothing could be done to it: whoever restarts
+    /// the server has to remove it before.
     Stands,
+    /// There is none, since it couldn't be made.
+    Missing,
 }
 
 /// A conference that isn't kept any more.
@@ -51,7 +55,7 @@ pub(crate) fn unkeep<R: Files + Clock, F: Disk + Drop>(
 ) -> Unkept {
     let conference = kept.conference();
     let left = if folder.or_stop() {
-        Left::Stands
+        Left::Resumes
     } else {
         match rename(rt, folder, conference, "unkept") {
             Ok(()) => Left::Renamed,
@@ -100,7 +104,8 @@ pub fn close_found<R: Files<File = File> + Clock>(
     folder: &Folder,
     standing: &Standing,
 ) -> Result<(), KeepReason> {
-    let mut kept = take_up(rt, alloc, folder, standing)?;
+    let file = open_file(rt, alloc, folder, standing.conference)?;
+    let mut kept = take_up(alloc, folder, file, standing)?;
     match standing.finish {
         Finish::Ended => {}
         Finish::Closed | Finish::GoesOn => match kept.add_end(folder.syncing()) {

@@ -1,5 +1,8 @@
 //! Why conferences can't be kept.
 
+ghost use Rattle.std.specs.Prelude.{◌≢◌};
+ghost use Rattle.floor_keep.specs.declared.fault.KeepFault.TheVariants.{Lost};
+
 use std::alloc::{AllocError, AllocFailed, Global};
 use std::io;
 use std::io::ErrorKind;
@@ -9,9 +12,11 @@ use std::io::ErrorKind;
 pub enum KeepFault {
     /// The system refuses it, or another process holds the folder.
     CannotKeep,
-    /// The folder's epoch is another one than at the start, or can't be read any more: the folder is another
-    /// server's now.
+    /// The folder's epoch is another number than at the start, or than it has to be: the folder is another server's
+    /// now.
     Lost,
+    /// The process or the system has no descriptor left.
+    Descriptors,
     /// Memory was refused.
     Memory,
 }
@@ -27,6 +32,7 @@ impl KeepFault {
         match self {
             KeepFault::CannotKeep => "CannotKeep",
             KeepFault::Lost => "Lost",
+            KeepFault::Descriptors => "Descriptors",
             KeepFault::Memory => "Memory",
         }
     }
@@ -73,9 +79,18 @@ impl KeepReason {
 
     /// What the system refuses at a path.
     pub fn at(alloc: Global, path: &str, error: &io::Error) -> KeepReason {
+        let fault = fault_of(error);
+        let line = match fault {
+            KeepFault::Descriptors => {
+                format!(in alloc;
+                    "{path}: {error}; each kept conference takes a descriptor (ulimit -n)"
+                )
+            }
+            _ => format!(in alloc; "{path}: {error}"),
+        };
         KeepReason {
-            fault: fault_of(error),
-            line: format!(in alloc; "{path}: {error}").ok(),
+            fault,
+            line: line.ok(),
         }
     }
 
@@ -100,10 +115,24 @@ impl<T: Drop> From<AllocFailed<T>> for KeepReason {
     }
 }
 
+/// The error of Linux where the process has no descriptor left.
+const EMFILE: i32 = 24;
+
+/// The same of the whole system.
+const ENFILE: i32 = 23;
+
 /// The fault of an error of the system.
-pub(crate) fn fault_of(error: &io::Error) -> KeepFault {
+pub(crate) fn fault_of(error: &io::Error) -> KeepFault
+    ensures fenced { result ≢ Lost }
+{
     match error.kind() {
         ErrorKind::OutOfMemory => KeepFault::Memory,
+        _ if has_no_descriptor(error) => KeepFault::Descriptors,
         _ => KeepFault::CannotKeep,
     }
+}
+
+/// Whether an error of the system says that no descriptor is left.
+fn has_no_descriptor(error: &io::Error) -> bool {
+    matches!(error.raw_os_error(), Some(EMFILE | ENFILE))
 }

@@ -4,6 +4,7 @@ ghost use Rattle.std.specs.Prelude.{◌≡◌, false, IfOk};
 
 use crate::disk::Disk;
 use crate::fault::KeepReason;
+use crate::file::check_plain;
 use crate::folder::Folder;
 use crate::found::{Finish, Found, FoundFault, NotAJournal, Standing, found_of};
 use crate::kept::Kept;
@@ -62,29 +63,47 @@ pub(crate) fn bytes_of<R: Files>(
 }
 
 fn read_all<R: Files>(rt: &R, alloc: Global, path: &str) -> io::Result<Vec<u8>> {
+    check_plain(rt, path)?;
     let mut file = File::open(rt, path)?;
     let mut bytes = Vec::new(alloc);
     file.read_to_end(&mut bytes)?;
     Ok(bytes)
 }
 
-/// Opens the file of a conference that goes on, behind what stands in it: a last line without its end is cut off.
-pub fn take_up<R: Files<File = File>>(
+/// Opens the file of a conference, which stays as it is, to be written.
+pub fn open_file<R: Files<File = File>>(
     rt: &R,
     alloc: Global,
     folder: &Folder,
+    conference: u32,
+) -> Result<File, KeepReason> {
+    let name = journal_name(alloc, conference)?;
+    let path = folder.path_of(name.as_str())?;
+    match open_at(rt, path.as_str()) {
+        Ok(file) => Ok(file),
+        Err(error) => Err(KeepReason::at(alloc, path.as_str(), &error)),
+    }
+}
+
+fn open_at<R: Files<File = File>>(rt: &R, path: &str) -> io::Result<File> {
+    check_plain(rt, path)?;
+    OpenOptions::new().write(true).open(rt, path)
+}
+
+/// Goes on with the open file of a conference, behind what stands in it: a last line without its end is cut off.
+pub fn take_up(
+    alloc: Global,
+    folder: &Folder,
+    file: File,
     standing: &Standing,
 ) -> Result<Kept<File>, KeepReason> {
-    let name = journal_name(alloc, standing.conference)?;
-    let path = folder.path_of(name.as_str())?;
-    let opened = OpenOptions::new().write(true).open(rt, path.as_str());
-    let outcome = match opened {
-        Ok(file) => kept_behind(alloc, file, standing),
-        Err(error) => Err(error),
-    };
-    match outcome {
+    match kept_behind(alloc, file, standing) {
         Ok(kept) => Ok(kept),
-        Err(error) => Err(KeepReason::at(alloc, path.as_str(), &error)),
+        Err(error) => {
+            let name = journal_name(alloc, standing.conference)?;
+            let path = folder.path_of(name.as_str())?;
+            Err(KeepReason::at(alloc, path.as_str(), &error))
+        }
     }
 }
 

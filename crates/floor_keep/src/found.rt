@@ -282,7 +282,7 @@ impl Gathered {
 }
 
 /// How a file ends behind an entry, where it ended so before that.
-fn finish_behind(before: Finish, entry: &Entry) -> Finish
+pub(crate) fn finish_behind(before: Finish, entry: &Entry) -> Finish
     ensures { result ≡ finish_behind before entry.now }
 {
     match entry {

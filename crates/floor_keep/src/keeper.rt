@@ -11,6 +11,7 @@ use floor_machine::Event;
 use floor_wire::Octets;
 use indexmap::IndexMap;
 use std::alloc::{AllocError, Global};
+use std::fs::File;
 use std::rt::Files;
 use std::time::Clock;
 
@@ -90,8 +91,8 @@ impl<F: Disk + Drop> Keeper<F> {
         }
     }
 
-    /// Whether the folder is still this server's. Refused by `Lost`: then nothing more may be sent.
-    pub fn check_epoch<R: Files>(&self, rt: &R) -> Result<(), KeepFault> {
+    /// Whether the folder is still this server's. Where it isn't, or that can't be told, nothing more may be sent.
+    pub fn check_epoch<R: Files<File = File>>(&mut self, rt: &R) -> Result<(), KeepFault> {
         self.folder.check_epoch(rt)
     }
 

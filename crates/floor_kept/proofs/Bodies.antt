@@ -1,8 +1,8 @@
 -- What is read of a body, line by line.
-use Rattle.std.proofs.Common.{◌≡◌, ◌==◌, ◌<◌, ◌≤◌, ◌+◌, ◌-◌, ℕ, Bool, true, false, not, List, [], ◌∷◌, ◌++◌, length, refl, sym, ◌∙◌, ap, arith, append_assoc, length-append, inl, inr, subst}
+use Rattle.std.proofs.Common.{◌≡◌, ◌<◌, ◌≤◌, ◌+◌, ◌-◌, ℕ, Bool, true, false, List, [], ◌∷◌, ◌++◌, length, sym, ◌∙◌, ap, arith, append_assoc, length-append, inl, inr, subst}
 use Rattle.std.specs.Prelude.{codes}
 use Rattle.std.specs.List.{after_first, before_first, position_or_len}
-use Rattle.floor_kept.specs.Body.{AreEntries, IsBody, IsFirstBad, ends_last, entry_lines, is_end, is_ended, is_one_line, next_place}
+use Rattle.floor_kept.specs.Body.{AreEntries, IsBody, IsFirstBad, ends_last, entry_lines, is_end, is_ended, next_place}
 use Rattle.floor_kept.specs.Entries.{IsLineOf, entry_line, is_within, place_behind}
 use Rattle.floor_kept.specs.declared.body.BadLine.{BadLine}
 use Rattle.floor_kept.specs.declared.entry.Entry.{Entry}

@@ -1,7 +1,7 @@
 -- What is read of a whole file.
-use Rattle.std.proofs.Common.{◌≡◌, ◌==◌, ◌≤◌, ◌<◌, ◌+◌, ◌&&◌, ℕ, Bool, true, false, not, List, [], ◌∷◌, ◌++◌, length, refl, sym, ◌∙◌, ap, arith, append_assoc, length-append, inl, inr, eqb-true}
+use Rattle.std.proofs.Common.{◌≡◌, ◌==◌, ◌≤◌, ◌+◌, ◌&&◌, ℕ, Bool, true, false, not, List, [], ◌∷◌, ◌++◌, length, refl, sym, ◌∙◌, ap, arith, append_assoc, length-append, inl, inr, eqb-true}
 use Rattle.std.specs.Prelude.{◌||◌, ◌⊎◌, codes}
-use Rattle.std.specs.List.{list_all, list_any}
+use Rattle.std.specs.List.{list_any}
 use Rattle.std.specs.Fmt.{decimal}
 use Rattle.std.specs.Str.{IsValidUpTo}
 use Rattle.hex.specs.Hex.{encode_lower}
@@ -9,10 +9,10 @@ use Rattle.floor_room.specs.Text.{mark_word, number_word, text_word}
 use Rattle.floor_config.specs.Configuration.{Configuration}
 use Rattle.floor_machine.specs.declared.event.Event.{Event}
 use Rattle.floor_machine.specs.declared.event.Event.TheVariants.{Join, Message, Took, Leave, Revoke, Close, AddUser, AddFloor, SetChair}
-use Rattle.floor_kept.specs.Body.{AreEntries, IsBody, IsFirstBad, ends_last, entry_lines, is_end, is_ended, is_one_line, next_place}
-use Rattle.floor_kept.specs.Entries.{IsLineOf, entry_line, place_behind}
-use Rattle.floor_kept.specs.File.{IsBadIn, IsBrokenWithin, IsFile, IsTextBefore}
-use Rattle.floor_kept.specs.Head.{IsHead, head_text, lines_of}
+use Rattle.floor_kept.specs.Body.{IsBody, IsFirstBad, entry_lines, is_one_line, next_place}
+use Rattle.floor_kept.specs.Entries.{entry_line, place_behind}
+use Rattle.floor_kept.specs.File.{IsBadIn, IsFile, IsTextBefore}
+use Rattle.floor_kept.specs.Head.{head_text, lines_of}
 use Rattle.floor_kept.specs.declared.body.BadLine.{BadLine}
 use Rattle.floor_kept.specs.declared.entry.Entry.{Entry}
 use Rattle.floor_kept.specs.declared.entry.Entry.TheVariants.{Happened, Port, Word, End}

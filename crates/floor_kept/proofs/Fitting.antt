@@ -1,5 +1,5 @@
 -- What the words of a line say is an entry that the file can have.
-use Rattle.std.proofs.Common.{◌≡◌, ◌==◌, ◌<◌, ◌≤◌, ◌^◌, ◌&&◌, ℕ, Bool, true, false, cond, nat_lt, List, [], ◌∷◌, length, refl, sym, ◌∙◌, ap, arith, eqb-true}
+use Rattle.std.proofs.Common.{◌≡◌, ◌==◌, ◌<◌, ◌^◌, ◌&&◌, ℕ, Bool, true, false, cond, nat_lt, List, [], ◌∷◌, length, refl, arith, eqb-true}
 use Rattle.std.specs.Prelude.{Option, Some, None, Result, Ok, Err, codes, ⊤, IfSome}
 use Rattle.std.specs.Result.{result_ok}
 use Rattle.std.specs.Str.{bytes_eq, is_utf8}
@@ -9,15 +9,13 @@ use Rattle.std.proofs.lemmas.Str.{IsUtf8-from_is_utf8}
 use Rattle.hex.specs.Hex.{decode_of}
 use Rattle.hex.specs.declared.error.FromHexError.{FromHexError}
 use Rattle.hex.proofs.HexLemmas.{decode_of-ok}
-use Rattle.floor_machine.specs.declared.event.Event.{Event}
 use Rattle.floor_machine.specs.declared.event.Event.TheVariants.{Join, Message, Took, Leave, Revoke, Close, AddUser, AddFloor, SetChair}
 use Rattle.floor_words.specs.Words.{is_numeral, number}
 use Rattle.floor_wire.specs.Bytes.{IsBytes}
 use Rattle.floor_wire.specs.Message.{IsMessage, message_len}
 use Rattle.floor_kept.specs.Entries.{IsBorne, IsEntry, IsOctets, IsText, is_key}
-use Rattle.floor_kept.specs.declared.entry.Entry.{Entry}
 use Rattle.floor_kept.specs.declared.entry.Entry.TheVariants.{Happened, Port, Word, End}
-use Rattle.floor_kept.specs.steps.Parsed.{and_then, bytes_of, chair_words, entry_words, event_words, floor_words, happened, mark_of, message_of, message_words, note_words, number_where, octets_where, one_word, port_words, some_bytes, text_of, text_where, three_words, took_words, two_words, unless_none, user_words, word_words}
+use Rattle.floor_kept.specs.steps.Parsed.{and_then, bytes_of, chair_words, entry_words, event_words, floor_words, mark_of, message_of, message_words, note_words, number_where, octets_where, one_word, port_words, some_bytes, text_of, text_where, three_words, took_words, two_words, unless_none, user_words, word_words}
 
 and_right : (a b : Bool) → (a && b) ≡ true → b ≡ true
 and_right true b e = e

@@ -1,6 +1,6 @@
 -- What a line is read as.
-use Rattle.std.proofs.Common.{◌≡◌, ◌<◌, ◌^◌, ℕ, Bool, true, false, cond, List, [], ◌∷◌, ◌++◌, refl, sym, ◌∙◌, ap, subst}
-use Rattle.std.specs.Prelude.{Option, Some, None, IfSome, codes, unwrap_or, ⊤}
+use Rattle.std.proofs.Common.{◌≡◌, ◌<◌, ◌^◌, ℕ, Bool, true, false, cond, List, ◌++◌, refl, sym, ◌∙◌, ap, subst}
+use Rattle.std.specs.Prelude.{Option, Some, None, IfSome, codes, unwrap_or}
 use Rattle.std.specs.Str.{bytes_eq}
 use Rattle.std.proofs.lemmas.Bool.{false≢true}
 use Rattle.std.proofs.lemmas.Slice.Eq.{bytes_eq-Decides}
@@ -60,3 +60,7 @@ module _ (again : WordsAreReadBack) (numbers : NumbersAreReadBack) where
       not_found other (is_within place other) (bytes_eq (entry_line place other) (text ++ codes "\n")) none
       (ap (is_within place) it ∙ h.within)
       ((bytes_eq-Decides (entry_line place other) (text ++ codes "\n")).1 (ap (entry_line place) it ∙ h.printed))
+
+  -- two entries with one line at one place are one
+  pub same_entry : (place : ℕ) (text : List ℕ) (one other : Entry) → place < 2 ^ 32 → IsLineOf place text one → IsLineOf place text other → one ≡ other
+  same_entry place text a b few h j = ap (λ (o : Option Entry). unwrap_or o a) (sym (said place text a few h) ∙ said place text b few j)

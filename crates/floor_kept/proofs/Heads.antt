@@ -1,6 +1,6 @@
 -- How a head is cut, line by line, and what is read of it.
-use Rattle.std.proofs.Common.{◌≡◌, ◌==◌, ◌<◌, ◌≤◌, ◌+◌, ◌-◌, ◌&&◌, ℕ, Bool, true, false, not, List, [], ◌∷◌, ◌++◌, length, refl, sym, ◌∙◌, ap, subst, arith, append_assoc, length-append}
-use Rattle.std.specs.Prelude.{Option, Some, None, Result, Ok, Err, codes}
+use Rattle.std.proofs.Common.{◌≡◌, ◌<◌, ◌≤◌, ◌+◌, ◌-◌, ◌&&◌, ℕ, Bool, true, false, not, List, [], ◌∷◌, ◌++◌, length, refl, sym, ◌∙◌, ap, subst, arith, append_assoc, length-append}
+use Rattle.std.specs.Prelude.{Some, Ok, codes}
 use Rattle.std.specs.List.{after_first, before_first, list_all, position_or_len}
 use Rattle.std.specs.Str.{bytes_eq}
 use Rattle.std.proofs.lemmas.List.{append-nil, append_cancel_left, append_cancel_right}
@@ -10,7 +10,7 @@ use Rattle.toml.specs.Parse.{parse_document}
 use Rattle.floor_config.specs.Configuration.{Configuration}
 use Rattle.floor_config.specs.Reading.{conferences_of, of_document, reading}
 use Rattle.floor_kept.specs.Body.{is_one_line}
-use Rattle.floor_kept.specs.Head.{IsDivided, IsHead, IsHeadFault, IsHeadOf, IsUndivided, divider, document_of, first_line, head_text, is_table_line, lines_of}
+use Rattle.floor_kept.specs.Head.{IsHead, IsHeadFault, IsHeadOf, IsUndivided, divider, document_of, first_line, head_text, is_table_line, lines_of}
 use Rattle.floor_kept.specs.declared.head.HeadFault.{HeadFault}
 use Rattle.floor_kept.specs.declared.head.HeadFault.TheVariants.{FirstLine, Divider, Refused, Conferences, Memory}
 use Rattle.floor_kept.specs.steps.Cut.{IsCut, IsHeadBefore, IsNotOne, IsUncut, Passed}

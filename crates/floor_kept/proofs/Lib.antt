@@ -9,3 +9,5 @@ pub mod Bodies
 pub mod Heads
 pub mod Leading
 pub mod Files
+pub mod Readings
+pub mod Turns

@@ -1,29 +1,27 @@
 -- What is printed of an entry is read back by the words of its line.
-use Rattle.std.proofs.Common.{◌≡◌, ◌==◌, ◌<◌, ◌≤◌, ◌^◌, ◌&&◌, ◌/◌, ◌%◌, ℕ, zero, suc, Bool, true, false, not, cond, List, [], ◌∷◌, ◌++◌, length, refl, sym, ◌∙◌, ap, subst, arith, append_assoc, ◌-◌, eq-eqb, eqb-true}
-use Rattle.std.specs.Prelude.{Option, Some, None, Result, Ok, Err, codes, ⊤, IfSome, slice_index}
+use Rattle.std.proofs.Common.{◌≡◌, ◌==◌, ◌<◌, ◌≤◌, ◌^◌, ◌&&◌, ◌/◌, ◌%◌, ℕ, zero, suc, Bool, true, false, not, cond, List, [], ◌∷◌, ◌++◌, length, refl, sym, ◌∙◌, ap, arith, append_assoc, ◌-◌, eq-eqb, eqb-true}
+use Rattle.std.specs.Prelude.{Option, Some, None, codes, IfSome, slice_index}
 use Rattle.std.specs.Result.{result_ok}
 use Rattle.std.specs.Fmt.{decimal}
 use Rattle.std.specs.List.{join_with_byte, list_all}
 use Rattle.std.specs.Str.{bytes_eq, is_utf8}
-use Rattle.std.proofs.lemmas.Bool.{false≢true, ltb-true, lt-ltb}
-use Rattle.std.proofs.lemmas.List.{append-nil, append_cancel_right}
+use Rattle.std.proofs.lemmas.Bool.{false≢true, lt-ltb}
+use Rattle.std.proofs.lemmas.List.{append_cancel_right}
 use Rattle.std.proofs.lemmas.Slice.Eq.{bytes_eq-Decides}
 use Rattle.std.proofs.lemmas.Str.{is_utf8-from_IsUtf8}
-use Rattle.hex.specs.Hex.{encode_lower, encode_with, lower_digits, decode_of}
+use Rattle.hex.specs.Hex.{encode_lower, encode_with, lower_digits}
 use Rattle.hex.proofs.HexLemmas.{decode_of-encode_lower}
-use Rattle.floor_config.specs.declared.floors.Floor.{Floor}
-use Rattle.floor_config.specs.declared.users.User.{User}
 use Rattle.floor_machine.specs.declared.event.Event.{Event}
 use Rattle.floor_machine.specs.declared.event.Event.TheVariants.{Join, Message, Took, Leave, Revoke, Close, AddUser, AddFloor, SetChair}
-use Rattle.floor_room.specs.Text.{end_line, line, mark_word, number_word, text_word}
+use Rattle.floor_room.specs.Text.{line, mark_word, number_word, text_word}
 use Rattle.floor_words.specs.Laws.{NumbersAreReadBack, WordsAreReadBack, is_plain}
 use Rattle.floor_words.specs.Words.{is_space, is_word, number, words}
 use Rattle.floor_wire.specs.Bytes.{IsBytes}
 use Rattle.floor_wire.specs.Message.{IsMessage, message_len}
-use Rattle.floor_kept.specs.Entries.{IsBorne, IsEntry, IsFloorOfLine, IsOctets, IsText, IsUserOfLine, entry_line, is_key}
+use Rattle.floor_kept.specs.Entries.{IsBorne, IsEntry, IsOctets, IsText, entry_line, is_key}
 use Rattle.floor_kept.specs.declared.entry.Entry.{Entry}
 use Rattle.floor_kept.specs.declared.entry.Entry.TheVariants.{Happened, Port, Word, End}
-use Rattle.floor_kept.specs.steps.Parsed.{and_then, bytes_of, chair_words, entry_words, event_words, happened, mark_of, message_of, message_words, number_where, octets_where, some_bytes, text_of, text_where, unless_none}
+use Rattle.floor_kept.specs.steps.Parsed.{and_then, bytes_of, entry_words, event_words, happened, mark_of, message_of, number_where, octets_where, some_bytes, text_of, text_where, unless_none}
 
 and_left : (a b : Bool) → (a && b) ≡ true → a ≡ true
 and_left true b e = refl
@@ -157,7 +155,7 @@ message_back : (bytes : List ℕ) → IsMessage bytes → message_of bytes ≡ S
 message_back bytes h = chosen (length bytes == message_len bytes) _ _ (eq-eqb (length bytes) (message_len bytes) h)
 
 -- the words of an event's line behind the place
-abbrev event_spelled : Event → List (List ℕ)
+abbrev pub event_spelled : Event → List (List ℕ)
 event_spelled (Join user) = codes "join" ∷ decimal user ∷ []
 event_spelled (Message n bytes) = codes "message" ∷ decimal n ∷ encode_lower bytes ∷ []
 event_spelled (Took n k) = codes "took" ∷ decimal n ∷ decimal k ∷ []
@@ -169,7 +167,7 @@ event_spelled (AddFloor floor) = codes "floor" ∷ decimal floor.id ∷ decimal 
 event_spelled (SetChair floor chair) = codes "chair" ∷ decimal floor ∷ number_word chair ∷ []
 
 -- the words of an entry's line
-abbrev spelled : ℕ → Entry → List (List ℕ)
+abbrev pub spelled : ℕ → Entry → List (List ℕ)
 spelled place (Happened e) = decimal place ∷ event_spelled e
 spelled place (Port user port) = codes "#" ∷ codes "port" ∷ decimal user ∷ decimal port ∷ []
 spelled place (Word key value) = codes "#" ∷ codes "word" ∷ key ∷ text_word value ∷ []
@@ -186,7 +184,7 @@ event_joined place (AddUser user) = simp append_assoc
 event_joined place (AddFloor floor) = simp append_assoc
 event_joined place (SetChair floor chair) = simp append_assoc
 
-joined : (place : ℕ) (entry : Entry) → entry_line place entry ≡ join_with_byte 32 (spelled place entry) ++ codes "\n"
+pub joined : (place : ℕ) (entry : Entry) → entry_line place entry ≡ join_with_byte 32 (spelled place entry) ++ codes "\n"
 joined place (Happened e) = event_joined place e
 joined place (Port user port) = simp append_assoc
 joined place (Word key value) = simp append_assoc

@@ -1,5 +1,5 @@
 -- What stands behind the head of the file in which a conference is kept.
-use Rattle.std.specs.Prelude.{◌≡◌, ℕ, ◌+◌, ◌<◌, ◌==◌, ◌⊎◌, ◌&&◌, not, Bool, true, false, List, [], ◌∷◌, ◌++◌, length, codes, filter_map, Option, Some, None, All}
+use Rattle.std.specs.Prelude.{◌≡◌, ℕ, ◌+◌, ◌==◌, ◌⊎◌, ◌&&◌, not, Bool, true, false, List, [], ◌∷◌, ◌++◌, length, filter_map, Option, Some, None}
 use Rattle.std.specs.List.{list_all, list_any}
 use Rattle.floor_machine.specs.declared.event.Event.{Event}
 use Rattle.floor_kept.specs.Entries.{IsEntry, IsLineOf, entry_line, is_within, place_behind}

@@ -1,12 +1,11 @@
 -- The lines of the file in which a conference is kept, behind its head: those of the journal, and what is kept beside them.
-use Rattle.std.specs.Prelude.{◌≡◌, ℕ, ◌+◌, ◌-◌, ◌*◌, ◌^◌, ◌<◌, ◌≤◌, nat_le, ◌==◌, ◌&&◌, ⊤, not, Bool, true, false, IsTrue, List, [], ◌∷◌, ◌++◌, length, codes, Option, Some, None, IfSome}
+use Rattle.std.specs.Prelude.{◌≡◌, ℕ, ◌+◌, ◌-◌, ◌^◌, ◌<◌, ◌≤◌, nat_le, ◌==◌, ◌&&◌, not, Bool, true, IsTrue, List, ◌++◌, length, codes, None, IfSome}
 use Rattle.std.specs.Fmt.{decimal}
 use Rattle.std.specs.List.{list_all}
 use Rattle.std.specs.Str.{IsUtf8}
 use Rattle.floor_wire.specs.Bytes.{IsBytes}
 use Rattle.floor_wire.specs.Message.{IsMessage}
 use Rattle.floor_words.specs.Laws.{is_plain}
-use Rattle.floor_config.specs.Building.{without_empty_texts}
 use Rattle.floor_config.specs.declared.floors.Floor.{Floor}
 use Rattle.floor_config.specs.declared.users.User.{User}
 use Rattle.floor_machine.specs.declared.event.Event.{Event}
@@ -15,11 +14,6 @@ use Rattle.floor_machine.specs.Journal.{MAX_EVENTS}
 use Rattle.floor_room.specs.Text.{end_line, line, text_word}
 use Rattle.floor_kept.specs.declared.entry.Entry.{Entry}
 use Rattle.floor_kept.specs.declared.entry.Entry.TheVariants.{Happened, Port, Word, End}
-
--- an event as a journal bears it: an added user without its port, and without an empty name or URI
-abbrev pub borne : Event → Event
-borne (AddUser user) = AddUser (record (without_empty_texts user) { port = None })
-borne e = e
 
 -- a text that isn't empty, in UTF-8
 pub record IsText (text : List ℕ) : Type 0 where
@@ -40,7 +34,7 @@ pub record IsFloorOfLine (floor : Floor) : Type 0 where
   pub room : floor.room < 2 ^ 16
   pub chair : IfSome floor.chair (λ user. user < 2 ^ 16)
 
--- an event that a line can show as a journal bears it: its numbers fit their types, and a message is one
+-- an event that a line can show: its numbers fit their types, and a message is one
 abbrev pub IsBorne : Event → Type 0
 IsBorne (Join user) = user < 2 ^ 16
 IsBorne (Message n bytes) = (n < 2 ^ 32) × IsMessage bytes × IsBytes bytes

@@ -6,5 +6,6 @@ pub mod NewHeads
 pub mod File
 pub mod Writing
 pub mod Opening
+pub mod Laws
 -- the steps of the proofs
 pub mod steps

@@ -1,12 +1,10 @@
 -- The conference that a file's events lead to.
-use Rattle.std.specs.Prelude.{◌≡◌, ◌≢◌, ℕ, ◌+◌, Bool, true, false, not, List, [], ◌∷◌, ◌++◌, length, filter, Option, Some, None, is_some}
+use Rattle.std.specs.Prelude.{◌≡◌, ◌+◌, true, false, not, List, ◌∷◌, ◌++◌, length, filter, is_some}
 use Rattle.floor_config.specs.Configuration.{Configuration}
 use Rattle.floor_machine.specs.Journal.{IsJournal}
 use Rattle.floor_machine.specs.declared.event.Event.{Event}
-use Rattle.floor_machine.specs.declared.machine.Refusal.TheVariants.{Memory as MemoryRefused}
 use Rattle.floor_room.specs.Ledger.{Ledger, refusal}
 use Rattle.floor_room.specs.Room.{Room}
-use Rattle.floor_room.specs.declared.refusal.RoomRefusal.{RoomRefusal}
 use Rattle.floor_kept.specs.Body.{event_of, events_of}
 use Rattle.floor_kept.specs.declared.entry.Entry.{Entry}
 use Rattle.floor_kept.specs.declared.opening.OpenFault.{OpenFault}

@@ -1,5 +1,5 @@
 -- A connection that is attached.
-use Rattle.std.proofs.Common.{◌≡◌, ◌≢◌, ◌⊎◌, inl, inr, ℕ, true, false, refl, sym, ◌∙◌, ap, Some, None}
+use Rattle.std.proofs.Common.{◌≡◌, ◌≢◌, ◌⊎◌, inl, inr, ℕ, ◌≤◌, true, false, refl, sym, ◌∙◌, ap, arith, Some, None}
 use Rattle.std.specs.Prelude.{IsSome, Ok, Err, nat_eq}
 use Rattle.std.proofs.lemmas.Bool.Decides.{eqb_tells}
 use Rattle.floor_hub.specs.declared.refusal.HubRefusal.{HubRefusal}
@@ -10,16 +10,17 @@ use Rattle.floor_hub.specs.Hub.{Hub}
 use Rattle.floor_hub.specs.Rooms.{attach_event, by_broken}
 use Rattle.floor_loop.specs.Done.{AtMost, Steps}
 use Rattle.floor_loop.specs.Loop.{Attended, Outgoing, outgoing_in, until_of}
+use Rattle.floor_loop.specs.Returned.{StaysAreOwn}
 use Rattle.floor_loop.specs.Written.{IsServing, IsTimed, TookNothing, Wakes}
 use Rattle.floor_loop.specs.steps.Joined.{Adds, Attaches, fresh}
-use Rattle.floor_loop.specs.steps.Moved.{AreWoken, IsLoop, IsWoken, Keeps, KeepsAll, Moved, WasLive, loop_of}
+use Rattle.floor_loop.specs.steps.Moved.{AreWoken, FewerStays, IsLoop, IsWoken, Keeps, KeepsAll, Moved, WasLive, loop_of}
 use Rattle.floor_loop.proofs.Calls.{moved-unattached}
-use Rattle.floor_loop.proofs.Moving.{joined, rooms-one}
+use Rattle.floor_loop.proofs.Moving.{arrivals-grow, joined, own-at, rooms-one}
 use Rattle.floor_loop.proofs.Stepping.{is_not_none, kept-some, some-out, steps-turn, timed-at, wakes-on}
 
 -- the hub has refused it
-pub moved-refused : (conference user : ℕ) (hub now : Hub) (a b : Attended) (r : HubRefusal) → Attaches conference user hub now (Err r) → KeepsAll (outgoing_in a) (outgoing_in b) → AreWoken now b → Moved (AtMost 1 (Attach conference user)) (loop_of hub a) (loop_of now b)
-moved-refused conference user hub now a b r t keeps woken = moved-unattached conference user (loop_of hub a) (loop_of now b) r t.next t.room t.left t.concerned keeps woken
+pub moved-refused : (conference user : ℕ) (hub now : Hub) (a b : Attended) (r : HubRefusal) → Attaches conference user hub now (Err r) → KeepsAll (outgoing_in a) (outgoing_in b) → FewerStays a b → AreWoken now b → Moved (AtMost 1 (Attach conference user)) (loop_of hub a) (loop_of now b)
+moved-refused conference user hub now a b r t keeps few woken = moved-unattached conference user (loop_of hub a) (loop_of now b) r t.next t.room t.left t.concerned keeps few woken
 
 module _ (conference user number : ℕ) (hub now : Hub) (a b c : Attended) (t : Attaches conference user hub now (Ok number)) (added : Adds conference a b (Ok number)) (keeps : KeepsAll (outgoing_in b) (outgoing_in c)) (woken : AreWoken now c) (own : IsWoken now c number) where
   -- each other is what it was
@@ -53,8 +54,24 @@ module _ (conference user number : ℕ) (hub now : Hub) (a b c : Attended) (t : 
           let conference_is : p.conference ≡ y.conference = ap (λ (z : Outgoing). z.conference) (sym (some-out at.outgoing p (sym at.found ∙ is_p))) ∙ at.conference in
           own.over y s p (ap (connection_at now.connections) u.1 ∙ is_y) is_s (ap (outgoing_in c) u.1 ∙ is_p) conference_is over
 
-  pub attached : IsLoop (loop_of hub a) → IsServing (loop_of now c) × IsTimed (loop_of now c) × TookNothing (loop_of hub a) (loop_of now c)
-  attached l = let u = both l in (u.0, timed l, u.1)
+  -- who has come just now isn't away
+  stays-own : FewerStays a c → IsLoop (loop_of hub a) → StaysAreOwn (loop_of now c)
+  stays-own few l k s is =
+      let before = l.own k s (few k s is) in
+      let more = arrivals-grow (AtMost 1 (Attach conference user)) hub now l.world l.stands steps-attached in
+      let rooms = rooms-one by_broken None (attach_event user) conference hub now t.room in (
+        omega (arith, before.0, more),
+        λ y r is_y is_r.
+            let ne = apart k before.0 (eqb_tells number k) in
+            own-at (loop_of hub a) (loop_of now c) k s.user y r (record { connection = y; live = sym (t.joined.put.others k ne) ∙ is_y; conference = refl; n = refl }) rooms l.serving before.1 is_r,
+      )
+    where
+      apart : (k : ℕ) → k ≤ hub.arrivals → (((nat_eq number k ≡ true) × (number ≡ k)) ⊎ ((nat_eq number k ≡ false) × (number ≢ k))) → nat_eq number k ≡ false
+      apart k le (inl u) = absurd (omega (arith, le, u.1, t.joined.next))
+      apart k le (inr u) = u.0
+
+  pub attached : FewerStays a c → IsLoop (loop_of hub a) → IsServing (loop_of now c) × IsTimed (loop_of now c) × TookNothing (loop_of hub a) (loop_of now c) × StaysAreOwn (loop_of now c)
+  attached few l = let u = both l in (u.0, timed l, u.1, stays-own few l)
 
   pub woke-attached : Wakes (loop_of hub a) (loop_of now c)
   woke-attached = wakes-on (loop_of hub a) (loop_of now c) t.concerned (λ k o p is_o is_p idle. stays k o p is_o is_p idle (eqb_tells number k)) woken

@@ -1,8 +1,7 @@
 -- Calls, one after another.
-use Rattle.std.proofs.Common.{◌≡◌, ◌≢◌, ◌⊎◌, inl, inr, ℕ, zero, suc, ◌+◌, ◌-◌, Bool, true, false, cond, List, [], ◌∷◌, ◌++◌, length, take, refl, sym, ◌∙◌, ap, subst, arith, append-nil, Some, None}
+use Rattle.std.proofs.Common.{◌≡◌, ℕ, zero, suc, ◌+◌, ◌-◌, Bool, true, false, cond, List, [], ◌∷◌, ◌++◌, length, take, refl, sym, ◌∙◌, ap, subst, arith, append-nil, Some, None}
 use Rattle.std.specs.Prelude.{Option, IsSome, nat_eq}
 use Rattle.std.specs.Option.{option_map}
-use Rattle.std.proofs.lemmas.Bool.Decides.{eqb_tells}
 use Rattle.std.proofs.lemmas.Option.{none-some}
 use Rattle.floor_machine.specs.declared.event.Event.{Event}
 use Rattle.floor_room.specs.Replay.{bytes_of}
@@ -27,7 +26,7 @@ some_is : {A : Type 0} (x y : A) → ◌≡◌ {A = Option A} (Some x) (Some y) 
 some_is x y e = cc
 
 -- nothing is taken where nothing happens
-took-refl : (l : Loop) (number : ℕ) → Took l l number [] 0
+pub took-refl : (l : Loop) (number : ℕ) → Took l l number [] 0
 took-refl l number x y r s o p is_x is_y is_r is_s is_o is_p =
     let y_is : y ≡ x = some_is y x (sym is_y ∙ is_x) in
     let n : y.n ≡ x.n = ap (λ (z : Connection). z.n) y_is in
@@ -52,12 +51,8 @@ took-all : (number : ℕ) (w : World) (calls : List Call) (first last : Loop) �
 took-all number w [] first last same = subst (λ (l : Loop). Took first l number [] 0) (sym same) (took-refl first number)
 took-all number w (c ∷ cs) first last d =
     let y = live-is d.0 number d.2 in
-    took-through first d.0 last number (cond (nat_eq c.number number) c.bytes []) (bytes_by number cs) (cond (nat_eq c.number number) c.parcels 0) (parcels_by number cs) y.0 y.1 (d.1.serving number y.0 y.1)
-    (by (eqb_tells c.number number)) (took-all number (run w c.steps) cs d.0 last d.3)
-  where
-    by : (((nat_eq c.number number ≡ true) × (c.number ≡ number)) ⊎ ((nat_eq c.number number ≡ false) × (c.number ≢ number))) → Took first d.0 number (cond (nat_eq c.number number) c.bytes []) (cond (nat_eq c.number number) c.parcels 0)
-    by (inl t) = subst (λ (b : Bool). Took first d.0 number (cond b c.bytes []) (cond b c.parcels 0)) (sym t.0) (subst (λ (k : ℕ). Took first d.0 k c.bytes c.parcels) t.1 d.1.took)
-    by (inr t) = subst (λ (b : Bool). Took first d.0 number (cond b c.bytes []) (cond b c.parcels 0)) (sym t.0) (d.1.others number t.0)
+    took-through first d.0 last number (cond (nat_eq c.number number) c.bytes []) (bytes_by number cs) (cond (nat_eq c.number number) c.parcels 0) (parcels_by number cs) y.0 y.1 (d.1.serving number y.0 y.1) d.1.took
+    (took-all number (run w c.steps) cs d.0 last d.3)
 
 serving-all : (number : ℕ) (w : World) (calls : List Call) (first last : Loop) → IsServing first → Calls number w calls first last → IsServing last
 serving-all number w [] first last l same = subst IsServing (sym same) l
@@ -85,7 +80,7 @@ take-none zero = refl
 take-none (suc k) = refl
 
 -- nothing was written to a connection that is new
-new-is : (r : Room) (n : ℕ) (rest : List ℕ) → taken_of r n ≡ 0 → written r n rest ≡ []
+pub new-is : (r : Room) (n : ℕ) (rest : List ℕ) → taken_of r n ≡ 0 → written r n rest ≡ []
 new-is r n rest untaken =
     let none : taken_bytes r n ≡ [] = ap (λ (k : ℕ). bytes_of (take k (called_for r n))) untaken in
     ap (λ (z : List ℕ). take (length z - length rest) z) none ∙ take-none (0 - length rest)
@@ -105,12 +100,11 @@ pub law : EventsAlone → WrittenIsCalledFor
 law alone-same steps calls first last number st serving new d x r is_x is_r whole =
     let now = subst (StandsFor last.hub) (sym (run-append nothing steps (steps_of calls))) (stands-all number (run nothing steps) calls first last st d) in
     let room = room-is last.hub (steps ++ steps_of calls) x.conference r now is_r whole in
-    let was = serving number new.connection new.live in
     let at = serving-all number (run nothing steps) calls first last serving d number x is_x in
-    let took = took-all number (run nothing steps) calls first last d new.connection x new.room r was.outgoing at.outgoing new.live is_x new.there is_r was.found at.found in
-    let bytes : written r x.n at.outgoing.rest ≡ bytes_by number calls = took.0 ∙ ap (λ (z : List ℕ). z ++ bytes_by number calls) (new-is new.room new.connection.n was.outgoing.rest new.untaken) in
+    let took = took-all number (run nothing steps) calls first last d new.connection x new.room r new.outgoing at.outgoing new.live is_x new.there is_r new.found at.found in
+    let bytes : written r x.n at.outgoing.rest ≡ bytes_by number calls = took.0 ∙ ap (λ (z : List ℕ). z ++ bytes_by number calls) new.unwritten in
     let parcels : acknowledged r x.n at.outgoing.parcels ≡ parcels_by number calls =
-    took.1 ∙ ap (λ (k : ℕ). (k - was.outgoing.parcels) + parcels_by number calls) new.untaken ∙ omega arith in
+    took.1 ∙ ap (λ (k : ℕ). k + parcels_by number calls) new.unacknowledged ∙ omega arith in
     let way = way-of last number x r at.outgoing at is_r at.found in
     let front = front-of r x.n at.outgoing.rest at.outgoing.parcels way in
     let own : r.ledger.journal ≡ events x.conference (alone x.conference (steps ++ steps_of calls)) = sym room.1 ∙ sym (alone-same x.conference (steps ++ steps_of calls)) in (

@@ -1,5 +1,5 @@
 -- What a loop comes to by each call of its hub.
-use Rattle.std.proofs.Common.{◌≡◌, ◌≢◌, ◌⊎◌, inl, inr, ℕ, ◌+◌, ◌++◌, Bool, true, false, List, refl, sym, ◌∙◌, ap, subst, Some, None}
+use Rattle.std.proofs.Common.{◌≡◌, ◌≢◌, ◌⊎◌, inl, inr, ℕ, ◌+◌, ◌≤◌, ◌++◌, Bool, true, false, List, refl, sym, ◌∙◌, ap, subst, Some, None}
 use Rattle.std.specs.Prelude.{Option, Result, Ok, Err, IsSome, MatchResult, OnErr, OnOk, if◌then◌else◌, is_some, nat_eq}
 use Rattle.std.specs.Option.{option_map}
 use Rattle.std.specs.Map.{lookup}
@@ -8,6 +8,7 @@ use Rattle.std.proofs.lemmas.Option.{none-some}
 use Rattle.floor_config.specs.Configuration.{Configuration}
 use Rattle.floor_machine.specs.declared.act.Act.{Act}
 use Rattle.floor_machine.specs.Parcel.{Parcel}
+use Rattle.floor_room.specs.Ledger.{Ledger}
 use Rattle.floor_room.specs.Room.{IsRoom, Room}
 use Rattle.floor_hub.specs.declared.connection.Connection.{Connection}
 use Rattle.floor_hub.specs.declared.refusal.HubRefusal.{HubRefusal}
@@ -20,6 +21,7 @@ use Rattle.floor_hub.specs.Calls.{Fails, FailsGone, FailsSame, Turns, answer_of}
 use Rattle.floor_hub.specs.Concerned.{Concerns}
 use Rattle.floor_hub.specs.Connections.{Puts, SameConnections, StayLive, connection_at}
 use Rattle.floor_hub.specs.Hub.{Hub, room_at}
+use Rattle.floor_hub.specs.Members.{user_of}
 use Rattle.floor_hub.specs.Left.{LeftAt}
 use Rattle.floor_hub.specs.Rooms.{KeptOf, OneRoom, Opens, RoomOf, SameHub, TakenFrom, TakenInto, admin_event, attach_event, by_broken, bytes_in, leave_event, refusal_in, serve_event, took_event}
 use Rattle.floor_hub.specs.StandsFor.{StandsFor}
@@ -28,21 +30,21 @@ use Rattle.floor_loop.specs.Loop.{Attended, Loop, Outgoing, outgoing_at, outgoin
 use Rattle.floor_loop.specs.Done.{AtMost, NoSteps, Steps}
 use Rattle.floor_loop.specs.Written.{IsOver, IsTimed}
 use Rattle.floor_loop.specs.steps.Changed.{carrying, changed}
-use Rattle.floor_loop.specs.steps.Moved.{AreWoken, IsLoop, KeepsAll, KeepsLive, KeptAt, Moved, Went, loop_of}
+use Rattle.floor_loop.specs.steps.Moved.{AreWoken, FewerStays, IsLoop, KeepsAll, KeepsLive, KeptAt, Moved, Went, loop_of}
 use Rattle.floor_loop.specs.steps.Taken.{Took, TakenFor}
 use Rattle.floor_loop.proofs.Altering.{changed-none, keeps-changed, look-here, look-other}
 use Rattle.floor_loop.proofs.Over.{from-ledgers, over-same}
-use Rattle.floor_loop.proofs.Moving.{moved-on, moved-same, serves-on, steps-none, went-of, went-one, went-same}
+use Rattle.floor_loop.proofs.Moving.{moved-on, moved-same, own-same, serves-on, steps-none, went-of, went-one, went-same}
 use Rattle.floor_loop.proofs.Taking.{count_in, over-by, takes-one}
 use Rattle.floor_loop.proofs.Stepping.{keeps-live, keeps-refl, left-connections, some-out, stay-same, steps-gone, steps-same, steps-turn, timed-on, went-left, went-none, went-open}
 
 -- a call of the hub behind which all were woken whom it concerned
-pub moved-told : (Are : List Step → Type 0) (old new : Loop) → Steps Are old.hub new.hub → Went old.hub new.hub → Concerns old.hub new.hub → KeepsLive new.hub (outgoing_at old) (outgoing_at new) → AreWoken new.hub new.attended → Moved Are old new
-moved-told Are old new steps went concerns keeps woken = moved-on Are old new steps went keeps (λ l. timed-on old new concerns went keeps woken l (serves-on old new went keeps l.serving))
+pub moved-told : (Are : List Step → Type 0) (old new : Loop) → Steps Are old.hub new.hub → Went old.hub new.hub → Concerns old.hub new.hub → KeepsLive new.hub (outgoing_at old) (outgoing_at new) → FewerStays old.attended new.attended → AreWoken new.hub new.attended → Moved Are old new
+moved-told Are old new steps went concerns keeps few woken = moved-on Are old new steps went keeps few (λ l. timed-on old new concerns went keeps woken l (serves-on old new went keeps l.serving))
 
 pub moved-serve : (number : ℕ) (old new : Loop) (res : Result Served HubRefusal) →
     ((w : World) → StandsFor old.hub w → MatchResult res (λ found. Turns new.hub w (Serve number) (answer_of found)) (λ r. Fails new.hub w (Serve number) r)) →
-    RoomOf by_broken (refusal_in res) serve_event (connection_at old.hub.connections number) old.hub new.hub → StayLive old.hub.connections new.hub.connections → Concerns old.hub new.hub → KeepsAll (outgoing_at old) (outgoing_at new) → AreWoken new.hub new.attended →
+    RoomOf by_broken (refusal_in res) serve_event (connection_at old.hub.connections number) old.hub new.hub → StayLive old.hub.connections new.hub.connections → Concerns old.hub new.hub → KeepsAll (outgoing_at old) (outgoing_at new) → FewerStays old.attended new.attended → AreWoken new.hub new.attended →
     Moved (AtMost 1 (Serve number)) old new
 moved-serve number old new res next room stay concerns keeps =
     moved-told (AtMost 1 (Serve number)) old new (steps-turn old.hub new.hub (Serve number) answer_of res next) (went-of by_broken (refusal_in res) serve_event (connection_at old.hub.connections number) old.hub new.hub room stay) concerns
@@ -50,7 +52,7 @@ moved-serve number old new res next room stay concerns keeps =
 
 pub moved-took : (number k : ℕ) (old new : Loop) (res : Result (Unit {0}) HubRefusal) →
     ((w : World) → StandsFor old.hub w → MatchResult res (λ _. Turns new.hub w (Takes number k) Done) (λ r. Fails new.hub w (Takes number k) r)) →
-    RoomOf by_broken (refusal_in res) (took_event k) (connection_at old.hub.connections number) old.hub new.hub → StayLive old.hub.connections new.hub.connections → Concerns old.hub new.hub → KeepsAll (outgoing_at old) (outgoing_at new) → AreWoken new.hub new.attended →
+    RoomOf by_broken (refusal_in res) (took_event k) (connection_at old.hub.connections number) old.hub new.hub → StayLive old.hub.connections new.hub.connections → Concerns old.hub new.hub → KeepsAll (outgoing_at old) (outgoing_at new) → FewerStays old.attended new.attended → AreWoken new.hub new.attended →
     Moved (AtMost 1 (Takes number k)) old new
 moved-took number k old new res next room stay concerns keeps =
     moved-told (AtMost 1 (Takes number k)) old new (steps-turn old.hub new.hub (Takes number k) (λ _. Done) res next)
@@ -58,7 +60,7 @@ moved-took number k old new res next room stay concerns keeps =
 
 pub moved-admin : (conference : ℕ) (act : Act) (old new : Loop) (res : Result (Unit {0}) HubRefusal) →
     ((w : World) → StandsFor old.hub w → MatchResult res (λ _. Turns new.hub w (Admin conference act) Done) (λ r. Fails new.hub w (Admin conference act) r)) →
-    OneRoom by_broken (refusal_in res) (admin_event act) conference old.hub new.hub → StayLive old.hub.connections new.hub.connections → Concerns old.hub new.hub → KeepsAll (outgoing_at old) (outgoing_at new) → AreWoken new.hub new.attended →
+    OneRoom by_broken (refusal_in res) (admin_event act) conference old.hub new.hub → StayLive old.hub.connections new.hub.connections → Concerns old.hub new.hub → KeepsAll (outgoing_at old) (outgoing_at new) → FewerStays old.attended new.attended → AreWoken new.hub new.attended →
     Moved (AtMost 1 (Admin conference act)) old new
 moved-admin conference act old new res next room stay concerns keeps =
     moved-told (AtMost 1 (Admin conference act)) old new (steps-turn old.hub new.hub (Admin conference act) (λ _. Done) res next) (went-one by_broken (refusal_in res) (admin_event act) conference old.hub new.hub room stay) concerns
@@ -67,7 +69,7 @@ moved-admin conference act old new res next room stay concerns keeps =
 -- a connection has left, and nothing is on its way to it any more
 pub moved-leave : (number : ℕ) (old new : Loop) (res : Result (Unit {0}) HubRefusal) →
     ((w : World) → StandsFor old.hub w → MatchResult res (λ _. Turns new.hub w (Leave number) Done) (λ r. FailsGone new.hub w (Leave number) r)) →
-    RoomOf None (refusal_in res) leave_event (connection_at old.hub.connections number) old.hub new.hub → Puts old.hub.connections new.hub.connections number None → Concerns old.hub new.hub → KeepsLive new.hub (outgoing_at old) (outgoing_at new) → AreWoken new.hub new.attended →
+    RoomOf None (refusal_in res) leave_event (connection_at old.hub.connections number) old.hub new.hub → Puts old.hub.connections new.hub.connections number None → Concerns old.hub new.hub → KeepsLive new.hub (outgoing_at old) (outgoing_at new) → FewerStays old.attended new.attended → AreWoken new.hub new.attended →
     Moved (AtMost 1 (Leave number)) old new
 moved-leave number old new res next room gone concerns keeps =
     moved-told (AtMost 1 (Leave number)) old new (steps-gone old.hub new.hub (Leave number) (λ _. Done) res next)
@@ -76,7 +78,7 @@ moved-leave number old new res next room gone concerns keeps =
 -- an attach that was refused
 pub moved-unattached : (conference user : ℕ) (old new : Loop) (r : HubRefusal) →
     ((w : World) → StandsFor old.hub w → Fails new.hub w (Attach conference user) r) → OneRoom by_broken (Some r) (attach_event user) conference old.hub new.hub → LeftAt (attach_event user) conference old.hub new.hub r → Concerns old.hub new.hub →
-    KeepsAll (outgoing_at old) (outgoing_at new) → AreWoken new.hub new.attended → Moved (AtMost 1 (Attach conference user)) old new
+    KeepsAll (outgoing_at old) (outgoing_at new) → FewerStays old.attended new.attended → AreWoken new.hub new.attended → Moved (AtMost 1 (Attach conference user)) old new
 moved-unattached conference user old new r next room left concerns keeps =
     moved-told (AtMost 1 (Attach conference user)) old new (steps-turn {T = ℕ} old.hub new.hub (Attach conference user) Attached (Err r) next)
     (went-one by_broken (Some r) (attach_event user) conference old.hub new.hub room (stay-same old.hub new.hub (left-connections (attach_event user) conference old.hub new.hub r left))) concerns
@@ -97,11 +99,11 @@ same-timed old new went same keeps l number y s p is_y is_s is_p over =
 -- bytes that came
 pub moved-piece : (number : ℕ) (bytes : List ℕ) (old new : Loop) (res : Result (Unit {0}) HubRefusal) →
     ((w : World) → StandsFor old.hub w → MatchResult res (λ _. Turns new.hub w (Piece number bytes) Done) (λ r. FailsSame new.hub w (Piece number bytes) r)) →
-    ((c : ℕ) → room_at new.hub c ≡ room_at old.hub c) → StayLive old.hub.connections new.hub.connections → KeepsAll (outgoing_at old) (outgoing_at new) → Moved (AtMost 1 (Piece number bytes)) old new
-moved-piece number bytes old new res next rooms stay keeps =
+    ((c : ℕ) → room_at new.hub c ≡ room_at old.hub c) → StayLive old.hub.connections new.hub.connections → KeepsAll (outgoing_at old) (outgoing_at new) → FewerStays old.attended new.attended → Moved (AtMost 1 (Piece number bytes)) old new
+moved-piece number bytes old new res next rooms stay keeps few =
     let went = went-same old.hub new.hub rooms stay in
     let live = keeps-live new.hub (outgoing_at old) (outgoing_at new) keeps in
-    moved-on (AtMost 1 (Piece number bytes)) old new (steps-same old.hub new.hub (Piece number bytes) (λ _. Done) res next) went live
+    moved-on (AtMost 1 (Piece number bytes)) old new (steps-same old.hub new.hub (Piece number bytes) (λ _. Done) res next) went live few
     (same-timed old new went (λ c r s is_r is_s. ap (λ (z : Room). z.ledger) (some_room s r (sym is_s ∙ rooms c ∙ is_r))) live)
   where
     some_room : (r s : Room) → ◌≡◌ {A = Option Room} (Some r) (Some s) → r ≡ s
@@ -110,11 +112,11 @@ moved-piece number bytes old new res next rooms stay keeps =
 -- a conference opens, or doesn't
 pub moved-open : (config : Configuration) (old new : Loop) (res : Result (Unit {0}) HubRefusal) →
     ((w : World) → StandsFor old.hub w → MatchResult res (λ _. Turns new.hub w (Open config) Done) (λ r. FailsSame new.hub w (Open config) r)) →
-    OnOk res (Opens config old.hub new.hub) → SameConnections old.hub.connections new.hub.connections → OnErr res (SameHub old.hub new.hub) → KeepsAll (outgoing_at old) (outgoing_at new) → Moved (AtMost 1 (Open config)) old new
-moved-open config old new res next opens same left keeps =
+    OnOk res (Opens config old.hub new.hub) → SameConnections old.hub.connections new.hub.connections → OnErr res (SameHub old.hub new.hub) → KeepsAll (outgoing_at old) (outgoing_at new) → FewerStays old.attended new.attended → Moved (AtMost 1 (Open config)) old new
+moved-open config old new res next opens same left keeps few =
     let went = went-open config old.hub new.hub res opens same left in
     let live = keeps-live new.hub (outgoing_at old) (outgoing_at new) keeps in
-    moved-on (AtMost 1 (Open config)) old new (steps-same old.hub new.hub (Open config) (λ _. Done) res next) went live (same-timed old new went (ledgers res opens left) live)
+    moved-on (AtMost 1 (Open config)) old new (steps-same old.hub new.hub (Open config) (λ _. Done) res next) went live few (same-timed old new went (ledgers res opens left) live)
   where
     some_room : (r s : Room) → ◌≡◌ {A = Option Room} (Some r) (Some s) → r ≡ s
     some_room r s e = cc
@@ -128,8 +130,8 @@ moved-open config old new res next opens same left keeps =
         by (inr t) = ap (λ (z : Room). z.ledger) (some_room s r (sym is_s ∙ opens.others c t.0 ∙ is_r))
 
 -- the hub is what it was, and so is what is on its way
-pub moved-kept : (old new : Loop) → new.hub ≡ old.hub → KeepsAll (outgoing_at old) (outgoing_at new) → Moved NoSteps old new
-moved-kept old new same keeps = moved-same old new same (keeps-live new.hub (outgoing_at old) (outgoing_at new) keeps)
+pub moved-kept : (old new : Loop) → new.hub ≡ old.hub → KeepsAll (outgoing_at old) (outgoing_at new) → FewerStays old.attended new.attended → Moved NoSteps old new
+moved-kept old new same keeps few = moved-same old new same (keeps-live new.hub (outgoing_at old) (outgoing_at new) keeps) (own-same old new same few)
 
 abbrev looked : List (ℕ × Outgoing) → ℕ → Option Outgoing
 looked es k = lookup (nat_eq k) es
@@ -143,8 +145,8 @@ untaken number a b old new rest parcels o is next same count =
     kept q e = (record { conference = refl; rest = same ∙ ap (λ (z : Outgoing). z.rest) e; parcels = count ∙ ap (λ (z : Outgoing). z.parcels) e; until = λ h. h }, λ h. h)
 
 -- the hub was asked for a parcel
-pub moved-taken : (number : ℕ) (a b : Attended) (old new : Hub) → ((w : World) → StandsFor old w → StandsFor new w) → TakenFor number a.outgoing b.outgoing old new → Moved NoSteps (loop_of old a) (loop_of new b)
-moved-taken number a b old new stands t = by (lookup (nat_eq number) a.outgoing) refl
+pub moved-taken : (number : ℕ) (a b : Attended) (old new : Hub) → ((w : World) → StandsFor old w → StandsFor new w) → TakenFor number a.outgoing b.outgoing old new → FewerStays a b → Moved NoSteps (loop_of old a) (loop_of new b)
+moved-taken number a b old new stands t few = by (lookup (nat_eq number) a.outgoing) refl
   where
     some_room : (r s : Room) → ◌≡◌ {A = Option Room} (Some r) (Some s) → r ≡ s
     some_room r s e = cc
@@ -154,7 +156,7 @@ moved-taken number a b old new stands t = by (lookup (nat_eq number) a.outgoing)
     idle same keeps =
         let went = went-none old new same in
         let live = keeps-live new (outgoing_in a) (outgoing_in b) keeps in
-        moved-on NoSteps (loop_of old a) (loop_of new b) (steps-none NoSteps old new refl stands) went live
+        moved-on NoSteps (loop_of old a) (loop_of new b) (steps-none NoSteps old new refl stands) went live few
         (same-timed (loop_of old a) (loop_of new b) went (λ c r s is_r is_s. ap (λ (z : Room). z.ledger) (some_room s r (sym is_s ∙ same.rooms c ∙ is_r))) live)
 
     -- a parcel was taken, if one waited
@@ -170,6 +172,16 @@ moved-taken number a b old new stands t = by (lookup (nat_eq number) a.outgoing)
           live = λ k z live. record { connection = z; live = sym (g.3.connections k) ∙ live; conference = refl; n = refl };
           serving = λ l. (all l).0;
           timed = λ l. (all l).1;
+          own = λ l k s is.
+              let before = l.own k s (few k s is) in (
+                subst (λ (n : ℕ). k ≤ n) (sym g.3.arrivals) before.0,
+                λ y r is_y is_r.
+                    let live = sym (g.3.connections k) ∙ is_y in
+                    let at = l.serving k y live in
+                    let u = from-ledgers x.conference x.n g.0 old new g.3 y.conference at.room at.there in
+                    let same : u.0 ≡ r = some_room u.0 r (sym u.1 ∙ is_r) in
+                    ap (λ (z : Room). user_of z.ledger.journal y.n) (sym same) ∙ ap (λ (z : Ledger). user_of z.journal y.n) u.2 ∙ before.1 y at.room live at.there,
+              );
           took = λ l. (all l).2;
           over = λ d r is. let u = from-ledgers x.conference x.n g.0 old new g.3 d r is in (u.0, u.1, λ n. over-same r u.0 n n u.2 refl);
         }
@@ -189,11 +201,11 @@ moved-taken number a b old new stands t = by (lookup (nat_eq number) a.outgoing)
     asked o (Some x) (Ok waited) is live g kept count = given o x waited is live kept g count
 
     took : (o : Outgoing) → lookup (nat_eq number) a.outgoing ≡ Some o → Took number o t.rest t.parcels old new → Moved NoSteps (loop_of old a) (loop_of new b)
-    took o is (inl h) = moved-kept (loop_of old a) (loop_of new b) h.2 (untaken number a b old new t.rest t.parcels o is t.next h.0 h.1)
+    took o is (inl h) = moved-kept (loop_of old a) (loop_of new b) h.2 (untaken number a b old new t.rest t.parcels o is t.next h.0 h.1) few
     took o is (inr h) = asked o (connection_at old.connections number) h.result is refl h.given h.kept h.count
 
     by : (z : Option Outgoing) → lookup (nat_eq number) a.outgoing ≡ z → Moved NoSteps (loop_of old a) (loop_of new b)
     by None e =
         moved-kept (loop_of old a) (loop_of new b) (t.none e)
-        (subst (λ (es : List (ℕ × Outgoing)). KeepsAll (outgoing_in a) (looked es)) (sym (t.next ∙ changed-none (carrying t.rest t.parcels) number a.outgoing e)) (keeps-refl (outgoing_in a)))
+        (subst (λ (es : List (ℕ × Outgoing)). KeepsAll (outgoing_in a) (looked es)) (sym (t.next ∙ changed-none (carrying t.rest t.parcels) number a.outgoing e)) (keeps-refl (outgoing_in a))) few
     by (Some o) e = took o e (t.took o e)

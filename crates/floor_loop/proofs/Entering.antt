@@ -1,5 +1,5 @@
 -- Who comes back, and who leaves behind it.
-use Rattle.std.proofs.Common.{◌≡◌, ◌≢◌, ◌⊎◌, inl, inr, ℕ, ◌+◌, Bool, true, false, cond, List, [], ◌∷◌, ◌++◌, refl, sym, ◌∙◌, ap, subst, arith, append_assoc, append-nil, Some, None}
+use Rattle.std.proofs.Common.{◌≡◌, ◌≢◌, ◌⊎◌, inl, inr, ℕ, ◌+◌, ◌-◌, Bool, true, false, cond, List, [], ◌∷◌, ◌++◌, refl, sym, ◌∙◌, ap, subst, arith, append_assoc, append-nil, Some, None}
 use Rattle.std.specs.Prelude.{Option, IsSome, nat_eq, option_and_then}
 use Rattle.std.specs.Option.{option_map}
 use Rattle.std.specs.Map.{lookup}
@@ -12,20 +12,22 @@ use Rattle.floor_hub.specs.declared.step.Step.TheVariants.{Attach, Leave}
 use Rattle.floor_hub.specs.Concerned.{IsLeftAlone}
 use Rattle.floor_hub.specs.Connections.{connection_at}
 use Rattle.floor_hub.specs.Hub.{Hub, room_at}
-use Rattle.floor_hub.specs.Rooms.{Joins}
+use Rattle.floor_hub.specs.Rooms.{Joins, taken_of}
 use Rattle.floor_hub.specs.Runs.{run}
 use Rattle.floor_loop.specs.Away.{Away, away_among, is_stay_of, stay_of}
-use Rattle.floor_loop.specs.Returned.{IsKeptPlace, Returned}
+use Rattle.floor_loop.specs.Returned.{IsKeptPlace, Returned, StaysAreOwn}
 use Rattle.floor_loop.specs.Done.{AtMost, Leaves, NoSteps, Returns, Steps, Then}
+use Rattle.floor_loop.specs.Laws.{IsNew}
 use Rattle.floor_loop.specs.Loop.{Attended, Loop, Outgoing, outgoing_at, outgoing_in, until_of}
 use Rattle.floor_loop.specs.Written.{IsOver, IsOnItsWay, IsServing, IsTimed, Spares, Took, TookNothing, Wakes, acknowledged, written}
 use Rattle.floor_loop.specs.steps.Changed.{changed, unended}
-use Rattle.floor_loop.specs.steps.Moved.{IsLoop, Moved, WasLive, loop_of}
+use Rattle.floor_loop.specs.steps.Moved.{FewerStays, IsLoop, Moved, WasLive, loop_of}
 use Rattle.floor_loop.proofs.Altering.{look-here, look-other}
+use Rattle.floor_loop.proofs.Calling.{new-is}
 use Rattle.floor_loop.proofs.Calls.{moved-kept}
-use Rattle.floor_loop.proofs.Moving.{steps-both, steps-none, took-then}
+use Rattle.floor_loop.proofs.Moving.{moved-same, steps-both, steps-none, took-then}
 use Rattle.floor_loop.proofs.Sparing.{spared-through, spares-same}
-use Rattle.floor_loop.proofs.Stepping.{alone-both, keeps-passed, some-out, stays-kept, wakes-same}
+use Rattle.floor_loop.proofs.Stepping.{alone-both, keeps-live, keeps-passed, some-out, stays-kept, wakes-same}
 
 some-connection : (x y : Connection) → ◌≡◌ {A = Option Connection} (Some x) (Some y) → x ≡ y
 some-connection x y e = cc
@@ -151,12 +153,13 @@ module _ (hub : Hub) (a b : Attended) (number : ℕ) (next : b.outgoing ≡ chan
       by (inl t) = absurd (calm l y s (ap (connection_at hub.connections) t.1 ∙ is_y) is_s over)
       by (inr t) = l.timed k y s p is_y is_s (sym (other k t.0) ∙ is_p) over
 
-  pub moved-unended : (IsLoop (loop_of hub a) → (x : Connection) (r : Room) → connection_at hub.connections number ≡ Some x → room_at hub x.conference ≡ Some r → ¬ IsOver r x.n) → Moved NoSteps (loop_of hub a) (loop_of hub b)
-  moved-unended calm = record {
+  pub moved-unended : (IsLoop (loop_of hub a) → (x : Connection) (r : Room) → connection_at hub.connections number ≡ Some x → room_at hub x.conference ≡ Some r → ¬ IsOver r x.n) → (IsLoop (loop_of hub a) → StaysAreOwn (loop_of hub b)) → Moved NoSteps (loop_of hub a) (loop_of hub b)
+  moved-unended calm own = record {
     steps = steps-none NoSteps hub hub refl (λ w st. st);
     live = λ k y is. record { connection = y; live = is; conference = refl; n = refl };
     serving = λ l. serving-unended l.serving;
     timed = timed-unended calm;
+    own = own;
     took = λ l. took-unended;
     over = λ c r is. (r, is, λ n over. over);
   }
@@ -171,8 +174,8 @@ only hub es = loop_of hub (record { outgoing = es; time = 0; away = nobody })
 
 -- what was last has changed nothing that is on its way
 module _ (a : Loop) (hub : Hub) (b c : Attended) (same : c.outgoing ≡ b.outgoing) where
-  pub last-moves : Moved NoSteps (loop_of hub b) (loop_of hub c)
-  last-moves = moved-kept (loop_of hub b) (loop_of hub c) refl (keeps-passed b c same)
+  pub last-moves : FewerStays b c → Moved NoSteps (loop_of hub b) (loop_of hub c)
+  last-moves few = moved-kept (loop_of hub b) (loop_of hub c) refl (keeps-passed b c same) few
 
   pub last-wakes : Wakes a (loop_of hub b) → Wakes a (loop_of hub c)
   last-wakes f = subst (λ (es : List (ℕ × Outgoing)). Wakes a (only hub es)) (sym same) f
@@ -182,18 +185,18 @@ module _ (a : Loop) (hub : Hub) (b c : Attended) (same : c.outgoing ≡ b.outgoi
 
 -- who was attached, and who left behind it
 module _ (conference user number : ℕ) (xs : List ℕ) (a b d : Loop) (steps : Steps (AtMost 1 (Attach conference user)) a.hub b.hub)
-    (moved : IsLoop a → IsServing b × IsTimed b × TookNothing a b) (left : Moved (Leaves xs) b d) where
+    (moved : IsLoop a → IsServing b × IsTimed b × TookNothing a b × StaysAreOwn b) (left : Moved (Leaves xs) b d) where
   pub loop-attached : IsLoop a → IsLoop b
   loop-attached l =
       let g = steps l.world l.stands in
       let m = moved l in
-      record { world = run l.world g.steps; stands = g.stands; serving = m.0; timed = m.1 }
+      record { world = run l.world g.steps; stands = g.stands; serving = m.0; timed = m.1; own = m.3 }
 
   pub enter-steps : Steps (Returns conference user xs) a.hub d.hub
   enter-steps = steps-both (AtMost 1 (Attach conference user)) (Leaves xs) a.hub b.hub d.hub steps left.steps
 
-  pub enter-moved : IsLoop a → IsServing d × IsTimed d × TookNothing a d
-  enter-moved l = let m = loop-attached l in (left.serving m, left.timed m, λ k. took-then (Leaves xs) a b d k [] 0 ((moved l).2 k) m left)
+  pub enter-moved : IsLoop a → IsServing d × IsTimed d × TookNothing a d × StaysAreOwn d
+  enter-moved l = let m = loop-attached l in (left.serving m, left.timed m, λ k. took-then (Leaves xs) a b d k [] 0 ((moved l).2 k) m left, left.own m)
 
   pub enter-wakes : Joins conference number a.hub b.hub → (IsLoop a → Wakes a b) → (IsLoop b → Wakes b d) → IsLoop a → Wakes a d
   enter-wakes j f g l = let m = loop-attached l in wakes-then (Leaves xs) a b d (stay-joined conference number a.hub b.hub j) left m.serving (f l) (g m)
@@ -230,11 +233,50 @@ module _ (conference user number : ℕ) (xs : List ℕ) (a b d : Loop) (steps : 
                 at.outgoing.ready refl,
           )
 
+  -- nothing was written to the new connection, if it is there
+  pub enter-new : Joins conference number a.hub b.hub → IsLoop a → (connection_at d.hub.connections number ≡ None) ⊎ IsNew d number
+  enter-new j l = by (connection_at d.hub.connections number) refl
+    where
+      by : (z : Option Connection) → connection_at d.hub.connections number ≡ z → (connection_at d.hub.connections number ≡ None) ⊎ IsNew d number
+      by None e = inl e
+      by (Some y) e =
+          let m = loop-attached l in
+          let at = (left.serving m) number y e in
+          let w = left.live number y e in
+          let before = m.serving number w.connection w.live in
+          let own : j.connection ≡ w.connection = some-connection j.connection w.connection (sym j.put.here ∙ w.live) in
+          let room : j.room ≡ before.room = some-room j.room before.room (sym j.there ∙ ap (room_at b.hub) (sym j.place ∙ ap (λ (z : Connection). z.conference) own) ∙ before.there) in
+          let untaken : taken_of before.room w.connection.n ≡ 0 = ap (λ (z : Connection). taken_of before.room z.n) (sym own) ∙ ap (λ (z : Room). taken_of z j.connection.n) (sym room) ∙ j.untaken in
+          let took = left.took m number w.connection y before.room at.room before.outgoing at.outgoing w.live e before.there at.there before.found at.found in
+          inr record {
+            connection = y;
+            room = at.room;
+            outgoing = at.outgoing;
+            live = e;
+            there = at.there;
+            found = at.found;
+            unwritten = took.0 ∙ ap (λ (z : List ℕ). z ++ []) (new-is before.room w.connection.n before.outgoing.rest untaken);
+            unacknowledged = took.1 ∙ ap (λ (k : ℕ). (k - before.outgoing.parcels) + 0) untaken ∙ omega arith;
+          }
+
+-- what was on its way to it is as it was, whatever the time is
+pub new-passed : (hub : Hub) (b c : Attended) (number : ℕ) → c.outgoing ≡ b.outgoing → IsNew (loop_of hub b) number → IsNew (loop_of hub c) number
+new-passed hub b c number same n = record {
+  connection = n.connection;
+  room = n.room;
+  outgoing = n.outgoing;
+  live = n.live;
+  there = n.there;
+  found = ap (λ (es : List (ℕ × Outgoing)). lookup (nat_eq number) es) same ∙ n.found;
+  unwritten = n.unwritten;
+  unacknowledged = n.unacknowledged;
+}
+
 -- who was kept may be told something still; who wasn't is as it was
 pub kept-moves : (hub : Hub) (a b : Attended) (number : ℕ) (kept : Bool) → b.outgoing ≡ cond kept (changed unended number a.outgoing) a.outgoing →
-    (IsLoop (loop_of hub a) → (x : Connection) (r : Room) → connection_at hub.connections number ≡ Some x → room_at hub x.conference ≡ Some r → ¬ IsOver r x.n) → Moved NoSteps (loop_of hub a) (loop_of hub b)
-kept-moves hub a b number true next calm = moved-unended hub a b number next calm
-kept-moves hub a b number false next calm = moved-kept (loop_of hub a) (loop_of hub b) refl (keeps-passed a b next)
+    (IsLoop (loop_of hub a) → (x : Connection) (r : Room) → connection_at hub.connections number ≡ Some x → room_at hub x.conference ≡ Some r → ¬ IsOver r x.n) → (IsLoop (loop_of hub a) → StaysAreOwn (loop_of hub b)) → Moved NoSteps (loop_of hub a) (loop_of hub b)
+kept-moves hub a b number true next calm own = moved-unended hub a b number next calm own
+kept-moves hub a b number false next calm own = moved-same (loop_of hub a) (loop_of hub b) refl (keeps-live hub (outgoing_in a) (outgoing_in b) (keeps-passed a b next)) own
 
 -- nobody comes, and nobody leaves
 pub returns-none : (conference user : ℕ) (hub : Hub) → Steps (Returns conference user []) hub hub

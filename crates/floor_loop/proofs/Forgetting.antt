@@ -1,5 +1,5 @@
 -- A loop whose hub forgot a conference: each live connection has its room, and what was on its way to it.
-use Rattle.std.proofs.Common.{◌≡◌, ◌≢◌, ◌⊎◌, inl, inr, ℕ, true, false, arith, sym, ◌∙◌, ap, subst, append-nil, Some}
+use Rattle.std.proofs.Common.{◌≡◌, ◌≢◌, ◌⊎◌, inl, inr, ℕ, ◌≤◌, true, false, arith, sym, ◌∙◌, ap, subst, append-nil, Some}
 use Rattle.std.specs.Prelude.{Option, Result, Ok, Err, OnErr, OnOk, nat_eq}
 use Rattle.std.proofs.lemmas.Bool.Decides.{eqb_tells}
 use Rattle.std.proofs.lemmas.Option.{none-some}
@@ -12,6 +12,7 @@ use Rattle.floor_hub.specs.Rooms.{Forgets}
 use Rattle.floor_hub.specs.StandsFor.{StandsFor}
 use Rattle.floor_hub.specs.World.{World}
 use Rattle.floor_loop.specs.Loop.{Attended, Loop, Outgoing}
+use Rattle.floor_loop.specs.Returned.{StaysAreOwn}
 use Rattle.floor_loop.specs.Written.{IsServing, IsTimed, TookNothing, acknowledged, written}
 use Rattle.floor_loop.specs.steps.Moved.{IsLoop, loop_of}
 
@@ -28,6 +29,7 @@ some_outgoing o p e = cc
 pub record Stays (old new : Loop) : Type 0 where
   pub serving : IsServing old → IsServing new
   pub timed : IsTimed old → IsTimed new
+  pub own : StaysAreOwn old → StaysAreOwn new
   pub took : TookNothing old new
 
 module _ (conference : ℕ) (old new : Hub) (a : Attended) (f : Forgets conference old new) where
@@ -54,6 +56,9 @@ module _ (conference : ℕ) (old new : Hub) (a : Attended) (f : Forgets conferen
         let at = l number x was in
         record { outgoing = at.outgoing; room = at.room; found = at.found; there = is-there number x was ∙ at.there; conference = at.conference; on_its_way = at.on_its_way };
     timed = λ l number x r o is_x is_r is_o over. l number x r o (sym (f.connections number) ∙ is_x) (was-there x.conference r is_r) is_o over;
+    own = λ own k s is.
+        let before = own k s is in
+        (subst (λ (n : ℕ). k ≤ n) (sym f.arrivals) before.0, λ x r is_x is_r. before.1 x r (sym (f.connections k) ∙ is_x) (was-there x.conference r is_r));
     took = λ number x y r s o p is_x is_y is_r is_s is_o is_p.
         let one : x ≡ y = some_connection x y (sym is_x ∙ sym (f.connections number) ∙ is_y) in
         let room : r ≡ s = some_room r s (sym is_r ∙ ap (λ (z : Connection). room_at old z.conference) one ∙ was-there y.conference s is_s) in
@@ -68,6 +73,7 @@ stays-same : (l : Loop) → Stays l l
 stays-same l = record {
   serving = λ h. h;
   timed = λ h. h;
+  own = λ h. h;
   took = λ number x y r s o p is_x is_y is_r is_s is_o is_p.
       let one : x ≡ y = some_connection x y (sym is_x ∙ is_y) in
       let room : r ≡ s = some_room r s (sym is_r ∙ ap (λ (z : Connection). room_at l.hub z.conference) one ∙ is_s) in
@@ -84,4 +90,4 @@ stays conference old new a (Err r) forgot left = subst (λ (h : Hub). Stays (loo
 
 -- so it is a loop still
 pub loop-stays : (old new : Loop) → Stays old new → ((w : World) → StandsFor old.hub w → StandsFor new.hub w) → IsLoop old → IsLoop new
-loop-stays old new s stands l = record { world = l.world; stands = stands l.world l.stands; serving = s.serving l.serving; timed = s.timed l.timed }
+loop-stays old new s stands l = record { world = l.world; stands = stands l.world l.stands; serving = s.serving l.serving; timed = s.timed l.timed; own = s.own l.own }

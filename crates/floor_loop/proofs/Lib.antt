@@ -18,9 +18,9 @@ pub mod Forgetting
 pub mod Throwing
 pub mod Soonest
 pub mod Entering
-pub mod Carrying
 pub mod Gathering
 pub mod Losing
 pub mod Standing
 pub mod Ending
 pub mod Resumed
+pub mod Carrying

@@ -11,7 +11,7 @@ use Rattle.floor_hub.specs.World.{nothing}
 use Rattle.floor_loop.specs.Done.{AtMost, NoSteps, Steps, Then}
 use Rattle.floor_loop.specs.Loop.{Loop}
 use Rattle.floor_loop.specs.declared.stay.Stay.{Stay}
-use Rattle.floor_loop.specs.Written.{Took}
+use Rattle.floor_loop.specs.Written.{Dropped, Took}
 use Rattle.floor_loop.specs.steps.Moved.{IsLoop, Moved, WasLive}
 use Rattle.floor_loop.specs.steps.Thrown.{Thrown}
 use Rattle.floor_loop.proofs.Moving.{loop-moves, moved-behind, none-at-most, none-then, steps-both, steps-of, took-both}
@@ -40,6 +40,19 @@ module _ (number : ℕ) (a b d : Loop) (first : Moved NoSteps a b) (t : Thrown n
     where
       live : (z : Connection) → connection_at d.hub.connections k ≡ Some z → WasLive b.hub k z
       live z is = record { connection = z; live = sym (t.connections k) ∙ is; conference = refl; n = refl }
+
+  pub dropped-own : IsLoop a → Dropped a d number
+  dropped-own l =
+      let m = loop-moves NoSteps a b first l in
+      let own = t.dropped m in
+      (_, _, took-both a b d number [] own.0 0 own.1 live m.serving (first.took l number) own.2)
+    where
+      live : (z : Connection) → connection_at d.hub.connections number ≡ Some z → WasLive b.hub number z
+      live z is = record { connection = z; live = sym (t.connections number) ∙ is; conference = refl; n = refl }
+
+-- of one that has left nothing is dropped any more
+pub dropped-gone : (a e : Loop) (number : ℕ) → connection_at e.hub.connections number ≡ None → Dropped a e number
+dropped-gone a e number gone = ([], 0, λ x y r s o p is_x is_y. absurd (none-some y (sym gone ∙ is_y)))
 
 -- or it leaves
 module _ (number : ℕ) (a b d e : Loop) (first : Moved NoSteps a b) (t : Thrown number b d) (gone : connection_at e.hub.connections number ≡ None) (left : Moved (AtMost 1 (Leave number)) d e) where

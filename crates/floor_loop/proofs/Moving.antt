@@ -25,12 +25,22 @@ use Rattle.floor_hub.specs.Connections.{SamePlace, StayLive, connection_at}
 use Rattle.floor_hub.specs.Hub.{Hub, room_at}
 use Rattle.floor_hub.specs.Rooms.{AddsOwn, Joins, OneRoom, QueuesMore, RoomAfter, RoomAfterIn, RoomOf, taken_of}
 use Rattle.floor_hub.specs.Runs.{run}
-use Rattle.floor_hub.specs.StandsFor.{StandsFor}
-use Rattle.floor_hub.specs.World.{World, turn}
-use Rattle.floor_loop.specs.Loop.{Loop, Outgoing, outgoing_at, until_of}
+use Rattle.floor_hub.specs.StandsFor.{NumberStands, StandsFor}
+use Rattle.floor_hub.specs.Members.{user_of}
+use Rattle.floor_hub.specs.declared.step.Answer.{Answer}
+use Rattle.floor_hub.specs.declared.step.Answer.TheVariants as answer
+use Rattle.floor_hub.specs.World.{Aim, Place, World, aimed, places_after, turn, turn_at, offer}
+use Rattle.floor_machine.specs.Events.{joiner}
+use Rattle.std.specs.Prelude.{filter_map}
+use Rattle.std.proofs.lemmas.List.{get_or_append_left}
+use Rattle.std.proofs.lemmas.List.Elements.{filter_map-append}
+use Rattle.std.proofs.lemmas.Option.{get_or_from_slice_get, slice_get-get_or, slice_get_within}
+use Rattle.floor_loop.specs.Away.{Away, stay_of}
+use Rattle.floor_loop.specs.Returned.{StaysAreOwn}
+use Rattle.floor_loop.specs.Loop.{Attended, Loop, Outgoing, outgoing_at, until_of}
 use Rattle.floor_loop.specs.Done.{AtMost, Each, NoSteps, Reads, Steps, Then}
 use Rattle.floor_loop.specs.Written.{Attends, IsOnItsWay, IsServing, IsTimed, Took, TookNothing, acknowledged, called_for, taken_bytes, written}
-use Rattle.floor_loop.specs.steps.Moved.{Grows, IsLoop, Keeps, KeepsLive, Moved, WasLive, Went}
+use Rattle.floor_loop.specs.steps.Moved.{FewerStays, Grows, IsLoop, Keeps, KeepsLive, Moved, WasLive, Went}
 use Rattle.floor_loop.proofs.Over.{over-grows}
 use Rattle.floor_loop.proofs.Front.{before, taken-stay, within-more}
 
@@ -248,19 +258,92 @@ took-on old new number was rooms keeps l x y r s o p is_x is_y is_r is_s is_o is
 pub serves-on : (old new : Loop) → Went old.hub new.hub → KeepsLive new.hub (outgoing_at old) (outgoing_at new) → IsServing old → IsServing new
 serves-on old new went keeps l number y is = attends-on old new number y (went.live number y is) went.rooms (λ o. keeps number y o is) l
 
--- a loop whose hub went on, and which has what it had on its way
-pub moved-on : (Are : List Step → Type 0) (old new : Loop) → Steps Are old.hub new.hub → Went old.hub new.hub → KeepsLive new.hub (outgoing_at old) (outgoing_at new) → (IsLoop old → IsTimed new) → Moved Are old new
-moved-on Are old new steps went keeps timed = record {
+-- whose stay it is
+
+slice-left : (xs ys : List ℕ) (k u : ℕ) → slice_get xs k ≡ Some u → slice_get (xs ++ ys) k ≡ Some u
+slice-left xs ys k u e =
+    let within = slice_get_within xs k u e in
+    slice_get-get_or (xs ++ ys) k 0 (omega (arith, within, length-append xs ys)) ∙ ap (λ (v : ℕ). Some v) (get_or_append_left xs ys 0 k within ∙ get_or_from_slice_get xs k u 0 e)
+
+-- who joined as n has joined so still
+user-more : (es more : List Event) (n u : ℕ) → user_of es n ≡ Some u → user_of (es ++ more) n ≡ Some u
+user-more es more zero u e = e
+user-more es more (suc k) u e = ap (λ (us : List ℕ). slice_get us k) (filter_map-append joiner es more) ∙ slice-left (filter_map joiner es) (filter_map joiner more) k u e
+
+places-after : (ps : List Place) (c : ℕ) (a : Answer) → length ps ≤ length (places_after ps c a)
+places-after ps c (answer.Attached n) = omega (arith, length-append ps (record { conference = c; n = n } ∷ []))
+places-after ps c answer.Done = omega arith
+places-after ps c answer.Nothing = omega arith
+places-after ps c answer.Served = omega arith
+places-after ps c (answer.Refused r) = omega arith
+
+places-at : (w : World) (a : Option Aim) → length w.places ≤ length (turn_at w a).world.places
+places-at w None = omega arith
+places-at w (Some a) = places-after w.places a.conference (offer (w.parts a.conference) a.step).answer
+
+places-grow : (w : World) (ss : List Step) → length w.places ≤ length (run w ss).places
+places-grow w [] = omega arith
+places-grow w (s ∷ ss) = omega (arith, places-at w (aimed w s), places-grow (turn w s).world ss)
+
+-- whoever is live has come
+pub live-came : (h : Hub) (w : World) (k : ℕ) (x : Connection) → StandsFor h w → connection_at h.connections k ≡ Some x → k ≤ h.arrivals
+live-came h w zero x st is = omega arith
+live-came h w (suc j) x st is = by (slice_get w.places j) refl (st.stands.numbers (suc j))
+  where
+    by : (z : Option Place) → slice_get w.places j ≡ z → NumberStands (room_at h) w.parts (connection_at h.connections (suc j)) z → suc j ≤ h.arrivals
+    by None e none = absurd (none-some x (sym none ∙ is))
+    by (Some p) e s = let within = slice_get_within w.places j p e in omega (arith, within, st.stands.count)
+
+-- whoever has come has come still
+pub arrivals-grow : (Are : List Step → Type 0) (old new : Hub) (w : World) → StandsFor old w → Steps Are old new → old.arrivals ≤ new.arrivals
+arrivals-grow Are old new w st steps = let g = steps w st in omega (arith, st.stands.count, g.stands.stands.count, places-grow w g.steps)
+
+-- a stay in its member's name is so behind what a room has grown by
+pub own-at : (old new : Loop) (k u : ℕ) (y : Connection) (r : Room) → WasLive old.hub k y → ((c : ℕ) (q : Room) → room_at old.hub c ≡ Some q → (s : Room) × (room_at new.hub c ≡ Some s) × Grows q s) → IsServing old →
+    ((x : Connection) (q : Room) → connection_at old.hub.connections k ≡ Some x → room_at old.hub x.conference ≡ Some q → user_of q.ledger.journal x.n ≡ Some u) → room_at new.hub y.conference ≡ Some r → user_of r.ledger.journal y.n ≡ Some u
+own-at old new k u y r w rooms l own is_r =
+    let at = l k w.connection w.live in
+    let t = rooms w.connection.conference at.room at.there in
+    let same : t.0 ≡ r = some_is t.0 r (sym t.1 ∙ ap (room_at new.hub) (sym w.conference) ∙ is_r) in
+    ap (λ (z : Room). user_of z.ledger.journal y.n) (sym same)
+    ∙ ap (λ (n : ℕ). user_of t.0.ledger.journal n) w.n
+    ∙ ap (λ (es : List Event). user_of es w.connection.n) t.2.journal
+    ∙ user-more at.room.ledger.journal t.2.more w.connection.n u (own w.connection at.room w.live at.there)
+
+pub own-on : (Are : List Step → Type 0) (old new : Loop) → Steps Are old.hub new.hub → Went old.hub new.hub → FewerStays old.attended new.attended → IsLoop old → StaysAreOwn new
+own-on Are old new steps went fewer l k s is =
+    let before = l.own k s (fewer k s is) in
+    let more = arrivals-grow Are old.hub new.hub l.world l.stands steps in
+    (omega (arith, before.0, more), λ y r is_y is_r. own-at old new k s.user y r (went.live k y is_y) went.rooms l.serving before.1 is_r)
+
+pub own-same : (a b : Loop) → b.hub ≡ a.hub → FewerStays a.attended b.attended → IsLoop a → StaysAreOwn b
+own-same a b same fewer l k s is =
+    let before = l.own k s (fewer k s is) in (
+      subst (λ (h : Hub). k ≤ h.arrivals) (sym same) before.0,
+      λ x r is_x is_r. before.1 x r (ap (λ (h : Hub). connection_at h.connections k) (sym same) ∙ is_x) (ap (λ (h : Hub). room_at h x.conference) (sym same) ∙ is_r),
+    )
+
+-- nothing has changed of whoever is away
+pub fewer : (a b : Attended) → b.away ≡ a.away → FewerStays a b
+fewer a b same k s is = ap (λ (z : Away). stay_of z k) (sym same) ∙ is
+
+moved-owning : (Are : List Step → Type 0) (old new : Loop) → Steps Are old.hub new.hub → Went old.hub new.hub → KeepsLive new.hub (outgoing_at old) (outgoing_at new) → (IsLoop old → StaysAreOwn new) → (IsLoop old → IsTimed new) → Moved Are old new
+moved-owning Are old new steps went keeps own timed = record {
   steps = steps;
   live = went.live;
   serving = λ l. serves-on old new went keeps l.serving;
   timed = timed;
+  own = own;
   took = λ l number. took-on old new number (went.live number) went.rooms (λ y is o. keeps number y o is) l.serving;
   over = λ c r is. let t = went.rooms c r is in (t.0, t.1, λ n. over-grows r t.0 n t.2);
 }
 
+-- a loop whose hub went on, and which has what it had on its way
+pub moved-on : (Are : List Step → Type 0) (old new : Loop) → Steps Are old.hub new.hub → Went old.hub new.hub → KeepsLive new.hub (outgoing_at old) (outgoing_at new) → FewerStays old.attended new.attended → (IsLoop old → IsTimed new) → Moved Are old new
+moved-on Are old new steps went keeps fewer timed = moved-owning Are old new steps went keeps (own-on Are old new steps went fewer) timed
+
 pub loop-moves : (Are : List Step → Type 0) (old new : Loop) → Moved Are old new → IsLoop old → IsLoop new
-loop-moves Are old new m l = let g = m.steps l.world l.stands in record { world = run l.world g.steps; stands = g.stands; serving = m.serving l; timed = m.timed l }
+loop-moves Are old new m l = let g = m.steps l.world l.stands in record { world = run l.world g.steps; stands = g.stands; serving = m.serving l; timed = m.timed l; own = m.own l }
 
 -- what a socket took by two calls
 pub took-through : (a b c : Loop) (number : ℕ) (first next : List ℕ) (j k : ℕ) (y : Connection) → connection_at b.hub.connections number ≡ Some y → Attends b number y → Took a b number first j → Took b c number next k →
@@ -285,6 +368,7 @@ moved-both First Next a b c f g = record {
   live = λ number z is. live number z is;
   serving = λ l. g.serving (loop-moves First a b f l);
   timed = λ l. g.timed (loop-moves First a b f l);
+  own = λ l. g.own (loop-moves First a b f l);
   took = λ l number. took-both a b c number [] [] 0 0 (g.live number) (f.serving l) (f.took l number) (g.took (loop-moves First a b f l) number);
   over = λ c r is.
       let s = f.over c r is in
@@ -299,7 +383,7 @@ moved-both First Next a b c f g = record {
         record { connection = x.connection; live = x.live; conference = y.conference ∙ x.conference; n = y.n ∙ x.n }
 
 pub moved-of : (Are Others : List Step → Type 0) (a b : Loop) → ((steps : List Step) → Are steps → Others steps) → Moved Are a b → Moved Others a b
-moved-of Are Others a b f m = record { steps = steps-of Are Others a.hub b.hub f m.steps; live = m.live; serving = m.serving; timed = m.timed; took = m.took; over = m.over }
+moved-of Are Others a b f m = record { steps = steps-of Are Others a.hub b.hub f m.steps; live = m.live; serving = m.serving; timed = m.timed; own = m.own; took = m.took; over = m.over }
 
 -- a move behind one without steps, and before one
 pub moved-behind : (Are : List Step → Type 0) (a b c : Loop) → Moved NoSteps a b → Moved Are b c → Moved Are a c
@@ -309,8 +393,8 @@ pub moved-before : (Are : List Step → Type 0) (a b c : Loop) → Moved Are a b
 moved-before Are a b c f g = moved-of (Then Are NoSteps) Are a c (then-none Are) (moved-both Are NoSteps a b c f g)
 
 -- a loop of which nothing that is on its way has changed, and no mark is gone
-pub moved-same : (a b : Loop) → b.hub ≡ a.hub → KeepsLive b.hub (outgoing_at a) (outgoing_at b) → Moved NoSteps a b
-moved-same a b same keeps = moved-on NoSteps a b (steps-none NoSteps a.hub b.hub refl (λ w st. subst (λ (h : Hub). StandsFor h w) (sym same) st)) went keeps timed
+pub moved-same : (a b : Loop) → b.hub ≡ a.hub → KeepsLive b.hub (outgoing_at a) (outgoing_at b) → (IsLoop a → StaysAreOwn b) → Moved NoSteps a b
+moved-same a b same keeps own = moved-owning NoSteps a b (steps-none NoSteps a.hub b.hub refl (λ w st. subst (λ (h : Hub). StandsFor h w) (sym same) st)) went keeps own timed
   where
     went : Went a.hub b.hub
     went = subst (Went a.hub) (sym same) (record {

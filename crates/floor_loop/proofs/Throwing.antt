@@ -20,7 +20,7 @@ use Rattle.floor_loop.specs.Done.{NoSteps, Then}
 use Rattle.floor_loop.specs.Loop.{Attended, Loop, Outgoing, outgoing_in}
 use Rattle.floor_loop.specs.Written.{Spares, Took, Wakes}
 use Rattle.floor_loop.specs.steps.Changed.{carrying, changed, wrote_of}
-use Rattle.floor_loop.specs.steps.Moved.{IsLoop, Moved, WasLive, loop_of}
+use Rattle.floor_loop.specs.steps.Moved.{FewerStays, IsLoop, Moved, WasLive, loop_of}
 use Rattle.floor_loop.specs.steps.Taken.{TakenFor}
 use Rattle.floor_loop.specs.steps.Thrown.{Thrown}
 use Rattle.floor_loop.proofs.Calls.{moved-kept, moved-taken}
@@ -49,12 +49,13 @@ ready-found f number a b next same k p is = by (eqb_tells number k)
     by (inr t) = (p, sym (changed-beside f number a b next k t.0) ∙ is, refl)
 
 -- what is on its way to the connection is thrown away
-pub thrown-wrote : (hub : Hub) (a b : Attended) (number count : ℕ) → b.outgoing ≡ changed (wrote_of count) number a.outgoing → Thrown number (loop_of hub a) (loop_of hub b)
-thrown-wrote hub a b number count next = record {
+pub thrown-wrote : (hub : Hub) (a b : Attended) (number count : ℕ) → b.outgoing ≡ changed (wrote_of count) number a.outgoing → FewerStays a b → Thrown number (loop_of hub a) (loop_of hub b)
+thrown-wrote hub a b number count next few = record {
   steps = steps-none NoSteps hub hub refl (λ w st. st);
   connections = λ k. refl;
-  loop = λ l. (wrote hub a b number count next l).loop;
-  others = λ l. (wrote hub a b number count next l).others;
+  loop = λ l. (wrote hub a b number count next few l).loop;
+  others = λ l. (wrote hub a b number count next few l).others;
+  dropped = λ l. (_, _, (wrote hub a b number count next few l).took);
   found = ends-found (wrote_of count) number a b next (λ o. refl);
   ready = ready-found (wrote_of count) number a b next (λ o. refl);
   alone = λ l k x r s ne is_x is_r is_s. alone-refl r s x.n (some_room r s (sym is_r ∙ is_s));
@@ -119,14 +120,15 @@ alone-taken number before after old new w st t k y r s ne is_y is_r is_s = by (l
     ]
 
 -- a parcel was taken from the hub
-pub thrown-taken : (number : ℕ) (a b : Attended) (old new : Hub) → ((w : World) → StandsFor old w → StandsFor new w) → TakenFor number a.outgoing b.outgoing old new → Thrown number (loop_of old a) (loop_of new b)
-thrown-taken number a b old new stands t =
-    let m = moved-taken number a b old new stands t in
+pub thrown-taken : (number : ℕ) (a b : Attended) (old new : Hub) → ((w : World) → StandsFor old w → StandsFor new w) → TakenFor number a.outgoing b.outgoing old new → FewerStays a b → Thrown number (loop_of old a) (loop_of new b)
+thrown-taken number a b old new stands t few =
+    let m = moved-taken number a b old new stands t few in
     record {
       steps = m.steps;
       connections = connections-taken number a.outgoing b.outgoing old new t;
       loop = loop-moves NoSteps (loop_of old a) (loop_of new b) m;
       others = λ l k ne. m.took l k;
+      dropped = λ l. ([], 0, m.took l number);
       found = ends-found (carrying t.rest t.parcels) number a b t.next (λ o. refl);
       ready = ready-found (carrying t.rest t.parcels) number a b t.next (λ o. refl);
       alone = λ l. alone-taken number a.outgoing b.outgoing old new l.world l.stands t;
@@ -136,12 +138,13 @@ thrown-taken number a b old new stands t =
 -- nothing was done
 pub thrown-none : (number : ℕ) (hub : Hub) (a : Attended) → Thrown number (loop_of hub a) (loop_of hub a)
 thrown-none number hub a =
-    let m = moved-kept (loop_of hub a) (loop_of hub a) refl (keeps-refl (outgoing_in a)) in
+    let m = moved-kept (loop_of hub a) (loop_of hub a) refl (keeps-refl (outgoing_in a)) (λ k s is. is) in
     record {
       steps = m.steps;
       connections = λ k. refl;
       loop = λ l. l;
       others = λ l k ne. m.took l k;
+      dropped = λ l. ([], 0, m.took l number);
       found = λ k o is. (o, is, refl);
       ready = λ k p is. (p, is, refl);
       alone = λ l k x r s ne is_x is_r is_s. alone-refl r s x.n (some_room r s (sym is_r ∙ is_s));
@@ -155,6 +158,10 @@ thrown-both number a b c f g = record {
   connections = λ k. g.connections k ∙ f.connections k;
   loop = λ l. g.loop (f.loop l);
   others = λ l k ne. took-both a b c k [] [] 0 0 (λ z is. live k z is) (f.loop l).serving (f.others l k ne) (g.others (f.loop l) k ne);
+  dropped = λ l.
+      let d = f.dropped l in
+      let e = g.dropped (f.loop l) in
+      (_, _, took-both a b c number d.0 e.0 d.1 e.1 (λ z is. live number z is) (f.loop l).serving d.2 e.2);
   found = λ k o is.
       let p = f.found k o is in
       let q = g.found k p.0 p.1 in
@@ -182,6 +189,7 @@ module _ (number : ℕ) (old mid new : Loop) (t : Thrown number old mid) (gone :
         record { connection = w.connection; live = sym (t.connections k) ∙ w.live; conference = w.conference; n = w.n };
     serving = λ l. m.serving (t.loop l);
     timed = λ l. m.timed (t.loop l);
+    own = λ l. m.own (t.loop l);
     took = λ l k. by l k (eqb_tells number k);
     over = λ c r is.
         let s = t.ledgers c r is in

@@ -8,8 +8,9 @@ use Rattle.floor_hub.specs.Hub.{Hub}
 use Rattle.floor_loop.specs.Loop.{Attended, Loop, Outgoing, outgoing_in, rest_at}
 use Rattle.floor_loop.specs.Written.{Took}
 use Rattle.floor_loop.specs.steps.Changed.{changed, given, whole_of, wrote_of}
-use Rattle.floor_loop.specs.steps.Moved.{IsLoop, Keeps, KeepsLive, loop_of}
+use Rattle.floor_loop.specs.steps.Moved.{FewerStays, IsLoop, Keeps, KeepsLive, loop_of}
 use Rattle.floor_loop.proofs.Altering.{look-here, look-other}
+use Rattle.floor_loop.proofs.Moving.{own-same}
 use Rattle.floor_loop.proofs.Stepping.{keeps-same}
 use Rattle.floor_loop.proofs.Taking.{acked_at, advanced}
 
@@ -42,11 +43,11 @@ pub record Wrote (old new : Loop) (number count : ℕ) : Type 0 where
   pub took : Took old new number (take count (rest_at old number)) (acked_at old number count)
   pub others : (k : ℕ) → nat_eq number k ≡ false → Took old new k [] 0
 
-pub wrote : (hub : Hub) (a b : Attended) (number count : ℕ) → b.outgoing ≡ changed (wrote_of count) number a.outgoing → IsLoop (loop_of hub a) → Wrote (loop_of hub a) (loop_of hub b) number count
-wrote hub a b number count next l =
+pub wrote : (hub : Hub) (a b : Attended) (number count : ℕ) → b.outgoing ≡ changed (wrote_of count) number a.outgoing → FewerStays a b → IsLoop (loop_of hub a) → Wrote (loop_of hub a) (loop_of hub b) number count
+wrote hub a b number count next few l =
     let did = advanced (loop_of hub a) (loop_of hub b) number count refl (changed-beside (wrote_of count) number a b next)
     (λ o is. (wrote_of count o, changed-at (wrote_of count) number a b next o is, refl, refl, refl, refl)) l in
-    record { loop = record { world = l.world; stands = l.stands; serving = did.0; timed = did.1 }; took = did.2; others = did.3 }
+    record { loop = record { world = l.world; stands = l.stands; serving = did.0; timed = did.1; own = own-same (loop_of hub a) (loop_of hub b) refl few l }; took = did.2; others = did.3 }
 
 -- a connection that is given carries what it carried
 pub keeps-given : (o : Outgoing) → Keeps o (given o)

@@ -9,12 +9,11 @@ use Rattle.floor_hub.specs.declared.connection.Connection.{Connection}
 use Rattle.floor_hub.specs.declared.step.Step.{Step}
 use Rattle.floor_hub.specs.Connections.{connection_at}
 use Rattle.floor_hub.specs.Hub.{room_at}
-use Rattle.floor_hub.specs.Rooms.{taken_of}
 use Rattle.floor_hub.specs.Runs.{alone, configuration, events, run}
 use Rattle.floor_hub.specs.StandsFor.{StandsFor}
 use Rattle.floor_hub.specs.World.{World, nothing}
-use Rattle.floor_loop.specs.Loop.{Loop}
-use Rattle.floor_loop.specs.Written.{IsServing, Took}
+use Rattle.floor_loop.specs.Loop.{Loop, Outgoing, outgoing_at}
+use Rattle.floor_loop.specs.Written.{IsServing, Took, acknowledged, written}
 
 -- a call of a loop: the steps of its hub; whose socket took these bytes by it, or none; and how many parcels to that connection it acknowledged
 pub record Call : Type 0 where
@@ -23,11 +22,10 @@ pub record Call : Type 0 where
   pub bytes : List ℕ
   pub parcels : ℕ
 
--- What the contract of a call says that led from the first loop to the second, where the first stood for this world.
-pub record Does (w : World) (c : Call) (old new : Loop) : Type 0 where
+-- What the contract of a call says of this connection, that led from the first loop to the second, where the first stood for this world.
+pub record Does (number : ℕ) (w : World) (c : Call) (old new : Loop) : Type 0 where
   pub stands : StandsFor new.hub (run w c.steps)
-  pub took : Took old new c.number c.bytes c.parcels
-  pub others : (k : ℕ) → nat_eq c.number k ≡ false → Took old new k [] 0
+  pub took : Took old new number (if nat_eq c.number number then c.bytes else []) (if nat_eq c.number number then c.parcels else 0)
   pub serving : IsServing new
 
 -- the connection with this number is live
@@ -37,7 +35,7 @@ IsLive l number = IsSome (connection_at l.hub.connections number)
 -- these calls, one after another, led from the first loop to the last, and the connection was live behind each
 abbrev pub Calls : ℕ → World → List Call → Loop → Loop → Type 0
 Calls number w [] first last = last ≡ first
-Calls number w (c ∷ cs) first last = (next : Loop) × Does w c first next × IsLive next number × Calls number (run w c.steps) cs next last
+Calls number w (c ∷ cs) first last = (next : Loop) × Does number w c first next × IsLive next number × Calls number (run w c.steps) cs next last
 
 abbrev pub steps_of : List Call → List Step
 steps_of [] = []
@@ -53,13 +51,16 @@ abbrev pub parcels_by : ℕ → List Call → ℕ
 parcels_by number [] = 0
 parcels_by number (c ∷ cs) = (if nat_eq c.number number then c.parcels else 0) + parcels_by number cs
 
--- a connection that was just attached: it is live, and nothing was taken of what is told to it
+-- a connection whose socket has taken nothing yet: it is live, and of what is told to it nothing was written and nothing acknowledged
 pub record IsNew (l : Loop) (number : ℕ) : Type 0 where
   pub connection : Connection
   pub room : Room
+  pub outgoing : Outgoing
   pub live : connection_at l.hub.connections number ≡ Some connection
   pub there : room_at l.hub connection.conference ≡ Some room
-  pub untaken : taken_of room connection.n ≡ 0
+  pub found : outgoing_at l number ≡ Some outgoing
+  pub unwritten : written room connection.n outgoing.rest ≡ []
+  pub unacknowledged : acknowledged room connection.n outgoing.parcels ≡ 0
 
 -- These bytes are a front of what the floor machine of this configuration calls for at n after these events, and the first so many
 -- parcels of that are whole in them.

@@ -25,7 +25,7 @@ taken_bytes r n = bytes_of (take (taken_of r n) (called_for r n))
 abbrev pub written : Room → ℕ → List ℕ → List ℕ
 written r n rest = take (length (taken_bytes r n) - length rest) (taken_bytes r n)
 
--- how many of the parcels that were taken are behind the connection: the loop has acknowledged them, where so many are on their way
+-- how many of the parcels that were taken are behind the connection: the loop has acknowledged them or dropped them, where so many are on their way
 abbrev pub acknowledged : Room → ℕ → ℕ → ℕ
 acknowledged r n parcels = taken_of r n - parcels
 
@@ -72,6 +72,11 @@ Took old new number bytes parcels =
     (x y : Connection) (r s : Room) (o p : Outgoing) → connection_at old.hub.connections number ≡ Some x → connection_at new.hub.connections number ≡ Some y →
     room_at old.hub x.conference ≡ Some r → room_at new.hub y.conference ≡ Some s → outgoing_at old number ≡ Some o → outgoing_at new number ≡ Some p →
     (written s y.n p.rest ≡ written r x.n o.rest ++ bytes) × (acknowledged s y.n p.parcels ≡ acknowledged r x.n o.parcels + parcels)
+
+-- What was on its way to a connection that was live and stays so, and what waited for it, is dropped: these bytes and parcels count as taken, though
+-- no socket took them.
+abbrev pub Dropped : Loop → Loop → ℕ → Type 0
+Dropped old new number = (bytes : List ℕ) × (parcels : ℕ) × Took old new number bytes parcels
 
 -- of so many parcels those that are acknowledged where these bytes are left: all once nothing is left, and none before
 abbrev pub acknowledged_by : List ℕ → ℕ → ℕ

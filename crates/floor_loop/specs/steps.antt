@@ -8,4 +8,5 @@ pub mod Thrown
 pub mod Soonest
 pub mod Carried
 pub mod Entered
+pub mod Losing
 pub mod Replayed

@@ -140,6 +140,9 @@ impl Attended {
         ensures left { OnErr result (self.new.outgoing ≡ self.old.outgoing) }
         ensures away { OnOk result (stay_of self.new.away number
             ≡ Some (stay_from user self.old.time millis)) }
+        ensures others { (k : ℕ) → nat_eq number k ≡ false
+            → stay_of self.new.away k ≡ stay_of self.old.away k }
+        ensures stays { OnErr result (self.new.away ≡ self.old.away) }
         ensures time { self.new.time ≡ self.old.time }
     {
         // It may be to be shut down again.

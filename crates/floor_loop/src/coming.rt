@@ -1,6 +1,6 @@
 //! Whose connection is lost stays, and whoever comes back takes the place of its own members that are away.
 
-ghost use Rattle.std.specs.Prelude.{◌≡◌, ◌⊎◌, [], ℕ, IfOk, IfSome, IsSome, List, None, OnErr, OnOk, Some, false, if◌then◌else◌, nat_eq, true};
+ghost use Rattle.std.specs.Prelude.{◌≡◌, ◌≢◌, ◌⊎◌, [], ℕ, IfOk, IfSome, IsSome, List, None, OnErr, OnOk, Some, false, if◌then◌else◌, nat_eq, true};
 ghost use Rattle.std.specs.List.{Contains};
 ghost use Rattle.floor_config.specs.Lookup.{is_user};
 ghost use Rattle.floor_room.specs.Room.{Room};
@@ -11,16 +11,21 @@ ghost use Rattle.floor_hub.specs.Members.{AreMembers, user_of};
 ghost use Rattle.floor_hub.specs.declared.attached.Live.{Live as Listed};
 ghost use Rattle.floor_hub.specs.declared.connection.Connection.{Connection};
 ghost use Rattle.floor_hub.specs.declared.step.Step.TheVariants.{Leave};
+ghost use Rattle.floor_loop.specs.declared.stay.Lost.TheVariants.{Memory as NoMemory};
+ghost use Rattle.floor_loop.specs.declared.stay.Stay.{Stay as Away};
 ghost use Rattle.floor_loop.specs.Away.{are_live, away_among, beside, by_full, stay_from, stay_of};
 ghost use Rattle.floor_loop.specs.Done.{AtMost, Leaves, LeavesIf, NoSteps, Returns, Steps};
+ghost use Rattle.floor_loop.specs.Laws.{IsNew};
 ghost use Rattle.floor_loop.specs.Loop.{Outgoing as Way, outgoing_in};
 ghost use Rattle.floor_loop.specs.Written.{IsOver, IsServing, IsTimed, Spares, TookNothing, Wakes};
 ghost use Rattle.floor_loop.specs.steps.Changed.{changed, unended};
-ghost use Rattle.floor_loop.specs.Returned.{IsKeptPlace, IsOldestOf, Returned};
+ghost use Rattle.floor_loop.specs.Returned.{IsKeptPlace, IsOldestOf, Returned, StaysAreOwn};
 ghost use Rattle.floor_loop.specs.steps.Entered.{Entered, takes_events};
+ghost use Rattle.floor_loop.specs.steps.Losing.{CannotStay, HasNoUser, is_away};
 ghost use Rattle.floor_loop.specs.steps.Moved.{IsLoop, Moved, loop_of};
 
 use crate::attended::Attended;
+use crate::stay::Lost;
 use crate::turn::{attach, is_over, leave_from, throw_away};
 use floor_hub::{ConnNo, Hub, HubRefusal, Refusal, RoomRefusal};
 use floor_machine::MAX_EVENTS;
@@ -34,77 +39,126 @@ pub(crate) const MAX_LIVE: u32 = 64;
 const MAX_BESIDE: u32 = 63;
 
 /// A connection that was lost is away from now on, where its member may stay: it isn't cut, its conference isn't ended or
-/// broken off, and there is a grace. Says whether it is away; where not, it is to leave.
-pub(crate) fn stay(hub: &Hub, attended: &mut Attended, number: ConnNo) -> bool
+/// broken off, and there is a grace.
+pub(crate) fn stay(hub: &Hub, attended: &mut Attended, number: ConnNo) -> Lost
     ensures moved { Moved NoSteps (loop_of hub.now attended.old) (loop_of hub.now attended.new) }
-    ensures away { result ≡ true → IsSome (stay_of attended.new.away number) }
-    ensures lost { stay_of attended.old.away number ≡ None → result ≡ true
+    ensures away { is_away result ≡ true → IsSome (stay_of attended.new.away number) }
+    ensures lost { stay_of attended.old.away number ≡ None → is_away result ≡ true
         → (user : ℕ) × (stay_of attended.new.away number
         ≡ Some (stay_from user attended.old.time attended.old.away.grace.lost)) }
+    ensures user { stay_of attended.old.away number ≡ None → is_away result ≡ true
+        → (x : Connection) (r : Room) (s : Away)
+        → connection_at hub.now.connections number ≡ Some x
+        → room_at hub.now x.conference ≡ Some r
+        → stay_of attended.new.away number ≡ Some s
+        → user_of r.ledger.journal x.n ≡ Some s.user }
+    ensures leaves { is_away result ≡ false → result ≢ NoMemory → stay_of attended.old.away number ≡ None
+        × CannotStay hub.now attended.old number }
     ensures over { stay_of attended.old.away number ≡ None
         → (x : Connection) (r : Room) (o : Way) → connection_at hub.now.connections number ≡ Some x
         → room_at hub.now x.conference ≡ Some r → outgoing_in attended.old number ≡ Some o
-        → o.conference ≡ x.conference → IsOver r x.n → result ≡ false }
+        → o.conference ≡ x.conference → IsOver r x.n → is_away result ≡ false }
     ensures none { stay_of attended.old.away number ≡ None
-        → attended.old.away.grace.lost ≡ 0 → result ≡ false }
+        → attended.old.away.grace.lost ≡ 0 → is_away result ≡ false }
     ensures others { (k : ℕ) → nat_eq number k ≡ false
         → outgoing_in attended.new k ≡ outgoing_in attended.old k }
 {
     match attended.away().get(number) {
-        Some(_stay) => true,
+        Some(_stay) => Lost::Stays,
         None => lose(hub, attended, number),
     }
 }
 
 /// The same of one that isn't away yet.
-fn lose(hub: &Hub, attended: &mut Attended, number: ConnNo) -> bool
+fn lose(hub: &Hub, attended: &mut Attended, number: ConnNo) -> Lost
     ensures moved { Moved NoSteps (loop_of hub.now attended.old) (loop_of hub.now attended.new) }
-    ensures away { result ≡ true → (user : ℕ) × (stay_of attended.new.away number
+    ensures away { is_away result ≡ true → (user : ℕ) × (stay_of attended.new.away number
         ≡ Some (stay_from user attended.old.time attended.old.away.grace.lost)) }
+    ensures user { is_away result ≡ true → (x : Connection) (r : Room) (s : Away)
+        → connection_at hub.now.connections number ≡ Some x
+        → room_at hub.now x.conference ≡ Some r
+        → stay_of attended.new.away number ≡ Some s
+        → user_of r.ledger.journal x.n ≡ Some s.user }
+    ensures leaves { is_away result ≡ false → result ≢ NoMemory → CannotStay hub.now attended.old number }
     ensures over { (x : Connection) (r : Room) (o : Way)
         → connection_at hub.now.connections number ≡ Some x
         → room_at hub.now x.conference ≡ Some r → outgoing_in attended.old number ≡ Some o
-        → o.conference ≡ x.conference → IsOver r x.n → result ≡ false }
-    ensures none { attended.old.away.grace.lost ≡ 0 → result ≡ false }
+        → o.conference ≡ x.conference → IsOver r x.n → is_away result ≡ false }
+    ensures none { attended.old.away.grace.lost ≡ 0 → is_away result ≡ false }
     ensures others { (k : ℕ) → nat_eq number k ≡ false
         → outgoing_in attended.new k ≡ outgoing_in attended.old k }
 {
     let millis = attended.lost_for();
     if millis == 0 {
-        return false;
+        return Lost::Leaves;
     }
     if is_over(hub, attended, number) {
-        return false;
+        return Lost::Leaves;
     }
     keep(hub, attended, number, millis)
 }
 
-/// A connection is away from now on for so long, and isn't to be shut down. Says whether there was memory for it; where not, it
-/// is to leave.
-pub(crate) fn keep(hub: &Hub, attended: &mut Attended, number: ConnNo, millis: u64) -> bool
+/// A connection is away from now on for so long, and isn't to be shut down.
+pub(crate) fn keep(hub: &Hub, attended: &mut Attended, number: ConnNo, millis: u64) -> Lost
     ensures outgoing { attended.new.outgoing
-        ≡ (if result then changed unended number attended.old.outgoing
+        ≡ (if is_away result then changed unended number attended.old.outgoing
         else attended.old.outgoing) }
-    ensures away { result ≡ true → (user : ℕ) × (stay_of attended.new.away number
+    ensures away { is_away result ≡ true → (user : ℕ) × (stay_of attended.new.away number
         ≡ Some (stay_from user attended.old.time millis)) }
+    ensures user { is_away result ≡ true → (x : Connection) (r : Room) (s : Away)
+        → connection_at hub.now.connections number ≡ Some x
+        → room_at hub.now x.conference ≡ Some r
+        → stay_of attended.new.away number ≡ Some s
+        → user_of r.ledger.journal x.n ≡ Some s.user }
+    ensures leaves { is_away result ≡ false → result ≢ NoMemory → HasNoUser hub.now number }
+    ensures own { IsLoop (loop_of hub.now attended.old)
+        → StaysAreOwn (loop_of hub.now attended.new) }
 {
     match user_at(hub, number) {
         Some(user) => keep_for(attended, number, user, millis),
-        None => false,
+        None => Lost::Leaves,
     }
 }
 
 /// The same of a connection of this user.
-fn keep_for(attended: &mut Attended, number: ConnNo, user: u16, millis: u64) -> bool
+fn keep_for(attended: &mut Attended, number: ConnNo, user: u16, millis: u64) -> Lost
     ensures outgoing { attended.new.outgoing
-        ≡ (if result then changed unended number attended.old.outgoing
+        ≡ (if is_away result then changed unended number attended.old.outgoing
         else attended.old.outgoing) }
-    ensures away { result ≡ true → stay_of attended.new.away number
+    ensures away { is_away result ≡ true → stay_of attended.new.away number
         ≡ Some (stay_from user attended.old.time millis) }
+    ensures stays { is_away result ≡ false → result ≡ NoMemory }
+    ensures others { (k : ℕ) → nat_eq number k ≡ false
+        → stay_of attended.new.away k ≡ stay_of attended.old.away k }
+    ensures left { is_away result ≡ false → attended.new.away ≡ attended.old.away }
 {
     match attended.keep(number, user, millis) {
-        Ok(()) => true,
-        Err(_) => false,
+        Ok(()) => Lost::Stays,
+        Err(_) => Lost::Memory,
+    }
+}
+
+/// Whether the member stays.
+pub(crate) fn is_away(lost: Lost) -> bool
+    ensures value { result ≡ is_away lost }
+{
+    match lost {
+        Lost::Stays => true,
+        Lost::Leaves | Lost::Memory => false,
+    }
+}
+
+/// What is answered where a member has left that was lost.
+pub(crate) fn answer_of(lost: Lost, left: Result<(), HubRefusal>) -> Result<bool, HubRefusal>
+    ensures left { IfOk result (λ stays. stays ≡ false) }
+    ensures memory { OnOk result (lost ≢ NoMemory) }
+{
+    match lost {
+        Lost::Memory => Err(HubRefusal::Memory),
+        Lost::Stays | Lost::Leaves => match left {
+            Ok(()) => Ok(false),
+            Err(refusal) => Err(refusal),
+        },
     }
 }
 
@@ -134,7 +188,8 @@ pub(crate) fn come(
     ensures steps { Steps (Returns conference user attended.new.away.back) hub.old hub.new }
     ensures moved { IsLoop (loop_of hub.old attended.old)
         → IsServing (loop_of hub.new attended.new) × IsTimed (loop_of hub.new attended.new)
-        × TookNothing (loop_of hub.old attended.old) (loop_of hub.new attended.new) }
+        × TookNothing (loop_of hub.old attended.old) (loop_of hub.new attended.new)
+        × StaysAreOwn (loop_of hub.new attended.new) }
     ensures woke { IsLoop (loop_of hub.old attended.old)
         → Wakes (loop_of hub.old attended.old) (loop_of hub.new attended.new) }
     ensures spares { IsLoop (loop_of hub.old attended.old)
@@ -142,6 +197,8 @@ pub(crate) fn come(
     ensures joined { IsLoop (loop_of hub.old attended.old) → IfOk result (λ number.
         Returned conference user number
         (loop_of hub.old attended.old) (loop_of hub.new attended.new)) }
+    ensures fresh { IsLoop (loop_of hub.old attended.old) → IfOk result (λ number.
+        IsNew (loop_of hub.new attended.new) number) }
     ensures ready { IsLoop (loop_of hub.old attended.old) → IfOk result (λ number. (o : Way)
         × (outgoing_in attended.new number ≡ Some o) × IsSome o.ready) }
     ensures full { IsLoop (loop_of hub.old attended.old) → (r : Room)
@@ -174,13 +231,17 @@ fn enter(
     ensures steps { Steps (Returns conference user attended.new.away.back) hub.old hub.new }
     ensures moved { IsLoop (loop_of hub.old attended.old)
         → IsServing (loop_of hub.new attended.new) × IsTimed (loop_of hub.new attended.new)
-        × TookNothing (loop_of hub.old attended.old) (loop_of hub.new attended.new) }
+        × TookNothing (loop_of hub.old attended.old) (loop_of hub.new attended.new)
+        × StaysAreOwn (loop_of hub.new attended.new) }
     ensures woke { IsLoop (loop_of hub.old attended.old)
         → Wakes (loop_of hub.old attended.old) (loop_of hub.new attended.new) }
     ensures spares { IsLoop (loop_of hub.old attended.old)
         → Spares (loop_of hub.old attended.old) (loop_of hub.new attended.new) }
     ensures joined { IfOk result (λ number. Entered conference number back.items hub.old hub.new) }
     ensures back { IfOk result (λ number. attended.new.away.back ≡ back.items) }
+    ensures fresh { IsLoop (loop_of hub.old attended.old) → IfOk result (λ number.
+        connection_at hub.new.connections number ≡ None
+        ⊎ IsNew (loop_of hub.new attended.new) number) }
     ensures ready { IsLoop (loop_of hub.old attended.old) → IfOk result (λ number.
         connection_at hub.new.connections number ≡ None ⊎ ((o : Way)
         × (outgoing_in attended.new number ≡ Some o) × IsSome o.ready)) }

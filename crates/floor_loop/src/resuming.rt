@@ -1,6 +1,8 @@
 //! A conference is resumed: its journal's own steps are done again, and nobody is told of it.
 
-ghost use Rattle.std.specs.Prelude.{IsTrue, OnOk};
+ghost use Rattle.std.specs.Prelude.{◌≡◌, ℕ, IsTrue, OnOk, Some, true};
+ghost use Rattle.floor_hub.specs.Connections.{connection_at};
+ghost use Rattle.floor_hub.specs.declared.connection.Connection.{Connection};
 ghost use Rattle.floor_loop.specs.Resumed.{IsResumed};
 ghost use Rattle.floor_loop.specs.steps.Carried.{Carries};
 ghost use Rattle.floor_loop.specs.steps.Moved.{IsLoop, loop_of};
@@ -9,6 +11,7 @@ ghost use Rattle.floor_loop.specs.steps.Replayed.{HasJournal};
 use crate::attended::Attended;
 use crate::coming::{MAX_LIVE, keep, send_off};
 use crate::same::continues;
+use crate::stay::Lost;
 use crate::turn::{attach, is_over, read_turn, throw_away, wake};
 use floor_hub::{Act, Config, ConnNo, Event, Hub, HubRefusal};
 use std::alloc::{AllocError, Global};
@@ -43,7 +46,8 @@ pub(crate) fn resume(
     config: Config,
     events: &[Event],
 ) -> Result<(), ResumeRefusal>
-    ensures carries { Carries (loop_of hub.old attended.old) (loop_of hub.new attended.new) }
+    ensures carries { Carries config.conference
+        (loop_of hub.old attended.old) (loop_of hub.new attended.new) }
     ensures resumed { IsLoop (loop_of hub.old attended.old)
         → OnOk result (IsResumed hub.new config events.now) }
 {
@@ -69,7 +73,8 @@ fn replay_whole(
     conference: u32,
     events: &[Event],
 ) -> Result<(), ResumeRefusal>
-    ensures carries { Carries (loop_of hub.old attended.old) (loop_of hub.new attended.new) }
+    ensures carries { Carries conference
+        (loop_of hub.old attended.old) (loop_of hub.new attended.new) }
     ensures found { OnOk result (HasJournal hub.new conference events.now) }
 {
     replay_all(hub, attended, alloc, conference, events)?;
@@ -102,7 +107,8 @@ fn replay_all(
     conference: u32,
     events: &[Event],
 ) -> Result<(), ResumeRefusal>
-    ensures carries { Carries (loop_of hub.old attended.old) (loop_of hub.new attended.new) }
+    ensures carries { Carries conference
+        (loop_of hub.old attended.old) (loop_of hub.new attended.new) }
 {
     let mut joined = Vec::new(alloc);
     let mut place = 0u32;
@@ -135,10 +141,11 @@ fn replay_one(
     conference: u32,
     event: &Event,
 ) -> Result<(), Fault>
-    ensures carries { Carries (loop_of hub.old attended.old) (loop_of hub.new attended.new) }
+    ensures carries { Carries conference
+        (loop_of hub.old attended.old) (loop_of hub.new attended.new) }
 {
     match replay(hub, attended, alloc, joined, conference, event) {
-        Ok(()) => drop_told(hub, attended, alloc),
+        Ok(()) => drop_told(hub, attended, alloc, conference),
         Err(fault) => Err(fault),
     }
 }
@@ -152,7 +159,8 @@ fn replay(
     conference: u32,
     event: &Event,
 ) -> Result<(), Fault>
-    ensures carries { Carries (loop_of hub.old attended.old) (loop_of hub.new attended.new) }
+    ensures carries { Carries conference
+        (loop_of hub.old attended.old) (loop_of hub.new attended.new) }
 {
     match event {
         Event::Join { user } => join(hub, attended, alloc, joined, conference, *user),
@@ -172,7 +180,8 @@ fn join(
     conference: u32,
     user: u16,
 ) -> Result<(), Fault>
-    ensures carries { Carries (loop_of hub.old attended.old) (loop_of hub.new attended.new) }
+    ensures carries { Carries conference
+        (loop_of hub.old attended.old) (loop_of hub.new attended.new) }
 {
     match attach_one(hub, attended, alloc, conference, user) {
         Ok(number) => match joined.push(number) {
@@ -191,7 +200,8 @@ fn attach_one(
     conference: u32,
     user: u16,
 ) -> Result<ConnNo, HubRefusal>
-    ensures carries { Carries (loop_of hub.old attended.old) (loop_of hub.new attended.new) }
+    ensures carries { Carries conference
+        (loop_of hub.old attended.old) (loop_of hub.new attended.new) }
 {
     attach(hub, attended, alloc, conference, user)
 }
@@ -207,7 +217,8 @@ fn number_of(joined: &Vec<ConnNo>, n: u32) -> ConnNo {
 
 /// A message comes from a connection, and is served.
 fn say(hub: &mut Hub, attended: &mut Attended, number: ConnNo, bytes: &[u8]) -> Result<(), Fault>
-    ensures carries { Carries (loop_of hub.old attended.old) (loop_of hub.new attended.new) }
+    ensures carries { (c : ℕ) → Carries c
+        (loop_of hub.old attended.old) (loop_of hub.new attended.new) }
 {
     match read_one(hub, attended, number, bytes) {
         Ok(true) => Ok(()),
@@ -223,14 +234,16 @@ fn read_one(
     number: ConnNo,
     bytes: &[u8],
 ) -> Result<bool, HubRefusal>
-    ensures carries { Carries (loop_of hub.old attended.old) (loop_of hub.new attended.new) }
+    ensures carries { (c : ℕ) → Carries c
+        (loop_of hub.old attended.old) (loop_of hub.new attended.new) }
 {
     read_turn(hub, attended, number, bytes, 1)
 }
 
 /// So many of the parcels to a connection are acknowledged.
 fn took_back(hub: &mut Hub, attended: &mut Attended, number: ConnNo, k: u32) -> Result<(), Fault>
-    ensures carries { Carries (loop_of hub.old attended.old) (loop_of hub.new attended.new) }
+    ensures carries { (c : ℕ) → Carries c
+        (loop_of hub.old attended.old) (loop_of hub.new attended.new) }
 {
     let done = hub.took(number, k);
     wake(hub, attended);
@@ -239,7 +252,8 @@ fn took_back(hub: &mut Hub, attended: &mut Attended, number: ConnNo, k: u32) -> 
 
 /// A connection leaves. One that isn't live can't.
 fn part(hub: &mut Hub, attended: &mut Attended, number: ConnNo) -> Result<(), Fault>
-    ensures carries { Carries (loop_of hub.old attended.old) (loop_of hub.new attended.new) }
+    ensures carries { (c : ℕ) → Carries c
+        (loop_of hub.old attended.old) (loop_of hub.new attended.new) }
 {
     if hub.place(number).is_none() {
         return Err(Fault::Refused);
@@ -256,7 +270,8 @@ fn act(
     conference: u32,
     event: &Event,
 ) -> Result<(), Fault>
-    ensures carries { Carries (loop_of hub.old attended.old) (loop_of hub.new attended.new) }
+    ensures carries { Carries conference
+        (loop_of hub.old attended.old) (loop_of hub.new attended.new) }
 {
     match act_of(alloc, event) {
         Ok(Some(act)) => outcome(do_act(hub, attended, conference, act)),
@@ -272,7 +287,8 @@ fn do_act(
     conference: u32,
     act: Act,
 ) -> Result<(), HubRefusal>
-    ensures carries { Carries (loop_of hub.old attended.old) (loop_of hub.new attended.new) }
+    ensures carries { Carries conference
+        (loop_of hub.old attended.old) (loop_of hub.new attended.new) }
 {
     let done = hub.admin(conference, act);
     wake(hub, attended);
@@ -307,30 +323,59 @@ fn fault_of(refusal: HubRefusal) -> Fault {
 }
 
 /// What the last event told is taken and dropped.
-fn drop_told(hub: &mut Hub, attended: &mut Attended, alloc: Global) -> Result<(), Fault>
-    ensures carries { Carries (loop_of hub.old attended.old) (loop_of hub.new attended.new) }
+fn drop_told(
+    hub: &mut Hub,
+    attended: &mut Attended,
+    alloc: Global,
+    conference: u32,
+) -> Result<(), Fault>
+    ensures carries { Carries conference
+        (loop_of hub.old attended.old) (loop_of hub.new attended.new) }
 {
     match Vec::from_slice(alloc, hub.concerned()) {
         Ok(told) => {
-            throw_each(hub, attended, told.as_slice());
+            throw_each(hub, attended, conference, told.as_slice());
             Ok(())
         }
         Err(_) => Err(Fault::Memory),
     }
 }
 
-/// What waits for these connections is thrown away.
-fn throw_each(hub: &mut Hub, attended: &mut Attended, numbers: &[ConnNo])
-    ensures carries { Carries (loop_of hub.old attended.old) (loop_of hub.new attended.new) }
+/// What waits for those of these connections that are of the conference is thrown away.
+fn throw_each(hub: &mut Hub, attended: &mut Attended, conference: u32, numbers: &[ConnNo])
+    ensures carries { Carries conference
+        (loop_of hub.old attended.old) (loop_of hub.new attended.new) }
 {
     for number in numbers {
-        throw_away(hub, attended, *number);
+        throw_own(hub, attended, conference, *number);
+    }
+}
+
+/// What waits for a connection is thrown away, where it is of the conference.
+fn throw_own(hub: &mut Hub, attended: &mut Attended, conference: u32, number: ConnNo)
+    ensures carries { Carries conference
+        (loop_of hub.old attended.old) (loop_of hub.new attended.new) }
+{
+    if is_of(hub, conference, number) {
+        throw_away(hub, attended, number);
+    }
+}
+
+/// Whether a connection is of a conference.
+fn is_of(hub: &Hub, conference: u32, number: ConnNo) -> bool
+    ensures value { result ≡ true → (x : Connection)
+        → connection_at hub.now.connections number ≡ Some x → x.conference ≡ conference }
+{
+    match hub.place(number) {
+        Some(place) => place.conference == conference,
+        None => false,
     }
 }
 
 /// A conference that can't be resumed ends, and its connections leave.
 fn give_up(hub: &mut Hub, attended: &mut Attended, conference: u32)
-    ensures carries { Carries (loop_of hub.old attended.old) (loop_of hub.new attended.new) }
+    ensures carries { Carries conference
+        (loop_of hub.old attended.old) (loop_of hub.new attended.new) }
 {
     let _closed = do_act(hub, attended, conference, Act::Close);
     for _place in 0..MAX_LIVE {
@@ -354,7 +399,8 @@ fn number_at(hub: &Hub, conference: u32, place: u32) -> Option<ConnNo> {
 
 /// Each live connection of a conference is away, but that whoever has no grace leaves.
 fn keep_all(hub: &mut Hub, attended: &mut Attended, conference: u32) -> Result<(), Fault>
-    ensures carries { Carries (loop_of hub.old attended.old) (loop_of hub.new attended.new) }
+    ensures carries { Carries conference
+        (loop_of hub.old attended.old) (loop_of hub.new attended.new) }
 {
     let mut place = 0u32;
     for _turn in 0..MAX_LIVE {
@@ -372,16 +418,16 @@ fn keep_all(hub: &mut Hub, attended: &mut Attended, conference: u32) -> Result<(
 
 /// A connection is away, or leaves where it has no grace; says whether it is away.
 fn keep_one(hub: &mut Hub, attended: &mut Attended, number: ConnNo) -> Result<bool, Fault>
-    ensures carries { Carries (loop_of hub.old attended.old) (loop_of hub.new attended.new) }
+    ensures carries { (c : ℕ) → Carries c
+        (loop_of hub.old attended.old) (loop_of hub.new attended.new) }
 {
     if is_over(hub, attended, number) {
         send_off(hub, attended, number);
         return Ok(false);
     }
     let millis = attended.away().grace().resumed;
-    if keep(hub, attended, number, millis) {
-        Ok(true)
-    } else {
-        Err(Fault::Memory)
+    match keep(hub, attended, number, millis) {
+        Lost::Stays => Ok(true),
+        Lost::Leaves | Lost::Memory => Err(Fault::Memory),
     }
 }

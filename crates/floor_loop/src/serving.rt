@@ -10,10 +10,11 @@ ghost use Rattle.floor_hub.specs.declared.step.Step.TheVariants.{Admin, Leave, O
 ghost use Rattle.floor_room.specs.Room.{Room};
 ghost use Rattle.floor_room.specs.Standing.{backlog_of, config_of, shown_of};
 ghost use Rattle.floor_room.specs.Status.{IsStatus};
+ghost use Rattle.floor_loop.specs.Laws.{IsNew};
 ghost use Rattle.floor_loop.specs.Loop.{HasFailed, IsEnded, outgoing_at, over_at, parcels_at, ready_at, rest_at, stay_at, until_at};
 ghost use Rattle.floor_loop.specs.Done.{AtMost, Each, Hands, NoSteps, Reads, Returns, Steps};
-ghost use Rattle.floor_loop.specs.Returned.{IsKeptPlace, Returned};
-ghost use Rattle.floor_loop.specs.Written.{Acknowledges, Follow, IsOver, IsSparedOrOver, Spares, Took, TookNothing, Wakes, acknowledged_by};
+ghost use Rattle.floor_loop.specs.Returned.{IsKeptPlace, Returned, StaysAreOwn};
+ghost use Rattle.floor_loop.specs.Written.{Acknowledges, Follow, IsOver, IsServing, IsSparedOrOver, Spares, Took, TookNothing, Wakes, acknowledged_by};
 ghost use Rattle.floor_loop.specs.steps.Moved.{IsLoop, loop_of};
 
 mod away;
@@ -111,6 +112,8 @@ impl Loop {
         ensures spares { Spares self.old self.new }
         ensures joined { IfOk result (λ number. Returned conference user number
             self.old self.new) }
+        ensures fresh { IfOk result (IsNew self.new) }
+        ensures own { StaysAreOwn self.new }
         ensures full { (r : Room) → room_at self.old.hub conference ≡ Some r
             → IsKeptPlace conference user r self.old → OnOk result ⊥ }
         ensures left { OnErr result (self.new.attended.away.back ≡ []) }
@@ -422,6 +425,7 @@ impl Loop {
         ensures over { (x : Connection) (r : Room)
             → connection_at self.now.hub.connections number ≡ Some x
             → room_at self.now.hub x.conference ≡ Some r → IsOver r x.n → IsSome result }
+        ensures serving { IsServing self.now }
     {
         match self.attended.get(number) {
             Some(one) => one.until(),

@@ -10,9 +10,10 @@ ghost use Rattle.floor_hub.specs.declared.connection.Connection.{Connection};
 ghost use Rattle.floor_hub.specs.declared.step.Step.TheVariants.{Attach, Leave, Serve, Took};
 ghost use Rattle.floor_loop.specs.Away.{stay_of};
 ghost use Rattle.floor_loop.specs.Loop.{HasFailed, IsEnded, Outgoing as Way, outgoing_in};
+ghost use Rattle.floor_loop.specs.Returned.{StaysAreOwn};
 ghost use Rattle.floor_loop.specs.Done.{AtMost, Hands, NoSteps, Reads, Steps};
 ghost use Rattle.floor_loop.specs.Written.{Acknowledges, IsOver, IsServing, IsSparedOrOver, IsTimed, Spares, TookNothing, Wakes};
-ghost use Rattle.floor_loop.specs.steps.Moved.{AreWoken, IsLoop, IsSpared, IsWoken, KeepsAll, Moved, SameEnds, SameLedgers, loop_of};
+ghost use Rattle.floor_loop.specs.steps.Moved.{AreWoken, IsLoop, IsSpared, IsWoken, KeepsAll, Moved, SameEnds, SameLedgers, WasLive, loop_of};
 ghost use Rattle.floor_loop.specs.steps.Thrown.{Thrown};
 
 use crate::attended::Attended;
@@ -35,7 +36,8 @@ pub(crate) fn attach(
     ensures steps { Steps (AtMost 1 (Attach conference user)) hub.old hub.new }
     ensures moved { IsLoop (loop_of hub.old attended.old)
         → IsServing (loop_of hub.new attended.new) × IsTimed (loop_of hub.new attended.new)
-        × TookNothing (loop_of hub.old attended.old) (loop_of hub.new attended.new) }
+        × TookNothing (loop_of hub.old attended.old) (loop_of hub.new attended.new)
+        × StaysAreOwn (loop_of hub.new attended.new) }
     ensures woke { IsLoop (loop_of hub.old attended.old)
         → Wakes (loop_of hub.old attended.old) (loop_of hub.new attended.new) }
     ensures spares { IsLoop (loop_of hub.old attended.old)
@@ -46,6 +48,8 @@ pub(crate) fn attach(
     ensures joined { IfOk result (λ number. Joins conference number hub.old hub.new) }
     ensures ready { IfOk result (λ number. (o : Way)
         × (outgoing_in attended.new number ≡ Some o) × IsSome o.ready) }
+    ensures others { (k : ℕ) (y : Connection) → connection_at hub.new.connections k ≡ Some y
+        → nat_eq conference y.conference ≡ false → WasLive hub.old k y }
 {
     let joined = match attended.attach(hub, alloc, conference, user) {
         Ok(joined) => joined,
@@ -232,6 +236,7 @@ pub(crate) fn fail(attended: &mut Attended, number: ConnNo)
     ensures failed { HasFailed attended.new number }
     ensures others { (k : ℕ) → nat_eq number k ≡ false
         → outgoing_in attended.new k ≡ outgoing_in attended.old k }
+    ensures away { attended.new.away ≡ attended.old.away }
 {
     attended.fail(number);
     attended.wake(number);

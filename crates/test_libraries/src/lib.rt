@@ -33,6 +33,8 @@ mod queue;
 #[cfg(test)]
 mod room;
 #[cfg(test)]
+mod streams;
+#[cfg(test)]
 mod wire;
 #[cfg(test)]
 mod words;

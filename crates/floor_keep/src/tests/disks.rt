@@ -211,7 +211,7 @@ fn a_file_that_fails_is_left_so_that_no_restart_opens_it(rt: HostRuntime) -> Res
 }
 
 #[test]
-fn a_file_of_a_conference_that_is_broken_off_stands(rt: HostRuntime) -> Result<(), Fail> {
+fn the_file_of_a_conference_that_is_broken_off_is_resumed(rt: HostRuntime) -> Result<(), Fail> {
     let alloc = rt.alloc();
     let seen = new_seen(alloc)?;
     let mut keeper = Keeper::new(nowhere(alloc, Syncing::Second, true)?);
@@ -219,7 +219,7 @@ fn a_file_of_a_conference_that_is_broken_off_stands(rt: HostRuntime) -> Result<(
     let room = meeting(alloc)?;
     match keeper.append(&rt, 1, room.journal()) {
         Ok(()) => assert!(rt; false),
-        Err(unkept) => assert_eq!(rt; unkept.left, Left::Stands),
+        Err(unkept) => assert_eq!(rt; unkept.left, Left::Resumes),
     }
     assert!(rt; !seen.spoiled.get() && !seen.cut.get());
     Ok(())

@@ -1,41 +1,43 @@
 //! The epoch of a folder, as it is read.
 
 use crate::epoch::{Epoch, confirm, epoch_of, first_epoch};
-use crate::fault::KeepFault;
-use std::cell::Cell;
+use crate::fault::{KeepFault, fault_of};
+use std::io;
 use std::test::Fail;
 
 /// A folder whose epoch is another one at each look, from this one on.
 #[derive(Drop)]
 struct Turning {
-    next: Cell<u64>,
+    next: u64,
 }
 
 impl Epoch for Turning {
     ghost is_now = { λ _ _. Unit {0} };
 
-    fn read_epoch(&self) -> Option<u64> {
-        let now = self.next.get();
-        self.next.set(now.saturating_add(1));
-        Some(now)
+    fn read_epoch(&mut self) -> Result<u64, KeepFault> {
+        let now = self.next;
+        self.next = now.saturating_add(1);
+        Ok(now)
     }
 }
 
-/// A folder whose epoch can't be read.
+/// A folder whose epoch can't be read, since the system says so.
 #[derive(Drop)]
-struct Unreadable;
+struct Unreadable {
+    code: i32,
+}
 
 impl Epoch for Unreadable {
     ghost is_now = { λ _ _. Unit {0} };
 
-    fn read_epoch(&self) -> Option<u64> {
-        None
+    fn read_epoch(&mut self) -> Result<u64, KeepFault> {
+        Err(fault_of(&io::Error::from_raw_os_error(self.code)))
     }
 }
 
 #[test]
 fn an_epoch_is_a_number(rt: HostRuntime) -> Result<(), Fail> {
-    let cases: [(&[u8], Option<u64>); 10] = [
+    let cases: [(&[u8], Option<u64>); 13] = [
         (b"0", Some(0)),
         (b"7\n", Some(7)),
         (b"18446744073709551615\n", Some(18_446_744_073_709_551_615)),
@@ -45,6 +47,9 @@ fn an_epoch_is_a_number(rt: HostRuntime) -> Result<(), Fail> {
         (b"7\n\n", None),
         (b"7 ", None),
         (b"-1", None),
+        (b"+5", None),
+        (b"+5\n", None),
+        (b"++5", None),
         (b"\xff", None),
     ];
     for (bytes, wanted) in cases {
@@ -55,17 +60,31 @@ fn an_epoch_is_a_number(rt: HostRuntime) -> Result<(), Fail> {
 
 #[test]
 fn an_epoch_is_read_at_each_look(rt: HostRuntime) -> Result<(), Fail> {
-    let folder = Turning { next: Cell::new(5) };
-    assert_eq!(rt; first_epoch(&folder, None), Ok(5));
-    assert_eq!(rt; first_epoch(&folder, Some(6)), Ok(6));
-    assert_eq!(rt; first_epoch(&folder, Some(6)), Err(KeepFault::Lost));
-    assert_eq!(rt; confirm(&folder, 8), Ok(()));
-    assert_eq!(rt; confirm(&folder, 8), Err(KeepFault::Lost));
-    assert_eq!(rt; first_epoch(&Unreadable, None), Err(KeepFault::CannotKeep));
-    assert_eq!(rt;
-        first_epoch(&Unreadable, Some(0)),
-        Err(KeepFault::CannotKeep)
-    );
-    assert_eq!(rt; confirm(&Unreadable, 0), Err(KeepFault::Lost));
+    let mut folder = Turning { next: 5 };
+    assert_eq!(rt; first_epoch(&mut folder, None), Ok(5));
+    assert_eq!(rt; first_epoch(&mut folder, Some(6)), Ok(6));
+    assert_eq!(rt; first_epoch(&mut folder, Some(6)), Err(KeepFault::Lost));
+    assert_eq!(rt; confirm(&mut folder, 8), Ok(()));
+    assert_eq!(rt; confirm(&mut folder, 8), Err(KeepFault::Lost));
+    Ok(())
+}
+
+/// Only another number is a fence.
+#[test]
+fn what_the_system_refuses_is_no_other_epoch(rt: HostRuntime) -> Result<(), Fail> {
+    let cases = [
+        ("EMFILE", 24, KeepFault::Descriptors),
+        ("ENFILE", 23, KeepFault::Descriptors),
+        ("EINTR", 4, KeepFault::CannotKeep),
+        ("EIO", 5, KeepFault::CannotKeep),
+        ("ENOMEM", 12, KeepFault::Memory),
+        ("EACCES", 13, KeepFault::CannotKeep),
+    ];
+    for (name, code, wanted) in cases {
+        let mut folder = Unreadable { code };
+        assert_eq!(rt; first_epoch(&mut folder, None), Err(wanted), "{name}");
+        assert_eq!(rt; first_epoch(&mut folder, Some(0)), Err(wanted), "{name}");
+        assert_eq!(rt; confirm(&mut folder, 0), Err(wanted), "{name}");
+    }
     Ok(())
 }

@@ -4,7 +4,7 @@ use crate::beginning::begin_file;
 use crate::checking::{CheckFault, check_kept};
 use crate::ending::{Left, close_found};
 use crate::fault::KeepFault;
-use crate::finding::{FindFault, find_kept, take_up};
+use crate::finding::{FindFault, find_kept, open_file, take_up};
 use crate::folder::{Folder, Lock, lock_folder};
 use crate::found::Finish;
 use crate::keeper::Keeper;
@@ -106,18 +106,34 @@ fn a_folder_is_held_by_one(rt: HostRuntime) -> Result<(), Fail> {
     Ok(())
 }
 
+/// Renames a file with an epoch into place.
+fn put_epoch<R: Files<File = File>>(rt: &R, text: &str) -> Result<(), Fail> {
+    fs::write(rt, "kept-epoch/epoch.new", text)?;
+    fs::rename(rt, "kept-epoch/epoch.new", "kept-epoch/epoch")?;
+    Ok(())
+}
+
 #[test]
 fn an_epoch_that_turns_loses_the_folder(rt: HostRuntime) -> Result<(), Fail> {
     let alloc = rt.alloc();
     let path = "kept-epoch";
-    let (lock, folder) = new_folder(&rt, alloc, path)?;
+    let (lock, mut folder) = new_folder(&rt, alloc, path)?;
     assert_eq!(rt; folder.check_epoch(&rt), Ok(()));
     // No file is an epoch of 0.
     fs::write(&rt, "kept-epoch/epoch", "0\n")?;
     assert_eq!(rt; folder.check_epoch(&rt), Ok(()));
-    fs::write(&rt, "kept-epoch/epoch.new", "1\n")?;
-    fs::rename(&rt, "kept-epoch/epoch.new", "kept-epoch/epoch")?;
+    // The same number in another file, and in that file itself.
+    put_epoch(&rt, "0\n")?;
+    assert_eq!(rt; folder.check_epoch(&rt), Ok(()));
+    fs::write(&rt, "kept-epoch/epoch", "1\n")?;
     assert_eq!(rt; folder.check_epoch(&rt), Err(KeepFault::Lost));
+    put_epoch(&rt, "0")?;
+    assert_eq!(rt; folder.check_epoch(&rt), Ok(()));
+    put_epoch(&rt, "one\n")?;
+    assert_eq!(rt; folder.check_epoch(&rt), Err(KeepFault::CannotKeep));
+    put_epoch(&rt, "1\n")?;
+    assert_eq!(rt; folder.check_epoch(&rt), Err(KeepFault::Lost));
+    assert_eq!(rt; folder.copy()?.check_epoch(&rt), Err(KeepFault::Lost));
     drop(lock);
     let mut asked = keeping(alloc, path, false)?;
     asked.epoch = Some(0);
@@ -170,7 +186,11 @@ fn a_conference_goes_on_where_it_was_left(rt: HostRuntime) -> Result<(), Fail> {
     assert_eq!(rt; listing.journals(), &[7u32, 8][..]);
     for conference in [7u32, 8] {
         match check_kept(&rt, alloc, &folder, conference) {
-            Ok(()) => {}
+            Ok(ports) => {
+                let found: Vec<u16> = ports.iter().map(|one| one.port).collect(alloc)?;
+                let wanted: &[u16] = if conference == 7 { &[7011, 7012] } else { &[] };
+                assert_eq!(rt; found.as_slice(), wanted, "{conference}");
+            }
             Err(_) => assert!(rt; false, "{conference}"),
         }
     }
@@ -179,7 +199,8 @@ fn a_conference_goes_on_where_it_was_left(rt: HostRuntime) -> Result<(), Fail> {
     assert_eq!(rt; found.standing.torn, 9);
     assert_eq!(rt; found.standing.finish, Finish::GoesOn);
     assert_eq!(rt; found.standing.port_of(11), Some(7012));
-    let mut kept = take_up(&rt, alloc, &folder, &found.standing)?;
+    let file = open_file(&rt, alloc, &folder, 7)?;
+    let mut kept = take_up(alloc, &folder, file, &found.standing)?;
     let mut room = Room::new(alloc, found.config)?;
     room.join(10, &mut told)?;
     room.join(11, &mut told)?;
@@ -289,7 +310,8 @@ fn a_file_that_fails_is_renamed(rt: HostRuntime) -> Result<(), Fail> {
     let mut standing = found.standing;
     // As where the journal isn't the file's.
     standing.events = 1;
-    keeper.add(take_up(&rt, alloc, &folder, &standing)?)?;
+    let file = open_file(&rt, alloc, &folder, 7)?;
+    keeper.add(take_up(alloc, &folder, file, &standing)?)?;
     let first = rooms.first().ok_or("a room")?;
     match keeper.append(&rt, 7, first.room.journal()) {
         Ok(()) => assert!(rt; false),
@@ -333,6 +355,39 @@ fn a_file_that_is_none_stays_as_it_is(rt: HostRuntime) -> Result<(), Fail> {
     }
     let after = text_in(&rt, alloc, "kept-none/7.journal")?;
     assert_eq!(rt; before.as_str(), after.as_str());
+    rt.remove_dir_all(alloc, path)?;
+    Ok(())
+}
+
+/// What isn't a plain file is refused by its name, and nothing waits for it: whoever opens a pipe waits for its other
+/// end.
+#[test]
+fn what_is_no_plain_file_is_refused(rt: HostRuntime) -> Result<(), Fail> {
+    let alloc = rt.alloc();
+    let path = "kept-odd";
+    let (lock, mut folder) = new_folder(&rt, alloc, path)?;
+    fs::create_dir(&rt, "kept-odd/7.journal")?;
+    match find_kept(&rt, alloc, &folder, 7) {
+        Err(FindFault::Refused(reason)) => {
+            assert_eq!(rt; reason.fault, KeepFault::CannotKeep);
+            let line = reason.line.ok_or("no line")?;
+            assert_eq!(rt; line.as_str(), "kept-odd/7.journal: it is no plain file");
+        }
+        _ => assert!(rt; false, "a directory is read"),
+    }
+    assert!(rt; open_file(&rt, alloc, &folder, 7).is_err());
+    fs::create_dir(&rt, "kept-odd/epoch")?;
+    assert_eq!(rt; folder.check_epoch(&rt), Err(KeepFault::CannotKeep));
+    drop(lock);
+    for name in ["kept-odd/epoch", "kept-odd/trial.new", "kept-odd/lock"] {
+        let _removed = fs::remove_file(&rt, name);
+        let _made = fs::create_dir(&rt, name);
+        match lock_folder(&rt, alloc, &keeping(alloc, path, false)?) {
+            Ok(_) => assert!(rt; false, "{name}"),
+            Err(reason) => assert_eq!(rt; reason.fault, KeepFault::CannotKeep, "{name}"),
+        }
+        fs::remove_dir(&rt, name)?;
+    }
     rt.remove_dir_all(alloc, path)?;
     Ok(())
 }

@@ -1,5 +1,5 @@
 -- How a head is cut, and what is read of its table.
-use Rattle.std.specs.Prelude.{◌≡◌, ◌≢◌, ℕ, ◌+◌, true, List, [], ◌∷◌, ◌++◌, length, codes, string_bytes, Option, Some, None, Result, Ok, Err}
+use Rattle.std.specs.Prelude.{◌≡◌, ◌≢◌, ℕ, ◌+◌, true, List, ◌++◌, length, Ok}
 use Rattle.std.specs.List.{list_all}
 use Rattle.floor_config.specs.Configuration.{Configuration}
 use Rattle.floor_config.specs.Outcome.{Fails}

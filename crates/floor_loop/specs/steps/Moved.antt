@@ -10,16 +10,25 @@ use Rattle.floor_hub.specs.Hub.{Hub, room_at}
 use Rattle.floor_hub.specs.Rooms.{taken_of}
 use Rattle.floor_hub.specs.StandsFor.{StandsFor}
 use Rattle.floor_hub.specs.World.{World}
+use Rattle.floor_loop.specs.declared.stay.Stay.{Stay}
+use Rattle.floor_loop.specs.Away.{stay_of}
 use Rattle.floor_loop.specs.Loop.{Attended, Loop, Outgoing, outgoing_in, until_of}
+use Rattle.floor_loop.specs.Returned.{StaysAreOwn}
 use Rattle.floor_loop.specs.Done.{Steps}
 use Rattle.floor_loop.specs.Written.{IsOver, IsServing, IsTimed, TookNothing}
 
--- what holds of each loop: its hub stands for a world, each live connection is attended to, and is to be shut down where nothing more is told to it
+-- what holds of each loop: its hub stands for a world, each live connection is attended to, and is to be shut down where nothing more is told to it,
+-- and whoever is away is so in its own name
 pub record IsLoop (l : Loop) : Type 0 where
   pub world : World
   pub stands : StandsFor l.hub world
   pub serving : IsServing l
   pub timed : IsTimed l
+  pub own : StaysAreOwn l
+
+-- whoever is away was so before, in the same way
+abbrev pub FewerStays : Attended → Attended → Type 0
+FewerStays old new = (k : ℕ) (s : Stay) → stay_of new.away k ≡ Some s → stay_of old.away k ≡ Some s
 
 -- a connection that is live now was so before, at the same place
 pub record WasLive (old : Hub) (number : ℕ) (y : Connection) : Type 0 where
@@ -38,6 +47,7 @@ pub record Moved (Are : List Step → Type 0) (old new : Loop) : Type 0 where
   pub live : (number : ℕ) (y : Connection) → connection_at new.hub.connections number ≡ Some y → WasLive old.hub number y
   pub serving : IsLoop old → IsServing new
   pub timed : IsLoop old → IsTimed new
+  pub own : IsLoop old → StaysAreOwn new
   pub took : IsLoop old → TookNothing old new
   pub over : OverStays old.hub new.hub
 

@@ -7,7 +7,7 @@ use Rattle.floor_hub.specs.Connections.{connection_at}
 use Rattle.floor_hub.specs.Hub.{room_at}
 use Rattle.floor_loop.specs.Done.{NoSteps, Steps}
 use Rattle.floor_loop.specs.Loop.{Loop, Outgoing, outgoing_at}
-use Rattle.floor_loop.specs.Written.{Took}
+use Rattle.floor_loop.specs.Written.{Dropped, Took}
 use Rattle.floor_loop.specs.steps.Moved.{IsLoop, SameLedgers}
 
 -- No step was done, nobody has come or gone, and to no other than this connection has anything been done: what is on its way to it is what
@@ -17,6 +17,7 @@ pub record Thrown (number : ℕ) (old new : Loop) : Type 0 where
   pub connections : (k : ℕ) → connection_at new.hub.connections k ≡ connection_at old.hub.connections k
   pub loop : IsLoop old → IsLoop new
   pub others : IsLoop old → (k : ℕ) → nat_eq number k ≡ false → Took old new k [] 0
+  pub dropped : IsLoop old → Dropped old new number
   pub found : (k : ℕ) (o : Outgoing) → outgoing_at old k ≡ Some o → (p : Outgoing) × (outgoing_at new k ≡ Some p) × (p.ends ≡ o.ends)
   pub ready : (k : ℕ) (p : Outgoing) → outgoing_at new k ≡ Some p → (o : Outgoing) × (outgoing_at old k ≡ Some o) × (p.ready ≡ o.ready)
   pub alone : IsLoop old → (k : ℕ) (x : Connection) (r s : Room) → nat_eq number k ≡ false → connection_at old.hub.connections k ≡ Some x → room_at old.hub x.conference ≡ Some r → room_at new.hub x.conference ≡ Some s →

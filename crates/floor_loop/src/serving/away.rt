@@ -10,16 +10,17 @@ ghost use Rattle.floor_hub.specs.StandsFor.{StandsFor};
 ghost use Rattle.floor_hub.specs.World.{nothing};
 ghost use Rattle.floor_hub.specs.declared.connection.Connection.{Connection};
 ghost use Rattle.floor_hub.specs.declared.step.Step.TheVariants.{Leave};
+ghost use Rattle.floor_loop.specs.declared.stay.Stay.{Stay as Away};
 ghost use Rattle.floor_loop.specs.Away.{stay_from};
 ghost use Rattle.floor_loop.specs.Done.{AnySteps, AtMost, LeavesIf, NoSteps, Steps};
 ghost use Rattle.floor_loop.specs.Loop.{stay_at, stays_until};
 ghost use Rattle.floor_loop.specs.Resumed.{IsResumed};
-ghost use Rattle.floor_loop.specs.Returned.{IsOldestOf};
-ghost use Rattle.floor_loop.specs.Written.{IsOver, Spares, Took, TookNothing, Wakes};
+ghost use Rattle.floor_loop.specs.Returned.{IsOldestOf, MayNotStay, StaysAreOwn};
+ghost use Rattle.floor_loop.specs.Written.{Dropped, IsOver, Spares, Took, TookNothing, Wakes};
 
 use super::Loop;
 use crate::attended::Attended;
-use crate::coming::{make_room, stay, user_at};
+use crate::coming::{answer_of, is_away, make_room, stay, user_at};
 use crate::grace::Grace;
 use crate::resuming::{ResumeRefusal, resume};
 use crate::turn::{leave_from, throw_away};
@@ -46,18 +47,26 @@ impl Loop {
     }
 
     /// A connection was shut down that was lost: its member stays, away, for the grace of the loop, and what waits for
-    /// it is thrown away. It leaves at once, as by `leave`, where there is no grace or no memory, where its
-    /// member is cut, and where its conference is ended or broken off. Says whether it stays. Refused as the hub refuses
-    /// its leave.
+    /// it is thrown away. It leaves at once, as by `leave`, where there is no grace, where its member is cut, and where
+    /// its conference is ended or broken off. Says whether it stays. Refused as the hub refuses its leave, and by
+    /// `Memory` where memory was refused for its stay: then it has left.
     pub fn lost(&mut self, number: ConnNo, now: u64) -> Result<bool, HubRefusal>
         ensures steps { Steps (AtMost 1 (Leave number)) self.old.hub self.new.hub }
         ensures others { (k : ℕ) → nat_eq number k ≡ false → Took self.old self.new k [] 0 }
+        ensures dropped { Dropped self.old self.new number }
         ensures stays { IfOk result (λ stays. stays ≡ true → IsSome (stay_at self.new number)) }
         ensures until { stay_at self.old number ≡ None → IfOk result (λ stays. stays ≡ true
             → (user : ℕ) × (stay_at self.new number ≡ Some (stay_from user
             (max self.old.attended.time now) self.old.attended.away.grace.lost))) }
+        ensures user { stay_at self.old number ≡ None → IfOk result (λ stays. stays ≡ true
+            → (x : Connection) (r : Room) (s : Away)
+            → connection_at self.old.hub.connections number ≡ Some x
+            → room_at self.old.hub x.conference ≡ Some r
+            → stay_at self.new number ≡ Some s → user_of r.ledger.journal x.n ≡ Some s.user) }
         ensures left { IfOk result (λ stays. stays ≡ false
             → connection_at self.new.hub.connections number ≡ None) }
+        ensures leaves { IfOk result (λ stays. stays ≡ false → MayNotStay self.old number) }
+        ensures own { StaysAreOwn self.new }
         ensures refused { OnErr result (connection_at self.new.hub.connections number ≡ None) }
         ensures over { (x : Connection) (r : Room)
             → connection_at self.old.hub.connections number ≡ Some x
@@ -67,15 +76,13 @@ impl Loop {
             → stay_at self.old number ≡ None → IfOk result (λ stays. stays ≡ false) }
     {
         self.attended.pass(now);
-        let stays = stay(&self.hub, &mut self.attended, number);
+        let lost = stay(&self.hub, &mut self.attended, number);
         throw_away(&mut self.hub, &mut self.attended, number);
-        if stays {
+        if is_away(lost) {
             return Ok(true);
         }
-        match leave_from(&mut self.hub, &mut self.attended, number) {
-            Ok(()) => Ok(false),
-            Err(refusal) => Err(refusal),
-        }
+        let left = leave_from(&mut self.hub, &mut self.attended, number);
+        answer_of(lost, left)
     }
 
     /// What waits for a connection that is away is dropped, and never acknowledged, so that its member is cut as any
@@ -83,6 +90,7 @@ impl Loop {
     pub fn discard(&mut self, number: ConnNo)
         ensures steps { Steps NoSteps self.old.hub self.new.hub }
         ensures others { (k : ℕ) → nat_eq number k ≡ false → Took self.old self.new k [] 0 }
+        ensures dropped { Dropped self.old self.new number }
         ensures here { stay_at self.old number ≡ None → self.new ≡ self.old }
         ensures away { self.new.attended.away ≡ self.old.attended.away }
     {
@@ -179,6 +187,10 @@ impl Loop {
     ) -> Result<(), ResumeRefusal>
         ensures steps { Steps AnySteps self.old.hub self.new.hub }
         ensures took { OnOk result (IsResumed self.new.hub config events.now) }
+        ensures others { (k : ℕ) (y : Connection)
+            → connection_at self.new.hub.connections k ≡ Some y
+            → nat_eq config.conference y.conference ≡ false → Took self.old self.new k [] 0 }
+        ensures own { StaysAreOwn self.new }
     {
         self.attended.pass(now);
         resume(&mut self.hub, &mut self.attended, alloc, config, events)

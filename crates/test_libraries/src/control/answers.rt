@@ -3,10 +3,10 @@
 use crate::cases::assert_told;
 use floor_control::{
     ConfigFault, ControlRefusal, Done, EventTimes, LineFault, MemberLine, Metrics, Notice, Phase,
-    Standing, Status, Stopped, Tag, Text, User, add_done, add_draining, add_end, add_end_at,
-    add_faulty_at, add_forgotten, add_member, add_metrics, add_notice, add_opened, add_refused,
-    add_standing, add_stopped, add_tagged, add_unread, add_unwatched, add_user, add_watching,
-    add_word, add_word_kept,
+    RefusedCounts, Standing, Status, Stopped, Tag, Text, User, add_done, add_draining, add_end,
+    add_end_at, add_faulty_at, add_forgotten, add_member, add_metrics, add_notice, add_opened,
+    add_refused, add_standing, add_stopped, add_tagged, add_unread, add_unwatched, add_user,
+    add_watching, add_word, add_word_kept,
 };
 use std::alloc::{AllocError, Global};
 
@@ -173,7 +173,21 @@ floorhub_told_total 6
 floorhub_cut_total 7
 # HELP floorhub_refused_total Connections that were refused.
 # TYPE floorhub_refused_total counter
+floorhub_refused_total{name=\"NoHeader\"} 20
+floorhub_refused_total{name=\"BadHeader\"} 0
+floorhub_refused_total{name=\"NoName\"} 0
+floorhub_refused_total{name=\"BadName\"} 0
+floorhub_refused_total{name=\"NoCertificate\"} 0
+floorhub_refused_total{name=\"NotVerified\"} 0
+floorhub_refused_total{name=\"NoConference\"} 0
+floorhub_refused_total{name=\"NoUser\"} 0
+floorhub_refused_total{name=\"Ended\"} 0
+floorhub_refused_total{name=\"Broken\"} 0
+floorhub_refused_total{name=\"UserConnections\"} 0
+floorhub_refused_total{name=\"Connections\"} 0
 floorhub_refused_total{name=\"Full\"} 8
+floorhub_refused_total{name=\"JournalFull\"} 0
+floorhub_refused_total{name=\"Memory\"} 34
 # HELP floorhub_accept_failures_total Connections that could not be accepted.
 # TYPE floorhub_accept_failures_total counter
 floorhub_accept_failures_total 9
@@ -188,7 +202,7 @@ floorhub_event_seconds_bucket{le=\"1\"} 2
 floorhub_event_seconds_bucket{le=\"+Inf\"} 3
 floorhub_event_seconds_sum 2000020001e-9
 floorhub_event_seconds_count 3
-end 38
+end 52
 ";
     assert_told(&rt, counts(rt.alloc()), wanted);
 }
@@ -207,7 +221,12 @@ fn counts(alloc: Global) -> Result<String, AllocError> {
         messages: 5,
         told: 6,
         cut: 7,
-        full: 8,
+        refused: RefusedCounts {
+            full: 8,
+            no_header: 20,
+            memory: 34,
+            ..RefusedCounts::new()
+        },
         accept_failures: 9,
         event_times: event_times.with(more),
     };

@@ -1,4 +1,4 @@
-use Rattle.std.proofs.Common.{◌≡◌, ◌+◌, ◌∙◌, ℕ, ap, length, lit<, refl, rules}
+use Rattle.std.proofs.Common.{◌+◌, ℕ, ap, length, lit<, refl, rules}
 use Rattle.floor_kept.proofs.Bodies.{bad_behind, bad_line, read_more, whole_body}
 use Rattle.floor_kept.proofs.body.read_body.Goals as goal
 

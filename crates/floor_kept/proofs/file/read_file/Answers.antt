@@ -1,4 +1,4 @@
-use Rattle.std.proofs.Common.{◌≡◌, ◌≤◌, ◌+◌, ◌∙◌, ap, sym, subst, length, refl, arith}
+use Rattle.std.proofs.Common.{◌∙◌, ap, sym, subst, refl, arith}
 use Rattle.floor_kept.specs.Body.{IsFault}
 use Rattle.floor_kept.specs.declared.body.BadLine.{BadLine}
 use Rattle.floor_kept.specs.declared.body.BodyFault.{BodyFault}

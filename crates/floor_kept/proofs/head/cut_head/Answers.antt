@@ -1,4 +1,4 @@
-use Rattle.std.proofs.Common.{◌≡◌, ◌++◌, ◌∙◌, List, ℕ, ap, sym, refl, string_bytes}
+use Rattle.std.proofs.Common.{◌++◌, ◌∙◌, List, ℕ, ap, sym, refl}
 use Rattle.floor_config.specs.Reading.{reading}
 use Rattle.floor_kept.specs.Head.{first_line}
 use Rattle.floor_kept.proofs.Heads.{head_before, head_fault}

@@ -1,4 +1,4 @@
-use Rattle.std.proofs.Common.{◌≡◌, ◌∙◌, sym, lit<, refl, rules, string_bytes}
+use Rattle.std.proofs.Common.{◌∙◌, sym, lit<, refl, rules, string_bytes}
 use Rattle.floor_kept.proofs.Heads.{counted_more, passed_more, uncut}
 use Rattle.floor_kept.proofs.head.cut_table.Goals as goal
 

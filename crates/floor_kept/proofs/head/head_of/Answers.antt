@@ -1,4 +1,4 @@
-use Rattle.std.proofs.Common.{◌≡◌, ◌∙◌, ap, sym, length, List, ℕ}
+use Rattle.std.proofs.Common.{◌∙◌, ap, length}
 use Rattle.floor_kept.proofs.Heads.{written_head}
 use Rattle.floor_kept.proofs.head.head_of.Goals as goal
 

@@ -1,10 +1,9 @@
 use Rattle.std.specs.Prelude.{Err}
 use Rattle.floor_machine.specs.declared.event.Event.{Event}
-use Rattle.std.proofs.Common.{◌≡◌, ◌+◌, ◌∷◌, ◌++◌, [], List, ℕ, length, refl, sym, ap, subst, ◌∙◌, append_assoc, append-nil, arith}
-use Rattle.std.proofs.lemmas.List.{nil_from_length}
+use Rattle.std.proofs.Common.{◌+◌, ◌∷◌, ◌++◌, [], List, length, refl, sym, ap, ◌∙◌, append_assoc, arith}
 use Rattle.std.specs.Vec.Iter.{into_iter_items}
 use Rattle.floor_room.specs.Room.{Room}
-use Rattle.floor_kept.proofs.Leading.{led_none, led_step, opened_is, refused_step}
+use Rattle.floor_kept.proofs.Leading.{led_none, led_step, refused_step}
 use Rattle.floor_kept.specs.declared.entry.Entry.{Entry}
 use Rattle.floor_kept.proofs.opening.open_kept.Goals as goal
 

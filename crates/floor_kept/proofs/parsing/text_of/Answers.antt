@@ -1,4 +1,4 @@
-use Rattle.std.proofs.Common.{◌≡◌, ◌==◌, ◌∙◌, sym, ap, List, ℕ, length}
+use Rattle.std.proofs.Common.{◌==◌, ◌∙◌, sym, ap, List, ℕ, length}
 use Rattle.std.specs.Prelude.{Some}
 use Rattle.floor_kept.proofs.Texts.{no_text, text_found}
 use Rattle.floor_kept.proofs.parsing.text_of.Goals as goal

@@ -1,4 +1,4 @@
-use Rattle.std.proofs.Common.{◌≡◌, ◌∷◌, ◌++◌, ◌∙◌, List, ℕ, ap, sym}
+use Rattle.std.proofs.Common.{◌∷◌, ◌∙◌, List, ℕ, ap, sym}
 use Rattle.floor_kept.proofs.Texts.{begins, behind_place, first_line, placed}
 use Rattle.floor_kept.proofs.printing.event_line.Goals as goal
 

@@ -1,4 +1,4 @@
-use Rattle.std.proofs.Common.{◌≡◌, ◌++◌, ◌≤◌, length, take, string_bytes}
+use Rattle.std.proofs.Common.{◌≡◌, ◌++◌, take, string_bytes}
 use Rattle.floor_kept.specs.Writing.{note_lines}
 use Rattle.floor_kept.proofs.writing.add_notes.Given as goal
 

@@ -1,4 +1,4 @@
-use Rattle.std.proofs.Common.{◌≡◌, ◌≤◌, ◌-◌, length, string_bytes, arith}
+use Rattle.std.proofs.Common.{◌≤◌, ◌-◌, length, string_bytes, arith}
 use Rattle.floor_kept.proofs.Written.{lines_more}
 use Rattle.floor_kept.proofs.writing.lines_behind.Goals as goal
 

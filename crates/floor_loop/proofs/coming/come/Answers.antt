@@ -4,6 +4,7 @@ use Rattle.std.proofs.lemmas.Option.{none-some}
 use Rattle.floor_hub.specs.Connections.{connection_at}
 use Rattle.floor_loop.specs.Done.{Returns, Steps}
 use Rattle.floor_loop.specs.Away.{is_stay_of, stay_of}
+use Rattle.floor_loop.specs.Laws.{IsNew}
 use Rattle.floor_loop.specs.Loop.{Attended, Loop, Outgoing, outgoing_in}
 use Rattle.std.specs.Prelude.{IsSome}
 use Rattle.floor_loop.specs.Returned.{Returned}
@@ -20,13 +21,14 @@ returns-in-Err c =
     let new = c.set_back.new.self in
     let kept : new.outgoing ≡ old.outgoing = ap (λ (z : Attended). z.outgoing) c.set_back.ensures.next in
     let back : new.away.back ≡ [] = ap (λ (z : Attended). z.away.back) c.set_back.ensures.next ∙ c.new.ensures.items in
-    let m = last-moves (loop_of hub old) hub old new kept in
+    let m = last-moves (loop_of hub old) hub old new kept (λ k s is. ap (λ (z : Attended). stay_of z.away k) (sym c.set_back.ensures.next) ∙ is) in
     record {
       steps = subst (λ (ks : List ℕ). Steps (Returns c.args.conference c.args.user ks) hub hub) (sym back) (returns-none c.args.conference c.args.user hub);
-      moved = λ l. (m.serving l, m.timed l, m.took l);
+      moved = λ l. (m.serving l, m.timed l, m.took l, m.own l);
       woke = λ l. still-wakes hub old new kept;
       spares = λ l. still-spares hub old new kept;
       joined = λ l. tt;
+      fresh = λ l. tt;
       ready = λ l. tt;
       full = λ l r is k. tt;
       left = back;
@@ -39,13 +41,14 @@ returns-then-is_kept_place c =
     let new = c.set_back-then-is_kept_place.new.self in
     let kept : new.outgoing ≡ old.outgoing = ap (λ (z : Attended). z.outgoing) c.set_back-then-is_kept_place.ensures.next in
     let back : new.away.back ≡ [] = ap (λ (z : Attended). z.away.back) c.set_back-then-is_kept_place.ensures.next ∙ c.new-then-is_kept_place.ensures.items in
-    let m = last-moves (loop_of hub old) hub old new kept in
+    let m = last-moves (loop_of hub old) hub old new kept (λ k s is. ap (λ (z : Attended). stay_of z.away k) (sym c.set_back-then-is_kept_place.ensures.next) ∙ is) in
     record {
       steps = subst (λ (ks : List ℕ). Steps (Returns c.args.conference c.args.user ks) hub hub) (sym back) (returns-none c.args.conference c.args.user hub);
-      moved = λ l. (m.serving l, m.timed l, m.took l);
+      moved = λ l. (m.serving l, m.timed l, m.took l, m.own l);
       woke = λ l. still-wakes hub old new kept;
       spares = λ l. still-spares hub old new kept;
       joined = λ l. tt;
+      fresh = λ l. tt;
       ready = λ l. tt;
       full = λ l r is k. tt;
       left = back;
@@ -85,6 +88,10 @@ ready : (c : goal.After-enter) (number : ℕ) → Returned c.args.conference c.a
 ready c number r (inl e) = absurd (none-some r.connection (sym e ∙ r.there))
 ready c number r (inr o) = o
 
+fresh : (c : goal.After-enter) (number : ℕ) → Returned c.args.conference c.args.user number (old c) (new c) → ((connection_at c.enter.new.hub.connections number ≡ None) ⊎ IsNew (new c) number) → IsNew (new c) number
+fresh c number r (inl e) = absurd (none-some r.connection (sym e ∙ r.there))
+fresh c number r (inr n) = n
+
 pub returns : goal.returns
 returns c =
     record {
@@ -93,6 +100,7 @@ returns c =
       woke = c.enter.ensures.woke;
       spares = c.enter.ensures.spares;
       joined = λ l. if-both c.enter.result (returned c l) c.enter.ensures.joined c.enter.ensures.back;
+      fresh = λ l. if-both c.enter.result (fresh c) (if-both c.enter.result (returned c l) c.enter.ensures.joined c.enter.ensures.back) (c.enter.ensures.fresh l);
       ready = λ l. if-both c.enter.result (ready c) (if-both c.enter.result (returned c l) c.enter.ensures.joined c.enter.ensures.back) (c.enter.ensures.ready l);
       full = λ l r is k.
           let g = c.in-Ok.ensures.value l in

@@ -1,9 +1,10 @@
 use Rattle.std.proofs.Common.{◌≡◌, ℕ, List, [], ap, subst, sym, ◌∙◌}
 use Rattle.std.specs.List.{Contains}
+use Rattle.floor_loop.specs.Away.{stay_of}
 use Rattle.floor_loop.specs.Done.{Leaves, NoSteps, Returns, Steps}
 use Rattle.floor_loop.specs.Loop.{Attended}
 use Rattle.floor_loop.specs.steps.Moved.{Moved, loop_of}
-use Rattle.floor_loop.proofs.Entering.{enter-moved, enter-ready, enter-spares, enter-steps, enter-wakes, last-moves, last-spares, last-wakes}
+use Rattle.floor_loop.proofs.Entering.{enter-moved, enter-new, enter-ready, enter-spares, enter-steps, enter-wakes, last-moves, last-spares, last-wakes}
 use Rattle.floor_loop.proofs.Moving.{moved-before}
 use Rattle.floor_loop.proofs.coming.enter.Goals as goal
 
@@ -22,7 +23,7 @@ returns-in-Ok c =
     let kept : c.set_back.new.self.outgoing ≡ c.leave_all.new.attended.outgoing = ap (λ (z : Attended). z.outgoing) c.set_back.ensures.next in
     let back : c.set_back.new.self.away.back ≡ c.args.back.items = ap (λ (z : Attended). z.away.back) c.set_back.ensures.next in
     let left = c.leave_all.ensures.moved in
-    let behind = moved-before (Leaves xs) b d e left (last-moves b hub c.leave_all.new.attended c.set_back.new.self kept) in
+    let behind = moved-before (Leaves xs) b d e left (last-moves b hub c.leave_all.new.attended c.set_back.new.self kept (λ k s is. ap (λ (z : Attended). stay_of z.away k) (sym c.set_back.ensures.next) ∙ is)) in
     let moved = c.attach.ensures.moved in
     record {
       steps = subst (λ (ks : List ℕ). Steps (Returns conference user ks) a.hub hub) (same ∙ sym back) (enter-steps conference user number xs a b e c.attach.ensures.steps moved behind);
@@ -36,6 +37,7 @@ returns-in-Ok c =
         others = λ k never. c.leave_all.ensures.others k (λ named. never (subst (λ (ks : List ℕ). Contains ks k) same named));
       };
       back = back;
+      fresh = enter-new conference user number xs a b e c.attach.ensures.steps moved behind c.in-Ok.ensures.joined;
       ready = enter-ready conference user number xs a b e c.attach.ensures.steps moved behind (λ l. last-wakes b hub c.leave_all.new.attended c.set_back.new.self kept (c.leave_all.ensures.woke l)) c.in-Ok.ensures.ready;
       left = tt;
     }
@@ -50,7 +52,7 @@ returns-in-Err c =
     let e = loop_of hub c.set_back-in-Err.new.self in
     let kept : c.set_back-in-Err.new.self.outgoing ≡ c.attach.new.attended.outgoing = ap (λ (z : Attended). z.outgoing) c.set_back-in-Err.ensures.next in
     let back : c.set_back-in-Err.new.self.away.back ≡ [] = ap (λ (z : Attended). z.away.back) c.set_back-in-Err.ensures.next ∙ c.new.ensures.items in
-    let last : Moved NoSteps b e = last-moves b hub c.attach.new.attended c.set_back-in-Err.new.self kept in
+    let last : Moved NoSteps b e = last-moves b hub c.attach.new.attended c.set_back-in-Err.new.self kept (λ k s is. ap (λ (z : Attended). stay_of z.away k) (sym c.set_back-in-Err.ensures.next) ∙ is) in
     record {
       steps = subst (λ (ks : List ℕ). Steps (Returns conference user ks) a.hub hub) (sym back) (enter-steps conference user 0 [] a b e c.attach.ensures.steps c.attach.ensures.moved last);
       moved = enter-moved conference user 0 [] a b e c.attach.ensures.steps c.attach.ensures.moved last;
@@ -58,6 +60,7 @@ returns-in-Err c =
       spares = λ l. last-spares a hub c.attach.new.attended c.set_back-in-Err.new.self kept (c.attach.ensures.spares l);
       joined = tt;
       back = tt;
+      fresh = λ l. tt;
       ready = λ l. tt;
       left = back;
     }

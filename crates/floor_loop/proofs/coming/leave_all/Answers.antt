@@ -21,7 +21,7 @@ loop-number-init c =
     let old = loop_of c.args.hub.now c.args.attended.now in
     let keeps = keeps-refl (outgoing_in c.args.attended.now) in
     record {
-      moved = moved-kept old old refl keeps;
+      moved = moved-kept old old refl keeps (λ k s is. is);
       woke = λ l. wakes-same old old (λ d. refl) (stays-kept (outgoing_in c.args.attended.now) (outgoing_in c.args.attended.now) keeps);
       spares = λ l. spares-same old old (λ k. refl);
       left = λ j k less. absurd (omega (arith, less));

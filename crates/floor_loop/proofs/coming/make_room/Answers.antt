@@ -13,7 +13,7 @@ returns-then-not-are_live c =
     let hub = c.args.hub.now in
     let a = c.args.attended.now in
     record {
-      moved = moved-kept (loop_of hub a) (loop_of hub a) refl (keeps-refl (outgoing_in a));
+      moved = moved-kept (loop_of hub a) (loop_of hub a) refl (keeps-refl (outgoing_in a)) (λ k s is. is);
       woke = λ l. still-wakes hub a a refl;
       spares = λ l. still-spares hub a a refl;
       found = λ l. tt;
@@ -32,7 +32,7 @@ returns-in-None c =
     let hub = c.args.hub.now in
     let a = c.args.attended.now in
     record {
-      moved = moved-kept (loop_of hub a) (loop_of hub a) refl (keeps-refl (outgoing_in a));
+      moved = moved-kept (loop_of hub a) (loop_of hub a) refl (keeps-refl (outgoing_in a)) (λ k s is. is);
       woke = λ l. still-wakes hub a a refl;
       spares = λ l. still-spares hub a a refl;
       found = λ l. tt;

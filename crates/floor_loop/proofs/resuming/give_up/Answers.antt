@@ -8,4 +8,4 @@ pub loop-place-preserved : goal.loop-place-preserved
 loop-place-preserved c =
     let mid = loop_of c.loop-place.hub c.loop-place.attended in
     let new = loop_of c.send_off.new.hub c.send_off.new.attended in
-    carries-both (loop_of c.args.hub.now c.args.attended.now) mid new c.loop-place.invariant (carries-moved (AtMost 1 (Leave c.in-Some.number)) mid new c.send_off.ensures.moved)
+    carries-both c.args.conference (loop_of c.args.hub.now c.args.attended.now) mid new c.loop-place.invariant (carries-moved c.args.conference (AtMost 1 (Leave c.in-Some.number)) mid new c.send_off.ensures.moved)

@@ -4,4 +4,4 @@ use Rattle.floor_loop.proofs.resuming.keep_all.Given as goal
 
 -- some are away, or have left
 abbrev pub invariant-loop-turn : goal.invariant-loop-turn
-invariant-loop-turn l = Carries (loop_of l.fn.hub l.fn.attended) (loop_of l.hub l.attended)
+invariant-loop-turn l = Carries l.conference (loop_of l.fn.hub l.fn.attended) (loop_of l.hub l.attended)

@@ -1,6 +1,7 @@
 use Rattle.std.proofs.Common.{◌≡◌, true, false, sym, ◌∙◌}
 use Rattle.floor_hub.specs.declared.step.Step.TheVariants.{Leave}
 use Rattle.floor_loop.specs.Done.{AtMost, NoSteps}
+use Rattle.floor_loop.specs.steps.Losing.{is_away}
 use Rattle.floor_loop.specs.steps.Moved.{loop_of}
 use Rattle.floor_loop.proofs.Carrying.{carries-moved}
 use Rattle.floor_loop.proofs.Entering.{kept-moves}
@@ -11,21 +12,21 @@ not_both e = cc
 
 pub returns-then-is_over : goal.returns-then-is_over
 returns-then-is_over c = record {
-  carries = carries-moved (AtMost 1 (Leave c.args.number)) (loop_of c.args.hub.now c.args.attended.now) (loop_of c.send_off.new.hub c.send_off.new.attended) c.send_off.ensures.moved;
+  carries = λ conference. carries-moved conference (AtMost 1 (Leave c.args.number)) (loop_of c.args.hub.now c.args.attended.now) (loop_of c.send_off.new.hub c.send_off.new.attended) c.send_off.ensures.moved;
 }
 
-pub returns-then-keep : goal.returns-then-keep
-returns-then-keep c = record {
-  carries =
-      carries-moved NoSteps (loop_of c.args.hub.now c.args.attended.now) (loop_of c.args.hub.now c.keep.new.attended)
-      (kept-moves c.args.hub.now c.args.attended.now c.keep.new.attended c.args.number c.keep.result c.keep.ensures.outgoing
-      (λ l x r is_x is_r over. let at = l.serving c.args.number x is_x in absurd (not_both (sym c.if-is_over.false ∙ (c.is_over.ensures x r at.outgoing is_x is_r at.found at.conference).1 over))));
+pub returns-in-Stays : goal.returns-in-Stays
+returns-in-Stays c = record {
+  carries = λ conference.
+      carries-moved conference NoSteps (loop_of c.args.hub.now c.args.attended.now) (loop_of c.args.hub.now c.keep.new.attended)
+      (kept-moves c.args.hub.now c.args.attended.now c.keep.new.attended c.args.number (is_away c.keep.result) c.keep.ensures.outgoing
+      (λ l x r is_x is_r over. let at = l.serving c.args.number x is_x in absurd (not_both (sym c.if-is_over.false ∙ (c.is_over.ensures x r at.outgoing is_x is_r at.found at.conference).1 over))) c.keep.ensures.own);
 }
 
-pub returns-else-keep : goal.returns-else-keep
-returns-else-keep c = record {
-  carries =
-      carries-moved NoSteps (loop_of c.args.hub.now c.args.attended.now) (loop_of c.args.hub.now c.keep.new.attended)
-      (kept-moves c.args.hub.now c.args.attended.now c.keep.new.attended c.args.number c.keep.result c.keep.ensures.outgoing
-      (λ l x r is_x is_r over. let at = l.serving c.args.number x is_x in absurd (not_both (sym c.if-is_over.false ∙ (c.is_over.ensures x r at.outgoing is_x is_r at.found at.conference).1 over))));
+pub returns-in-Leaves : goal.returns-in-Leaves
+returns-in-Leaves c = record {
+  carries = λ conference.
+      carries-moved conference NoSteps (loop_of c.args.hub.now c.args.attended.now) (loop_of c.args.hub.now c.keep.new.attended)
+      (kept-moves c.args.hub.now c.args.attended.now c.keep.new.attended c.args.number (is_away c.keep.result) c.keep.ensures.outgoing
+      (λ l x r is_x is_r over. let at = l.serving c.args.number x is_x in absurd (not_both (sym c.if-is_over.false ∙ (c.is_over.ensures x r at.outgoing is_x is_r at.found at.conference).1 over))) c.keep.ensures.own);
 }

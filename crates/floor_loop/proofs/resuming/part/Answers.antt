@@ -6,5 +6,5 @@ use Rattle.floor_loop.proofs.resuming.part.Goals as goal
 
 pub returns : goal.returns
 returns c = record {
-  carries = carries-moved (AtMost 1 (Leave c.args.number)) (loop_of c.args.hub.now c.args.attended.now) (loop_of c.send_off.new.hub c.send_off.new.attended) c.send_off.ensures.moved;
+  carries = λ conference. carries-moved conference (AtMost 1 (Leave c.args.number)) (loop_of c.args.hub.now c.args.attended.now) (loop_of c.send_off.new.hub c.send_off.new.attended) c.send_off.ensures.moved;
 }

@@ -4,15 +4,15 @@ use Rattle.floor_loop.proofs.resuming.replay_all.Goals as goal
 
 pub loop-event-preserved : goal.loop-event-preserved
 loop-event-preserved c =
-    carries-both (loop_of c.args.hub.now c.args.attended.now) (loop_of c.loop-event.hub c.loop-event.attended) (loop_of c.replay_one.new.hub c.replay_one.new.attended) c.loop-event.invariant c.replay_one.ensures.carries
+    carries-both c.args.conference (loop_of c.args.hub.now c.args.attended.now) (loop_of c.loop-event.hub c.loop-event.attended) (loop_of c.replay_one.new.hub c.replay_one.new.attended) c.loop-event.invariant c.replay_one.ensures.carries
 
 pub returns-in-Err : goal.returns-in-Err
 returns-in-Err c = record {
-  carries = carries-both (loop_of c.args.hub.now c.args.attended.now) (loop_of c.loop-event.hub c.loop-event.attended) (loop_of c.replay_one.new.hub c.replay_one.new.attended) c.loop-event.invariant c.replay_one.ensures.carries;
+  carries = carries-both c.args.conference (loop_of c.args.hub.now c.args.attended.now) (loop_of c.loop-event.hub c.loop-event.attended) (loop_of c.replay_one.new.hub c.replay_one.new.attended) c.loop-event.invariant c.replay_one.ensures.carries;
 }
 
 pub returns-in-Ok-keep_all : goal.returns-in-Ok-keep_all
-returns-in-Ok-keep_all c = record { carries = carries-both (loop_of c.args.hub.now c.args.attended.now) (loop_of c.loop-event.hub c.loop-event.attended) (loop_of c.keep_all.new.hub c.keep_all.new.attended) c.loop-event.invariant c.keep_all.ensures.carries }
+returns-in-Ok-keep_all c = record { carries = carries-both c.args.conference (loop_of c.args.hub.now c.args.attended.now) (loop_of c.loop-event.hub c.loop-event.attended) (loop_of c.keep_all.new.hub c.keep_all.new.attended) c.loop-event.invariant c.keep_all.ensures.carries }
 
 pub returns : goal.returns
-returns c = record { carries = carries-both (loop_of c.args.hub.now c.args.attended.now) (loop_of c.loop-event.hub c.loop-event.attended) (loop_of c.keep_all.new.hub c.keep_all.new.attended) c.loop-event.invariant c.keep_all.ensures.carries }
+returns c = record { carries = carries-both c.args.conference (loop_of c.args.hub.now c.args.attended.now) (loop_of c.loop-event.hub c.loop-event.attended) (loop_of c.keep_all.new.hub c.keep_all.new.attended) c.loop-event.invariant c.keep_all.ensures.carries }

@@ -4,4 +4,4 @@ use Rattle.floor_loop.proofs.resuming.replay_all.Given as goal
 
 -- the steps of some events were done
 abbrev pub invariant-loop-event : goal.invariant-loop-event
-invariant-loop-event l = Carries (loop_of l.fn.hub l.fn.attended) (loop_of l.hub l.attended)
+invariant-loop-event l = Carries l.conference (loop_of l.fn.hub l.fn.attended) (loop_of l.hub l.attended)

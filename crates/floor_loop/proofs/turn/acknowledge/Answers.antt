@@ -3,7 +3,7 @@ use Rattle.floor_loop.specs.Done.{AtMost}
 use Rattle.floor_loop.specs.Loop.{Loop}
 use Rattle.floor_loop.specs.steps.Moved.{Moved, loop_of}
 use Rattle.floor_loop.proofs.Calls.{moved-took}
-use Rattle.floor_loop.proofs.Moving.{moved-before}
+use Rattle.floor_loop.proofs.Moving.{fewer, moved-before}
 use Rattle.floor_loop.proofs.Sparing.{acknowledged-by, spares-by, spares-then, stay-in}
 use Rattle.floor_loop.proofs.turn.acknowledge.Goals as goal
 
@@ -18,7 +18,7 @@ new c = loop_of c.fill.new.hub c.fill.new.attended
 
 asked : (c : goal.After-fill) → Moved (AtMost 1 (Took c.args.number c.args.parcels)) (old c) (mid c)
 asked c =
-    moved-took c.args.number c.args.parcels (old c) (mid c) c.took-acknowledged.result c.took-acknowledged.ensures.next c.took-acknowledged.ensures.room c.took-acknowledged.ensures.connections c.took-acknowledged.ensures.concerned c.wake.ensures.kept c.wake.ensures.woken
+    moved-took c.args.number c.args.parcels (old c) (mid c) c.took-acknowledged.result c.took-acknowledged.ensures.next c.took-acknowledged.ensures.room c.took-acknowledged.ensures.connections c.took-acknowledged.ensures.concerned c.wake.ensures.kept (fewer c.args.attended.now c.wake.new.attended c.wake.ensures.away) c.wake.ensures.woken
 
 pub returns : goal.returns
 returns c = record {

@@ -17,5 +17,6 @@ returns c =
     record {
       kept = keeps-both (outgoing_in old) (outgoing_in mid) (outgoing_in new) (keeps-marked Fails old.time c.args.number old mid first) (keeps-marked Ready mid.time c.args.number mid new next);
       others = λ k ne. changed-beside (marked Ready mid.time) c.args.number mid new next k ne ∙ changed-beside (marked Fails old.time) c.args.number old mid first k ne;
+      away = ap (λ (z : Attended). z.away) c.wake.ensures.next ∙ ap (λ (z : Attended). z.away) c.fail.ensures.next;
       failed = failed-by mid.time c.args.number mid new next (ap (λ (z : Attended). z.time) c.wake.ensures.next) c.fail.ensures.past;
     }

@@ -1,11 +1,25 @@
-use Rattle.std.proofs.Common.{ap, ◌∙◌}
+use Rattle.std.proofs.Common.{◌≡◌, ◌≢◌, ◌⊎◌, inl, inr, ℕ, true, false, ap, sym, ◌∙◌, Some, None}
+use Rattle.std.specs.Prelude.{nat_eq}
+use Rattle.std.proofs.lemmas.Bool.Decides.{eqb_tells}
+use Rattle.std.proofs.lemmas.Option.{none-some}
 use Rattle.floor_loop.specs.Away.{Away, stay_of}
-use Rattle.floor_loop.specs.Loop.{outgoing_in}
-use Rattle.floor_loop.specs.steps.Moved.{loop_of}
+use Rattle.floor_loop.specs.Loop.{Attended, outgoing_in}
+use Rattle.floor_loop.specs.steps.Moved.{FewerStays, loop_of}
 use Rattle.floor_loop.proofs.Calls.{moved-leave}
 use Rattle.floor_loop.proofs.Sparing.{others-spared, spares-by, stay-in}
 use Rattle.floor_loop.proofs.Stepping.{gone-stays, live-gone, stays-gone, wakes-on}
 use Rattle.floor_loop.proofs.turn.leave_from.Goals as goal
+
+-- who has left isn't away
+left-fewer : (a b d : Attended) (number : ℕ) → stay_of b.away number ≡ None → ((k : ℕ) → nat_eq number k ≡ false → stay_of b.away k ≡ stay_of a.away k) → d.away ≡ b.away → FewerStays a d
+left-fewer a b d number gone stays same k s is = by (eqb_tells number k)
+  where
+    there : stay_of b.away k ≡ Some s
+    there = ap (λ (z : Away). stay_of z k) (sym same) ∙ is
+
+    by : (((nat_eq number k ≡ true) × (number ≡ k)) ⊎ ((nat_eq number k ≡ false) × (number ≢ k))) → stay_of a.away k ≡ Some s
+    by (inl t) = absurd (none-some s (sym gone ∙ ap (stay_of b.away) t.1 ∙ there))
+    by (inr t) = sym (stays k t.0) ∙ there
 
 pub returns : goal.returns
 returns c =
@@ -16,7 +30,7 @@ returns c =
     let h = outgoing_in c.wake.new.attended in
     let moved =
     moved-leave c.args.number old new c.leave-left.result c.leave-left.ensures.next c.leave-left.ensures.room c.leave-left.ensures.gone c.leave-left.ensures.concerned
-    (live-gone c.leave-left.new.self f g h c.args.number c.leave-left.ensures.gone.here c.remove.ensures.others c.wake.ensures.kept) c.wake.ensures.woken in
+    (live-gone c.leave-left.new.self f g h c.args.number c.leave-left.ensures.gone.here c.remove.ensures.others c.wake.ensures.kept) (left-fewer c.args.attended.now c.remove.new.self c.wake.new.attended c.args.number c.remove.ensures.back c.remove.ensures.stays c.wake.ensures.away) c.wake.ensures.woken in
     record {
       moved = moved;
       spares = λ l.

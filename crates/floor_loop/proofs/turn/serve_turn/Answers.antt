@@ -29,7 +29,7 @@ pub loop-turn-init : goal.loop-turn-init
 loop-turn-init c =
     let old = loop_of c.args.hub.now c.args.attended.now in
     let keeps = keeps-refl (outgoing_in c.args.attended.now) in (
-      moved-of NoSteps (AtMost 0 (Serve c.args.number)) old old (none-at-most 0 (Serve c.args.number)) (moved-kept old old refl keeps),
+      moved-of NoSteps (AtMost 0 (Serve c.args.number)) old old (none-at-most 0 (Serve c.args.number)) (moved-kept old old refl keeps (λ k s is. is)),
       λ l. wakes-same old old (λ d. refl) (stays-kept (outgoing_in c.args.attended.now) (outgoing_in c.args.attended.now) keeps),
       λ l. spares-same old old (λ k. refl),
     )

@@ -1,4 +1,4 @@
-use Rattle.std.proofs.Common.{ℕ, List, ap, subst}
+use Rattle.std.proofs.Common.{ℕ, List, ap, subst, ◌∙◌}
 use Rattle.floor_hub.specs.declared.step.Step.TheVariants.{Admin}
 use Rattle.floor_hub.specs.Rooms.{OneRoom, admin_event, by_broken, refusal_in}
 use Rattle.floor_loop.specs.Done.{AtMost, Steps}
@@ -8,7 +8,7 @@ use Rattle.floor_loop.specs.Loop.{Attended, Loop, Outgoing, outgoing_in}
 use Rattle.floor_loop.specs.Written.{Spares, TookNothing, Wakes}
 use Rattle.floor_loop.specs.steps.Moved.{KeepsAll, Moved, loop_of}
 use Rattle.floor_loop.proofs.Calls.{moved-admin}
-use Rattle.floor_loop.proofs.Moving.{loop-moves}
+use Rattle.floor_loop.proofs.Moving.{fewer, loop-moves}
 use Rattle.floor_loop.proofs.Sparing.{spared-beside, spares-by, stay-in}
 use Rattle.floor_loop.proofs.Stepping.{keeps-both, keeps-passed, stays-kept, wakes-on}
 use Rattle.floor_loop.proofs.serving.Loop.admin.Goals as goal
@@ -25,7 +25,7 @@ keeps c =
     (keeps-passed c.self.inside.attended c.pass.new.self (ap (λ (z : Attended). z.outgoing) c.pass.ensures.next)) c.wake.ensures.kept
 
 moved : (c : goal.After-wake) → Moved (AtMost 1 (Admin c.args.conference c.args.act)) (old c) (new c)
-moved c = moved-admin c.args.conference c.args.act (old c) (new c) c.admin-done.result c.admin-done.ensures.next c.admin-done.ensures.room c.admin-done.ensures.connections c.admin-done.ensures.concerned (keeps c) c.wake.ensures.woken
+moved c = moved-admin c.args.conference c.args.act (old c) (new c) c.admin-done.result c.admin-done.ensures.next c.admin-done.ensures.room c.admin-done.ensures.connections c.admin-done.ensures.concerned (keeps c) (fewer c.self.inside.attended c.wake.new.attended (c.wake.ensures.away ∙ ap (λ (z : Attended). z.away) c.pass.ensures.next)) c.wake.ensures.woken
 
 woke : (c : goal.After-wake) → Wakes (old c) (new c)
 woke c = wakes-on (old c) (new c) c.admin-done.ensures.concerned (stays-kept (outgoing_in c.self.inside.attended) (outgoing_in c.wake.new.attended) (keeps c)) c.wake.ensures.woken

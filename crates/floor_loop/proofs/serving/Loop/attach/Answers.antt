@@ -11,7 +11,7 @@ use Rattle.floor_loop.specs.steps.Moved.{IsLoop, loop_of}
 use Rattle.floor_loop.proofs.Calls.{moved-kept}
 use Rattle.floor_loop.proofs.Entering.{kept-place-passed, only, returned-passed}
 use Rattle.floor_loop.proofs.Gathering.{if-ok}
-use Rattle.floor_loop.proofs.Moving.{loop-moves}
+use Rattle.floor_loop.proofs.Moving.{fewer, loop-moves}
 use Rattle.floor_loop.proofs.Sparing.{passed-found, spares-behind}
 use Rattle.floor_loop.proofs.Stepping.{keeps-passed}
 use Rattle.floor_loop.proofs.Writing.{ready-some-at}
@@ -27,14 +27,14 @@ abbrev new : goal.After-come → Loop
 new c = loop_of c.come.new.hub c.come.new.attended
 
 later : (c : goal.After-come) → IsLoop (mid c)
-later c = loop-moves NoSteps (old c) (mid c) (moved-kept (old c) (mid c) refl (keeps-passed c.self.inside.attended c.pass.new.self (ap (λ (z : Attended). z.outgoing) c.pass.ensures.next))) c.self.invariant
+later c = loop-moves NoSteps (old c) (mid c) (moved-kept (old c) (mid c) refl (keeps-passed c.self.inside.attended c.pass.new.self (ap (λ (z : Attended). z.outgoing) c.pass.ensures.next)) (fewer c.self.inside.attended c.pass.new.self (ap (λ (z : Attended). z.away) c.pass.ensures.next))) c.self.invariant
 
 pub invariant_of-self : goal.invariant_of-self
 invariant_of-self c =
     let l = later c in
     let g = c.come.ensures.steps l.world l.stands in
     let m = c.come.ensures.moved l in
-    record { world = run l.world g.steps; stands = g.stands; serving = m.0; timed = m.1 }
+    record { world = run l.world g.steps; stands = g.stands; serving = m.0; timed = m.1; own = m.3 }
 
 pub returns-clause-steps : goal.returns-clause-steps
 returns-clause-steps c = subst (λ (l : Loop). Steps (Returns c.args.conference c.args.user (new c).attended.away.back) l.hub (new c).hub) c.self.view_is c.come.ensures.steps
@@ -73,3 +73,9 @@ returns-clause-full c =
 
 pub returns-clause-ready : goal.returns-clause-ready
 returns-clause-ready c = if-ok c.come.result (λ number o. ready-some-at (new c).attended number o.0 o.1 o.2) (c.come.ensures.ready (later c))
+
+pub returns-clause-fresh : goal.returns-clause-fresh
+returns-clause-fresh c = c.come.ensures.fresh (later c)
+
+pub returns-clause-own : goal.returns-clause-own
+returns-clause-own c = (invariant_of-self c).own

@@ -4,7 +4,7 @@ use Rattle.floor_loop.specs.Done.{NoSteps}
 use Rattle.floor_loop.specs.Loop.{Attended, Loop, over_at, over_in}
 use Rattle.floor_loop.specs.steps.Moved.{loop_of}
 use Rattle.floor_loop.proofs.Calls.{moved-kept}
-use Rattle.floor_loop.proofs.Moving.{loop-moves}
+use Rattle.floor_loop.proofs.Moving.{fewer, loop-moves}
 use Rattle.floor_loop.proofs.Stepping.{keeps-passed}
 use Rattle.floor_loop.proofs.serving.Loop.due.Goals as goal
 
@@ -12,7 +12,7 @@ pub invariant_of-self : goal.invariant_of-self
 invariant_of-self c =
     let old = loop_of c.self.inside.hub c.self.inside.attended in
     let new = loop_of c.self.inside.hub c.over.new.self in
-    loop-moves NoSteps old new (moved-kept old new refl (keeps-passed c.self.inside.attended c.over.new.self (ap (λ (z : Attended). z.outgoing) (c.over.ensures.next ∙ c.pass.ensures.next)))) c.self.invariant
+    loop-moves NoSteps old new (moved-kept old new refl (keeps-passed c.self.inside.attended c.over.new.self (ap (λ (z : Attended). z.outgoing) (c.over.ensures.next ∙ c.pass.ensures.next))) (fewer c.self.inside.attended c.over.new.self (ap (λ (z : Attended). z.away) (c.over.ensures.next ∙ c.pass.ensures.next)))) c.self.invariant
 
 pub returns-clause-none : goal.returns-clause-none
 returns-clause-none c =

@@ -5,7 +5,7 @@ use Rattle.floor_loop.specs.Loop.{Attended, Loop, outgoing_in}
 use Rattle.floor_loop.specs.Written.{IsSparedOrOver, TookNothing, Wakes}
 use Rattle.floor_loop.specs.steps.Moved.{IsLoop, KeepsAll, Moved, loop_of}
 use Rattle.floor_loop.proofs.Calls.{moved-kept}
-use Rattle.floor_loop.proofs.Moving.{each-of, loop-moves, moved-behind, moved-before, moved-of}
+use Rattle.floor_loop.proofs.Moving.{each-of, fewer, loop-moves, moved-before, moved-behind, moved-of}
 use Rattle.floor_loop.proofs.Sparing.{passed-found, spared-behind, spared-last}
 use Rattle.floor_loop.proofs.Stepping.{keeps-passed, stays-kept, wakes-both, wakes-same}
 use Rattle.floor_loop.proofs.serving.Loop.ended.Goals as goal
@@ -26,10 +26,10 @@ keeps : (c : goal.After-end) → KeepsAll (outgoing_in c.self.inside.attended) (
 keeps c = keeps-passed c.self.inside.attended c.pass.new.self (ap (λ (z : Attended). z.outgoing) c.pass.ensures.next)
 
 first : (c : goal.After-end) → Moved NoSteps (old c) (mid c)
-first c = moved-kept (old c) (mid c) refl (keeps c)
+first c = moved-kept (old c) (mid c) refl (keeps c) (fewer c.self.inside.attended c.pass.new.self (ap (λ (z : Attended). z.away) c.pass.ensures.next))
 
 last : (c : goal.After-end) → Moved NoSteps (served c) (new c)
-last c = moved-kept (served c) (new c) refl c.end.ensures.kept
+last c = moved-kept (served c) (new c) refl c.end.ensures.kept (fewer c.serve_turn-served.new.attended c.end.new.attended c.end.ensures.away)
 
 turn : (c : goal.After-end) → Moved (Each (Serve c.args.number)) (mid c) (served c)
 turn c = moved-of (AtMost 4294967295 (Serve c.args.number)) (Each (Serve c.args.number)) (mid c) (served c) (each-of 4294967295 (Serve c.args.number)) c.serve_turn-served.ensures.moved

@@ -7,7 +7,7 @@ use Rattle.floor_loop.specs.Loop.{Attended, Loop, outgoing_in}
 use Rattle.floor_loop.specs.Written.{Spares, TookNothing, Wakes}
 use Rattle.floor_loop.specs.steps.Moved.{IsLoop, KeepsAll, Moved, loop_of}
 use Rattle.floor_loop.proofs.Calls.{moved-kept}
-use Rattle.floor_loop.proofs.Moving.{loop-moves, moved-behind}
+use Rattle.floor_loop.proofs.Moving.{fewer, loop-moves, moved-behind}
 use Rattle.floor_loop.proofs.Sparing.{passed-found, spares-behind}
 use Rattle.floor_loop.proofs.Stepping.{keeps-passed, stays-kept, wakes-both, wakes-same}
 use Rattle.floor_loop.proofs.serving.Loop.make_room.Goals as goal
@@ -25,7 +25,7 @@ keeps : (c : goal.After-make_room) → KeepsAll (outgoing_in c.self.inside.atten
 keeps c = keeps-passed c.self.inside.attended c.pass.new.self (ap (λ (z : Attended). z.outgoing) c.pass.ensures.next)
 
 first : (c : goal.After-make_room) → Moved NoSteps (old c) (mid c)
-first c = moved-kept (old c) (mid c) refl (keeps c)
+first c = moved-kept (old c) (mid c) refl (keeps c) (fewer c.self.inside.attended c.pass.new.self (ap (λ (z : Attended). z.away) c.pass.ensures.next))
 
 later : (c : goal.After-make_room) → IsLoop (mid c)
 later c = loop-moves NoSteps (old c) (mid c) (first c) c.self.invariant

@@ -18,7 +18,7 @@ abbrev new : goal.After-open → Loop
 new c = loop_of c.open.new.self c.self.inside.attended
 
 moved : (c : goal.After-open) → Moved (AtMost 1 (Open c.args.config)) (old c) (new c)
-moved c = moved-open c.args.config (old c) (new c) c.open.result c.open.ensures.next c.open.ensures.took c.open.ensures.connections c.open.ensures.left (keeps-refl (outgoing_in c.self.inside.attended))
+moved c = moved-open c.args.config (old c) (new c) c.open.result c.open.ensures.next c.open.ensures.took c.open.ensures.connections c.open.ensures.left (keeps-refl (outgoing_in c.self.inside.attended)) (λ k s is. is)
 
 pub invariant_of-self : goal.invariant_of-self
 invariant_of-self c = loop-moves (AtMost 1 (Open c.args.config)) (old c) (new c) (moved c) c.self.invariant

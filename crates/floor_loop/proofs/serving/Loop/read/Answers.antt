@@ -5,7 +5,7 @@ use Rattle.floor_loop.specs.Loop.{Attended, Loop, Outgoing, outgoing_in}
 use Rattle.floor_loop.specs.Written.{IsSparedOrOver, Spares, TookNothing, Wakes}
 use Rattle.floor_loop.specs.steps.Moved.{IsLoop, KeepsAll, Moved, loop_of}
 use Rattle.floor_loop.proofs.Calls.{moved-kept}
-use Rattle.floor_loop.proofs.Moving.{loop-moves, moved-behind}
+use Rattle.floor_loop.proofs.Moving.{fewer, loop-moves, moved-behind}
 use Rattle.floor_loop.proofs.Handing.{on-ok-of}
 use Rattle.floor_loop.proofs.Sparing.{passed-found, spared-behind, spares-behind}
 use Rattle.floor_loop.proofs.Stepping.{keeps-passed, stays-kept, wakes-both, wakes-same}
@@ -24,7 +24,7 @@ keeps : (c : goal.After-read_turn) → KeepsAll (outgoing_in c.self.inside.atten
 keeps c = keeps-passed c.self.inside.attended c.pass.new.self (ap (λ (z : Attended). z.outgoing) c.pass.ensures.next)
 
 first : (c : goal.After-read_turn) → Moved NoSteps (old c) (mid c)
-first c = moved-kept (old c) (mid c) refl (keeps c)
+first c = moved-kept (old c) (mid c) refl (keeps c) (fewer c.self.inside.attended c.pass.new.self (ap (λ (z : Attended). z.away) c.pass.ensures.next))
 
 later : (c : goal.After-read_turn) → IsLoop (mid c)
 later c = loop-moves NoSteps (old c) (mid c) (first c) c.self.invariant

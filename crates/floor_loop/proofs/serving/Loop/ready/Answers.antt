@@ -5,7 +5,7 @@ use Rattle.floor_loop.specs.Loop.{Attended, Loop, outgoing_at, ready_at}
 use Rattle.floor_loop.specs.Written.{Spares, TookNothing}
 use Rattle.floor_loop.specs.steps.Changed.{changed, given}
 use Rattle.floor_loop.specs.steps.Moved.{Moved, loop_of}
-use Rattle.floor_loop.proofs.Moving.{loop-moves, moved-before, moved-same}
+use Rattle.floor_loop.proofs.Moving.{fewer, loop-moves, moved-before, moved-same, own-same}
 use Rattle.floor_loop.proofs.Sparing.{ends-changed, spares-same}
 use Rattle.floor_loop.proofs.Writing.{changed-beside, given-ready, keeps-given, live-changed, ready-some-at}
 use Rattle.floor_loop.proofs.serving.Loop.ready.Goals as goal
@@ -25,7 +25,8 @@ given-to c = ap (λ (z : Attended). z.outgoing) c.in-Some.ensures.next
 moved : (c : goal.After-fill) → Moved NoSteps (old c) (new c)
 moved c =
     moved-before NoSteps (old c) (mid c) (new c)
-    (moved-same (old c) (mid c) refl (live-changed given c.in-Some.number c.self.inside.attended c.next_ready.new.self (given-to c) c.self.inside.hub keeps-given)) c.fill.ensures.moved
+    (moved-same (old c) (mid c) refl (live-changed given c.in-Some.number c.self.inside.attended c.next_ready.new.self (given-to c) c.self.inside.hub keeps-given)
+    (own-same (old c) (mid c) refl (fewer c.self.inside.attended c.next_ready.new.self (ap (λ (z : Attended). z.away) c.in-Some.ensures.next)))) c.fill.ensures.moved
 
 pub invariant_of-self : goal.invariant_of-self
 invariant_of-self c = loop-moves NoSteps (old c) (new c) (moved c) c.self.invariant

@@ -16,3 +16,9 @@ returns-in-None-clause-over c = λ x r is_x is_r over.
     let l = subst IsLoop c.self.view_is c.self.invariant in
     let a = l.serving c.args.number x is_x in
     absurd (none-some a.outgoing (c.in-None.ensures.value ∙ ap (λ (z : Loop). outgoing_at z c.args.number) c.self.view_is ∙ a.found))
+
+pub returns-in-Some-clause-serving : goal.returns-in-Some-clause-serving
+returns-in-Some-clause-serving c = (subst IsLoop c.self.view_is c.self.invariant).serving
+
+pub returns-in-None-clause-serving : goal.returns-in-None-clause-serving
+returns-in-None-clause-serving c = (subst IsLoop c.self.view_is c.self.invariant).serving

@@ -6,7 +6,7 @@ use Rattle.floor_loop.specs.Loop.{Attended, Loop, Outgoing, outgoing_in, parcels
 use Rattle.floor_loop.specs.Written.{Acknowledges, Spares, Took}
 use Rattle.floor_loop.specs.steps.Changed.{changed, whole_of, wrote_of}
 use Rattle.floor_loop.specs.steps.Moved.{loop_of}
-use Rattle.floor_loop.proofs.Moving.{loop-moves, took-then}
+use Rattle.floor_loop.proofs.Moving.{fewer, loop-moves, took-then}
 use Rattle.floor_loop.proofs.Sparing.{ends-changed, ends-found, none-whole, spares-behind, spares-same}
 use Rattle.floor_loop.proofs.Taking.{acked_at}
 use Rattle.floor_loop.proofs.Writing.{Wrote, all-written, whole-of, wrote}
@@ -24,7 +24,8 @@ new c = loop_of c.acknowledge.new.hub c.acknowledge.new.attended
 did : (c : goal.After-acknowledge) → Wrote (old c) (mid c) c.args.number c.args.count
 did c =
     wrote c.self.inside.hub c.self.inside.attended c.advance.new.self c.args.number c.args.count
-    (ap (λ (z : Attended). z.outgoing) c.advance.ensures.next ∙ ap (λ (z : Attended). changed (wrote_of c.args.count) c.args.number z.outgoing) c.pass.ensures.next) c.self.invariant
+    (ap (λ (z : Attended). z.outgoing) c.advance.ensures.next ∙ ap (λ (z : Attended). changed (wrote_of c.args.count) c.args.number z.outgoing) c.pass.ensures.next)
+    (fewer c.self.inside.attended c.advance.new.self (ap (λ (z : Attended). z.away) c.advance.ensures.next ∙ ap (λ (z : Attended). z.away) c.pass.ensures.next)) c.self.invariant
 
 pub invariant_of-self : goal.invariant_of-self
 invariant_of-self c = loop-moves (AtMost 1 (Takes c.args.number c.in-Some.parcels)) (mid c) (new c) c.acknowledge.ensures.moved (did c).loop
@@ -70,7 +71,8 @@ returns-in-Some-clause-spares c =
 same : (c : goal.In-None) → Wrote (loop_of c.self.inside.hub c.self.inside.attended) (loop_of c.self.inside.hub c.advance.new.self) c.args.number c.args.count
 same c =
     wrote c.self.inside.hub c.self.inside.attended c.advance.new.self c.args.number c.args.count
-    (ap (λ (z : Attended). z.outgoing) c.advance.ensures.next ∙ ap (λ (z : Attended). changed (wrote_of c.args.count) c.args.number z.outgoing) c.pass.ensures.next) c.self.invariant
+    (ap (λ (z : Attended). z.outgoing) c.advance.ensures.next ∙ ap (λ (z : Attended). changed (wrote_of c.args.count) c.args.number z.outgoing) c.pass.ensures.next)
+    (fewer c.self.inside.attended c.advance.new.self (ap (λ (z : Attended). z.away) c.advance.ensures.next ∙ ap (λ (z : Attended). z.away) c.pass.ensures.next)) c.self.invariant
 
 pub invariant_of-self-in-None : goal.invariant_of-self-in-None
 invariant_of-self-in-None c = (same c).loop
