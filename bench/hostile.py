@@ -446,6 +446,12 @@ def long_messages(case):
     took = time.monotonic() - began
     full = case.server.held()['VmRSS']
     client.close()
+    if case.by_loops:
+        case.wait_for_members(0)
+        case.log.seek(0)
+        told = [line.split(' ', 1)[1] for line in case.log if ' received ' in line]
+        if told != ['conference 1 received 100 MB\n']:
+            raise Failed('the log tells %s of %d bytes' % (told, 400 * len(LONG)))
     return '400 take %.0f kB and %.1f ms each, and stay in the journal' % (
         (full - before) / 400, 1000 * took / 400)
 
@@ -1164,6 +1170,81 @@ def killed_in_journal(case, states):
     return counts, others
 
 
+class Stands:
+    """A server that is stopped by SIGSTOP meanwhile."""
+
+    def __init__(self, case):
+        self.pid = case.server.pid
+
+    def __enter__(self):
+        os.kill(self.pid, signal.SIGSTOP)
+        time.sleep(0.1)
+
+    def __exit__(self, *_):
+        os.kill(self.pid, signal.SIGCONT)
+
+
+def last_words(case):
+    """Messages right before a reset: all of them are events, though a write has failed before they were read."""
+    word = message(FLOOR_REQUEST, 1, 1, 10, floors(1))
+    for count in (0, 340, 341, 700):
+        client = case.member()
+        case.exchange(client, hello(), ack())
+        with Stands(case):
+            client.sendall(hello() * count + word)
+            case.events += count + 1
+            reset(client)
+        case.wait_for_members(0)
+    # A notice that is unread makes a close a reset.
+    watcher, other = case.member(10), case.member(11)
+    case.exchange(other, hello(1, 11), ack(1, 11))
+    case.exchange(watcher, hello(), ack())
+    query = message(FLOOR_QUERY, 1, 2, 10, floors(2))
+    case.exchange(watcher, query, CONFERENCE.answers(query, 10))
+    with Stands(case):
+        other.sendall(message(FLOOR_REQUEST, 1, 2, 11, floors(2)))
+        time.sleep(0.1)
+        watcher.sendall(word)
+        watcher.close()
+        case.events += 2
+    case.wait_for_members(1, 1)
+    other.close()
+    return 'up to 700 Hellos and a word, then a reset: each is an event'
+
+
+def reads_nothing(case):
+    """A peer that reads nothing for 45 s, though its system acknowledges: it hears all, and isn't lost."""
+    client = case.member(narrow=True)
+    client.sendall(hello() * 400)
+    case.events += 400
+    time.sleep(45)
+    case.hear(client, ack() * 400)
+    case.exchange(client, hello(), ack())
+    client.close()
+    return '400 answers, unread for 45 s, are all heard then'
+
+
+def stopped_and_continued(case):
+    """The server is stopped while an answer waits for its peer, and goes on: nobody is lost."""
+    members = crowd(case)
+    client = case.member(narrow=True)
+    client.sendall(QUERY)
+    wanted = 40 * hear_messages(client, 4)
+    client.sendall(QUERY * 40)
+    case.events += 41
+    case.wait_for_members(5, 256)
+    time.sleep(1)
+    for _ in range(3):
+        with Stands(case):
+            pass
+        time.sleep(0.2)
+    case.hear(client, wanted)
+    case.exchange(client, hello(), ack())
+    for peer in members + [client]:
+        reset(peer)
+    return '%d bytes that waited while it was stopped three times are all heard' % len(wanted)
+
+
 def killed(case):
     """Client processes that are killed (SIGKILL) at any moment, beside others that are answered."""
     members = crowd(case, USERS[:2])
@@ -1329,11 +1410,14 @@ CASES = (
     (announced, {}),
     (malformed, {}),
     (largest, {}),
-    (long_messages, {}),
+    (long_messages, {'words': ('--log',)}),
     (beyond_64, {}),
     (two_peers, {}),
     (connect_and_leave, {}),
     (resets, {}),
+    (last_words, {}),
+    (reads_nothing, {}),
+    (stopped_and_continued, {}),
     (killed, {}),
     (slow, {}),
     (unread, {}),

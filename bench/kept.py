@@ -871,14 +871,20 @@ def many(floorhub, floorsim, base):
 
 
 def check(floorhub, floorsim, base):
-    """`--check --keep` beside a server that has the folder, and of one whose file is no journal."""
+    """`--check --keep` of a folder that a server has: its lock and its ports alone are faults; and once it has ended."""
     folder = made(floorhub, base, 'check', 0.2)
+    words = [os.path.abspath(floorhub), '--check', '--keep', folder, '/dev/stdin']
     hub = Hub(floorhub, folder)
     try:
-        run = subprocess.run([os.path.abspath(floorhub), '--check', '--keep', folder, '/dev/stdin'],
-                             input=table(9, False), stdout=subprocess.PIPE, stderr=subprocess.PIPE, text=True)
+        run = subprocess.run(words, input=table(9, False), stdout=subprocess.PIPE, stderr=subprocess.PIPE, text=True)
     finally:
         hub.kill()
+    lines = [line for line in run.stdout.splitlines() if not line.startswith('warning: ')]
+    if run.returncode != 1 or not lines[0].endswith('/lock: another server holds it'):
+        raise Failed('beside a server the check ends with %d: %s' % (run.returncode, run.stdout + run.stderr))
+    if any(not line.startswith('CannotListen: port ') for line in lines[1:]):
+        raise Failed('beside a server the check says %s' % run.stdout)
+    run = subprocess.run(words, input=table(9, False), stdout=subprocess.PIPE, stderr=subprocess.PIPE, text=True)
     if run.returncode:
         raise Failed('the check ends with %d: %s' % (run.returncode, run.stdout + run.stderr))
     return 'as it has to be'

@@ -33,7 +33,7 @@ MACHINES = {"a": "10.77.0.1", "b": "10.77.0.2", "c": "10.77.0.3"}
 FRONT = "10.77.0.254"
 SHARDS = [f"shard-{number}" for number in range(1, 5)]
 DOOR, BRIDGE = 17000, 7080
-WORDS = "--keep-or-stop --sync turn --grace 60 --grace-for all --log"
+WORDS = "--keep-or-stop --sync turn --longest 8192 --grace 60 --grace-for all --log"
 PR_SET_PDEATHSIG = 1
 
 

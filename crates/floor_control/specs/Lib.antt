@@ -5,6 +5,7 @@ pub mod Line
 pub mod Answer
 pub mod People
 pub mod Floors
+pub mod Refused
 pub mod Metrics
 pub mod Incoming
 pub mod Outgoing

@@ -1,12 +1,10 @@
 -- A server's counts, in Prometheus' text.
-use Rattle.std.specs.Prelude.{ℕ, ◌+◌, ◌-◌, ◌^◌, min, nat_le, if◌then◌else◌, List, ◌++◌, codes}
+use Rattle.std.specs.Prelude.{ℕ, nat_le, if◌then◌else◌, List, ◌++◌, codes}
 use Rattle.std.specs.Fmt.{decimal}
 use Rattle.floor_control.specs.declared.metrics.EventTimes.{EventTimes}
 use Rattle.floor_control.specs.declared.metrics.Metrics.{Metrics}
-
--- the sum of two counts, up to the greatest number of 64 bits
-abbrev pub plus : ℕ → ℕ → ℕ
-plus a b = min (a + b) (2 ^ 64 - 1)
+pub use Rattle.floor_control.specs.Refused.{plus}
+use Rattle.floor_control.specs.Refused.{refused_total}
 
 -- no event
 abbrev pub no_times : EventTimes
@@ -59,16 +57,16 @@ abbrev pub head : List ℕ → List ℕ → List ℕ → List ℕ
 head name help kind =
     codes "# HELP floorhub_" ++ (name ++ (codes " " ++ (help ++ (codes "\n# TYPE floorhub_" ++ (name ++ (codes " " ++ (kind ++ codes "\n")))))))
 
--- how many there are with this label
-abbrev pub sample : List ℕ → List ℕ → ℕ → List ℕ
-sample name label count = codes "floorhub_" ++ (name ++ (label ++ (codes " " ++ (decimal count ++ codes "\n"))))
+-- how many there are
+abbrev pub sample : List ℕ → ℕ → List ℕ
+sample name count = codes "floorhub_" ++ (name ++ (codes " " ++ (decimal count ++ codes "\n")))
 
-abbrev pub metric : List ℕ → List ℕ → List ℕ → List ℕ → ℕ → List ℕ
-metric name help kind label count = head name help kind ++ sample name label count
+abbrev pub metric : List ℕ → List ℕ → List ℕ → ℕ → List ℕ
+metric name help kind count = head name help kind ++ sample name count
 
 -- what may also fall
 abbrev pub gauge : List ℕ → List ℕ → ℕ → List ℕ
-gauge name help count = metric name help (codes "gauge") (codes "") count
+gauge name help count = metric name help (codes "gauge") count
 
 abbrev pub gauges : Metrics → List ℕ
 gauges m =
@@ -78,7 +76,7 @@ gauges m =
 
 -- what only rises: events and what they told
 abbrev pub counter : List ℕ → List ℕ → ℕ → List ℕ
-counter name help count = metric name help (codes "counter") (codes "") count
+counter name help count = metric name help (codes "counter") count
 
 abbrev pub event_counters : Metrics → List ℕ
 event_counters m =
@@ -87,13 +85,10 @@ event_counters m =
     ++ counter (codes "told_total") (codes "Messages told to members.") m.told)
 
 -- what only rises: who was cut or not let in
-abbrev pub full : ℕ → List ℕ
-full count = metric (codes "refused_total") (codes "Connections that were refused.") (codes "counter") (codes "{name=\"Full\"}") count
-
 abbrev pub refusal_counters : Metrics → List ℕ
 refusal_counters m =
     counter (codes "cut_total") (codes "Members that were cut.") m.cut
-    ++ (full m.full
+    ++ (refused_total m.refused
     ++ counter (codes "accept_failures_total") (codes "Connections that could not be accepted.") m.accept_failures)
 
 -- how many events took no longer than this, in seconds
@@ -127,4 +122,4 @@ histogram t =
 
 -- a server's counts, and the number of their lines
 abbrev pub metrics : Metrics → List ℕ
-metrics m = (gauges m ++ (event_counters m ++ refusal_counters m)) ++ (histogram m.event_times ++ codes "end 38\n")
+metrics m = (gauges m ++ (event_counters m ++ refusal_counters m)) ++ (histogram m.event_times ++ codes "end 52\n")

@@ -1,8 +1,9 @@
 //! A server's counts, in Prometheus' text.
 
 ghost use Rattle.std.specs.Prelude.{◌≡◌, ◌++◌, OnOk, string_bytes};
-ghost use Rattle.floor_control.specs.Metrics.{both, bucket, counted, counter, event_counters, full, gauge, gauges, head, histogram, long_buckets, metrics, no_times, noted, refusal_counters, sample, short_buckets, sum_words};
+ghost use Rattle.floor_control.specs.Metrics.{both, bucket, counted, counter, event_counters, gauge, gauges, head, histogram, long_buckets, metrics, no_times, noted, refusal_counters, sample, short_buckets, sum_words};
 
+use crate::refused::{RefusedCounts, add_refused_total};
 use std::alloc::AllocError;
 use std::fmt::Write;
 
@@ -44,8 +45,8 @@ pub struct Metrics {
     pub told: u64,
     /// How many members were cut.
     pub cut: u64,
-    /// How many connections were refused by `Full`.
-    pub full: u64,
+    /// How many connections were refused.
+    pub refused: RefusedCounts,
     /// How often a connection couldn't be accepted.
     pub accept_failures: u64,
     /// How long events held their loops.
@@ -117,7 +118,7 @@ pub fn add_metrics(out: &mut String, counts: Metrics) -> Result<(), AllocError>
 {
     add_counts(out, counts)?;
     add_histogram(out, counts.event_times)?;
-    out.push_str("end 38\n")
+    out.push_str("end 52\n")
 }
 
 fn add_counts(out: &mut String, counts: Metrics) -> Result<(), AllocError>
@@ -169,7 +170,7 @@ fn add_refusal_counters(out: &mut String, counts: Metrics) -> Result<(), AllocEr
     ensures { OnOk result (string_bytes out.new ≡ string_bytes out.old ++ refusal_counters counts) }
 {
     add_counter(out, "cut_total", "Members that were cut.", counts.cut)?;
-    add_full(out, counts.full)?;
+    add_refused_total(out, counts.refused)?;
     add_counter(
         out,
         "accept_failures_total",
@@ -183,7 +184,7 @@ fn add_gauge(out: &mut String, name: &str, help: &str, count: u64) -> Result<(),
         ≡ string_bytes out.old ++ gauge name.now help.now count) }
 {
     add_head(out, name, help, "gauge")?;
-    add_sample(out, name, "", count)
+    add_sample(out, name, count)
 }
 
 fn add_counter(out: &mut String, name: &str, help: &str, count: u64) -> Result<(), AllocError>
@@ -191,20 +192,7 @@ fn add_counter(out: &mut String, name: &str, help: &str, count: u64) -> Result<(
         ≡ string_bytes out.old ++ counter name.now help.now count) }
 {
     add_head(out, name, help, "counter")?;
-    add_sample(out, name, "", count)
-}
-
-/// Adds how many connections were refused, by the name of the refusal.
-fn add_full(out: &mut String, count: u64) -> Result<(), AllocError>
-    ensures { OnOk result (string_bytes out.new ≡ string_bytes out.old ++ full count) }
-{
-    add_head(
-        out,
-        "refused_total",
-        "Connections that were refused.",
-        "counter",
-    )?;
-    add_sample(out, "refused_total", "{name=\"Full\"}", count)
+    add_sample(out, name, count)
 }
 
 /// Adds what a count is, and of which kind.
@@ -218,12 +206,12 @@ fn add_head(out: &mut String, name: &str, help: &str, kind: &str) -> Result<(), 
     )
 }
 
-/// Adds how many there are with this label.
-fn add_sample(out: &mut String, name: &str, label: &str, count: u64) -> Result<(), AllocError>
+/// Adds how many there are.
+fn add_sample(out: &mut String, name: &str, count: u64) -> Result<(), AllocError>
     ensures { OnOk result (string_bytes out.new
-        ≡ string_bytes out.old ++ sample name.now label.now count) }
+        ≡ string_bytes out.old ++ sample name.now count) }
 {
-    write!(out, "floorhub_{name}{label} {count}\n")
+    write!(out, "floorhub_{name} {count}\n")
 }
 
 fn add_histogram(out: &mut String, times: EventTimes) -> Result<(), AllocError>

@@ -28,7 +28,7 @@ use floor_hub::Hub;
 use std::alloc::Global;
 
 /// The version, and the logic that the library is proved with.
-const VERSION: &str = "libfloor 0.1.0 (logic dac8208d650f15bf)";
+const VERSION: &str = "libfloor 0.2.0 (logic dac8208d650f15bf)";
 
 /// floor.h asks for room that is aligned so.
 const _: () = prove!(std::mem::align_of::<Hub>() <= 16);

@@ -4,6 +4,15 @@ use Rattle.floor_control.specs.declared.metrics.EventTimes.{EventTimes}
 use Rattle.floor_control.specs.declared.metrics.Metrics.{Metrics}
 use Rattle.floor_control.specs.Metrics.{no_times, noted, plus}
 use Rattle.floor_control.specs.Metrics as control
+use Rattle.floor_control.specs.Refused.{both_refused, none_refused}
+use Rattle.floor_control.specs.declared.refused.RefusedCounts.{RefusedCounts}
+use Rattle.floor_machine.specs.declared.machine.Refusal.{Refusal}
+use Rattle.floor_machine.specs.declared.machine.Refusal.TheVariants as machine
+use Rattle.floor_proxy.specs.declared.refusal.ProxyRefusal.{ProxyRefusal}
+use Rattle.floor_proxy.specs.declared.refusal.ProxyRefusal.TheVariants as proxy
+use Rattle.floor_room.specs.declared.refusal.RoomRefusal.TheVariants as room
+use Rattle.floor_server.specs.declared.departure.Refused.{Refused}
+use Rattle.floor_server.specs.declared.departure.Refused.TheVariants as cause
 use Rattle.floor_room.specs.declared.status.Phase.{Phase}
 use Rattle.floor_room.specs.declared.status.Phase.TheVariants.{Running}
 use Rattle.floor_room.specs.declared.status.Status.{Status}
@@ -19,7 +28,7 @@ no_counts =
       messages = 0;
       told = 0;
       cut = 0;
-      full = 0;
+      refused = none_refused;
       accept_failures = 0;
       event_times = no_times;
     }
@@ -35,7 +44,7 @@ both a b =
       messages = plus a.messages b.messages;
       told = plus a.told b.told;
       cut = plus a.cut b.cut;
-      full = plus a.full b.full;
+      refused = both_refused a.refused b.refused;
       accept_failures = plus a.accept_failures b.accept_failures;
       event_times = control.both a.event_times b.event_times;
     }
@@ -62,3 +71,32 @@ noted_each (suc k) nanoseconds times = noted nanoseconds (noted_each k nanosecon
 -- events that took so many nanoseconds together took as long as one another
 abbrev pub timed : (nanoseconds events : ℕ) → Metrics → Metrics
 timed nanoseconds events m = record m { event_times = noted_each events (nanoseconds / events) m.event_times }
+
+-- one more whose header a door didn't take
+abbrev pub refused_by_header : ProxyRefusal → RefusedCounts → RefusedCounts
+refused_by_header proxy.BadHeader r = record r { bad_header = plus r.bad_header 1 }
+refused_by_header proxy.NoCertificate r = record r { no_certificate = plus r.no_certificate 1 }
+refused_by_header proxy.NotVerified r = record r { not_verified = plus r.not_verified 1 }
+refused_by_header proxy.NoName r = record r { no_name = plus r.no_name 1 }
+refused_by_header proxy.BadName r = record r { bad_name = plus r.bad_name 1 }
+
+-- one more that its conference refused: by nothing else than these five
+abbrev pub refused_by_room : Refusal → RefusedCounts → RefusedCounts
+refused_by_room machine.Full r = record r { full = plus r.full 1 }
+refused_by_room machine.Ended r = record r { ended = plus r.ended 1 }
+refused_by_room machine.Broken r = record r { broken = plus r.broken 1 }
+refused_by_room machine.NoUser r = record r { no_user = plus r.no_user 1 }
+refused_by_room machine.Memory r = record r { memory = plus r.memory 1 }
+refused_by_room _ r = r
+
+-- one more that joined no conference, by why it didn't; no thread is had where memory is refused
+abbrev pub refused_by : Refused → RefusedCounts → RefusedCounts
+refused_by cause.NoHeader r = record r { no_header = plus r.no_header 1 }
+refused_by (cause.ByHeader refusal) r = refused_by_header refusal r
+refused_by cause.NoConference r = record r { no_conference = plus r.no_conference 1 }
+refused_by cause.UserConnections r = record r { user_connections = plus r.user_connections 1 }
+refused_by cause.Connections r = record r { connections = plus r.connections 1 }
+refused_by (cause.ByRoom room.JournalFull) r = record r { journal_full = plus r.journal_full 1 }
+refused_by (cause.ByRoom (room.Refused refusal)) r = refused_by_room refusal r
+refused_by cause.NoThread r = record r { memory = plus r.memory 1 }
+refused_by cause.Memory r = record r { memory = plus r.memory 1 }

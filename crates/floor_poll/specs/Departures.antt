@@ -16,6 +16,7 @@ abbrev pub departure_at : End → Departure
 departure_at (end.Stream zero) = left.EndOfStream
 departure_at (end.Stream (suc held)) = left.InsideMessage
 departure_at end.Failure = left.Reset
+departure_at end.TooLong = left.TooLong
 departure_at (end.Refused (hub.ByRoom refusal)) = left.Message refusal
 departure_at (end.Refused hub.Used) = left.Memory
 departure_at (end.Refused hub.NoConference) = left.Memory
@@ -52,6 +53,7 @@ abbrev pub is_lost : Departure → Bool → Bool
 is_lost left.EndOfStream for_all = for_all
 is_lost left.InsideMessage for_all = true
 is_lost left.Reset for_all = true
+is_lost left.TooLong for_all = false
 is_lost (left.Message refusal) for_all = false
 is_lost left.Slow for_all = false
 is_lost left.Closed for_all = false

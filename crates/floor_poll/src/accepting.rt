@@ -2,11 +2,11 @@
 
 use crate::arrival::Arrival;
 use crate::connection::Connection;
+use crate::counters::count_refused;
 use crate::departure::refused_by;
 use crate::mailbox::Mailbox;
 use crate::port::{Accepted, accept};
 use crate::worker::Worker;
-use floor_console::{Refusal, RoomRefusal};
 use floor_loop::ConnNo;
 use floor_server::{Entry, Peer, Refused, UserPort, keep_alive};
 use mio::net::TcpStream;
@@ -98,7 +98,7 @@ impl<R: Clock + Wait + Copy + Drop> Worker<R> {
         match self.join(peer.to) {
             Ok(number) => self.add(number, stream, peer),
             Err(cause) => {
-                self.count_refused(cause);
+                count_refused(&mut self.counters.refused, cause);
                 self.tell(&Entry::Refused { peer, cause });
             }
         }
@@ -128,7 +128,7 @@ impl<R: Clock + Wait + Copy + Drop> Worker<R> {
                 self.serve_bytes(number, header.rest());
             }
             Err(cause) => {
-                self.count_refused(cause);
+                count_refused(&mut self.counters.refused, cause);
                 self.tell(&Entry::RefusedAtDoor {
                     door: arrival.door,
                     peer: peer.port,
@@ -176,17 +176,10 @@ impl<R: Clock + Wait + Copy + Drop> Worker<R> {
         }
     }
 
-    /// Counts one that isn't let in since the conference has as many members as it may.
-    fn count_refused(&mut self, cause: Refused) {
-        if cause == Refused::ByRoom(RoomRefusal::Refused(Refusal::Full)) {
-            self.counters.full = self.counters.full.saturating_add(1);
-        }
-    }
-
     /// Takes room for one connection more.
     fn reserve(&mut self) -> Result<(), Refused> {
         let count = self.connections.len().saturating_add(1);
-        if self.connections.reserve(1).is_err() || self.turns.reserve(count).is_err() {
+        if self.connections.reserve(1).is_err() || self.reserve_turns(count).is_err() {
             return Err(Refused::Memory);
         }
         if !self.lasts {
@@ -196,6 +189,12 @@ impl<R: Clock + Wait + Copy + Drop> Worker<R> {
             Ok(()) => Ok(()),
             Err(_) => Err(Refused::Memory),
         }
+    }
+
+    /// Takes room for so many that may be served, in either line.
+    fn reserve_turns(&mut self, count: usize) -> Result<(), AllocError> {
+        self.turns.reserve(count)?;
+        self.long_turns.reserve(count)
     }
 
     /// Takes room for so many that may be lost, and that may be written and shut down once a turn is kept.

@@ -42,7 +42,8 @@ pub fn is_lost(departure: Departure, is_for_all: bool) -> bool
     match departure {
         Departure::Reset | Departure::InsideMessage => true,
         Departure::EndOfStream => is_for_all,
-        Departure::Message(_)
+        Departure::TooLong
+        | Departure::Message(_)
         | Departure::Slow
         | Departure::Closed
         | Departure::BrokenOff
@@ -117,10 +118,12 @@ impl<R: Clock + Wait + Copy + Drop> Worker<R> {
             n,
         } = away;
         if self.held.reserve(1).is_ok() {
+            let events = self.events_of(conference);
             self.tell_news(Note::Away {
                 conference,
                 user,
                 n,
+                events,
             });
         }
     }
@@ -250,10 +253,12 @@ impl<R: Clock + Wait + Copy + Drop> Worker<R> {
             n,
         });
         if self.held.reserve(1).is_ok() {
+            let events = self.events_of(conference);
             self.tell_news(Note::Back {
                 conference,
                 user,
                 n,
+                events,
             });
         }
     }

@@ -1,18 +1,13 @@
 //! One connection: its socket, and what is known of it.
 
 ghost use Rattle.std.specs.Prelude.{◌≡◌, ◌≤◌, ℕ, length};
-ghost use Rattle.floor_poll.specs.declared.connection.Found.TheVariants.{Bytes as Came};
-ghost use Rattle.floor_poll.specs.declared.connection.Written.TheVariants.{Bytes};
+ghost use Rattle.floor_streams.specs.declared.reading.Found.TheVariants.{Bytes};
 
+use crate::announced::Announced;
 use crate::departure::End;
-use floor_server::Peer;
+use floor_server::{MAX_LONGEST, Peer};
+use floor_streams::{Found, read_some};
 use mio::net::TcpStream;
-use std::io::{ErrorKind, Read, Write};
-use std::net::Shutdown;
-
-/// How often what has come is read and thrown away before a socket is closed: by 4 KiB at a time that is more
-/// than the system keeps of one.
-const MAX_LAST_READS: u32 = 4_096;
 
 /// A connection of a member.
 #[derive(Drop)]
@@ -27,11 +22,11 @@ pub struct Connection {
     pub is_half_closed: bool,
     /// Whether messages may wait that a turn has left over.
     pub has_more: bool,
-    /// Whether its last turn took long, so that the next one begins with one message.
+    /// Whether its last turn took long, so that the next one waits behind the others and begins with one message.
     pub is_long: bool,
     /// Whether the socket takes nothing at present.
     pub is_blocked: bool,
-    /// Whether the socket has failed: once what it has sent is served it is shut down.
+    /// Whether a write to the socket has failed: it is shut down once it was read to its end.
     pub has_failed: bool,
     /// Whether it stands among those that are to be served.
     pub is_queued: bool,
@@ -39,32 +34,11 @@ pub struct Connection {
     pub is_over: bool,
     /// How its reading ended, if it did.
     pub end: Option<End>,
-}
-
-/// What a read found.
-#[derive(Clone, Copy, Debug)]
-pub enum Found {
-    /// So many bytes.
-    Bytes(usize),
-    /// Nothing at present.
-    Nothing,
-    /// The end of the stream.
-    End,
-    /// A failure.
-    Failure,
-}
-
-/// What a write came to.
-#[derive(Clone, Copy, Debug)]
-pub enum Written {
-    /// There is nothing to write.
-    All,
-    /// So many bytes were taken.
-    Bytes(usize),
-    /// None at present.
-    Nothing,
-    /// A failure.
-    Failure,
+    /// How many bytes came that aren't counted as its conference's yet.
+    pub received: u64,
+    /// Whether it has begun a message that is too long: once what stands before that is served, nothing more is read.
+    pub is_too_long: bool,
+    announced: Announced,
 }
 
 impl Connection {
@@ -83,70 +57,58 @@ impl Connection {
             is_queued: false,
             is_over: false,
             end: None,
+            received: 0,
+            announced: Announced::begin(),
+            is_too_long: false,
         }
+    }
+
+    /// Takes down that a write has failed. What the system has of the peer still is read to its end, turn by turn: a
+    /// reset may stand behind many messages.
+    pub fn note_failure(&mut self) {
+        self.end = self.end.or(Some(End::Failure));
+        self.has_failed = true;
+        self.is_readable = true;
+        self.is_half_closed = true;
     }
 
     /// Reads once, and takes down whether more may be read: none where the buffer wasn't filled, unless the peer
-    /// has ended its stream.
-    pub fn read(&mut self, buffer: &mut [u8]) -> Found
-        ensures within { (count : ℕ) → result ≡ Came count → count ≤ length buffer.new }
+    /// has ended its stream. Of a message of more than `longest` bytes, and of all behind it, nothing is given.
+    pub fn read(&mut self, buffer: &mut [u8], longest: u32) -> Found
+        ensures within { (count : ℕ) → result ≡ Bytes count → count ≤ length buffer.new }
     {
         let room = buffer.len();
-        let found = read_once(&mut self.stream, buffer);
+        let found = read_some(&mut self.stream, buffer);
         match found {
             Found::Bytes(count) => {
                 self.is_readable = self.is_half_closed || count == room || count == 0;
+                self.received = self.received.saturating_add(count as u64);
+                let bytes = buffer.get(..count).unwrap_or(&[]);
+                Found::Bytes(self.pass(bytes, longest))
             }
-            Found::Nothing => self.is_readable = false,
-            Found::End | Found::Failure => {}
+            Found::Nothing => {
+                self.is_readable = false;
+                Found::Nothing
+            }
+            found => found,
         }
-        found
     }
 
-    /// Writes once.
-    pub fn write(&mut self, bytes: &[u8]) -> Written
-        ensures within { (count : ℕ) → result ≡ Bytes count → count ≤ length bytes.now }
+    /// How many of these bytes, which come next, are served: all, or those before a message of more than `longest`
+    /// bytes, by which the connection is to be ended.
+    pub fn pass(&mut self, bytes: &[u8], longest: u32) -> usize
+        ensures within { result ≤ length bytes.now }
     {
-        if bytes.is_empty() {
-            return Written::All;
+        if MAX_LONGEST <= longest {
+            return bytes.len();
         }
-        match self.stream.write(bytes) {
-            Ok(0) => Written::Failure,
-            Ok(count) => Written::Bytes(count),
-            Err(error) => match error.kind() {
-                ErrorKind::WouldBlock => {
-                    self.is_blocked = true;
-                    Written::Nothing
-                }
-                ErrorKind::Interrupted => Written::Bytes(0),
-                _ => Written::Failure,
-            },
+        match self.announced.pass(bytes, longest) {
+            Some(at) => {
+                self.is_too_long = true;
+                self.is_readable = true;
+                at
+            }
+            None => bytes.len(),
         }
     }
-}
-
-/// Reads once. It gives no byte where a signal came between.
-pub fn read_once(stream: &mut TcpStream, buffer: &mut [u8]) -> Found
-    ensures within { (count : ℕ) → result ≡ Came count → count ≤ length buffer.new }
-{
-    match stream.read(buffer) {
-        Ok(0) => Found::End,
-        Ok(count) => Found::Bytes(count),
-        Err(error) => match error.kind() {
-            ErrorKind::WouldBlock => Found::Nothing,
-            ErrorKind::Interrupted => Found::Bytes(0),
-            _ => Found::Failure,
-        },
-    }
-}
-
-/// Shuts a socket down, both ways, once what has come is read: a close with unread bytes resets.
-pub fn shut_down(stream: &mut TcpStream, buffer: &mut [u8]) {
-    for _ in 0..MAX_LAST_READS {
-        match stream.read(buffer) {
-            Ok(0) | Err(_) => break,
-            Ok(_) => {}
-        }
-    }
-    let _outcome = stream.shutdown(Shutdown::Both);
 }

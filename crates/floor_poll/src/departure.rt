@@ -14,6 +14,8 @@ pub enum End {
     Stream(usize),
     /// A read or a write failed.
     Failure,
+    /// It began a message that is longer than the server takes.
+    TooLong,
     /// A message was refused.
     Refused(HubRefusal),
     /// An administrator has shown it out.
@@ -45,6 +47,7 @@ fn departure_at(end: End) -> Departure
         End::Stream(0) => Departure::EndOfStream,
         End::Stream(_) => Departure::InsideMessage,
         End::Failure => Departure::Reset,
+        End::TooLong => Departure::TooLong,
         End::Refused(HubRefusal::ByRoom(refusal)) => Departure::Message(refusal),
         End::Refused(_) => Departure::Memory,
         End::Removed => Departure::Removed,

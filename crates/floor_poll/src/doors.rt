@@ -5,7 +5,7 @@
 
 use crate::accepting::{ACCEPT_AGAIN_MILLIS, MAX_ACCEPTS};
 use crate::arrival::Arrival;
-use crate::connection::{Found, read_once, shut_down};
+use crate::counters::count_refused;
 use crate::elapsed::{Elapsed, earlier};
 use crate::header::{Header, Verdict};
 use crate::log::tell;
@@ -13,8 +13,10 @@ use crate::mailbox::Mailbox;
 use crate::owners::Owners;
 use crate::port::{Accepted, accept};
 use crate::worker::{REST_MILLIS, Room, WAKER};
+use floor_control::RefusedCounts;
 use floor_proxy::MAX_HEADER;
 use floor_server::{Door, Entrance, Entry, Log, Peer, Refused, UserPort};
+use floor_streams::{Found, read_some, shut_down};
 use indexmap::IndexMap;
 use mio::event::Event;
 use mio::net::{TcpListener, TcpStream};
@@ -91,11 +93,13 @@ impl Gate {
     }
 }
 
-/// Where somebody goes who has said who it is: which loop has which conference, and the loops.
+/// Where somebody goes who has said who it is: which loop has which conference, and the loops; and where those are
+/// counted who are refused.
 #[derive(Drop)]
 pub struct Ways {
     pub owners: Arc<Mutex<Owners>, Global>,
     pub loops: Vec<Arc<Mailbox, Global>>,
+    pub refused: Arc<Mutex<RefusedCounts>, Global>,
 }
 
 /// The doors, and who has come to them.
@@ -420,6 +424,7 @@ impl<R: Clock + Wait + Copy + Drop> Doors<R> {
     }
 
     fn refuse(&self, door: Door, peer: u16, cause: Refused) {
+        count_refused(&mut self.ways.refused.lock(&self.rt), cause);
         tell(
             &self.rt,
             &self.log,
@@ -442,7 +447,7 @@ fn hear(entering: &mut Entering, buffer: &mut Vec<u8>) -> Heard {
     let Some(buffer) = buffer.as_mut_slice().get_mut(..room) else {
         return Heard::Verdict(Verdict::Refuse(Refused::Memory));
     };
-    let is_over = match read_once(&mut entering.stream, buffer) {
+    let is_over = match read_some(&mut entering.stream, buffer) {
         Found::Bytes(count) => {
             if entering
                 .header

@@ -1,6 +1,8 @@
 //! A conference that is to be opened.
 
 ghost use Rattle.std.specs.Prelude.{◌≡◌, IfOk, None, map};
+ghost use Rattle.floor_poll.specs.Fresh.{config_of};
+ghost use Rattle.floor_poll.specs.declared.fresh.Fresh.TheVariants.{Kept};
 ghost use Rattle.floor_poll.specs.Refusals.{refusal_of_head};
 
 use floor_config::Config;
@@ -9,11 +11,26 @@ use floor_keep::{HeadFault, NewHead, heads_of};
 use floor_server::{Reason, configurations};
 use std::alloc::{AllocError, Global};
 
-/// A conference that is to be opened: its configuration, and what its file begins with where it is kept.
+/// A conference that is to be opened. Where it is kept it is opened by the configuration of its file's head, so that
+/// none is kept under another's.
 #[derive(Drop)]
-pub struct Fresh {
-    pub config: Config,
-    pub head: Option<NewHead>,
+pub enum Fresh {
+    /// It isn't kept, and has this configuration.
+    Unkept(Config),
+    /// It is kept, and its file begins with this head.
+    Kept(NewHead),
+}
+
+impl Fresh {
+    /// Its configuration. Takes no memory.
+    pub fn config(&self) -> &Config
+        ensures value { result.now ≡ config_of self.now }
+    {
+        match self {
+            Fresh::Unkept(config) => config,
+            Fresh::Kept(head) => &head.config,
+        }
+    }
 }
 
 /// The conferences of a configuration's text, which a person knows by this path; with heads where they are kept.
@@ -24,32 +41,38 @@ pub fn fresh_of(
     is_kept: bool,
 ) -> Result<Vec<Fresh>, Reason> {
     let configs = configurations(alloc, path, text)?;
-    let mut heads = Vec::new(alloc);
-    if is_kept {
-        heads = match heads_of(alloc, text) {
-            Ok(heads) => heads,
+    let all = if is_kept {
+        match heads_of(alloc, text) {
+            Ok(heads) => all_kept(alloc, heads),
             Err(fault) => return Err(reason_of(fault)),
-        };
-        heads.reverse();
-    }
-    match with_heads(alloc, configs, heads) {
+        }
+    } else {
+        all_unkept(alloc, configs)
+    };
+    match all {
         Ok(all) => Ok(all),
         Err(_) => Err(reason_of(HeadFault::Memory)),
     }
 }
 
-/// Each configuration with its head, where there are heads, the last of them first.
-fn with_heads(
-    alloc: Global,
-    configs: Vec<Config>,
-    mut heads: Vec<NewHead>,
-) -> Result<Vec<Fresh>, AllocError>
-    ensures configs { IfOk result (λ all. map (λ fresh. fresh.config) all.items ≡ configs.items) }
+/// A conference for each configuration, none of which is kept.
+fn all_unkept(alloc: Global, configs: Vec<Config>) -> Result<Vec<Fresh>, AllocError>
+    ensures configs { IfOk result (λ all. map config_of all.items ≡ configs.items) }
 {
     let mut all = Vec::with_capacity(alloc, configs.len())?;
     for config in configs {
-        let head = heads.pop();
-        all.push(Fresh { config, head })?;
+        all.push(Fresh::Unkept(config))?;
+    }
+    Ok(all)
+}
+
+/// A conference for each head, all of which are kept.
+fn all_kept(alloc: Global, heads: Vec<NewHead>) -> Result<Vec<Fresh>, AllocError>
+    ensures heads { IfOk result (λ all. all.items ≡ map Kept heads.items) }
+{
+    let mut all = Vec::with_capacity(alloc, heads.len())?;
+    for head in heads {
+        all.push(Fresh::Kept(head))?;
     }
     Ok(all)
 }

@@ -3,6 +3,7 @@
 use crate::fresh::Fresh;
 use crate::mailbox::Answer;
 use floor_console::BoardRefusal;
+use floor_keep::KeepFault;
 use mio::Waker;
 use std::alloc::{AllocError, Global};
 use std::collections::VecDeque;
@@ -42,24 +43,26 @@ pub enum Note {
         client: u64,
         read: Result<VecDeque<Fresh>, Unread>,
     },
-    /// Member n has lost its connection and stays.
+    /// Member n has lost its connection and stays. The conference has so many events then.
     Away {
         conference: u32,
         user: u16,
         n: u32,
+        events: u32,
     },
-    /// The user of member n, which was away, is back, and n has left.
+    /// The user of member n, which was away, is back, and n has left. The conference has so many events then.
     Back {
         conference: u32,
         user: u16,
         n: u32,
+        events: u32,
     },
     /// A conference can't be kept any more, and goes on.
     Unkept {
         conference: u32,
     },
-    /// The folder of the kept conferences is another server's.
-    Lost,
+    /// Nothing more may be sent: the folder of the kept conferences is another server's, or that can't be told.
+    Lost(KeepFault),
 }
 
 /// Why a configuration isn't opened, before any of its conferences is.

@@ -21,7 +21,7 @@ use crate::places::Places;
 use crate::refusals::{broken, out_of_memory};
 use crate::worker::Worker;
 use floor_control::ControlRefusal;
-use floor_keep::{Event, Unkept};
+use floor_keep::{Event, KeepFault, Unkept};
 use floor_loop::{Act, ConnNo, HubRefusal, Loop, Status};
 use floor_room::Phase;
 use floor_server::Entry;
@@ -245,9 +245,9 @@ impl<R: Files<File = File> + Clock + Wait + Copy + Drop> Worker<R> {
     /// folder isn't this server's any more: then nothing more may be told or sent.
     fn keep_turn(&mut self) -> Option<MaySend>
         ensures kept { IfSome result (λ _. deque_len self.new.changed ≡ 0) }
-        ensures lost { self.old.is_lost ≡ true → result ≡ None }
+        ensures lost { is_some self.old.lost ≡ true → result ≡ None }
     {
-        if self.is_lost {
+        if self.lost.is_some() {
             return None;
         }
         if !self.changed.is_empty() && !self.is_ours() {
@@ -270,17 +270,20 @@ impl<R: Files<File = File> + Clock + Wait + Copy + Drop> Worker<R> {
         None
     }
 
-    /// Whether the folder is this server's still, by its epoch, which is read.
+    /// Whether the folder is this server's still, by its epoch, which is read. Where that can't be told it is answered as
+    /// if it weren't: nothing may be sent that another server may have sent otherwise.
     pub fn is_ours(&mut self) -> bool
-        ensures value { result ≡ not self.new.is_lost }
-        ensures lost { self.old.is_lost ≡ true → self.new.is_lost ≡ true }
+        ensures value { result ≡ not (is_some self.new.lost) }
+        ensures lost { is_some self.old.lost ≡ true → self.new.lost ≡ self.old.lost }
         ensures hub { self.new.hub ≡ self.old.hub }
     {
-        match &self.keeper {
-            Some(keeper) => self.is_lost = self.is_lost || keeper.check_epoch(&self.rt).is_err(),
-            None => {}
+        match &mut self.keeper {
+            Some(keeper) if self.lost.is_none() => {
+                self.lost = keeper.check_epoch(&self.rt).err();
+            }
+            _ => {}
         }
-        !self.is_lost
+        self.lost.is_none()
     }
 
     /// Writes what is new of a conference's journal to its file.
@@ -430,16 +433,43 @@ impl<R: Files<File = File> + Clock + Wait + Copy + Drop> Worker<R> {
         self.write_ready(may);
     }
 
-    /// Shuts down who is to be, since all is written or the socket has failed.
+    /// Shuts down who is to be, since all is written or the socket has failed: of a conference one after another, so
+    /// that the others hear what its leave tells them, once that is kept.
     fn finish_over(&mut self) {
         for _ in 0..self.over.len() {
             let Some(number) = self.over.pop_front() else {
                 return;
             };
-            if let Some(connection) = self.connections.get_mut(&number) {
-                connection.is_over = false;
+            if self.lacks_events(number) {
+                let _put = self.over.push_back(number);
+            } else {
+                self.finish(number);
             }
-            self.finish(number);
+        }
+    }
+
+    /// Whether the conference of a connection has events that its file may lack.
+    fn lacks_events(&self, number: ConnNo) -> bool {
+        let Some(place) = self.hub.place(number) else {
+            return false;
+        };
+        match self.conferences.get(&place.conference) {
+            Some(places) => places.is_changed,
+            None => false,
+        }
+    }
+
+    /// Shuts a connection down that is to be, unless its socket has taken only a part of what it was told since.
+    fn finish(&mut self, number: ConnNo) {
+        let is_blocked = match self.connections.get_mut(&number) {
+            Some(connection) => {
+                connection.is_over = false;
+                connection.is_blocked
+            }
+            None => false,
+        };
+        if !is_blocked && self.hub.until(number).is_some() {
+            self.end(number);
         }
     }
 
@@ -464,11 +494,11 @@ impl<R: Files<File = File> + Clock + Wait + Copy + Drop> Worker<R> {
         }
     }
 
-    /// Tells the first thread that the folder is another server's.
-    pub fn tell_lost(&mut self, mailbox: &Mailbox) {
-        self.tell(&Entry::Lost);
-        self.put_news(Note::Lost);
-        mailbox.reply(&self.rt, Answer::Lost);
+    /// Tells the first thread that nothing more may be sent, and why.
+    pub fn tell_lost(&mut self, mailbox: &Mailbox, fault: KeepFault) {
+        self.tell(&Entry::Lost(fault));
+        self.put_news(Note::Lost(fault));
+        mailbox.reply(&self.rt, Answer::Lost(fault));
     }
 }
 

@@ -7,6 +7,7 @@
 #![tactic(auto)]
 
 mod accepting;
+mod announced;
 mod arrival;
 mod asks;
 mod away;

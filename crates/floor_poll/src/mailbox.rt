@@ -10,7 +10,7 @@ use crate::port::Port;
 use crate::refusals::out_of_memory;
 use floor_config::Config;
 use floor_control::{ControlRefusal, Metrics, Standing};
-use floor_keep::{KeepReason, NotAJournal, Note as Beside, Octets, Text};
+use floor_keep::{KeepFault, KeepReason, NotAJournal, Note as Beside, Octets, Text};
 use floor_loop::{Act, Event, Status, User};
 use mio::Waker;
 use std::alloc::{AllocError, Global};
@@ -77,7 +77,7 @@ impl Asked {
         ensures value { result ≡ conference_of self.now }
     {
         match self {
-            Asked::Open { fresh, ports: _ } => Some(fresh.config.conference()),
+            Asked::Open { fresh, ports: _ } => Some(fresh.config().conference()),
             Asked::Resume { conference }
             | Asked::Ports { conference, .. }
             | Asked::Word { conference, .. }
@@ -149,8 +149,8 @@ pub enum Answer {
     Drained,
     /// It has ended.
     Stopped(Report),
-    /// It has ended, since the folder of the kept conferences is another server's.
-    Lost,
+    /// It has ended, since the folder of the kept conferences is another server's, or that can't be told.
+    Lost(KeepFault),
 }
 
 /// A conference of the folder that goes on.
@@ -175,7 +175,7 @@ pub enum Unresumed {
     NotAJournal(NotAJournal),
     /// The hub refuses it.
     Refused(ControlRefusal),
-    /// Its file can't be had.
+    /// Its file can't be had: by `CannotKeep` where that is so of this file alone.
     Unkept(KeepReason),
 }
 

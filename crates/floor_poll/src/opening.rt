@@ -23,7 +23,7 @@ use floor_keep::{
 };
 use floor_loop::{Act, AddedUser, HubRefusal, User};
 use floor_room::Phase;
-use floor_server::{Entry, UserPort};
+use floor_server::{Did, Entry, UserPort};
 use mio::{Interest, Token};
 use std::alloc::AllocError;
 use std::fs::File;
@@ -90,32 +90,37 @@ impl<R: Files<File = File> + Clock + Wait + Copy + Drop> Worker<R> {
 
     /// Opens a conference with its ports. Where it is refused they are given back.
     fn open(&mut self, fresh: Fresh, ports: Vec<Port>) -> Result<u32, ControlRefusal> {
-        let Fresh { config, head } = fresh;
-        let conference = config.conference();
-        let mut places = Places::new(self.alloc, config.connections());
-        let outcome = self.open_with(&mut places, config, ports);
+        let conference = fresh.config().conference();
+        let mut places = Places::new(self.alloc, fresh.config().connections());
+        let outcome = self.open_with(&mut places, fresh.config(), ports);
         match outcome {
             Ok(()) => {
                 let _added = self.conferences.insert(conference, places);
                 self.tell(&Entry::Opened { conference });
-                self.begin_file(conference, head);
+                self.begin_file(fresh);
             }
             Err(_) => self.close_ports(&mut places),
         }
         outcome.map(|()| 0)
     }
 
-    /// Makes the file of a conference that was opened, where conferences are kept.
-    fn begin_file(&mut self, conference: u32, head: Option<NewHead>) {
+    /// Makes the file of a conference that was opened, where conferences are kept. One that has no head then can't be
+    /// kept, and that is told.
+    fn begin_file(&mut self, fresh: Fresh) {
         if !self.keeps() || !self.is_ours() {
             return;
         }
-        let Some(head) = head else {
-            return;
+        let outcome = match &fresh {
+            Fresh::Kept(head) => self.make_file(head),
+            Fresh::Unkept(_config) => Err(KeepReason {
+                fault: KeepFault::CannotKeep,
+                line: None,
+            }),
         };
-        match self.make_file(&head) {
+        match outcome {
             Ok(()) => {}
             Err(reason) => {
+                let conference = fresh.config().conference();
                 self.give_up(unkept_of(conference, reason.fault));
             }
         }
@@ -157,10 +162,11 @@ impl<R: Files<File = File> + Clock + Wait + Copy + Drop> Worker<R> {
     fn open_with(
         &mut self,
         places: &mut Places,
-        config: Config,
+        config: &Config,
         ports: Vec<Port>,
     ) -> Result<(), ControlRefusal> {
         self.reserve_conference()?;
+        let config = config.copy(self.alloc)?;
         self.take_ports(places, ports)?;
         match self.hub.open(self.alloc, config) {
             Ok(()) => Ok(()),
@@ -292,14 +298,22 @@ impl<R: Files<File = File> + Clock + Wait + Copy + Drop> Worker<R> {
     fn admin_open(&mut self, conference: u32, act: Act) -> Result<u32, ControlRefusal>
         ensures steps { Steps (AtMost 1 (Admin conference act)) self.old.hub.hub self.new.hub.hub }
     {
-        let closes = matches!(act, Act::Close);
+        let did = did_of(&act);
         match self.act(conference, act) {
             Ok(()) => {
-                if closes {
-                    self.tell(&Entry::Closed { conference });
-                    self.close_ports_of(conference);
+                let place = self.events_of(conference);
+                match did {
+                    Some(act) => self.tell(&Entry::Did {
+                        conference,
+                        act,
+                        place,
+                    }),
+                    None => {
+                        self.tell(&Entry::Closed { conference });
+                        self.close_ports_of(conference);
+                    }
                 }
-                Ok(self.events_of(conference))
+                Ok(place)
             }
             Err(refusal) => {
                 self.tell_if_broken(conference);
@@ -391,17 +405,31 @@ impl<R: Files<File = File> + Clock + Wait + Copy + Drop> Worker<R> {
     }
 }
 
+/// What the log tells that an act has done; `None` of the close, which it tells otherwise.
+fn did_of(act: &Act) -> Option<Did> {
+    match act {
+        Act::Close => None,
+        Act::Revoke(request) => Some(Did::Revoked(*request)),
+        Act::AddUser(user) => Some(Did::UserAdded(user.as_user().id)),
+        Act::AddFloor(floor) => Some(Did::FloorAdded(floor.id)),
+        Act::SetChair(floor, chair) => Some(Did::ChairSet {
+            floor: *floor,
+            chair: *chair,
+        }),
+    }
+}
+
 /// A conference that has no file, since the folder takes none.
 fn unkept_of(conference: u32, fault: KeepFault) -> Unkept
     ensures value { result ≡ unkept_of conference fault }
 {
     let cause = match fault {
         KeepFault::Memory => KeptFault::Memory,
-        KeepFault::CannotKeep | KeepFault::Lost => KeptFault::CannotWrite,
+        KeepFault::CannotKeep | KeepFault::Lost | KeepFault::Descriptors => KeptFault::CannotWrite,
     };
     Unkept {
         conference,
         cause,
-        left: Left::Renamed,
+        left: Left::Missing,
     }
 }

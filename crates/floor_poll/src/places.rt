@@ -11,6 +11,11 @@ use floor_server::Refused;
 use std::alloc::{AllocError, Global};
 use std::mem;
 
+/// After how many bytes each that its members have sent the log says how large a conference is.
+const LARGE_BYTES: u64 = 100_000_000;
+
+const LARGE_MEGABYTES: u64 = 100;
+
 /// The connections of a conference, each by its user, and its ports.
 #[derive(Drop)]
 pub struct Places {
@@ -26,6 +31,8 @@ pub struct Places {
     pub kept: u32,
     /// Whether it is broken off since its file has failed: what its journal has besides is told to nobody.
     pub is_broken: bool,
+    /// How many bytes its members have sent.
+    received: u64,
 }
 
 impl Places {
@@ -45,6 +52,25 @@ impl Places {
             is_unkept: false,
             kept: 0,
             is_broken: false,
+            received: 0,
+        }
+    }
+
+    /// Takes it that its members have sent so many bytes more. Gives how many megabytes they have sent, in hundreds,
+    /// where that is a hundred more than before.
+    pub fn receive(&mut self, bytes: u64) -> Option<u64>
+        ensures users { self.new.users ≡ self.old.users }
+        ensures most { self.new.most ≡ self.old.most }
+        ensures ports { self.new.ports ≡ self.old.ports }
+        ensures broken { broken_of self.new ≡ broken_of self.old }
+    {
+        let before = self.received / LARGE_BYTES;
+        self.received = self.received.saturating_add(bytes);
+        let after = self.received / LARGE_BYTES;
+        if before < after {
+            Some(after.saturating_mul(LARGE_MEGABYTES))
+        } else {
+            None
         }
     }
 

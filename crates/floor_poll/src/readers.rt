@@ -28,6 +28,7 @@ use floor_control::{
 };
 use floor_loop::{ConnNo, Floor, Live, SharedInfo, Status, User};
 use floor_room::{Phase, add_lines};
+use floor_server::{Did, Entry};
 use std::alloc::{AllocError, Global};
 use std::sync::Wait;
 use std::time::Clock;
@@ -153,7 +154,13 @@ impl<R: Clock + Wait + Copy + Drop> Worker<R> {
             connection.end = Some(End::Removed);
         }
         self.end(number);
-        Ok(self.events_of(conference))
+        let place = self.events_of(conference);
+        self.tell(&Entry::Did {
+            conference,
+            act: Did::ShownOut(n),
+            place,
+        });
+        Ok(place)
     }
 
     /// The connection of a live member.
@@ -190,6 +197,7 @@ impl<R: Clock + Wait + Copy + Drop> Worker<R> {
         let _places = self.conferences.swap_remove(&conference);
         let _known = self.followed.swap_remove(&conference);
         self.counters.events = self.counters.events.saturating_add(u64::from(events));
+        self.tell(&Entry::Forgotten { conference });
         Ok(events)
     }
 }

@@ -8,7 +8,8 @@ use crate::refusals::{out_of_memory, refusal_of};
 use crate::worker::Worker;
 use floor_config::Config;
 use floor_keep::{
-    Event, FindFault, Finish, Found, KeepReason, Standing, close_found, find_kept, take_up,
+    Event, FindFault, Finish, Found, KeepReason, Standing, close_found, find_kept, open_file,
+    take_up,
 };
 use floor_loop::ResumeRefusal;
 use floor_server::Entry;
@@ -80,30 +81,43 @@ impl<R: Files<File = File> + Clock + Wait + Copy + Drop> Worker<R> {
         })
     }
 
-    /// Runs a journal, and opens its file behind what stands in it.
+    /// Opens a file, runs its journal, and goes on behind what stands in it. A file that can't be opened leaves all as it
+    /// was, and so does a journal that isn't taken.
     fn replay(
         &mut self,
         config: Config,
         events: &[Event],
         standing: &Standing,
     ) -> Result<(), Unresumed> {
+        let file = match self.open_file(standing.conference) {
+            Ok(file) => file,
+            Err(reason) => return Err(Unresumed::Unkept(reason)),
+        };
         match self.hub.resume(self.alloc, config, events, self.now) {
             Ok(()) => {}
             Err(refusal) => return Err(unresumed(standing, refusal)),
         }
-        match self.take_file(standing) {
+        match self.take_file(file, standing) {
             Ok(()) => {}
             Err(reason) => return Err(Unresumed::Unkept(reason)),
         }
         Ok(self.take_away(standing.conference)?)
     }
 
-    fn take_file(&mut self, standing: &Standing) -> Result<(), KeepReason> {
+    /// Opens the file of a conference, which stays as it is.
+    fn open_file(&self, conference: u32) -> Result<File, KeepReason> {
+        match &self.keeper {
+            Some(keeper) => open_file(&self.rt, self.alloc, keeper.folder(), conference),
+            None => Err(KeepReason::memory()),
+        }
+    }
+
+    fn take_file(&mut self, file: File, standing: &Standing) -> Result<(), KeepReason> {
         let Some(keeper) = &mut self.keeper else {
             return Ok(());
         };
         keeper.reserve()?;
-        let kept = take_up(&self.rt, self.alloc, keeper.folder(), standing)?;
+        let kept = take_up(self.alloc, keeper.folder(), file, standing)?;
         match keeper.add(kept) {
             Ok(()) => Ok(()),
             Err(_) => Err(KeepReason::memory()),

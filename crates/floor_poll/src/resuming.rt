@@ -1,18 +1,16 @@
 //! The conferences that the folder has go on.
 
-use crate::log::tell;
 use crate::mailbox::{Answer, Asked, Resumed, Unresumed};
 use crate::port::Port;
 use crate::refusals::board_refusal;
 use crate::server::Server;
 use floor_console::BoardRefusal;
-use floor_keep::{Entry as Line, KeepReason, NotAJournal, list_folder};
-use floor_server::{Entry, Log, Reason, ServerFault, fault_of_keeping, fault_of_opening};
-use std::alloc::Global;
+use floor_keep::{Entry as Line, KeepFault, KeepReason, NotAJournal, list_folder};
+use floor_server::{Entry, Reason, ServerFault, fault_of_keeping, fault_of_opening};
 use std::fs::File;
 use std::net::Net;
 use std::rt::Files;
-use std::sync::{Arc, Wait};
+use std::sync::Wait;
 use std::thread::Threads;
 use std::time::Clock;
 
@@ -25,7 +23,7 @@ where
         for place in 0..self.loops() {
             match self.ask_at(place, Asked::Begin) {
                 Some(Answer::Done(_)) => {}
-                Some(Answer::Lost) => return Err(ServerFault::Lost),
+                Some(Answer::Lost(fault)) => return Err(fault_of_keeping(fault)),
                 _ => return Err(ServerFault::Memory),
             }
         }
@@ -47,11 +45,9 @@ where
     }
 
     /// Lets the next conferences of the folder go on, one in each loop beside each other, and gives those that do;
-    /// none is left where `None` is given. Where a file is no journal it stays as it is, and the log is told.
-    pub fn resume_next(
-        &mut self,
-        log: &Option<Arc<Log, Global>>,
-    ) -> Result<Option<Vec<Resumed>>, ServerFault> {
+    /// none is left where `None` is given. Where a file is no journal, or can't be had, it stays as it is, its conference
+    /// is left out, and the log is told.
+    pub fn resume_next(&mut self) -> Result<Option<Vec<Resumed>>, ServerFault> {
         let mut asked = Vec::with_capacity(self.alloc, self.loops())?;
         for place in 0..self.loops() {
             let Some(conference) = self.next_kept() else {
@@ -67,7 +63,7 @@ where
         let mut all = Vec::with_capacity(self.alloc, asked.len())?;
         for (place, conference) in asked {
             let answer = self.last_answer(place);
-            if let Some(resumed) = self.take_resumed(conference, place, answer, log)? {
+            if let Some(resumed) = self.take_resumed(conference, place, answer)? {
                 all.push(resumed)?;
             }
         }
@@ -88,7 +84,6 @@ where
         conference: u32,
         place: usize,
         answer: Option<Answer>,
-        log: &Option<Arc<Log, Global>>,
     ) -> Result<Option<Resumed>, ServerFault> {
         match answer {
             Some(Answer::Resumed(Ok(Some(resumed)))) => {
@@ -96,17 +91,30 @@ where
                 Ok(Some(resumed))
             }
             Some(Answer::Resumed(Ok(None))) => Ok(None),
-            Some(Answer::Resumed(Err(Unresumed::NotAJournal(at)))) => {
-                self.leave_file(at, log);
-                Ok(None)
-            }
-            Some(Answer::Resumed(Err(Unresumed::Refused(refusal)))) => {
-                Err(fault_of_opening(board_refusal(refusal)))
-            }
-            Some(Answer::Resumed(Err(Unresumed::Unkept(reason)))) => Err(self.refuse_kept(reason)),
-            Some(Answer::Lost) => Err(ServerFault::Lost),
+            Some(Answer::Resumed(Err(unresumed))) => self.leave_out(conference, unresumed),
+            Some(Answer::Lost(fault)) => Err(fault_of_keeping(fault)),
             _ => Err(ServerFault::Memory),
         }
+    }
+
+    /// Leaves a conference out that doesn't go on, where that is for its file alone; else the server ends by the fault.
+    fn leave_out(
+        &mut self,
+        conference: u32,
+        unresumed: Unresumed,
+    ) -> Result<Option<Resumed>, ServerFault> {
+        match unresumed {
+            Unresumed::NotAJournal(at) => self.tell_not_a_journal(at),
+            Unresumed::Unkept(reason) if reason.fault == KeepFault::CannotKeep => {
+                if let Some(log) = &self.log {
+                    log.tell_unopened(&self.rt, conference, &reason);
+                }
+            }
+            Unresumed::Unkept(reason) => return Err(self.refuse_kept(reason)),
+            Unresumed::Refused(refusal) => return Err(fault_of_opening(board_refusal(refusal))),
+        }
+        self.left_out.push(conference)?;
+        Ok(None)
     }
 
     /// Takes it that a loop has a conference that goes on, and gives it the ports of its users.
@@ -127,24 +135,22 @@ where
         match self.ask_at(place, Asked::Ports { conference, ports }) {
             Some(Answer::Done(Ok(_))) => Ok(()),
             Some(Answer::Done(Err(refusal))) => Err(fault_of_opening(board_refusal(refusal))),
-            Some(Answer::Lost) => Err(ServerFault::Lost),
+            Some(Answer::Lost(fault)) => Err(fault_of_keeping(fault)),
             _ => Err(ServerFault::Memory),
         }
     }
 
-    /// A file that is no journal stays as it is.
-    fn leave_file(&mut self, at: NotAJournal, log: &Option<Arc<Log, Global>>) {
+    fn tell_not_a_journal(&self, at: NotAJournal) {
         let NotAJournal {
             conference,
             place,
             line,
         } = at;
-        let entry = Entry::NotAJournal {
+        self.tell(&Entry::NotAJournal {
             conference,
             place,
             line,
-        };
-        tell(&self.rt, log, &entry);
+        });
     }
 
     /// Listens on the ports of the users that a conference was opened with, and of those who were added.
@@ -165,19 +171,26 @@ where
     }
 
     /// Whether a conference of the first configuration isn't opened, since the folder has or had it. The log is told.
-    pub fn is_passed(&self, conference: u32, log: &Option<Arc<Log, Global>>) -> bool {
+    pub fn is_passed(&self, conference: u32) -> bool {
         let Some(listing) = &self.listing else {
             return false;
         };
-        if listing.is_closed(conference) {
-            tell(&self.rt, log, &Entry::WasClosed { conference });
-            return true;
+        if !listing.has_journal(conference) && !listing.is_closed(conference) {
+            return false;
         }
-        if listing.has_journal(conference) {
-            tell(&self.rt, log, &Entry::FromFile { conference });
-            return true;
+        self.tell(&self.passed(conference));
+        true
+    }
+
+    /// What became of a conference that the folder has or had.
+    fn passed(&self, conference: u32) -> Entry {
+        if self.owner(conference).is_some() {
+            Entry::FromFile { conference }
+        } else if self.left_out.contains(&conference) {
+            Entry::NotOpened { conference }
+        } else {
+            Entry::WasClosed { conference }
         }
-        false
     }
 
     /// Keeps what a person is to be told, and gives the fault.

@@ -4,7 +4,7 @@ use crate::doors::{Gate, Listening, Ways, serve_doors};
 use crate::fresh::{Fresh, fresh_of};
 use crate::inbox::{Asker, Inbox};
 use crate::lasting::Lasting;
-use crate::log::share;
+use crate::log::{share, tell};
 use crate::mailbox::{Answer, Ask, Asked, Mailbox, Question, Report};
 use crate::owners::Owners;
 use crate::port::{Port, listen};
@@ -12,16 +12,16 @@ use crate::refusals::board_refusal;
 use crate::worker::{Room, WAKER, serve};
 use floor_config::Config;
 use floor_console::{Board, BoardRefusal, Floor, StopRefusal, Stopped, Text, User};
-use floor_keep::{Listing, Lock};
+use floor_control::RefusedCounts;
+use floor_keep::{KeepFault, Listing, Lock};
 use floor_loop::{Act, Status};
 use floor_room::add_end;
-use floor_server::{Door, Log, PortFault, Reason, UserPort, read_text};
+use floor_server::{Door, Entry, Log, PortFault, Reason, UserPort, read_text};
 use mio::{Poll, Waker};
 use std::alloc::{AllocError, Global};
 use std::fs::File;
 use std::net::Net;
 use std::rt::Files;
-use std::sync::atomic::{AtomicBool, Ordering};
 use std::sync::{Arc, Mutex, Wait};
 use std::thread::{JoinHandle, Threads};
 use std::time::Clock;
@@ -35,6 +35,8 @@ pub struct Server<R> {
     loops: Vec<Serving>,
     owners: Arc<Mutex<Owners>, Global>,
     doors: Option<ServingDoors>,
+    /// Who was refused at the doors.
+    refused: Arc<Mutex<RefusedCounts>, Global>,
     outcome: Option<Result<Stopped, StopRefusal>>,
     /// What a person has yet to be told of the last refusal.
     pub(crate) told: Option<String>,
@@ -45,8 +47,11 @@ pub struct Server<R> {
     pub(crate) listing: Option<Listing>,
     /// How many of its conferences were looked at.
     pub(crate) looked: usize,
-    /// Whether the folder is another server's.
-    is_lost: AtomicBool,
+    /// Those of them whose files are there and can't be had, or are none.
+    pub(crate) left_out: Vec<u32>,
+    pub(crate) log: Option<Arc<Log, Global>>,
+    /// Why nothing more may be sent, where the folder is another server's, or that can't be told.
+    lost: Mutex<Option<KeepFault>>,
 }
 
 /// A loop that runs.
@@ -95,13 +100,16 @@ where
             loops: Vec::with_capacity(alloc, loops)?,
             owners: owners_of(alloc, loops)?,
             doors: None,
+            refused: no_refusals(alloc)?,
             outcome: None,
             told: None,
             lasting,
             lock,
             listing: None,
             looked: 0,
-            is_lost: AtomicBool::new(false),
+            left_out: Vec::new(alloc),
+            log: share(log)?,
+            lost: Mutex::new(None),
         };
         for _ in 0..loops {
             match start_one(rt, alloc, log, inbox, &server.lasting) {
@@ -116,11 +124,7 @@ where
     }
 
     /// Opens the doors. Refused by `CannotListen` where one can't be had, and by `Memory`; then there is none.
-    pub fn open_doors(
-        &mut self,
-        doors: &[Door],
-        log: &Option<Arc<Log, Global>>,
-    ) -> Result<(), BoardRefusal> {
+    pub fn open_doors(&mut self, doors: &[Door]) -> Result<(), BoardRefusal> {
         if doors.is_empty() {
             return Ok(());
         }
@@ -129,7 +133,8 @@ where
             Err(reason) => return Err(self.refuse(reason)),
         };
         let ways = self.ways()?;
-        self.doors = Some(start_doors(self.rt, self.alloc, log, listening, ways)?);
+        let (rt, alloc) = (self.rt, self.alloc);
+        self.doors = Some(start_doors(rt, alloc, &self.log, listening, ways)?);
         Ok(())
     }
 
@@ -157,6 +162,7 @@ where
         Ok(Ways {
             owners: Arc::try_clone(&self.owners)?,
             loops,
+            refused: Arc::try_clone(&self.refused)?,
         })
     }
 }
@@ -165,6 +171,14 @@ where
 fn owners_of(alloc: Global, loops: usize) -> Result<Arc<Mutex<Owners>, Global>, AllocError> {
     match Arc::new(alloc, Mutex::new(Owners::new(alloc, loops))) {
         Ok(owners) => Ok(owners),
+        Err(_) => Err(AllocError),
+    }
+}
+
+/// That nobody was refused at the doors.
+fn no_refusals(alloc: Global) -> Result<Arc<Mutex<RefusedCounts>, Global>, AllocError> {
+    match Arc::new(alloc, Mutex::new(RefusedCounts::new())) {
+        Ok(refused) => Ok(refused),
         Err(_) => Err(AllocError),
     }
 }
@@ -304,14 +318,30 @@ impl<R: Net + Files<File = File> + AllocGlobal + Clock + Threads + Wait + Drop> 
         self.told.take()
     }
 
-    /// Whether the folder of the kept conferences is another server's.
+    /// Why nothing more may be sent, where the folder of the kept conferences is another server's, or that can't be
+    /// told.
+    pub fn lost(&self) -> Option<KeepFault> {
+        *self.lost.lock(&self.rt)
+    }
+
+    /// Whether that is so.
     pub fn is_lost(&self) -> bool {
-        self.is_lost.load(Ordering::SeqCst)
+        self.lost().is_some()
     }
 
     /// Whether conferences are kept.
     pub fn keeps(&self) -> bool {
         self.lasting.folder.is_some()
+    }
+
+    /// How many were refused at the doors.
+    pub fn refused_at_doors(&self) -> RefusedCounts {
+        *self.refused.lock(&self.rt)
+    }
+
+    /// Tells the log, where there is one.
+    pub fn tell(&self, entry: &Entry) {
+        tell(&self.rt, &self.log, entry);
     }
 
     /// Waits until the threads of the loops have ended, behind a stop.
@@ -368,7 +398,7 @@ impl<R: Net + Files<File = File> + AllocGlobal + Clock + Threads + Wait + Drop> 
 
     /// Opens one conference, in the loop whose turn it is.
     pub fn open_one(&mut self, fresh: Fresh) -> Result<(), BoardRefusal> {
-        let conference = fresh.config.conference();
+        let conference = fresh.config().conference();
         let asked = self.opening_of(fresh)?;
         let next = self.next_loop(0);
         match self.ask_at(next, asked) {
@@ -381,12 +411,12 @@ impl<R: Net + Files<File = File> + AllocGlobal + Clock + Threads + Wait + Drop> 
     /// What is asked of a loop that is to open a conference: its ports are listened on, and there is room for it.
     /// One that the folder has or had is used.
     pub fn opening_of(&mut self, fresh: Fresh) -> Result<Asked, BoardRefusal> {
-        let conference = fresh.config.conference();
+        let conference = fresh.config().conference();
         if self.owner(conference).is_some() || self.is_taken(conference) {
             return Err(BoardRefusal::Used);
         }
         self.reserve_owner()?;
-        match self.listen_all(&fresh.config) {
+        match self.listen_all(fresh.config()) {
             Ok(ports) => Ok(Asked::Open { fresh, ports }),
             Err(reason) => Err(self.refuse(reason)),
         }
@@ -496,8 +526,8 @@ impl<R: Net + Files<File = File> + AllocGlobal + Clock + Threads + Wait + Drop> 
         }
         one.mailbox.ask(&self.rt, asked);
         let answer = one.mailbox.answer(&self.rt);
-        if matches!(answer, Some(Answer::Lost)) {
-            self.lose();
+        if let Some(Answer::Lost(fault)) = &answer {
+            self.lose(*fault);
         }
         answer
     }
@@ -514,9 +544,11 @@ impl<R: Net + Files<File = File> + AllocGlobal + Clock + Threads + Wait + Drop> 
         self.last_of(self.loops.get(place)?)
     }
 
-    /// Takes it that the folder of the kept conferences is another server's: nothing is asked of the loops any more.
-    pub fn lose(&self) {
-        self.is_lost.store(true, Ordering::SeqCst);
+    /// Takes it that the folder of the kept conferences is another server's, or that that can't be told: nothing is
+    /// asked of the loops any more. The first fault stands.
+    pub fn lose(&self, fault: KeepFault) {
+        let mut lost = self.lost.lock(&self.rt);
+        *lost = lost.or(Some(fault));
     }
 
     /// Asks the loop of a conference, and waits for its answer.
@@ -628,8 +660,8 @@ impl<R: Net + Files<File = File> + AllocGlobal + Clock + Threads + Wait + Drop> 
             return None;
         }
         let answer = one.mailbox.answer(&self.rt);
-        if matches!(answer, Some(Answer::Lost)) {
-            self.lose();
+        if let Some(Answer::Lost(fault)) = &answer {
+            self.lose(*fault);
         }
         answer
     }
@@ -709,6 +741,7 @@ impl<R: Net + Files<File = File> + AllocGlobal + Clock + Threads + Wait + Drop> 
     }
 
     fn stop(&mut self) -> Result<Stopped, StopRefusal> {
+        self.tell(&Entry::Stopping);
         // Behind the doors nobody comes to a loop that ends.
         self.end_doors();
         let outcome = self.stop_all();

@@ -8,13 +8,15 @@ ghost use Rattle.floor_loop.specs.Written.{Took, TookNothing};
 ghost use Rattle.floor_poll.specs.Ends.{IsLetGo};
 
 use crate::away::Closed;
-use crate::connection::{Connection, Found, Written, shut_down};
+use crate::connection::Connection;
 use crate::departure::{End, departure_of};
 use crate::keeping::MaySend;
 use crate::worker::Worker;
 use floor_loop::{ConnNo, HubRefusal, Loop};
 use floor_room::Phase;
-use floor_server::{Departure, Peer};
+use floor_server::{Departure, Entry, Peer};
+use floor_streams::{Found, Written, shut_down, write_once};
+use std::mem;
 use std::sync::Wait;
 use std::time::{Clock, Instant};
 
@@ -26,12 +28,15 @@ const GROUP: u32 = 8;
 
 const MAX_GROUPS: u32 = 7;
 
+/// How many bytes a connection has sent at most until they are counted as its conference's.
+const MAX_UNCOUNTED: u64 = 65_536;
+
 /// How long a turn takes until no further messages are served, in microseconds.
 const MAX_TURN_MICROS: u128 = 1_000;
 
 impl<R: Clock + Wait + Copy + Drop> Worker<R> {
-    /// Has a connection served, each once. There is room for each since it was accepted; without it the
-    /// connection is given up.
+    /// Has a connection served, each once; one whose last turn was long behind the others. There is room for each
+    /// since it was accepted; without it the connection is given up.
     pub fn queue(&mut self, number: ConnNo) {
         let Some(connection) = self.connections.get_mut(&number) else {
             return;
@@ -39,21 +44,35 @@ impl<R: Clock + Wait + Copy + Drop> Worker<R> {
         if connection.is_queued {
             return;
         }
-        match self.turns.push_back(number) {
+        let put = if connection.is_long {
+            self.long_turns.push_back(number)
+        } else {
+            self.turns.push_back(number)
+        };
+        match put {
             Ok(()) => connection.is_queued = true,
             Err(_) => self.fail(number),
         }
     }
 
-    /// Gives each that is to be served a turn.
+    /// Gives each that is to be served a turn, but of those whose last turn was long only one: the others wait until
+    /// what has become ready meanwhile was served, so that nobody waits for all of them.
     pub fn serve_turns(&mut self) {
         for _ in 0..self.turns.len() {
-            let Some(number) = self.turns.pop_front() else {
-                return;
-            };
-            self.serve_turn(number);
-            self.write_turn();
+            match self.turns.pop_front() {
+                Some(number) => self.give_turn(number),
+                None => break,
+            }
         }
+        if let Some(number) = self.long_turns.pop_front() {
+            self.give_turn(number);
+        }
+    }
+
+    /// Gives one a turn.
+    fn give_turn(&mut self, number: ConnNo) {
+        self.serve_turn(number);
+        self.write_turn();
     }
 
     /// Reads once from a connection, and serves what came; or goes on where a turn has left something over.
@@ -72,9 +91,33 @@ impl<R: Clock + Wait + Copy + Drop> Worker<R> {
         if connection.has_more {
             let served = self.serve_messages(number, 0);
             self.go_on(number, served);
+        } else if connection.is_too_long {
+            self.hear_out(number);
+            self.note_end(number, End::TooLong);
         } else if connection.is_readable {
-            let found = connection.read(self.buffer.as_mut_slice());
+            let found = connection.read(self.buffer.as_mut_slice(), self.longest);
+            if MAX_UNCOUNTED <= connection.received {
+                let received = mem::replace(&mut connection.received, 0);
+                let conference = connection.peer.to.conference;
+                self.count_received(conference, received);
+            }
             self.serve_found(number, found);
+        }
+    }
+
+    /// Counts bytes that the members of a conference have sent, and tells the log where they are many.
+    fn count_received(&mut self, conference: u32, bytes: u64)
+        ensures hub { self.new.hub ≡ self.old.hub }
+        ensures stopping { self.new.is_stopping ≡ self.old.is_stopping }
+    {
+        let Some(places) = self.conferences.get_mut(&conference) else {
+            return;
+        };
+        if let Some(megabytes) = places.receive(bytes) {
+            self.tell(&Entry::Large {
+                conference,
+                megabytes,
+            });
         }
     }
 
@@ -86,6 +129,7 @@ impl<R: Clock + Wait + Copy + Drop> Worker<R> {
                 self.go_on(number, served);
             }
             Found::Nothing => self.go_on(number, Ok(false)),
+            Found::End if self.has_failed(number) => self.fail(number),
             Found::End => {
                 self.hear_out(number);
                 let held = self.hub.held_len(number);
@@ -128,18 +172,17 @@ impl<R: Clock + Wait + Copy + Drop> Worker<R> {
         let served = hand_in(&mut self.hub, number, &self.buffer, count, first, self.now);
         self.note_messages(before);
         let mut more = served?;
-        let mut is_long = false;
+        let mut is_long = took_long(&self.rt, begun);
         for _ in 0..MAX_GROUPS {
-            if !more {
-                break;
-            }
-            is_long = took_long(&self.rt, begun);
-            if is_long {
+            if !more || is_long {
                 break;
             }
             more = self.serve_group(number, &[], GROUP)?;
+            is_long = took_long(&self.rt, begun);
         }
-        self.note_long(number, is_long);
+        if is_long != (first < FIRST) {
+            self.note_long(number, is_long);
+        }
         Ok(more)
     }
 
@@ -175,7 +218,11 @@ impl<R: Clock + Wait + Copy + Drop> Worker<R> {
         if bytes.is_empty() {
             return;
         }
-        let served = self.serve_group(number, bytes, FIRST);
+        let Some(connection) = self.connections.get_mut(&number) else {
+            return;
+        };
+        let count = connection.pass(bytes, self.longest);
+        let served = self.serve_group(number, bytes.get(..count).unwrap_or(&[]), FIRST);
         self.go_on(number, served);
     }
 
@@ -189,8 +236,7 @@ impl<R: Clock + Wait + Copy + Drop> Worker<R> {
                 connection.has_more = more;
                 if more || connection.is_readable {
                     self.queue(number);
-                }
-                if !more && self.has_failed(number) {
+                } else if connection.has_failed {
                     self.fail(number);
                 }
             }
@@ -239,22 +285,12 @@ impl<R: Clock + Wait + Copy + Drop> Worker<R> {
         let before = self.before_of(number);
         let is_written = self.write_whole(number, may);
         self.note_taken(before);
-        if !is_written || (self.hub.until(number).is_none() && !self.has_failed(number)) {
+        if !is_written || self.hub.until(number).is_none() {
             return;
         }
         if self.keeps() {
             self.put_over(number);
         } else {
-            self.finish(number);
-        }
-    }
-
-    /// Serves what came from a connection whose socket has failed, and shuts it down where it is to be.
-    pub fn finish(&mut self, number: ConnNo) {
-        if self.has_failed(number) {
-            self.fail(number);
-        }
-        if self.hub.until(number).is_some() {
             self.end(number);
         }
     }
@@ -266,20 +302,22 @@ impl<R: Clock + Wait + Copy + Drop> Worker<R> {
             self.hub.discard(number);
             return true;
         };
-        if connection.has_failed && connection.has_more {
-            return false;
+        if connection.has_failed {
+            return true;
         }
         connection.is_blocked = false;
         for _ in 0..u64::MAX {
-            match write_once(&mut self.hub, connection, number, self.now) {
+            match write_once(&mut self.hub, &mut connection.stream, number, self.now) {
                 Written::All => break,
                 Written::Bytes(_) => {}
-                Written::Nothing => return false,
+                Written::Nothing => {
+                    connection.is_blocked = true;
+                    return false;
+                }
                 Written::Failure => {
-                    connection.end = connection.end.or(Some(End::Failure));
-                    connection.has_failed = true;
-                    // What it has sent is served turn by turn before it is shut down.
-                    return !connection.has_more;
+                    connection.note_failure();
+                    self.queue(number);
+                    break;
                 }
             }
         }
@@ -352,6 +390,7 @@ impl<R: Clock + Wait + Copy + Drop> Worker<R> {
         if let Some(places) = self.conferences.get_mut(&to.conference) {
             places.give_back(to.user);
         }
+        self.count_received(to.conference, connection.received);
         Some(Closed {
             peer: connection.peer,
             n: connection.n,
@@ -389,16 +428,6 @@ impl<R: Clock + Wait + Copy + Drop> Worker<R> {
             None => {}
         }
     }
-}
-
-/// Writes once what is to be written to a connection, and takes it that its socket took so much of it.
-fn write_once(hub: &mut Loop, connection: &mut Connection, number: ConnNo, now: u64) -> Written {
-    let written = connection.write(hub.writing(number));
-    match written {
-        Written::Bytes(count) => hub.wrote(number, count, now),
-        _ => {}
-    }
-    written
 }
 
 /// Hands the first so many bytes of a buffer in, as they came from a connection, and serves so many messages.

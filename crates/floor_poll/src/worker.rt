@@ -12,7 +12,7 @@ use crate::mailbox::{Answer, Mailbox, Report};
 use crate::places::Places;
 use crate::port::Port;
 use floor_control::Metrics;
-use floor_keep::{Folder, Keeper};
+use floor_keep::{Folder, KeepFault, Keeper};
 use floor_loop::{ConnNo, Grace, Loop};
 use floor_room::Phase;
 use floor_server::{Entry, Log};
@@ -53,8 +53,9 @@ pub struct Worker<R> {
     /// The number of the last port, which is odd.
     pub last_port: u64,
     pub connections: IndexMap<ConnNo, Connection>,
-    /// Who is to be served, each once.
+    /// Who is to be served, each once, and in the second line whose last turn was long.
     pub turns: VecDeque<ConnNo>,
+    pub long_turns: VecDeque<ConnNo>,
     /// The ports at which somebody may still wait, and when they are looked at again.
     pub waiting: VecDeque<u64>,
     pub again: Option<u64>,
@@ -67,6 +68,8 @@ pub struct Worker<R> {
     pub lasts: bool,
     /// Whether a connection that ended in order is lost too.
     pub is_for_all: bool,
+    /// How many bytes a message has at most.
+    pub longest: u32,
     /// Who is away.
     pub away: IndexMap<ConnNo, Away>,
     /// The files of the conferences, where they are kept.
@@ -78,8 +81,8 @@ pub struct Worker<R> {
     pub over: VecDeque<ConnNo>,
     /// What waits to be told until the turn is kept.
     pub held: VecDeque<Held>,
-    /// Whether the folder of the kept conferences is another server's.
-    pub is_lost: bool,
+    /// Why nothing more may be sent: the folder of the kept conferences is another server's, or that can't be told.
+    pub lost: Option<KeepFault>,
     pub joined: usize,
     /// What the first thread is told by, where it serves a control socket.
     pub inbox: Option<Arc<Inbox, Global>>,
@@ -112,6 +115,7 @@ impl<R: Clock + Drop> Worker<R> {
     ) -> Worker<R> {
         let lasts = lasting.is_asked();
         let Lasting {
+            longest,
             grace,
             is_for_all,
             folder,
@@ -126,18 +130,20 @@ impl<R: Clock + Drop> Worker<R> {
             stops_by: 0,
             lasts,
             is_for_all,
+            longest,
             away: IndexMap::new(alloc),
             keeper: keeper_of(folder),
             changed: VecDeque::new(alloc),
             unblocked: VecDeque::new(alloc),
             over: VecDeque::new(alloc),
             held: VecDeque::new(alloc),
-            is_lost: false,
+            lost: None,
             conferences: IndexMap::new(alloc),
             ports: IndexMap::new(alloc),
             last_port: WAKER.0 as u64 + 1,
             connections: IndexMap::new(alloc),
             turns: VecDeque::new(alloc),
+            long_turns: VecDeque::new(alloc),
             waiting: VecDeque::new(alloc),
             again: None,
             buffer,
@@ -174,7 +180,7 @@ impl<R: Clock + Drop> Worker<R> {
 
     /// How long it waits for its sockets at most: not at all while somebody is to be served, or answered.
     fn patience(&mut self) -> Option<Duration> {
-        if !self.turns.is_empty() || self.has_asks {
+        if !self.turns.is_empty() || !self.long_turns.is_empty() || self.has_asks {
             return Some(Duration::ZERO);
         }
         let next = earlier(self.next_due(), earlier(self.again, self.next_keep()))?;
@@ -259,15 +265,15 @@ impl<R: Files<File = File> + Clock + Wait + Copy + Drop> Worker<R> {
     fn is_over(&mut self, mailbox: &Mailbox) -> bool {
         if self.is_stopping && self.connections.is_empty() {
             self.keep_last();
-            if !self.is_lost {
+            if self.lost.is_none() {
                 mailbox.reply(&self.rt, Answer::Stopped(self.report()));
                 return true;
             }
         }
-        if self.is_lost {
-            self.tell_lost(mailbox);
+        if let Some(fault) = self.lost {
+            self.tell_lost(mailbox, fault);
         }
-        self.is_lost
+        self.lost.is_some()
     }
 }
 

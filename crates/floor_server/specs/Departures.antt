@@ -30,6 +30,7 @@ abbrev pub name_of_departure : Departure → List ℕ
 name_of_departure left.EndOfStream = codes "EndOfStream"
 name_of_departure left.InsideMessage = codes "InsideMessage"
 name_of_departure left.Reset = codes "Reset"
+name_of_departure left.TooLong = codes "TooLong"
 name_of_departure (left.Message refusal) = name_of refusal
 name_of_departure left.Slow = codes "Slow"
 name_of_departure left.Closed = codes "Closed"

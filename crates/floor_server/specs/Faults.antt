@@ -33,6 +33,7 @@ fault_of_stop (stop.Mismatch conference n) = Mismatch
 -- the fault of a server that can't keep its conferences
 abbrev pub fault_of_keeping : KeepFault → ServerFault
 fault_of_keeping keep.CannotKeep = CannotKeep
+fault_of_keeping keep.Descriptors = CannotKeep
 fault_of_keeping keep.Lost = Lost
 fault_of_keeping keep.Memory = Memory
 

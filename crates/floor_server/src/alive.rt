@@ -1,4 +1,5 @@
-//! What the system is asked of an accepted socket, so that a link that is cut without a word is lost before long.
+//! What the system is asked of an accepted socket, so that a link that is cut without a word is lost before long,
+//! and a peer that is slow never.
 
 use libc::net::{
     IPPROTO_TCP, SO_KEEPALIVE, SOL_SOCKET, TCP_KEEPCNT, TCP_KEEPIDLE, TCP_KEEPINTVL,
@@ -15,17 +16,26 @@ const INTERVAL_SECONDS: u32 = 5;
 /// After how many unanswered questions the connection is lost.
 const QUESTIONS: u32 = 3;
 
-/// How long what was sent may stay unacknowledged by the peer's system, in milliseconds.
+/// Linux's TCP_RTO_MAX_MS, of version 6.15 and later.
+const TCP_RTO_MAX_MS: i32 = 44;
+
+/// How long the system waits at most until it sends again what isn't acknowledged, or asks again for a window, in
+/// milliseconds. It gives a connection up once 15 of these in turn have no answer (`net.ipv4.tcp_retries2`): 33 seconds
+/// after the first, the first of them being closer together. A peer that reads nothing answers each.
+const MAX_RETRANSMISSION_MILLIS: u32 = 2_500;
+
+/// Where the system has no such bound: how long what was sent may stay unacknowledged, or the peer's window closed,
+/// in milliseconds. Otherwise a peer that is gone would be lost after a quarter of an hour.
 const UNACKNOWLEDGED_MILLIS: u32 = 30_000;
 
-/// Has the system find out within half a minute that an accepted connection's peer is gone, and says whether it
-/// takes all of that. A socket that isn't of TCP is left as it was.
+/// Has the system find out within a minute that an accepted connection's peer is gone, and says whether it takes all
+/// of that. A socket that isn't of TCP is left as it was.
 pub fn keep_alive<S: AsRawFd>(socket: &S) -> bool {
     let socket = socket.as_raw_fd();
     set(socket, Asked::Idle)
         && set(socket, Asked::Interval)
         && set(socket, Asked::Questions)
-        && set(socket, Asked::Unacknowledged)
+        && (set(socket, Asked::Retransmission) || set(socket, Asked::Unacknowledged))
         && set(socket, Asked::Alive)
 }
 
@@ -35,6 +45,7 @@ enum Asked {
     Idle,
     Interval,
     Questions,
+    Retransmission,
     Unacknowledged,
     Alive,
 }
@@ -53,6 +64,10 @@ fn set(socket: i32, asked: Asked) -> bool {
         Asked::Questions => {
             let value = four(QUESTIONS);
             unsafe { setsockopt(socket, IPPROTO_TCP, TCP_KEEPCNT, &value, 4) }
+        }
+        Asked::Retransmission => {
+            let value = four(MAX_RETRANSMISSION_MILLIS);
+            unsafe { setsockopt(socket, IPPROTO_TCP, TCP_RTO_MAX_MS, &value, 4) }
         }
         Asked::Unacknowledged => {
             let value = four(UNACKNOWLEDGED_MILLIS);

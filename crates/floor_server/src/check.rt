@@ -12,10 +12,12 @@ use crate::words::Program;
 use floor_config::{Config, User};
 use floor_diagnosis::unknown_keys;
 use floor_keep::{
-    CheckFault, KeepReason, Keeping, NotAJournal, check_kept, list_folder, name_folder,
+    CheckFault, Folder, KeepReason, Keeping, KeptPort, NotAJournal, check_kept, list_folder,
+    lock_folder, name_folder,
 };
 use floor_listen::{Ending, ServerFault, listening_address};
 use std::alloc::{AllocError, Global};
+use std::fs::File;
 use std::io::Write;
 use std::net::{Net, TcpListener, TcpStream};
 use std::rt::Files;
@@ -36,19 +38,17 @@ pub fn check_configuration<
     }
 }
 
-/// Reads each file of a folder of kept conferences as a start of the program does, runs its events, and prints each
-/// fault with its name. Nothing is changed, so a server may have the folder. Gives the ending of a check that has
-/// come to one already, or else that of the first fault.
-pub fn check_keeping<R: Files, O: Write>(
-    rt: &R,
-    alloc: Global,
-    keeping: &Keeping,
-    so_far: Ending,
-    output: &mut O,
-) -> Ending
+/// Tries a folder of kept conferences as a start of the program does: its lock, whether it can be written, its epoch,
+/// each file, whose events are run, and the ports of its users; and prints each fault with its name. The folder and its
+/// files stay as they are. Beside a server that has the folder its lock is a fault, and the rest is tried. Gives the
+/// ending of a check that has come to one already, or else that of the first fault.
+pub fn check_keeping<
+    R: Net<Listener = TcpListener, Stream = TcpStream> + Files<File = File>,
+    O: Write,
+>(rt: &R, alloc: Global, keeping: &Keeping, so_far: Ending, output: &mut O) -> Ending
     ensures { so_far ≢ InOrder → result ≡ so_far }
 {
-    let found = match check_kept_files(rt, alloc, keeping, output) {
+    let found = match check_folder(rt, alloc, keeping, output) {
         Ok(None) => Ending::InOrder,
         Ok(Some(fault)) | Err(fault) => Ending::Fault(fault),
     };
@@ -58,22 +58,42 @@ pub fn check_keeping<R: Files, O: Write>(
     }
 }
 
-/// The first fault of a folder's files, all of which are printed; an `Err` where they can't be.
-fn check_kept_files<R: Files, O: Write>(
+/// The first fault of a folder and its files, all of which are printed; an `Err` where they can't be.
+fn check_folder<R: Net<Listener = TcpListener, Stream = TcpStream> + Files<File = File>, O: Write>(
     rt: &R,
     alloc: Global,
     keeping: &Keeping,
     output: &mut O,
 ) -> Result<Option<ServerFault>, ServerFault> {
-    let folder = name_folder(alloc, keeping)?;
-    let listing = match list_folder(rt, alloc, &folder) {
-        Ok(listing) => listing,
-        Err(reason) => return tell_reason(alloc, output, &reason),
+    let held = match lock_folder(rt, alloc, keeping) {
+        Ok(_held) => None,
+        Err(reason) => tell_reason(alloc, output, &reason)?,
     };
+    let folder = name_folder(alloc, keeping)?;
+    match list_folder(rt, alloc, &folder) {
+        Ok(listing) => {
+            let found = check_files(rt, alloc, &folder, listing.journals(), output)?;
+            Ok(held.or(found))
+        }
+        Err(_) if held.is_some() => Ok(held),
+        Err(reason) => tell_reason(alloc, output, &reason),
+    }
+}
+
+/// The first fault of the files of these conferences, all of which are printed. Each port is held until all were tried,
+/// since two files may have the same.
+fn check_files<R: Net<Listener = TcpListener, Stream = TcpStream> + Files<File = File>, O: Write>(
+    rt: &R,
+    alloc: Global,
+    folder: &Folder,
+    conferences: &[u32],
+    output: &mut O,
+) -> Result<Option<ServerFault>, ServerFault> {
+    let mut listeners = Vec::new(alloc);
     let mut first = None;
-    for conference in listing.journals() {
-        let found = match check_kept(rt, alloc, &folder, *conference) {
-            Ok(()) => None,
+    for conference in conferences {
+        let found = match check_kept(rt, alloc, folder, *conference) {
+            Ok(ports) => listen_all(rt, alloc, *conference, &ports, &mut listeners, output)?,
             Err(CheckFault::Refused(reason)) => tell_reason(alloc, output, &reason)?,
             Err(CheckFault::NotAJournal(at, line)) => {
                 let told = not_a_journal(alloc, folder.path(), at, line.as_str())?;
@@ -82,6 +102,30 @@ fn check_kept_files<R: Files, O: Write>(
             }
         };
         first = first.or(found);
+    }
+    Ok(first)
+}
+
+/// Tries the ports of a kept conference, and holds those that can be had. The first fault is given, each is printed.
+fn listen_all<R: Net<Listener = TcpListener, Stream = TcpStream>, O: Write>(
+    rt: &R,
+    alloc: Global,
+    conference: u32,
+    ports: &[KeptPort],
+    listeners: &mut Vec<TcpListener>,
+    output: &mut O,
+) -> Result<Option<ServerFault>, ServerFault> {
+    let mut first = None;
+    for one in ports {
+        match TcpListener::bind(rt, listening_address(one.port)) {
+            Ok(listener) => listeners.push(listener)?,
+            Err(error) => {
+                let fault = PortFault::System(error);
+                let reason = fault.reason(alloc, conference, one.user, one.port);
+                let found = tell(alloc, output, &reason)?;
+                first = first.or(found);
+            }
+        }
     }
     Ok(first)
 }

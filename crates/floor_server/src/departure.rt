@@ -65,6 +65,8 @@ pub enum Departure {
     InsideMessage,
     /// A read failed, as where the peer resets the connection.
     Reset,
+    /// It began a message that is longer than the server takes.
+    TooLong,
     /// The conference refused a message.
     Message(RoomRefusal),
     /// It was cut, since it had more than 1,024 messages not acknowledged.
@@ -94,6 +96,7 @@ impl Departure {
             Departure::EndOfStream => "EndOfStream",
             Departure::InsideMessage => "InsideMessage",
             Departure::Reset => "Reset",
+            Departure::TooLong => "TooLong",
             Departure::Message(refusal) => refusal.name(),
             Departure::Slow => "Slow",
             Departure::Closed => "Closed",

@@ -4,7 +4,7 @@ ghost use Rattle.std.specs.Prelude.{◌≡◌};
 ghost use Rattle.floor_server.specs.Doors.{name_of_door};
 
 use crate::departure::{Departure, Refused};
-use floor_keep::{Left, Unkept};
+use floor_keep::{KeepFault, Left, Unkept};
 use std::alloc::{AllocError, Global};
 
 /// What became of a conference, a port or a connection.
@@ -78,6 +78,11 @@ pub enum Entry {
         user: u16,
         n: u32,
     },
+    /// The members of a conference have sent so many megabytes, which is a hundred more than was told before.
+    Large {
+        conference: u32,
+        megabytes: u64,
+    },
     /// A conference isn't kept any more.
     Unkept(Unkept),
     /// A conference goes on from its file, which has so many events. So many bytes of a last line that lacked its end
@@ -95,6 +100,10 @@ pub enum Entry {
     WasClosed {
         conference: u32,
     },
+    /// A conference of the configuration isn't opened, since it has a file from which it doesn't go on. Why was told.
+    NotOpened {
+        conference: u32,
+    },
     /// A conference's file is none: the conference isn't opened.
     NotAJournal {
         conference: u32,
@@ -103,8 +112,45 @@ pub enum Entry {
         /// The number of the line; 0 for the head.
         line: usize,
     },
-    /// The folder of kept conferences is another server's now.
-    Lost,
+    /// The folder of kept conferences is another server's now, or that can't be told: nothing more is sent.
+    Lost(KeepFault),
+    /// An administrator has done something in a conference, which is the event of this place.
+    Did {
+        conference: u32,
+        act: Did,
+        place: u32,
+    },
+    /// An administrator has a word kept beside a conference.
+    WordKept {
+        conference: u32,
+    },
+    /// An administrator has a word taken away.
+    WordRemoved {
+        conference: u32,
+    },
+    /// An administrator has a conference forgotten.
+    Forgotten {
+        conference: u32,
+    },
+    /// An administrator has no conference opened any more.
+    Draining,
+    /// The server stops.
+    Stopping,
+}
+
+/// What an administrator has done in a conference.
+#[derive(Clone, Copy, Debug, PartialEq, Eq)]
+pub enum Did {
+    /// A floor request was revoked.
+    Revoked(u16),
+    /// A user was added.
+    UserAdded(u16),
+    /// A floor was added.
+    FloorAdded(u16),
+    /// A floor has this chair, or none.
+    ChairSet { floor: u16, chair: Option<u16> },
+    /// A member was shown out.
+    ShownOut(u32),
 }
 
 /// A port that is no user's.
@@ -196,6 +242,10 @@ impl Entry {
                 user,
                 n,
             } => format!(in alloc; "conference {conference} user {user} member {n} gone"),
+            Entry::Large {
+                conference,
+                megabytes,
+            } => format!(in alloc; "conference {conference} received {megabytes} MB"),
             Entry::Unkept(unkept) => of_unkept(alloc, unkept),
             Entry::Resumed {
                 conference,
@@ -208,14 +258,50 @@ impl Entry {
             Entry::WasClosed { conference } => {
                 format!(in alloc; "conference {conference} was closed")
             }
+            Entry::NotOpened { conference } => {
+                format!(in alloc; "conference {conference} is not opened")
+            }
             Entry::NotAJournal {
                 conference,
                 place,
                 line,
             } => format!(in alloc; "conference {conference} NotAJournal {place} line {line}"),
-            Entry::Lost => String::from_str(alloc, "folder lost"),
+            Entry::Lost(KeepFault::Lost) => String::from_str(alloc, "folder lost"),
+            Entry::Lost(fault) => format!(in alloc; "folder {}", fault.name()),
+            Entry::Did {
+                conference,
+                act,
+                place,
+            } => of_act(alloc, *conference, *act, *place),
+            Entry::WordKept { conference } => {
+                format!(in alloc; "conference {conference} word kept")
+            }
+            Entry::WordRemoved { conference } => {
+                format!(in alloc; "conference {conference} word removed")
+            }
+            Entry::Forgotten { conference } => {
+                format!(in alloc; "conference {conference} forgotten")
+            }
+            Entry::Draining => String::from_str(alloc, "draining"),
+            Entry::Stopping => String::from_str(alloc, "stopping"),
         }
     }
+}
+
+/// What an administrator has done.
+fn of_act(alloc: Global, conference: u32, act: Did, place: u32) -> Result<String, AllocError> {
+    let told = match act {
+        Did::Revoked(request) => format!(in alloc; "request {request} revoked"),
+        Did::UserAdded(user) => format!(in alloc; "user {user} added"),
+        Did::FloorAdded(floor) => format!(in alloc; "floor {floor} added"),
+        Did::ChairSet {
+            floor,
+            chair: Some(user),
+        } => format!(in alloc; "floor {floor} chair {user}"),
+        Did::ChairSet { floor, chair: None } => format!(in alloc; "floor {floor} chair -"),
+        Did::ShownOut(n) => format!(in alloc; "member {n} shown out"),
+    }?;
+    format!(in alloc; "conference {conference} {} at {place}", told.as_str())
 }
 
 fn of_port(alloc: Global, at: &UserPort, told: &str) -> Result<String, AllocError> {
@@ -245,7 +331,9 @@ fn of_unkept(alloc: Global, unkept: &Unkept) -> Result<String, AllocError> {
         Left::Renamed => "renamed",
         Left::Spoiled => "spoiled",
         Left::Emptied => "emptied",
+        Left::Resumes => "resumes",
         Left::Stands => "stands",
+        Left::Missing => "missing",
     };
     format!(in alloc; "conference {conference} unkept {cause} file {left}")
 }

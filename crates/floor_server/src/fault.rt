@@ -41,7 +41,7 @@ pub fn fault_of_keeping(fault: KeepFault) -> ServerFault
     ensures value { result ≡ fault_of_keeping fault }
 {
     match fault {
-        KeepFault::CannotKeep => ServerFault::CannotKeep,
+        KeepFault::CannotKeep | KeepFault::Descriptors => ServerFault::CannotKeep,
         KeepFault::Lost => ServerFault::Lost,
         KeepFault::Memory => ServerFault::Memory,
     }

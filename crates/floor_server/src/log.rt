@@ -4,6 +4,7 @@ ghost use Rattle.std.specs.Prelude.{◌≡◌, ◌++◌, ◌∷◌, [], Contains
 
 use crate::departure::Departure;
 use crate::entry::{Entry, Peer};
+use floor_keep::KeepReason;
 use std::alloc::Global;
 use std::io::Write;
 use std::sync::{Arc, Mutex, Wait};
@@ -12,8 +13,8 @@ use std::time::Clock;
 
 /// The log, which the threads of a server share.
 ///
-/// `start` begins it, `tell`, `tell_broken` and `tell_left` tell a line, without waiting for the sink, and
-/// `end` ends it. What is told behind the end is told to nobody.
+/// `start` begins it, `tell`, `tell_unopened`, `tell_broken` and `tell_left` tell a line, without waiting for the
+/// sink, and `end` ends it. What is told behind the end is told to nobody.
 #[derive(Drop)]
 pub struct Log {
     alloc: Global,
@@ -39,6 +40,14 @@ impl Log {
     /// Tells what became of a conference, a port or a connection.
     pub fn tell<R: Wait + Clock>(&self, rt: &R, entry: &Entry) {
         self.lines.tell(rt, entry.text(self.alloc));
+    }
+
+    /// Tells why a conference isn't opened whose file can't be had.
+    pub fn tell_unopened<R: Wait + Clock>(&self, rt: &R, conference: u32, reason: &KeepReason) {
+        let name = reason.fault.name();
+        let line = reason.line.as_ref().map_or("", |line| line.as_str());
+        let text = format!(in self.alloc; "conference {conference} {name} {line}");
+        self.lines.tell(rt, text);
     }
 
     /// Tells that a conference is broken off, once.

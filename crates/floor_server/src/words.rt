@@ -11,7 +11,7 @@ use floor_keep::{Keeping, Syncing};
 use std::alloc::{AllocError, Global};
 
 /// The version, and the logic that the programs are proved with.
-const VERSION: &str = "0.1.0 (logic dac8208d650f15bf)";
+const VERSION: &str = "0.2.0 (logic dac8208d650f15bf)";
 
 /// What the administrator's lines are, below the help of the words.
 const LINES: &str = "\
@@ -46,6 +46,12 @@ Exit status:
 /// How many event loops a program has at most: more than machines have processors for them.
 pub const MAX_LOOPS: u8 = 64;
 
+/// How many bytes a message has at least: those of its header (RFC 8855, section 5.1).
+const MIN_LONGEST: u32 = 12;
+
+/// How many bytes a message has at most: those of its header, and 65,535 times 4.
+pub const MAX_LONGEST: u32 = 262_152;
+
 /// How many seconds a member outlives its connection at most: whoever comes back later has been given up.
 pub const MAX_GRACE: u64 = 600;
 
@@ -62,7 +68,7 @@ pub struct Program {
     pub name: &'static str,
     /// What it does, a sentence of its help.
     pub about: &'static str,
-    /// Whether it serves by event loops, so that `--loops`, `--door`, `--door-by-id`, `--health`,
+    /// Whether it serves by event loops, so that `--loops`, `--longest`, `--door`, `--door-by-id`, `--health`,
     /// `--control`, `--grace`, `--keep` and what goes with these are of its words, and goes by `conference.connections`.
     pub by_loops: bool,
 }
@@ -87,6 +93,9 @@ pub struct Words {
     /// How many event loops are asked for, 1 to 64; `None` where nothing is said of them, or the program has
     /// no such word.
     pub loops: Option<u8>,
+    /// How many bytes a message may have, 12 to 262,152; 262,152 where nothing is said of that, or the program has no
+    /// such word.
+    pub longest: u32,
     /// The doors that are asked for.
     pub doors: Vec<Door>,
     /// The path of the control socket, where one is asked for.
@@ -127,6 +136,7 @@ fn parsed(alloc: Global, words: &[String], program: &Program) -> Result<Words, E
         path: String::from_str(alloc, path)?,
         has_log: matches.get_flag("log"),
         loops: matches.get_one::<u8>("loops"),
+        longest: matches.get_one::<u32>("longest").unwrap_or(MAX_LONGEST),
         doors: doors_of(alloc, &matches)?,
         control: control_of(alloc, &matches)?,
         grace: matches.get_one::<u64>("grace").unwrap_or(0),
@@ -206,7 +216,8 @@ fn command<'a>(alloc: Global, program: &Program) -> Result<Command<'a>, Error> {
         .arg(check)?
         .arg(log)?;
     let command = if program.by_loops {
-        let command = with_doors(alloc, command.arg(loops(alloc))?)?;
+        let command = command.arg(loops(alloc))?.arg(longest(alloc))?;
+        let command = with_doors(alloc, command)?;
         with_keeping(alloc, with_grace(alloc, command)?)?
     } else {
         command
@@ -312,6 +323,18 @@ fn loops<'a>(alloc: Global) -> Arg<'a> {
         .action(ArgAction::Set)
         .value_parser(ValueParser::unsigned(1, u64::from(MAX_LOOPS)))
         .help("How many event loops serve, 1 to 64; else one for each processor, at most 4")
+}
+
+/// How long a message may be.
+fn longest<'a>(alloc: Global) -> Arg<'a> {
+    Arg::new(alloc, "longest")
+        .long("longest")
+        .value_name("bytes")
+        .action(ArgAction::Set)
+        .value_parser(ValueParser::unsigned(u64::from(MIN_LONGEST), u64::from(MAX_LONGEST)))
+        .help(
+            "How many bytes a message may have, 12 to 262152; a longer one ends its connection; else all that the protocol has",
+        )
 }
 
 /// The task of a run that is a check, or isn't.

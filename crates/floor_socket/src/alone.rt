@@ -3,7 +3,7 @@
 use floor_console::run_command;
 use floor_listen::ServerFault;
 use floor_poll::Server;
-use floor_server::{next_command, print, tell};
+use floor_server::{fault_of_keeping, next_command, print, tell};
 use std::alloc::Global;
 use std::fs::File;
 use std::io::{BufReader, Read, Write};
@@ -33,8 +33,8 @@ where
         let text = run_command(alloc, server, command)?;
         tell(errors, server.take_told());
         print(output, text.as_str())?;
-        if server.is_lost() {
-            return Err(ServerFault::Lost);
+        if let Some(fault) = server.lost() {
+            return Err(fault_of_keeping(fault));
         }
         if server.outcome().is_some() {
             break;

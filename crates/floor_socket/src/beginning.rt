@@ -14,6 +14,7 @@ use floor_control::{
 };
 use floor_loop::Act;
 use floor_poll::{Asked, Asker, Question, ended, no_counts};
+use floor_server::Entry;
 use std::alloc::{AllocError, Global};
 use std::fs::File;
 use std::net::Net;
@@ -334,10 +335,17 @@ where
             Err(refusal) => return Err(of_act(refusal)),
         };
         add_word_kept(&mut task.text, conference, key.as_str())?;
-        match value {
-            Some(value) => meeting.words.keep(key, value)?,
-            None => meeting.words.remove(key.as_str()),
-        }
+        let entry = match value {
+            Some(value) => {
+                meeting.words.keep(key, value)?;
+                Entry::WordKept { conference }
+            }
+            None => {
+                meeting.words.remove(key.as_str());
+                Entry::WordRemoved { conference }
+            }
+        };
+        self.server.tell(&entry);
         Ok(Step::End)
     }
 
@@ -354,6 +362,7 @@ where
     /// Opens no conference any more, and asks each loop, once, to tell once none of its own is open.
     fn drain(&mut self, task: &mut Task) -> Result<Step, ControlRefusal> {
         self.is_draining = true;
+        self.server.tell(&Entry::Draining);
         for place in self.asked_to_drain..self.server.loops() {
             self.send(place, Asker::Drain, Asked::Drain)?;
             self.asked_to_drain = place.saturating_add(1);

@@ -10,7 +10,7 @@ ghost use Rattle.floor_socket.specs.declared.client.Moved.TheVariants.{Bytes};
 
 use crate::replica::Replica;
 use crate::task::{Task, Went};
-use floor_control::Client;
+use floor_control::{Client, Notice};
 use indexmap::IndexMap;
 use mio::net::UnixStream;
 use std::alloc::{AllocError, Global};
@@ -19,6 +19,10 @@ use std::io::{ErrorKind, Read, Write};
 
 /// How many bytes are read at a time.
 pub const READ_LEN: usize = 4_096;
+
+/// How many notices wait for a client at most: our choice, some 100 kB of memory, and more members than are lost while
+/// it is told what stands before them.
+const MAX_NOTICES: usize = 4_096;
 
 /// How often what has come is read and thrown away before a socket is closed.
 const MAX_LAST_READS: u32 = 64;
@@ -45,6 +49,17 @@ pub struct Seat {
     is_hurried: bool,
     /// The conferences that it watches.
     pub watched: IndexMap<u32, ()>,
+    /// What it is to be told of them that is no event, once it was told what stands before that.
+    notices: VecDeque<Waiting>,
+}
+
+/// What a client is to be told of a conference that is no event.
+#[derive(Clone, Copy, Debug)]
+pub struct Waiting {
+    pub conference: u32,
+    /// Up to which place the client has to be told what is shown before this.
+    pub place: u64,
+    pub notice: Notice,
 }
 
 /// A conference that a client watches and is behind with.
@@ -137,7 +152,28 @@ impl Seat {
             behind: VecDeque::new(alloc),
             is_hurried: false,
             watched: IndexMap::new(alloc),
+            notices: VecDeque::new(alloc),
         }
+    }
+
+    /// Has it told something that is no event, where it watches the conference. A client for whom 4,096 wait, or for which
+    /// there is no memory, is to be closed.
+    pub fn notify(&mut self, waiting: Waiting) {
+        if self.watched.get(&waiting.conference).is_none() {
+            return;
+        }
+        let is_put = self.notices.len() < MAX_NOTICES && self.notices.push_back(waiting).is_ok();
+        self.has_failed = self.has_failed || !is_put;
+    }
+
+    /// How many of these wait.
+    pub fn notice_count(&self) -> usize {
+        self.notices.len()
+    }
+
+    /// The first of them, which doesn't wait any more.
+    pub fn next_notice(&mut self) -> Option<Waiting> {
+        self.notices.pop_front()
     }
 
     /// Whether it is the console.

@@ -281,14 +281,16 @@ where
                 conference,
                 user,
                 n,
-            } => self.tell_watchers(conference, Notice::Away { n, user }),
+                events,
+            } => self.notify(conference, u64::from(events), Notice::Away { n, user }),
             Note::Back {
                 conference,
                 user,
                 n,
-            } => self.tell_watchers(conference, Notice::Back { n, user }),
-            Note::Unkept { conference } => self.tell_watchers(conference, Notice::Unkept),
-            Note::Lost => self.server.lose(),
+                events,
+            } => self.notify(conference, u64::from(events), Notice::Back { n, user }),
+            Note::Unkept { conference } => self.notify(conference, 0, Notice::Unkept),
+            Note::Lost(fault) => self.server.lose(fault),
         }
     }
 
@@ -399,14 +401,15 @@ where
     }
 
     /// Does whatever may be done for a client, and says whether anything was: reads once, goes on with the line that it
-    /// has at work and with what it is behind with, and writes. Each of these may let another go on, so only behind a
+    /// has at work and with what it is behind with, tells it what is no event, and writes. Each of these may let another go on, so only behind a
     /// turn in which none of them did anything there is nothing left to do.
     fn serve(&mut self, number: u64) -> bool {
         let has_read = self.read(number);
         let has_answered = self.advance_far(number);
         let has_shown = self.catch_up(number);
+        let has_told = self.tell_notices(number);
         let has_written = self.write(number);
-        has_read || has_answered || has_shown || has_written
+        has_read || has_answered || has_shown || has_told || has_written
     }
 
     /// Reads once from a client, and says whether anything came of that.

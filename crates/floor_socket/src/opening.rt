@@ -11,7 +11,7 @@ use floor_console::BoardRefusal;
 use floor_control::{ControlRefusal, Next, Opening, Sent, Text, add_faulty_at, add_opened};
 use floor_diagnosis::line_of_fault;
 use floor_poll::{Answer, Asker, Fresh, Inbox, Note, Resumed, Unread, fresh_of};
-use floor_server::{Config, Log, Reason, ServerFault};
+use floor_server::{Config, Reason, ServerFault};
 use std::alloc::{AllocError, Global};
 use std::collections::VecDeque;
 use std::fs::File;
@@ -51,17 +51,13 @@ where
 {
     /// Opens the conferences of a file before the server is ready: not those that the folder has or had, where
     /// conferences are kept.
-    pub fn open_first(
-        &mut self,
-        path: &str,
-        log: &Option<Arc<Log, Global>>,
-    ) -> Result<(), BoardRefusal> {
+    pub fn open_first(&mut self, path: &str) -> Result<(), BoardRefusal> {
         for fresh in self.server.read_file(path)? {
-            let conference = fresh.config.conference();
-            if self.server.is_passed(conference, log) {
+            let conference = fresh.config().conference();
+            if self.server.is_passed(conference) {
                 continue;
             }
-            let copy = fresh.config.copy(self.alloc)?;
+            let copy = fresh.config().copy(self.alloc)?;
             self.meetings.reserve(1)?;
             self.server.open_one(fresh)?;
             let _added = self
@@ -72,10 +68,10 @@ where
     }
 
     /// Lets the conferences of the folder go on, where conferences are kept.
-    pub fn resume_all(&mut self, log: &Option<Arc<Log, Global>>) -> Result<(), ServerFault> {
+    pub fn resume_all(&mut self) -> Result<(), ServerFault> {
         self.server.list_kept()?;
         for _ in 0..u64::MAX {
-            let Some(next) = self.server.resume_next(log)? else {
+            let Some(next) = self.server.resume_next()? else {
                 break;
             };
             for resumed in next {
@@ -260,11 +256,11 @@ where
         if self.is_draining {
             return Err(ControlRefusal::Draining);
         }
-        let conference = fresh.config.conference();
+        let conference = fresh.config().conference();
         if self.opening.get(&conference).is_some() {
             return Err(ControlRefusal::ByBoard(BoardRefusal::Used));
         }
-        let copy = fresh.config.copy(self.alloc)?;
+        let copy = fresh.config().copy(self.alloc)?;
         self.meetings.reserve(self.opening.len().saturating_add(1))?;
         self.opening.reserve(1)?;
         let asked = self.server.opening_of(fresh)?;

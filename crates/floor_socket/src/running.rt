@@ -184,6 +184,7 @@ fn lasting_of<R: Files<File = File>>(
         None => (None, None),
     };
     let lasting = Lasting {
+        longest: words.longest,
         grace,
         is_for_all: words.grace_for_all,
         folder,
@@ -246,7 +247,7 @@ where
     R::Dir: Send,
 {
     let mut server = Server::start(rt, alloc, loops, log, &None, lasting, lock)?;
-    let served = converse(rt, alloc, &mut server, words, log, input, output, errors);
+    let served = converse(rt, alloc, &mut server, words, input, output, errors);
     // Whatever went wrong, no thread is left behind.
     let outcome = match server.outcome() {
         Some(outcome) => outcome,
@@ -270,7 +271,6 @@ fn converse<R, I: Read, O: Write, E: Write>(
     alloc: Global,
     server: &mut Server<R>,
     words: &Words,
-    log: &Option<Arc<Log, Global>>,
     input: &mut I,
     output: &mut O,
     errors: &mut E,
@@ -288,10 +288,10 @@ where
         + 'static,
     R::Dir: Send,
 {
-    let resumed = resume_all(server, log);
+    let resumed = resume_all(server);
     tell(errors, server.take_told());
     resumed?;
-    let opened = open(server, words, log);
+    let opened = open(server, words);
     tell(errors, server.take_told());
     match opened {
         Ok(()) => {}
@@ -303,11 +303,7 @@ where
 }
 
 /// Opens the conferences of a file, and then the doors to them.
-fn open<R>(
-    server: &mut Server<R>,
-    words: &Words,
-    log: &Option<Arc<Log, Global>>,
-) -> Result<(), BoardRefusal>
+fn open<R>(server: &mut Server<R>, words: &Words) -> Result<(), BoardRefusal>
 where
     R: Net
         + Files<File = File>
@@ -322,15 +318,15 @@ where
     R::Dir: Send,
 {
     for fresh in server.read_file(words.path.as_str())? {
-        if !server.is_passed(fresh.config.conference(), log) {
+        if !server.is_passed(fresh.config().conference()) {
             server.open_one(fresh)?;
         }
     }
-    server.open_doors(&words.doors, log)
+    server.open_doors(&words.doors)
 }
 
 /// Lets the conferences of the folder go on, where conferences are kept.
-fn resume_all<R>(server: &mut Server<R>, log: &Option<Arc<Log, Global>>) -> Result<(), ServerFault>
+fn resume_all<R>(server: &mut Server<R>) -> Result<(), ServerFault>
 where
     R: Net
         + Files<File = File>
@@ -345,7 +341,7 @@ where
 {
     server.list_kept()?;
     for _ in 0..u64::MAX {
-        if server.resume_next(log)?.is_none() {
+        if server.resume_next()?.is_none() {
             break;
         }
     }

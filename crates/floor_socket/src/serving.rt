@@ -6,7 +6,7 @@ use floor_console::{Board, BoardRefusal, StopRefusal, Stopped};
 use floor_keep::Lock;
 use floor_listen::ServerFault;
 use floor_poll::{Inbox, Lasting, Room, Server, poll_of};
-use floor_server::{Log, PortFault, Words, fault_of_opening, print, tell};
+use floor_server::{Log, PortFault, Words, fault_of_keeping, fault_of_opening, print, tell};
 use indexmap::IndexMap;
 use mio::Poll;
 use std::alloc::{AllocError, Global};
@@ -59,7 +59,7 @@ where
     let shared = Some(Arc::try_clone(&inbox)?);
     let server = Server::start(rt, alloc, loops, log, &shared, lasting, lock)?;
     let mut desk = Desk::new(rt, alloc, server, poll, inbox, buffer);
-    let served = match desk.begin_serving(words, log, descriptors, output, errors) {
+    let served = match desk.begin_serving(words, descriptors, output, errors) {
         Ok(()) => {
             desk.run(events, input, output, errors);
             desk.fault()
@@ -98,15 +98,14 @@ where
     fn begin_serving<O: Write, E: Write>(
         &mut self,
         words: &Words,
-        log: &Option<Arc<Log, Global>>,
         descriptors: Option<Descriptors>,
         output: &mut O,
         errors: &mut E,
     ) -> Result<(), ServerFault> {
-        let resumed = self.resume_all(log);
+        let resumed = self.resume_all();
         tell(errors, self.server.take_told());
         resumed?;
-        let opened = self.open_all(words, log);
+        let opened = self.open_all(words);
         tell(errors, self.server.take_told());
         match opened {
             Ok(()) => {}
@@ -140,8 +139,8 @@ where
 
     /// Why serving has ended, but for a stop.
     fn fault(&self) -> Result<(), ServerFault> {
-        if self.server.is_lost() {
-            return Err(ServerFault::Lost);
+        if let Some(fault) = self.server.lost() {
+            return Err(fault_of_keeping(fault));
         }
         if self.has_lost_console {
             return Err(ServerFault::CannotWrite);
@@ -150,13 +149,9 @@ where
     }
 
     /// Opens the conferences of a file, and then the doors to them.
-    fn open_all(
-        &mut self,
-        words: &Words,
-        log: &Option<Arc<Log, Global>>,
-    ) -> Result<(), BoardRefusal> {
-        self.open_first(words.path.as_str(), log)?;
-        self.server.open_doors(&words.doors, log)
+    fn open_all(&mut self, words: &Words) -> Result<(), BoardRefusal> {
+        self.open_first(words.path.as_str())?;
+        self.server.open_doors(&words.doors)
     }
 
     /// Stops the server, where nobody has, removes the socket, and waits until all threads have ended.

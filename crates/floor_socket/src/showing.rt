@@ -3,7 +3,7 @@
 ghost use Rattle.std.specs.Prelude.{◌≡◌, ◌<◌, ◌+◌, OnOk, false, length, nat_le, true};
 ghost use Rattle.floor_control.specs.Outgoing.{answered, ended_answer, is_full, told};
 
-use crate::client::{Behind, Due};
+use crate::client::{Behind, Due, Waiting};
 use crate::desk::Desk;
 use crate::following::Follower;
 use crate::replica::Replica;
@@ -136,29 +136,63 @@ where
         }
     }
 
-    /// Tells those who watch a conference what is no event, now or never.
-    pub fn tell_watchers(&mut self, conference: u32, notice: Notice) {
-        let mut text = String::new(self.alloc);
-        if add_notice(&mut text, conference, notice).is_err() {
-            return;
-        }
-        for place in 0..self.clients.len() {
-            let Some(number) = self.clients.get_index(place).map(|(number, _)| *number) else {
+    /// Tells those who watch a conference what is no event, each once it was told what the events up to this place show:
+    /// whoever hears that a member is away has heard that it joined.
+    pub fn notify(&mut self, conference: u32, place: u64, notice: Notice) {
+        for at in 0..self.clients.len() {
+            let Some(number) = self.clients.get_index(at).map(|(number, _)| *number) else {
                 return;
             };
-            self.tell_watcher(number, conference, text.as_str());
+            if let Some(seat) = self.clients.get_mut(&number) {
+                seat.notify(Waiting {
+                    conference,
+                    place,
+                    notice,
+                });
+            }
+            self.queue(number);
         }
     }
 
-    fn tell_watcher(&mut self, number: u64, conference: u32, text: &str) {
-        let Some(seat) = self.clients.get_mut(&number) else {
-            return;
+    /// Tells a client what waits for it and is no event, where it was told what stands before that, and says whether
+    /// there was any. What is of a conference that it watches no longer is dropped.
+    pub fn tell_notices(&mut self, number: u64) -> bool {
+        let count = match self.clients.get(&number) {
+            Some(seat) => seat.notice_count(),
+            None => 0,
         };
-        if seat.watched.get(&conference).is_some() {
-            let told = seat.lines.tell(text);
-            seat.has_failed = seat.has_failed || told.is_err();
-            self.queue(number);
+        let mut has_told = false;
+        for _ in 0..count {
+            let next = match self.clients.get_mut(&number) {
+                Some(seat) => seat.next_notice(),
+                None => None,
+            };
+            if let Some(waiting) = next {
+                has_told = self.tell_notice(number, waiting) || has_told;
+            }
         }
+        has_told
+    }
+
+    /// Tells a client what is no event, or has it wait on behind the others, and says whether it was told.
+    fn tell_notice(&mut self, number: u64, waiting: Waiting) -> bool {
+        let Some(reached) = self.reached(number, waiting.conference) else {
+            return false;
+        };
+        let mut text = String::new(self.alloc);
+        let Some(seat) = self.clients.get_mut(&number) else {
+            return false;
+        };
+        if reached < waiting.place {
+            seat.notify(waiting);
+            return false;
+        }
+        let told = match add_notice(&mut text, waiting.conference, waiting.notice) {
+            Ok(()) => seat.lines.tell(text.as_str()),
+            Err(error) => Err(error),
+        };
+        seat.has_failed = seat.has_failed || told.is_err();
+        true
     }
 
     /// One of those who have caught up with a conference.

@@ -94,7 +94,7 @@ where
             Answer::Drained => Ok(step),
             Answer::Stopped(_report) => Ok(step),
             Answer::Resumed(_outcome) => Ok(step),
-            Answer::Lost => Ok(step),
+            Answer::Lost(_fault) => Ok(step),
         };
         match next {
             Ok(step) => {
@@ -261,7 +261,8 @@ where
         counts: Metrics,
     ) -> Result<Went, AllocError> {
         if self.server.loops() <= place {
-            add_metrics(&mut task.text, counts)?;
+            let refused = counts.refused.with(self.server.refused_at_doors());
+            add_metrics(&mut task.text, Metrics { refused, ..counts })?;
             return Ok(Went::On(task));
         }
         let asked = Asked::Tell(Question::Counts);

@@ -95,6 +95,7 @@ where
                 path,
                 has_log,
                 loops: _,
+                longest: _,
                 doors,
                 control: _control,
                 grace: _grace,

@@ -101,6 +101,8 @@ impl Write for Outgoing {
                         return Err(error);
                     }
                 }
+                // As where the server was stopped and goes on.
+                Err(error) if error.kind() == ErrorKind::Interrupted => {}
                 outcome => return outcome,
             }
         }

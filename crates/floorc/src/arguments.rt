@@ -6,7 +6,7 @@ use std::alloc::{AllocError, Global};
 use std::convert::AsStr;
 
 /// The version, and the logic that the program is proved with.
-const VERSION: &str = "0.1.0 (logic dac8208d650f15bf)";
+const VERSION: &str = "0.2.0 (logic dac8208d650f15bf)";
 
 /// What the lines are, and what is printed, below the help of the words.
 const LINES: &str = "\

@@ -10,7 +10,7 @@ use std::rt::Files;
 use std::{fs, io};
 
 /// What `--version` prints: the version, and the logic that the program is proved with.
-const VERSION: &str = "floorsim 0.1.0 (logic dac8208d650f15bf)
+const VERSION: &str = "floorsim 0.2.0 (logic dac8208d650f15bf)
 ";
 
 /// What `--help` prints.

@@ -171,7 +171,7 @@ quit
     let words = ["floorc", "--version"];
     let status = run(&rt, alloc, &words, &mut lines, &mut output, &mut errors);
     assert_eq!(rt; status, 0);
-    let version: &[u8] = b"floorc 0.1.0 (logic dac8208d650f15bf)\n";
+    let version: &[u8] = b"floorc 0.2.0 (logic dac8208d650f15bf)\n";
     assert_eq!(rt; output.as_slice(), version);
     Ok(())
 }

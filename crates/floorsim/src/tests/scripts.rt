@@ -119,7 +119,7 @@ Usage: floorsim < script
         assert!(rt; help.as_str().contains(piece), "{piece}");
     }
     let version = told(&rt, Some("--version"), b"")?;
-    let wanted = "0\nfloorsim 0.1.0 (logic dac8208d650f15bf)\n!\n";
+    let wanted = "0\nfloorsim 0.2.0 (logic dac8208d650f15bf)\n!\n";
     assert_eq!(rt; version.as_str(), wanted);
     let refused = told(&rt, Some("script"), b"attach 1 10")?;
     assert!(rt; refused.as_str().starts_with("2\n!\nRuns a script"));

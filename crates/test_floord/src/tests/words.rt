@@ -66,19 +66,24 @@ const PLAIN: Program = Program {
     by_loops: false,
 };
 
-/// Words, and the loops that they ask for or the first line of why they are refused: of a program with loops
-/// above the line of a dash, below it of one without.
-const LOOPS: &str = "a.toml|none
---loops 1 a.toml|1
---loops=64 --log a.toml|64
-a.toml --check --loops 7|7
+/// Words, and the loops and the longest message that they ask for, or the first line of why they are refused: of a
+/// program with loops above the line of a dash, below it of one without.
+const LOOPS: &str = "a.toml|none 262152
+--loops 1 a.toml|1 262152
+--loops=64 --log a.toml|64 262152
+a.toml --check --loops 7|7 262152
+--longest 12 a.toml|none 12
+--loops 2 --longest=262152 a.toml|2 262152
+--longest 11 a.toml|error: invalid value '11' for '--longest <bytes>': 11 is not in 12..=262152
+--longest 262153 a.toml|error: invalid value '262153' for '--longest <bytes>': 262153 is not in 12..=262152
 --loops 0 a.toml|error: invalid value '0' for '--loops <n>': 0 is not in 1..=64
 --loops 65 a.toml|error: invalid value '65' for '--loops <n>': 65 is not in 1..=64
 --loops 257 a.toml|error: invalid value '257' for '--loops <n>': 257 is not in 1..=64
 --loops two a.toml|error: invalid value 'two' for '--loops <n>': invalid digit found in string
 a.toml --loops|error: a value is required for '--loops <n>' but none was supplied
 -
-a.toml|none
+a.toml|none 262152
+--longest 12 a.toml|error: unexpected argument '--longest' found
 --loops 1 a.toml|error: unexpected argument '--loops' found";
 
 #[test]
@@ -95,13 +100,20 @@ fn loops_are_1_to_64_where_the_program_has_them(rt: HostRuntime) -> Result<(), F
             words.push(String::from_str(alloc, word)?)?;
         }
         let found = match read_words(alloc, &words, &program) {
-            Ok(Words { loops: None, .. }) => String::from_str(alloc, "none")?,
+            Ok(
+                Words {
+                    loops: None,
+                    longest,
+                    ..
+                },
+            ) => format!(in alloc; "none {longest}")?,
             Ok(
                 Words {
                     loops: Some(loops),
+                    longest,
                     ..
                 },
-            ) => format!(in alloc; "{loops}")?,
+            ) => format!(in alloc; "{loops} {longest}")?,
             Err(WordsFault::Refused(text)) => {
                 String::from_str(alloc, text.lines().next().unwrap_or(""))?
             }

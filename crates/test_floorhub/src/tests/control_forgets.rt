@@ -105,6 +105,51 @@ fn all_is_told_before_a_conference_is_forgotten(rt: HostRuntime) -> Result<(), F
     Ok(())
 }
 
+/// A conference is forgotten although one who watches it takes nothing, and is behind with another one first.
+#[test]
+fn what_is_forgotten_comes_first(rt: HostRuntime) -> Result<(), Fail> {
+    let alloc = rt.alloc();
+    let path = "control-first";
+    let server = start_with_socket(rt, "first.toml", path, free_port(&rt)?)?;
+    let mut client = control(&rt, path)?;
+    show_much(&rt, &mut client)?;
+    let opened = "open .\n[[conference]]\nid = 2\n.\nuser 2 7";
+    let answers = ask_control(alloc, &mut client, opened, 2)?;
+    assert_eq!(rt; answers.as_str(), "ok opened 1,ok user 2 7 at 1");
+    let mut silent = control(&rt, path)?;
+    silent.write_all(b"watch 1 from 1\nwatch 2 from 1\n")?;
+    for _ in 0..10_000 {
+        if control_lines(alloc, &mut silent, 1)?.as_str() == "ok watching 2 2" {
+            break;
+        }
+    }
+    let answers = ask_control(alloc, &mut client, "close 2\nforget 2", 2)?;
+    assert_eq!(rt; answers.as_str(), "ok closed 2 at 2,ok forgotten 2");
+    silent.shutdown(Shutdown::Write)?;
+    let told = rest(alloc, &mut silent)?;
+    let mut second = String::new(alloc);
+    for line in told
+        .as_str()
+        .lines()
+        .filter(|line| line.starts_with("! 2 "))
+    {
+        second.push_str(line)?;
+        second.push(',')?;
+    }
+    assert_eq!(rt;
+        second.as_str(),
+        "! 2 1 user 7,! 2 1 .,! 2 2 closed,! 2 2 .,"
+    );
+    let stopped = ask(&rt, &server, "stop")?;
+    assert!(rt;
+        stopped.as_str().starts_with("ok stopped seats 1 "),
+        "{stopped}"
+    );
+    assert_eq!(rt; server.end(&rt), 0);
+    fs::remove_file(&rt, "first.toml")?;
+    Ok(())
+}
+
 /// Who has caught up hears of the close of a conference that is forgotten in the same breath.
 #[test]
 fn a_close_is_told_before_a_conference_is_forgotten(rt: HostRuntime) -> Result<(), Fail> {

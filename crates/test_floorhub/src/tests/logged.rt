@@ -32,6 +32,7 @@ conference 2 user 10 port SECOND ended
 conference 2 user 10 port SECOND listens
 conference 2 user 10 port SECOND n 1 joined
 conference 2 user 10 port SECOND n 1 left Closed
+stopping
 ";
 
 /// How often a status is asked for at most, 10 milliseconds apart.
