@@ -11,323 +11,20 @@
 // dark and without motion. Before a floorhub all come once more by its door, where a meeting ends otherwise.
 // Pictures of the pages go to the folder PICTURES, if there is one. Status 1 at the first step that isn't as it
 // should be. PATIENCE in the environment is how many times as long each step is waited for, on a busy machine.
-import { spawn } from "node:child_process";
-import { mkdtempSync, readFileSync, rmSync, writeFileSync } from "node:fs";
-import { createConnection } from "node:net";
+import { mkdtempSync, rmSync, writeFileSync } from "node:fs";
 import { tmpdir } from "node:os";
 import { dirname, join } from "node:path";
 import { fileURLToPath } from "node:url";
+import { ADDRESS, Client, PATIENCE, Tab, count, floorwebPath, folder, order, run, say, serverPath, sleep, start, stop, tokensOf } from "./browser.mjs";
 
-const [serverPath, floorwebPath, folder, pictures] = process.argv.slice(2);
 const config = join(dirname(fileURLToPath(import.meta.url)), "../examples/browsers.toml");
-const tokens = Object.fromEntries(
-  [...readFileSync(config, "utf8").matchAll(/^name = "(.*?)"[^[]*?^token = "(.*?)"/gms)].map(([, name, token]) => [name, token]),
-);
-const ADDRESS = "127.0.0.1:7080";
+const tokens = tokensOf(config);
 const DOOR = 7_081;
 const OPERATOR = "the-token-of-the-operator";
-const DEBUGGING = 9_333;
-const PATIENCE = Number(process.env.PATIENCE ?? 1);
-const sleep = (milliseconds) => new Promise((resolve) => setTimeout(resolve, milliseconds));
-let steps = 0;
 
-/** Starts a program, and waits until it prints `ready`. */
-async function start(path, ...words) {
-  const program = spawn(path, words, { stdio: ["pipe", "pipe", "inherit"] });
-  program.printed = "";
-  program.stdout.on("data", (text) => (program.printed += text));
-  for (let turn = 0; turn < 400 && !program.printed.includes("ready\n"); turn++) await sleep(50);
-  if (!program.printed.includes("ready\n")) throw new Error(`${path} doesn't print ready`);
-  return program;
-}
-
-/** Has the administrator of a server say a line, which has to be answered so. */
-async function order(server, line, answer) {
-  const from = server.printed.length;
-  server.stdin.write(`${line}\n`);
-  for (let turn = 0; turn < 100 && !server.printed.includes("\n", from); turn++) await sleep(50);
-  const told = server.printed.slice(from).split("\n")[0];
-  if (told !== answer) throw new Error(`${line}: ${told}`);
-  steps++;
-}
-
-/** A client that connects to a user's port, as no browser does. */
-class Client {
-  static async open(port, user) {
-    const client = new Client();
-    // By its text: nothing beside the page's files says that they are modules.
-    const text = readFileSync(join(folder, "bfcp.js"), "utf8");
-    client.bfcp = await import(`data:text/javascript,${encodeURIComponent(text)}`);
-    client.user = user;
-    client.bytes = Buffer.alloc(0);
-    client.told = [];
-    client.socket = createConnection(port, "127.0.0.1");
-    client.socket.on("data", (piece) => client.hear(piece));
-    await new Promise((resolve, reject) => client.socket.once("connect", resolve).once("error", reject));
-    return client;
-  }
-
-  hear(piece) {
-    this.bytes = Buffer.concat([this.bytes, piece]);
-    while (this.bytes.length >= 12) {
-      const length = 12 + 4 * this.bytes.readUInt16BE(2);
-      if (this.bytes.length < length) return;
-      this.told.push(this.bfcp.decode(new Uint8Array(this.bytes.subarray(0, length))));
-      this.bytes = this.bytes.subarray(length);
-    }
-  }
-
-  ask({ primitive, attributes }) {
-    const transaction = (this.last = (this.last ?? 0) + 1);
-    this.socket.write(this.bfcp.encode({ primitive, conference: 1, transaction, user: this.user, attributes }));
-  }
-
-  /** Waits until a request of its own stands so. */
-  async until(status, reason = "") {
-    const stands = (one) => one.status === status && one.reason === reason;
-    for (let turn = 0; turn < 160; turn++, await sleep(50)) {
-      if (this.told.some((message) => message.primitive === "FloorRequestStatus" && this.bfcp.requests(message).some(stands))) return void steps++;
-    }
-    throw new Error(`user ${this.user}: never ${status} ${reason}: ${JSON.stringify(this.told)}`);
-  }
-}
-
-/** Ends a program's input, and waits for its end. */
-function stop(program) {
-  return new Promise((resolve) => {
-    program.once("exit", resolve);
-    program.stdin.end();
-  });
-}
-
-/** A tab of the browser, driven over its debugging socket. */
-class Tab {
-  /** All tabs, and what the browser complained of in any. */
-  static all = [];
-  static complaints = [];
-
-  static async open(name, hash = tokens[name], path = "/") {
-    const answer = await fetch(`http://127.0.0.1:${DEBUGGING}/json/new?about:blank`, { method: "PUT" });
-    const tab = new Tab();
-    tab.name = name;
-    Tab.all.push(tab);
-    tab.waiting = new Map();
-    tab.complaints = [];
-    const { id, webSocketDebuggerUrl } = await answer.json();
-    tab.id = id;
-    tab.socket = new WebSocket(webSocketDebuggerUrl);
-    tab.socket.onmessage = (event) => tab.hear(JSON.parse(event.data));
-    await new Promise((resolve) => (tab.socket.onopen = resolve));
-    for (const domain of ["Page", "Runtime", "Log"]) await tab.send(`${domain}.enable`);
-    // Each is looked at, as by a person of its own: else the browser holds back the timers of all but one.
-    await tab.send("Emulation.setFocusEmulationEnabled", { enabled: true });
-    await tab.send("Page.navigate", { url: `http://${ADDRESS}${path}#${hash}` });
-    return tab;
-  }
-
-  /** Closes all tabs. */
-  static async closeAll() {
-    for (const { id } of Tab.all.splice(0)) await fetch(`http://127.0.0.1:${DEBUGGING}/json/close/${id}`);
-  }
-
-  hear({ id, result, error, method, params }) {
-    if (id) {
-      const { resolve, reject } = this.waiting.get(id);
-      this.waiting.delete(id);
-      return error ? reject(new Error(JSON.stringify(error))) : resolve(result);
-    }
-    if (method === "Runtime.exceptionThrown") this.complain(params.exceptionDetails.exception?.description ?? params.exceptionDetails.text);
-    if (method === "Log.entryAdded") this.complain(params.entry.text);
-  }
-
-  complain(text) {
-    this.complaints.push(text);
-    Tab.complaints.push(`${this.name}: ${text}`);
-  }
-
-  send(method, params = {}) {
-    const id = (this.last = (this.last ?? 0) + 1);
-    // It tells who asked.
-    const late = new Error(`${this.name}: no answer to ${method}`);
-    return new Promise((resolve, reject) => {
-      setTimeout(() => reject(late), 60_000 * PATIENCE).unref();
-      this.waiting.set(id, { resolve, reject });
-      this.socket.send(JSON.stringify({ id, method, params }));
-    });
-  }
-
-  async value(expression) {
-    const { result, exceptionDetails } = await this.send("Runtime.evaluate", { expression, awaitPromise: true, returnByValue: true });
-    if (exceptionDetails) throw new Error(`${this.name}: ${exceptionDetails.exception?.description}`);
-    return result.value;
-  }
-
-  async until(expression, what = expression, wait = 8_000) {
-    for (const end = Date.now() + wait * PATIENCE; Date.now() < end; await sleep(50)) {
-      if (await this.value(expression)) return void steps++;
-    }
-    throw new Error(`${this.name}: never ${what}\n${await this.value("document.body?.innerText")}\n${Tab.complaints.join("\n")}`);
-  }
-
-  shows(text, wait) {
-    return this.until(`document.body?.innerText.includes(${JSON.stringify(text)})`, `"${text}"`, wait);
-  }
-
-  hides(text) {
-    return this.until(`!document.body.innerText.includes(${JSON.stringify(text)})`, `without "${text}"`);
-  }
-
-  /** Presses the button of a floor's card that has this label. */
-  press(floor, label) {
-    return this.value(`(() => {
-      const card = [...document.querySelectorAll(".floor")].find((one) => one.querySelector("h2").textContent === ${JSON.stringify(floor)});
-      const button = [...card.querySelectorAll("button")].find((one) => !one.hidden && [one.textContent, one.getAttribute("aria-label")].includes(${JSON.stringify(label)}));
-      if (!button) throw new Error("no button " + ${JSON.stringify(label)} + " in " + card.innerText);
-      button.click();
-    })()`);
-  }
-
-  fill(floor, name, text) {
-    return this.value(`(() => {
-      const card = [...document.querySelectorAll(".floor")].find((one) => one.querySelector("h2").textContent === ${JSON.stringify(floor)});
-      card.querySelector(".more").open = true;
-      const field = card.querySelector("[name=${name}]");
-      field.value = ${JSON.stringify(text)};
-      field.dispatchEvent(new Event("input"));
-    })()`);
-  }
-
-  /** Waits until a floor's card has a part that says this. */
-  says(floor, part, text, wait) {
-    return this.until(`[...document.querySelectorAll(".floor")].some((one) => one.querySelector("h2").textContent === ${JSON.stringify(floor)} && one.querySelector(${JSON.stringify(part)}).textContent.trim() === ${JSON.stringify(text)})`, `${part} of ${floor}: "${text}"`, wait);
-  }
-
-  /** Waits until the focus is on what has this label. */
-  async focus(label) {
-    await this.until(`(document.activeElement?.getAttribute("aria-label") ?? document.activeElement?.textContent ?? "").trim() === ${JSON.stringify(label)}`, `the focus on ${label}`);
-  }
-
-  /** Whether what the page shows can be perceived and used: what is wrong, a line each (WCAG 2.2, levels A and AA). */
-  async audit(where) {
-    const wrong = await this.value(`(${audit})()`);
-    if (wrong.length) throw new Error(`${this.name}, ${where}: ${wrong.join("\n")}`);
-    steps++;
-  }
-
-  async key(key, code = key.toUpperCase().charCodeAt(0)) {
-    const text = key === "Enter" ? "\r" : key.length === 1 ? key : undefined;
-    await this.send("Input.dispatchKeyEvent", { type: "keyDown", key, windowsVirtualKeyCode: code, text });
-    await this.send("Input.dispatchKeyEvent", { type: "keyUp", key, windowsVirtualKeyCode: code });
-  }
-
-  async type(text) {
-    await sleep(200);
-    await this.send("Input.insertText", { text });
-  }
-
-  /** Goes on with the key Tab until the control with this label has the focus. */
-  async tabTo(label) {
-    for (let turn = 0; turn < 60; turn++) {
-      await this.key("Tab", 9);
-      const here = await this.value("document.activeElement?.getAttribute('aria-label') ?? document.activeElement?.textContent ?? ''");
-      if (here.trim() === label) return void steps++;
-    }
-    throw new Error(`${this.name}: the key Tab never comes to ${label}`);
-  }
-
-  size(width, height, mobile = true) {
-    return this.send("Emulation.setDeviceMetricsOverride", { width, height, deviceScaleFactor: 1, mobile });
-  }
-
-  async picture(name, whole = true) {
-    if (!pictures) return;
-    // What lies behind another tab isn't drawn.
-    await this.send("Page.bringToFront");
-    await sleep(300);
-    const { data } = await this.send("Page.captureScreenshot", { format: "png", captureBeyondViewport: whole });
-    writeFileSync(join(pictures, `${name}.png`), Buffer.from(data, "base64"));
-  }
-}
-
-/** Runs in the page. */
-function audit() {
-  const wrong = [];
-  const name = (node) => `${node.tagName.toLowerCase()}${node.id ? `#${node.id}` : ""}${node.className ? `.${node.className}` : ""} "${node.textContent.trim().slice(0, 30)}"`;
-  const isSeen = (node) => node.checkVisibility({ opacityProperty: true, visibilityProperty: true });
-  const seen = [...document.body.querySelectorAll("*")].filter(isSeen);
-  // 1.4.3, 1.4.11: contrast of texts, and of the edges of what is filled in or pressed.
-  const colour = (text) => {
-    const [r, g, b, a = 1] = text.match(/[\d.]+/g).map(Number);
-    return { r, g, b, a };
-  };
-  const over = (top, below) => ({ r: top.r * top.a + below.r * (1 - top.a), g: top.g * top.a + below.g * (1 - top.a), b: top.b * top.a + below.b * (1 - top.a), a: 1 });
-  const ground = (node) => {
-    if (!node) return { r: 255, g: 255, b: 255, a: 1 };
-    const own = colour(getComputedStyle(node).backgroundColor);
-    return own.a === 1 ? own : over(own, ground(node.parentElement));
-  };
-  const light = ({ r, g, b }) => {
-    const [x, y, z] = [r, g, b].map((part) => (part / 255 <= 0.04045 ? part / 255 / 12.92 : ((part / 255 + 0.055) / 1.055) ** 2.4));
-    return 0.2126 * x + 0.7152 * y + 0.0722 * z;
-  };
-  const contrast = (one, other) => {
-    const [low, high] = [light(one), light(other)].sort((x, y) => x - y);
-    return (high + 0.05) / (low + 0.05);
-  };
-  for (const node of seen) {
-    const style = getComputedStyle(node);
-    const isOff = node.closest(":disabled, [aria-disabled=true]");
-    const hasText = [...node.childNodes].some((child) => child.nodeType === 3 && child.data.trim()) || node.matches("input:not([type=checkbox]), select");
-    if (hasText && !isOff) {
-      const is = contrast(over(colour(style.color), ground(node)), ground(node));
-      const size = parseFloat(style.fontSize);
-      const wanted = size >= 24 || (size >= 18.66 && Number(style.fontWeight) >= 700) ? 3 : 4.5;
-      if (is < wanted) wrong.push(`contrast ${is.toFixed(2)} of ${name(node)}`);
-    }
-    if (node.matches("button, select, input:not([type=checkbox])") && !isOff) {
-      const edge = contrast(colour(style.borderTopColor), ground(node.parentElement));
-      const body = contrast(ground(node), ground(node.parentElement));
-      if (Math.max(edge, body) < 3) wrong.push(`edge ${edge.toFixed(2)} of ${name(node)}`);
-    }
-    // 2.5.8: targets of 24 pixels.
-    if (node.matches("button, select, input, summary")) {
-      const { width, height } = (node.matches("input[type=checkbox]") ? node.closest("label") : node).getBoundingClientRect();
-      if (width < 24 || height < 24) wrong.push(`${width} x ${height}: ${name(node)}`);
-    }
-    // 4.1.2, 1.3.1: a name for whatever is used; 2.4.6: an order of headings.
-    if (node.matches("button, select, input, summary")) {
-      const label = node.getAttribute("aria-label") || node.labels?.[0]?.textContent || (node.matches("button, summary") && node.textContent);
-      if (!label?.trim()) wrong.push(`no name: ${name(node)}`);
-      // 2.5.3: what is seen of it is in its name.
-      const words = node.matches("button") && node.getAttribute("aria-label");
-      if (words && !node.textContent.toLowerCase().split(/\s+/).every((word) => words.toLowerCase().includes(word))) wrong.push(`another name: ${name(node)}, ${words}`);
-    }
-    if (node.matches("[tabindex]") && node.tabIndex > 0) wrong.push(`an order of its own: ${name(node)}`);
-    for (const attribute of ["aria-labelledby", "aria-describedby"]) {
-      for (const id of (node.getAttribute(attribute) ?? "").split(/\s+/).filter(Boolean)) {
-        if (!document.getElementById(id)) wrong.push(`${attribute} of ${name(node)}: no ${id}`);
-      }
-    }
-    if (node.matches("dialog, section[aria-labelledby], article") && !document.getElementById(node.getAttribute("aria-labelledby"))?.textContent.trim()) wrong.push(`no name: ${name(node)}`);
-  }
-  const ids = [...document.querySelectorAll("[id]")].map((node) => node.id);
-  for (const id of ids.filter((one, at) => ids.indexOf(one) !== at)) wrong.push(`twice: #${id}`);
-  const levels = seen.filter((node) => node.matches("h1, h2, h3, h4")).map((node) => Number(node.tagName[1]));
-  if (levels[0] !== 1 || levels.filter((level) => level === 1).length !== 1) wrong.push("not one h1 in front");
-  levels.forEach((level, at) => level > (levels[at - 1] ?? 0) + 1 && wrong.push(`h${level} behind h${levels[at - 1]}`));
-  // 1.3.1: all of it is in a landmark, but for what is told on top of it. 3.1.1, 2.4.2: a language, a title.
-  for (const child of document.body.children) if (isSeen(child) && !child.matches("header, main, dialog, [role=alert]")) wrong.push(`beside the landmarks: ${name(child)}`);
-  if (!document.documentElement.lang || !document.title.trim()) wrong.push("no language or no title");
-  // 1.4.10: no line is read by scrolling sideways; nothing is cut off.
-  if (document.documentElement.scrollWidth > innerWidth) wrong.push(`${document.documentElement.scrollWidth} wide, of ${innerWidth}`);
-  for (const node of seen) {
-    if (node.scrollWidth > node.clientWidth + 1 && node.clientWidth && getComputedStyle(node).overflowX === "hidden") wrong.push(`cut off: ${name(node)}`);
-  }
-  return wrong;
-}
 
 async function meet(server, gateway) {
-  const [ann, ben, cid, dee] = await Promise.all(["Ann", "Ben", "Cid", "Dee"].map((name) => Tab.open(name)));
+  const [ann, ben, cid, dee] = await Promise.all(["Ann", "Ben", "Cid", "Dee"].map((name) => Tab.open(name, tokens[name])));
   const all = [ann, ben, cid, dee];
   for (const tab of all) {
     await tab.size(390, 844);
@@ -365,7 +62,7 @@ async function meet(server, gateway) {
   await dee.until("document.title.startsWith('(2) ')", "two hands in the title");
   await dee.press("Microphone", "Give the floor to Ann");
   await ann.shows("You have the floor.");
-  await ann.until("document.title.startsWith('You have the floor: Microphone')");
+  await ann.until("document.title.startsWith('You have the floor: \u2068Microphone')");
   await cid.value("document.activeElement.blur()");
   await cid.key("r");
   await cid.shows("The chair hasn't decided yet");
@@ -392,7 +89,7 @@ async function meet(server, gateway) {
   // It stands on the card until the next press, where a phone shows it; the chair's focus is on what is next.
   await ben.says("Microphone", ".standing", "Your hand was denied: Not on the agenda");
   await ben.until("(({ top, bottom }) => 0 < top && bottom < innerHeight)(document.querySelector('.standing').getBoundingClientRect())", "the denial in sight");
-  await dee.focus("Microphone");
+  await dee.focus("Give the floor now to Cid");
   await ben.audit("a denial, dark");
   await ben.picture("denied", false);
 
@@ -457,7 +154,7 @@ async function meet(server, gateway) {
   const wanted = ["Floor Request ID Does Not Exist", "Invalid Floor ID", "ok", "ok", "ok", "ok",
     "You have Already Reached the Maximum Number of Ongoing Floor Requests for This Floor"];
   if (refused.some((name, place) => !name.startsWith(wanted[place]))) throw new Error(`refused by ${refused}`);
-  steps++;
+  count.steps++;
 
   // A link that is nobody's; a phone; labels; no complaint of the browser.
   const nobody = await Tab.open("nobody", "nobodys-token-nobodys-token");
@@ -484,14 +181,17 @@ async function meet(server, gateway) {
   await ben.says("Microphone", ".standing", "Your hand is up. The chair hasn't decided yet.");
   await stop(gateway);
   await ann.shows("Not connected");
-  await ann.shows("The connection was lost: your hands are down");
-  await ann.says("Screen", ".standing", "The connection was lost, and the floor was given back.");
-  await ben.says("Microphone", ".standing", "The connection was lost, and your hand is down.");
+  await ann.shows("The connection is lost. It is tried again by itself.");
+  await ann.says("Screen", ".standing", "The connection is lost. You keep the floor as long as the server keeps your place.");
+  await ben.says("Microphone", ".standing", "The connection is lost. Your hand stays up as long as the server keeps your place.");
   await ann.picture("lost", false);
   const again = await start(floorwebPath, ADDRESS, config, folder);
   for (const tab of all) await tab.until("document.body.classList.contains('open')", "connected again", 40_000);
 
-  // One press raises the hand again that was lost, with its text.
+  // A server without --grace keeps no place. One press raises the hand again that was lost, with its text.
+  await ann.shows("Screen: the connection was lost, and your place with it.");
+  await ann.says("Screen", ".standing", "The connection was lost, and the floor was given back.");
+  await ben.says("Microphone", ".standing", "The connection was lost, and your hand is down.");
   await ben.says("Microphone", ".hand", "Raise hand again");
   await ben.audit("a hand that was lost");
   await ben.picture("again", false);
@@ -548,13 +248,13 @@ async function meetByDoor() {
   const words = ["--door-by-id", String(DOOR)];
   const server = await start(serverPath, ...words, config);
   const gateway = await start(floorwebPath, ADDRESS, config, folder, ...words);
-  const [ann, ben] = [await Tab.open("Ann"), await Tab.open("Ben")];
+  const [ann, ben] = [await Tab.open("Ann", tokens.Ann), await Tab.open("Ben", tokens.Ben)];
   for (const tab of [ann, ben]) {
     await tab.size(390, 844);
     await tab.shows("Connected", 20_000);
   }
   await ann.press("Microphone", "Raise hand");
-  await ben.until(`[...document.querySelectorAll(".pending .who")].some((one) => one.textContent === "Ann")`, "Ann's hand");
+  await ben.lists("[data-status=Pending] .who", "Ann");
 
   // The configuration lets a user have eight connections.
   await ann.value(`(async () => {
@@ -587,20 +287,6 @@ async function meetByDoor() {
   await stop(server);
 }
 
-/** Says a line at the control socket, which has to be answered so. */
-async function say(path, line, answer) {
-  const socket = createConnection(path);
-  const told = await new Promise((resolve, reject) => {
-    let text = "";
-    socket.on("data", (piece) => (text += piece).includes("\n") && resolve(text.split("\n")[0]));
-    socket.once("error", reject);
-    socket.write(`${line}\n`);
-  });
-  socket.destroy();
-  if (!told.startsWith(answer)) throw new Error(`${line}: ${told}`);
-  steps++;
-}
-
 /** By floorhub's control socket: late users, new floors and other chairs are seen at once, and so is the end; and the operator's page. */
 async function meetByControl() {
   await Tab.closeAll();
@@ -615,13 +301,17 @@ async function meetByControl() {
   await operator.shows("Connected", 20_000);
   await operator.shows("1 conference, 0 connections");
   await operator.audit("the operator's page without people");
-  const [ann, dee] = [await Tab.open("Ann"), await Tab.open("Dee")];
+  const [ann, dee] = [await Tab.open("Ann", tokens.Ann), await Tab.open("Dee", tokens.Dee)];
   for (const tab of [ann, dee]) {
     await tab.size(390, 844);
     await tab.shows("Connected", 20_000);
   }
   await operator.shows("1 conference, 2 connections");
   await operator.shows("Ann (10) has connected");
+  await operator.audit("the operator's table");
+  await operator.picture("operator-table", false);
+  await operator.value("document.querySelector('#table tbody .title').click()");
+  await operator.focus("Board meeting (1)");
   await ann.fill("Microphone", "info", "A question");
   await ann.press("Microphone", "Raise hand");
   await operator.shows("asks the chair");
@@ -663,8 +353,9 @@ async function meetByControl() {
 
   // What the operator orders, each after a question; by keys too.
   const press = (label) => operator.value(`(() => {
-    const button = [...document.querySelectorAll("button")].find((one) => one.getAttribute("aria-label") === ${JSON.stringify(label)});
+    const button = [...document.querySelectorAll("button")].find((one) => one.getAttribute("aria-label")?.replace(/[\\u2066-\\u2069]/g, "") === ${JSON.stringify(label)});
     if (!button) throw new Error("no button " + ${JSON.stringify(label)} + " in " + document.body.innerText);
+    button.closest("details").open = true;
     button.focus();
     button.click();
   })()`);
@@ -675,7 +366,7 @@ async function meetByControl() {
   await operator.picture("operator-sure", false);
   await operator.key("Escape", 27);
   await operator.until("!document.querySelector('dialog').open", "no question");
-  await operator.focus("Take Microphone back from Ann (10)");
+  await operator.focus("Orders for Ann (10)");
   await ann.says("Microphone", ".standing", "You have the floor.");
   await press("Take Microphone back from Ann (10)");
   await agree();
@@ -700,7 +391,7 @@ async function meetByControl() {
 
   // The end reaches who looks at once.
   const from = Date.now();
-  const title = await operator.value("document.querySelector('.conference h2').textContent");
+  const title = await operator.text(".conference h2");
   await press(`Close the conference ${title}`);
   await agree();
   for (const tab of [ann, dee]) await tab.shows("The meeting has ended");
@@ -746,10 +437,10 @@ async function looks([ann, ben, cid, dee]) {
     await cid.key("Tab", 9);
     reached.add(await cid.value("[...document.querySelectorAll('*')].indexOf(document.activeElement)"));
     await cid.until("document.activeElement === document.body || getComputedStyle(document.activeElement).outlineStyle !== 'none'", "a focus that is seen");
-    steps--;
+    count.steps--;
   }
   if (reached.size < wanted) throw new Error(`the key Tab reaches ${reached.size} of ${wanted}`);
-  steps++;
+  count.steps++;
 }
 
 /** A user and a floor more, another chair, and none for a while: of these the pages' file knows nothing. */
@@ -765,14 +456,14 @@ async function change(server, [ann, ben, cid, dee]) {
   await eve.until("Denied", "Later");
   await order(server, "floor 1 3", "ok floor 1 3");
   eve.ask(eve.bfcp.floorRequest({ floors: [2, 3] }));
-  await ann.until(`[...document.querySelectorAll(".queue .who")].some((one) => one.textContent === "Eve")`, "Eve in a queue");
+  await ann.lists(".queue .who", "Eve");
   await ann.press("Screen", "Give the floor back");
   await eve.until("Granted");
   eve.socket.destroy();
   await ann.until(`![...document.querySelectorAll(".who")].some((one) => one.textContent === "Eve")`, "without Eve");
 
   await ben.press("Microphone", "Raise hand");
-  await dee.until(`[...document.querySelectorAll(".pending .who")].some((one) => one.textContent === "Ben")`, "Ben's hand");
+  await dee.lists("[data-status=Pending] .who", "Ben");
   await order(server, "chair 1 1 12", "ok chair 1 1");
   await dee.press("Microphone", "Give the floor to Ben");
   await dee.shows("You may not do this: somebody else decides here.");
@@ -794,39 +485,11 @@ async function change(server, [ann, ben, cid, dee]) {
   await ann.press("Screen", "Take the floor");
   await ann.shows("You have the floor.");
 }
-
-const profile = mkdtempSync(join(tmpdir(), "chromium-"));
-const server = await start(serverPath, config);
-let gateway = await start(floorwebPath, ADDRESS, config, folder);
-const browser = spawn("chromium", [
-  "--headless=new", "--no-sandbox", "--disable-gpu", "--disable-dev-shm-usage", "--no-first-run",
-  "--disable-background-networking", "--disable-background-timer-throttling", "--disable-renderer-backgrounding", "--disable-component-update", "--disable-sync", "--no-proxy-server",
-  `--remote-debugging-port=${DEBUGGING}`, `--user-data-dir=${profile}`, "about:blank",
-], { stdio: "ignore" });
-let status = 0;
-try {
-  for (let turn = 0; turn < 300; turn++) {
-    if (await fetch(`http://127.0.0.1:${DEBUGGING}/json/version`).then(() => true, () => false)) break;
-    await sleep(100);
-  }
-  gateway = await meet(server, gateway);
-  if (serverPath.includes("floorhub")) {
-    await Promise.all([stop(gateway), stop(server)]);
-    await meetByDoor();
-    await meetByControl();
-  }
-  console.log(`${steps} steps as they should be`);
-} catch (error) {
-  console.log(`FAILED behind ${steps} steps: ${error.stack}`);
-  for (const tab of Tab.all) await tab.picture(`failed-${tab.name}`, false);
-  status = 1;
-} finally {
-  const gone = new Promise((resolve) => browser.once("exit", resolve));
-  browser.kill();
-  await gone;
-  gateway.stdin.end();
-  server.stdin.end();
-  await sleep(1_000);
-  rmSync(profile, { recursive: true, force: true });
-  process.exit(status);
-}
+await run(async () => {
+  const server = await start(serverPath, config);
+  const gateway = await meet(server, await start(floorwebPath, ADDRESS, config, folder));
+  if (!serverPath.includes("floorhub")) return;
+  await Promise.all([stop(gateway), stop(server)]);
+  await meetByDoor();
+  await meetByControl();
+});

@@ -481,7 +481,7 @@ def unread(program, folder):
     check('unread: a WebSocket', b'\r\n\r\n\x820\x20\x0c' in got, True)
     held = [reach() for _ in range(1_023)]
     time.sleep(1)
-    check('unread: one more than there may be', asked(get('/')), 503)
+    check('unread: beside 1,023 that say nothing', asked(get('/')), 200)
     for one in held:
         one.close()
     time.sleep(1)
@@ -503,7 +503,7 @@ def unread(program, folder):
 def proxy(program, folder):
     """nginx with the block of docs/OPERATION.md before the gateway, with a certificate made here."""
     page = open(os.path.join(os.path.dirname(os.path.abspath(__file__)), '../docs/OPERATION.md')).read()
-    block = re.search(r'^server \{\n.*?^\}\n', page, re.M | re.S).group()
+    block = re.search(r'^limit_conn_zone .*?^\}\n', page, re.M | re.S).group()
     name = re.search(r'server_name (\S+);', block).group(1)
     with tempfile.TemporaryDirectory() as place:
         subprocess.run(['openssl', 'req', '-x509', '-newkey', 'rsa:2048', '-nodes', '-days', '2', '-subj',
@@ -654,7 +654,8 @@ def page_and_hello():
     stream.close()
     if b'\x820\x20\x0c' in got:
         return page, 'hello'
-    if got == b'' or got.endswith(b'\r\n\r\n') or got.endswith(b'\x88\x02\x03\xf3') or got.endswith(b'\x88\x02\x03\xe9'):
+    if got == b'' or got.endswith(b'\r\n\r\n') or got.endswith(b'\x88\x02\x03\xf3') or got.endswith(b'\x88\x02\x03\xe9') or got.endswith(b'\x88\x02\x11\x33'):
+        # By 4403 where a read of the server failed before it had said anything.
         return page, 'ended'
     return page, 'WRONG: %r' % got
 
@@ -810,17 +811,12 @@ def many(program, folder, gateway, count=500):
         stream = connect()
         stream.sendall(get('/'))
         answers.append(answer_of(stream, 3))
-    check('one more than there may be', answers, [503] * 20)
-    check('behind some that say nothing', time.monotonic() - began < 5, True)
-    check('these are told too', [answer_of(stream, 3) for stream in silent], [503] * 40)
+    check('begun requests shut nobody out', answers, [200] * 20)
+    check('nor do they hold anybody up', time.monotonic() - began < 5, True)
+    # The oldest were ended, without an answer.
+    ended = select.select(held[:700], [], [], 0)[0]
+    check('the oldest were ended', [len(ended), {stream.recv(10) for stream in ended}], [700, {b''}])
     for stream in held + silent:
-        stream.close()
-    time.sleep(1)
-    # Who was refused has kept no place.
-    held = [connect() for _ in range(1_023)]
-    time.sleep(1)
-    check('and room again', status_of(ask(get('/'))), 200)
-    for stream in held:
         stream.close()
 
 

@@ -1,21 +1,22 @@
 //! One connection: a request, and what follows it.
 
 use crate::entry::{Entry, Place};
-use crate::gateway::{Gateway, Seat};
+use crate::gateway::{Gateway, Role, Seat};
 use crate::head::{HeadEnd, read_head};
 use crate::listener::{Changed, Listener};
+use crate::network::network_of;
 use crate::order;
 use crate::pair::{Pair, linger};
 use crate::server::{Reached, prepare, reach};
 use crate::unserved::Unserved;
 use floor_listen::Granted;
 use floor_web::{
-    Asked, End, Kind, Reading, Refusal, Relay, Source, meeting_of, read_request, refuse, serve,
-    stream, welcome,
+    Asked, End, Holder, Kind, NoPlace, Reading, Refusal, Relay, Source, is_strong_token,
+    meeting_of, read_request, refuse, serve, stream, welcome,
 };
 use std::alloc::Global;
-use std::io::{Read, Write};
-use std::net::{Net, Shutdown, TcpListener, TcpStream};
+use std::io::Write;
+use std::net::{Net, TcpListener, TcpStream};
 use std::sync::atomic::{AtomicBool, Ordering};
 use std::sync::{Arc, Wait};
 use std::thread;
@@ -28,6 +29,9 @@ const LOOKS: u32 = 15;
 
 /// What a page is told that asks for what changes, where no control socket is followed.
 const NOTHING_LIVE: &[u8] = b"{\"live\":false}\n";
+
+/// What the operator's page is told first where it may order nothing.
+const OBSERVES: &[u8] = b"{\"role\":\"observe\"}\n";
 
 /// How long it waits between two looks, in milliseconds.
 const LOOK_MILLIS: u64 = 100;
@@ -50,10 +54,7 @@ where
     };
     match gateway.enter(&rt) {
         Some(granted) => start_thread(rt, alloc, starting, granted),
-        None => {
-            gateway.tell(&rt, &Entry::Refused(Refusal::Unavailable));
-            turn_away(alloc, &starting.stream);
-        }
+        None => gateway.tell(&rt, &Entry::Unserved(Unserved::Full)),
     }
 }
 
@@ -148,16 +149,13 @@ where
     gateway.leave(&rt, place);
 }
 
-/// Answers that there are too many connections, and waits for nothing.
-fn turn_away(alloc: Global, mut stream: &TcpStream) {
-    // What came of the request is read, or else the answer may be taken back with it.
-    let mut piece = [0u8; 4_096];
-    let _outcome = stream.set_nonblocking(true);
-    let _outcome = stream.read(&mut piece);
-    if let Ok(answer) = refuse(alloc, Refusal::Unavailable, false) {
-        let _outcome = stream.write_all(answer.as_slice());
-    }
-    let _outcome = stream.shutdown(Shutdown::Write);
+/// Whose request it is.
+#[derive(Clone, Copy, Debug)]
+struct Client {
+    /// The number of the request, as long as it is under way.
+    request: u64,
+    /// The network that it comes from.
+    network: Option<u64>,
 }
 
 /// Reads the request, and serves it.
@@ -178,6 +176,32 @@ where
         + 'static,
 {
     prepare(&stream);
+    let Ok(handle) = stream.try_clone() else {
+        return Err(Unserved::NoThread);
+    };
+    let request = gateway.begin_request(&rt, handle)?;
+    let served = read_head_and_answer(rt, alloc, gateway, stream, request);
+    gateway.end_request(&rt, request);
+    served
+}
+
+fn read_head_and_answer<R>(
+    rt: R,
+    alloc: Global,
+    gateway: &Gateway,
+    stream: TcpStream,
+    request: u64,
+) -> Result<(), Unserved>
+where
+    R: Net<Listener = TcpListener, Stream = TcpStream>
+        + Clock
+        + Threads
+        + Wait
+        + Copy
+        + Drop
+        + Send
+        + 'static,
+{
     let mut bytes = Vec::new(alloc);
     let is_whole = match read_head(&rt, &gateway.origins, &stream, &mut bytes)? {
         HeadEnd::Whole => true,
@@ -189,8 +213,14 @@ where
     };
     match read_request(&gateway.origins, bytes.as_slice()) {
         Reading::Whole { asked, len } if is_whole && len <= bytes.len() => {
+            let field = match &gateway.client_address {
+                Some(field) => Some(field.as_str()),
+                None => None,
+            };
+            let network = network_of(&stream, field, bytes.as_slice());
+            let client = Client { request, network };
             let behind = &bytes[len..];
-            answer(rt, alloc, gateway, stream, asked, behind)
+            answer(rt, alloc, gateway, stream, client, asked, behind)
         }
         _ => Ok(()),
     }
@@ -202,6 +232,7 @@ fn answer<R>(
     alloc: Global,
     gateway: &Gateway,
     stream: TcpStream,
+    client: Client,
     asked: Asked<'_>,
     behind: &[u8],
 ) -> Result<(), Unserved>
@@ -228,26 +259,69 @@ where
             source,
             token,
             is_head,
-        } => tell(rt, alloc, gateway, stream, source, token, is_head),
-        Asked::Order { token, order } => { obey(&rt, alloc, gateway, &stream, token, order) }
+        } => tell(rt, alloc, gateway, stream, client, source, token, is_head),
+        Asked::Order { token, order } => {
+            obey(&rt, alloc, gateway, &stream, client, token, order)
+        }
         Asked::Bfcp { token, accept } => match seat_of(&rt, gateway, token) {
             Some(seat) if seat.is_ended => {
                 lack_server(&rt, alloc, gateway, &seat, &stream, &accept)
             }
-            Some(seat) => connect(rt, alloc, gateway, &seat, stream, &accept, behind),
+            Some(seat) => {
+                let holder = holder_of(&seat, client);
+                if let Err(why) = gateway.take_place(&rt, holder) {
+                    return answer_no_place(&rt, alloc, gateway, &stream, why, &accept);
+                }
+                gateway.end_request(&rt, client.request);
+                let served = connect(rt, alloc, gateway, &seat, stream, &accept, behind);
+                gateway.give_place_back(&rt, holder);
+                served
+            }
             None => answer_refusal(&rt, alloc, gateway, &stream, Refusal::NotFound, false),
         },
     }
 }
 
-/// Whom a token stands for.
+/// Who holds the place of a client that has this seat.
+fn holder_of(seat: &Seat, client: Client) -> Holder {
+    Holder {
+        conference: seat.conference,
+        user: seat.user,
+        network: client.network,
+    }
+}
+
+/// What answers a request whose connection is granted no place.
+fn refusal_of(why: NoPlace) -> Refusal {
+    match why {
+        NoPlace::OfUser | NoPlace::OfNetwork => Refusal::TooMany,
+        NoPlace::OfAll | NoPlace::Memory => Refusal::Unavailable,
+    }
+}
+
+/// Whom a token stands for. One that nobody has is looked up for a while, where others come by the control
+/// socket: of so many at once as may be, and of no token that can't be one.
 fn seat_of<R: Clock + Wait>(rt: &R, gateway: &Gateway, token: &[u8]) -> Option<Seat> {
-    for _ in 0..LOOKS {
-        let seat = gateway.seat(rt, token);
-        if seat.is_some() || gateway.control.is_none() || gateway.is_ending() {
-            return seat;
+    let seat = gateway.seat(rt, token);
+    if seat.is_some() || gateway.control.is_none() || !is_strong_token(token) {
+        return seat;
+    }
+    let look_up = gateway.begin_look_up(rt)?.taken();
+    let seat = look_up_again(rt, gateway, token);
+    gateway.end_look_up(rt, look_up);
+    seat
+}
+
+fn look_up_again<R: Clock + Wait>(rt: &R, gateway: &Gateway, token: &[u8]) -> Option<Seat> {
+    for _ in 1..LOOKS {
+        if gateway.is_ending() {
+            return None;
         }
         thread::sleep(rt, Duration::from_millis(LOOK_MILLIS));
+        let seat = gateway.seat(rt, token);
+        if seat.is_some() {
+            return seat;
+        }
     }
     None
 }
@@ -258,6 +332,7 @@ fn tell<R>(
     alloc: Global,
     gateway: &Gateway,
     stream: TcpStream,
+    client: Client,
     source: Source,
     token: &[u8],
     is_head: bool,
@@ -267,15 +342,36 @@ where
 {
     match source {
         Source::Operator => {
-            if !gateway.is_operator(token) {
-                return answer_refusal(&rt, alloc, gateway, &stream, Refusal::NotFound, is_head);
-            }
-            go_on_telling(&rt, alloc, gateway, stream, None, is_head)
+            let first = match gateway.role(token) {
+                Some(Role::Operates) => b"".as_slice(),
+                Some(Role::Observes) => OBSERVES,
+                None => {
+                    let refusal = Refusal::NotFound;
+                    return answer_refusal(&rt, alloc, gateway, &stream, refusal, is_head);
+                }
+            };
+            let Some(granted) = gateway.enter_operator(&rt) else {
+                let refusal = Refusal::Unavailable;
+                return answer_refusal(&rt, alloc, gateway, &stream, refusal, is_head);
+            };
+            let place = granted.taken();
+            gateway.end_request(&rt, client.request);
+            let told = go_on_telling(&rt, alloc, gateway, stream, None, first, is_head);
+            gateway.leave_operator(&rt, place);
+            told
         }
         Source::Live => match seat_of(&rt, gateway, token) {
             Some(seat) if gateway.control.is_some() => {
+                let holder = holder_of(&seat, client);
+                if let Err(why) = gateway.take_place(&rt, holder) {
+                    let refusal = refusal_of(why);
+                    return answer_refusal(&rt, alloc, gateway, &stream, refusal, is_head);
+                }
+                gateway.end_request(&rt, client.request);
                 let place = Some(Place::of(&seat));
-                go_on_telling(&rt, alloc, gateway, stream, place, is_head)
+                let told = go_on_telling(&rt, alloc, gateway, stream, place, b"", is_head);
+                gateway.give_place_back(&rt, holder);
+                told
             }
             Some(_) => {
                 let answer = serve(alloc, Kind::Json, NOTHING_LIVE, is_head)?;
@@ -323,20 +419,22 @@ fn meeting_text<R: Clock + Wait>(
     }
 }
 
-/// Tells a page what is known, and what changes, until it goes.
+/// Tells a page what comes first, what is known, and what changes, until it goes.
 fn go_on_telling<R: Clock + Wait>(
     rt: &R,
     alloc: Global,
     gateway: &Gateway,
     stream_to: TcpStream,
     place: Option<Place>,
+    first: &[u8],
     is_head: bool,
 ) -> Result<(), Unserved> {
-    let head = stream(alloc)?;
+    let mut head = stream(alloc)?;
     if is_head {
         send_last(rt, &stream_to, head.as_slice());
         return Ok(());
     }
+    head.extend_from_slice(first)?;
     let listener = Arc::new(alloc, Listener::new(alloc, stream_to, place))?;
     if !listener.open(head.as_slice()) {
         return Ok(());
@@ -358,6 +456,7 @@ fn obey<R>(
     alloc: Global,
     gateway: &Gateway,
     stream: &TcpStream,
+    client: Client,
     token: &[u8],
     order: &[u8],
 ) -> Result<(), Unserved>
@@ -367,15 +466,31 @@ where
     let Some(path) = &gateway.control else {
         return answer_refusal(rt, alloc, gateway, stream, Refusal::NotFound, false);
     };
-    if !gateway.is_operator(token) {
-        return answer_refusal(rt, alloc, gateway, stream, Refusal::NotFound, false);
+    match gateway.role(token) {
+        Some(Role::Operates) => {}
+        Some(Role::Observes) => {
+            return answer_refusal(rt, alloc, gateway, stream, Refusal::Forbidden, false);
+        }
+        None => return answer_refusal(rt, alloc, gateway, stream, Refusal::NotFound, false),
     }
     let order = std::str::from_utf8(order).unwrap_or("");
     let Some(line) = order::line_of(alloc, order)? else {
         return answer_refusal(rt, alloc, gateway, stream, Refusal::BadRequest, false);
     };
-    gateway.tell(rt, &Entry::Ordered);
-    match order::asked(rt, alloc, path.as_str(), line.as_str())? {
+    let Some(granted) = gateway.enter_operator(rt) else {
+        return answer_refusal(rt, alloc, gateway, stream, Refusal::Unavailable, false);
+    };
+    let place = granted.taken();
+    gateway.end_request(rt, client.request);
+    let answered = order::asked(rt, alloc, path.as_str(), line.as_str());
+    gateway.leave_operator(rt, place);
+    let answer = match &answered {
+        Ok(Some(text)) => text.as_str().trim(),
+        Ok(None) | Err(_) => "no answer",
+    };
+    let line = line.as_str().trim();
+    gateway.tell(rt, &Entry::Ordered { line, answer });
+    match answered? {
         Some(text) => {
             let answer = serve(alloc, Kind::Text, text.as_bytes(), false)?;
             send_last(rt, stream, answer.as_slice());
@@ -480,6 +595,26 @@ fn lack_server<R: Clock + Wait>(
     gateway.tell(rt, &Entry::NoServer(Place::of(seat)));
     let mut answer = welcome(alloc, accept)?;
     Relay::new(alloc).lack_server(&mut answer);
+    send_last(rt, stream, answer.as_slice());
+    Ok(())
+}
+
+/// Answers a request for a WebSocket that is granted no place. Of a user who has as many as one may it is made
+/// one, and closed by a code of its own: the status of a handshake, which could say it too, is kept from a page.
+fn answer_no_place<R: Clock + Wait>(
+    rt: &R,
+    alloc: Global,
+    gateway: &Gateway,
+    stream: &TcpStream,
+    why: NoPlace,
+    accept: &[u8; 28],
+) -> Result<(), Unserved> {
+    if why != NoPlace::OfUser {
+        return answer_refusal(rt, alloc, gateway, stream, refusal_of(why), false);
+    }
+    gateway.tell(rt, &Entry::Refused(Refusal::TooMany));
+    let mut answer = welcome(alloc, accept)?;
+    Relay::new(alloc).refuse(&mut answer);
     send_last(rt, stream, answer.as_slice());
     Ok(())
 }

@@ -8,7 +8,7 @@ use std::alloc::{AllocError, Global};
 
 /// What became of a connection.
 #[derive(Clone, Copy, Debug)]
-pub enum Entry {
+pub enum Entry<'a> {
     /// A participant's connection to the server is made.
     Joined(Place),
     /// It has ended so.
@@ -17,8 +17,8 @@ pub enum Entry {
     NoServer(Place),
     /// A request was refused.
     Refused(Refusal),
-    /// The operator's page has ordered something.
-    Ordered,
+    /// The operator's page has ordered this line of the control socket, which was answered so.
+    Ordered { line: &'a str, answer: &'a str },
     /// A connection isn't answered.
     Unserved(Unserved),
 }
@@ -40,7 +40,7 @@ impl Place {
     }
 }
 
-impl Entry {
+impl Entry<'_> {
     /// What the line says, without the time.
     pub fn text(&self, alloc: Global) -> Result<String, AllocError> {
         match self {
@@ -56,7 +56,9 @@ impl Entry {
                 let (conference, user) = (place.conference, place.user);
                 format!(in alloc; "no server for conference {conference} user {user}")
             }
-            Entry::Ordered => format!(in alloc; "operator ordered"),
+            Entry::Ordered { line, answer } => {
+                format!(in alloc; "operator ordered {line}: {answer}")
+            }
             Entry::Refused(refusal) => format!(in alloc; "refused {}", refusal.status()),
             Entry::Unserved(unserved) => format!(in alloc; "unserved {}", unserved.name()),
         }

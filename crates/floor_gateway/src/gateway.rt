@@ -4,23 +4,31 @@ use crate::entry::Entry;
 use crate::fault::GatewayFault;
 use crate::listener::{Changed, Listener};
 use crate::pair::Pair;
+use crate::under_way::{MAX_UNDER_WAY, UnderWay};
 use crate::words::Words;
 use floor_follow::{Fact, FollowFault, Follower, Phase, Question, Told};
 use floor_listen::{Capacity, Granted, Taken};
 use floor_log::Log;
 use floor_web::{
-    File, Origins, Pages, Participants, ParticipantsFault, Titles, bearer, is_strong_token,
-    kind_of, read_participants, read_titles,
+    File, Holder, NoPlace, Origins, Pages, Participants, ParticipantsFault, Places, Titles, bearer,
+    is_strong_token, kind_of, read_participants, read_titles,
 };
 use slab::Slab;
 use std::alloc::{AllocError, AllocFailed, Global};
 use std::fs;
 use std::io::Write;
+use std::net::TcpStream;
 use std::path::Path;
 use std::rt::Files;
 use std::sync::atomic::{AtomicBool, Ordering};
 use std::sync::{Arc, Mutex, Wait};
 use std::time::Clock;
+
+/// How many connections the operator's pages may have at once, and orders be done: they have places of their own.
+const OPERATORS: usize = 16;
+
+/// How many tokens that nobody has are looked up at once, until they may be known.
+const LOOK_UPS: usize = 64;
 
 /// What all connections share.
 #[derive(Drop)]
@@ -33,6 +41,8 @@ pub struct Gateway {
     pub control: Option<String>,
     /// The operator's token, where there is an operator's page.
     operator: Option<String>,
+    /// The token of whoever sees the operator's page and orders nothing, where there is one.
+    observer: Option<String>,
     /// What is known by the control socket, once it was heard: it stays while the socket is lost.
     pub picture: Mutex<Option<Follower>>,
     is_lost: AtomicBool,
@@ -42,7 +52,17 @@ pub struct Gateway {
     /// The server's door by id, where all come by it.
     pub door: Option<u16>,
     log: Option<Arc<Log, Global>>,
-    places: Mutex<Capacity>,
+    /// The field of a request's head in which a proxy names the client's address.
+    pub client_address: Option<String>,
+    /// All connections.
+    connections: Mutex<Capacity>,
+    /// Those whose request is read or answered.
+    under_way: Mutex<UnderWay>,
+    /// Those of participants that go on.
+    places: Mutex<Places>,
+    /// Those of the operator.
+    operators: Mutex<Capacity>,
+    look_ups: Mutex<Capacity>,
     is_ending: AtomicBool,
     pairs: Mutex<Slab<Arc<Pair, Global>>>,
 }
@@ -56,6 +76,15 @@ pub struct Seat {
     pub port: Option<u16>,
     /// Whether the conference is known to run no more.
     pub is_ended: bool,
+}
+
+/// What somebody may do at the operator's page.
+#[derive(Clone, Copy, Debug, PartialEq, Eq)]
+pub enum Role {
+    /// To see how all conferences stand, and to order.
+    Operates,
+    /// To see alone.
+    Observes,
 }
 
 impl Gateway {
@@ -79,7 +108,9 @@ impl Gateway {
             door,
             control,
             operator,
+            observer,
             connections,
+            client_address,
             has_log: _,
         } = words;
         let text = text_of(rt, config.as_str(), errors)?;
@@ -96,17 +127,21 @@ impl Gateway {
             check_ports(&participants, config.as_str(), errors)?;
         }
         let operator = operator_token(rt, alloc, operator, is_followed, errors)?;
+        let observer = operator_token(rt, alloc, observer, is_followed, errors)?;
         let pages = read_pages(rt, alloc, folder.as_str(), errors)?;
         if pages.find(b"index.html").is_none() {
             let _outcome = writeln!(errors, "{folder}: there is no index.html in it");
             return Err(GatewayFault::NoPage);
         }
+        // As many requests that were ended to make room may be about to end.
+        let most = usize::from(connections) + OPERATORS + 2 * MAX_UNDER_WAY;
         Ok(Gateway {
             alloc,
             participants,
             titles,
             control,
             operator,
+            observer,
             picture: Mutex::new(None),
             is_lost: AtomicBool::new(false),
             listening: Mutex::new(Slab::new(alloc)),
@@ -114,14 +149,19 @@ impl Gateway {
             origins: Origins { listed: origins },
             door,
             log,
-            places: Mutex::new(Capacity::new(usize::from(connections))),
+            client_address,
+            connections: Mutex::new(Capacity::new(most)),
+            under_way: Mutex::new(UnderWay::new(alloc)),
+            places: Mutex::new(Places::new(alloc, usize::from(connections))),
+            operators: Mutex::new(Capacity::new(OPERATORS)),
+            look_ups: Mutex::new(Capacity::new(LOOK_UPS)),
             is_ending: AtomicBool::new(false),
             pairs: Mutex::new(Slab::new(alloc)),
         })
     }
 
     /// Tells the log, where there is one, what became of a connection.
-    pub fn tell<R: Clock + Wait>(&self, rt: &R, entry: &Entry) {
+    pub fn tell<R: Clock + Wait>(&self, rt: &R, entry: &Entry<'_>) {
         match &self.log {
             None => {}
             Some(log) => log.tell(rt, entry.text(self.alloc)),
@@ -136,19 +176,59 @@ impl Gateway {
         }
     }
 
-    /// Takes a place for a connection, if one is free.
+    /// Takes in a connection, if there may be one more.
     pub fn enter<R: Wait>(&self, rt: &R) -> Option<Granted> {
-        self.places.lock(rt).take()
+        self.connections.lock(rt).take()
     }
 
-    /// Gives a place back.
-    pub fn leave<R: Wait>(&self, rt: &R, place: Taken) {
-        self.places.lock(rt).give_back(place);
+    /// The connection has ended.
+    pub fn leave<R: Wait>(&self, rt: &R, connection: Taken) {
+        self.connections.lock(rt).give_back(connection);
     }
 
     /// Whether no connection runs.
     pub fn is_idle<R: Wait>(&self, rt: &R) -> bool {
-        self.places.lock(rt).is_idle()
+        self.connections.lock(rt).is_idle()
+    }
+
+    /// Begins a request, by a second handle of its socket, and gives its number.
+    pub fn begin_request<R: Wait>(&self, rt: &R, socket: TcpStream) -> Result<u64, AllocError> {
+        self.under_way.lock(rt).begin(socket)
+    }
+
+    /// A request is under way no more.
+    pub fn end_request<R: Wait>(&self, rt: &R, number: u64) {
+        self.under_way.lock(rt).end(number);
+    }
+
+    /// Grants a place to a participant's connection that goes on.
+    pub fn take_place<R: Wait>(&self, rt: &R, holder: Holder) -> Result<(), NoPlace> {
+        self.places.lock(rt).take(holder)
+    }
+
+    /// Gives it back.
+    pub fn give_place_back<R: Wait>(&self, rt: &R, holder: Holder) {
+        self.places.lock(rt).give_back(holder);
+    }
+
+    /// Takes one of the operator's places, if one is free.
+    pub fn enter_operator<R: Wait>(&self, rt: &R) -> Option<Granted> {
+        self.operators.lock(rt).take()
+    }
+
+    /// Gives it back.
+    pub fn leave_operator<R: Wait>(&self, rt: &R, place: Taken) {
+        self.operators.lock(rt).give_back(place);
+    }
+
+    /// Lets a token be looked up that nobody has yet, if one more may be.
+    pub fn begin_look_up<R: Wait>(&self, rt: &R) -> Option<Granted> {
+        self.look_ups.lock(rt).take()
+    }
+
+    /// It is looked up no more.
+    pub fn end_look_up<R: Wait>(&self, rt: &R, look_up: Taken) {
+        self.look_ups.lock(rt).give_back(look_up);
     }
 
     /// Takes up a pair, so that it ends where the gateway does.
@@ -252,12 +332,15 @@ impl Gateway {
         }
     }
 
-    /// Whether this is the operator's token.
-    pub fn is_operator(&self, token: &[u8]) -> bool {
-        match &self.operator {
-            Some(operator) => operator.as_bytes() == token,
-            None => false,
+    /// What whoever has this token may do at the operator's page, if anything.
+    pub fn role(&self, token: &[u8]) -> Option<Role> {
+        if is_token(&self.operator, token) {
+            return Some(Role::Operates);
         }
+        if is_token(&self.observer, token) {
+            return Some(Role::Observes);
+        }
+        None
     }
 
     /// Whom a token stands for: by a word at the control socket, else by the file.
@@ -323,6 +406,14 @@ impl Gateway {
     }
 }
 
+/// Whether this is the token, where there is one.
+fn is_token(token: &Option<String>, told: &[u8]) -> bool {
+    match token {
+        Some(token) => token.as_bytes() == told,
+        None => false,
+    }
+}
+
 /// The text of a file.
 fn text_of<R, E: Write>(rt: &R, path: &str, errors: &mut E) -> Result<String, GatewayFault>
 where
@@ -337,7 +428,7 @@ where
     }
 }
 
-/// The operator's token, which a file has, where one is named.
+/// A token of the operator's page, which a file has, where one is named.
 fn operator_token<R, E: Write>(
     rt: &R,
     alloc: Global,

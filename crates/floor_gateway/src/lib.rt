@@ -15,12 +15,15 @@ mod fault;
 mod gateway;
 mod head;
 mod listener;
+mod network;
 mod order;
 mod pair;
+mod reset;
 mod running;
 mod server;
 #[cfg(test)]
 mod tests;
+mod under_way;
 mod unserved;
 mod words;
 

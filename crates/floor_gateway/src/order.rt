@@ -1,5 +1,8 @@
 //! What the operator's page has done: a line of the control socket, asked by a client of its own.
 
+ghost use Rattle.std.specs.Prelude.{◌≡◌, IfOk, map, option_map, string_bytes};
+ghost use Rattle.floor_gateway.specs.Order.{close_line, leave_line, line_of, of_words, revoke_line, three_words, two_words};
+
 use floor_follow::{Lines, NextLine};
 use floor_words::{read_u16, read_u32, words};
 use std::alloc::{AllocError, Global};
@@ -15,28 +18,80 @@ const ANSWER_SECONDS: u64 = 10;
 const READS: u32 = 64;
 
 /// The line of an order: `close <c>`, `revoke <c> <r>` or `leave <c> <n>`; `None` where it is none of these.
-pub fn line_of(alloc: Global, order: &str) -> Result<Option<String>, AllocError> {
+pub fn line_of(alloc: Global, order: &str) -> Result<Option<String>, AllocError>
+    ensures value { IfOk result (λ line. option_map string_bytes line ≡ line_of order.now) }
+{
     let words = words(alloc, order)?;
-    let line = match words.as_slice() {
-        [name, conference] if *name == "close" => match read_u32(conference) {
-            Some(c) => Some(format!(in alloc; "close {c}\n")?),
-            None => None,
-        },
-        [name, conference, request] if *name == "revoke" => {
-            match (read_u32(conference), read_u16(request)) {
-                (Some(c), Some(r)) => Some(format!(in alloc; "revoke {c} {r}\n")?),
-                _ => None,
-            }
-        }
-        [name, conference, member] if *name == "leave" => {
-            match (read_u32(conference), read_u32(member)) {
-                (Some(c), Some(n)) => Some(format!(in alloc; "leave {c} {n}\n")?),
-                _ => None,
-            }
-        }
-        _ => None,
-    };
-    Ok(line)
+    of_words(alloc, &words)
+}
+
+fn of_words(alloc: Global, words: &[&str]) -> Result<Option<String>, AllocError>
+    ensures value { IfOk result (λ line. option_map string_bytes line
+        ≡ of_words (map (λ w. w.now) words.now)) }
+{
+    match words {
+        [name, conference] => of_two_words(alloc, name, conference),
+        [name, conference, other] => of_three_words(alloc, name, conference, other),
+        _ => Ok(None),
+    }
+}
+
+fn of_two_words(alloc: Global, name: &str, conference: &str) -> Result<Option<String>, AllocError>
+    ensures value { IfOk result (λ line. option_map string_bytes line
+        ≡ two_words name.now conference.now) }
+{
+    if name == "close" {
+        close_line(alloc, conference)
+    } else {
+        Ok(None)
+    }
+}
+
+fn of_three_words(
+    alloc: Global,
+    name: &str,
+    conference: &str,
+    other: &str,
+) -> Result<Option<String>, AllocError>
+    ensures value { IfOk result (λ line. option_map string_bytes line
+        ≡ three_words name.now conference.now other.now) }
+{
+    if name == "revoke" {
+        revoke_line(alloc, conference, other)
+    } else if name == "leave" {
+        leave_line(alloc, conference, other)
+    } else {
+        Ok(None)
+    }
+}
+
+fn close_line(alloc: Global, conference: &str) -> Result<Option<String>, AllocError>
+    ensures value { IfOk result (λ line. option_map string_bytes line ≡ close_line conference.now) }
+{
+    match read_u32(conference) {
+        Some(c) => Ok(Some(format!(in alloc; "close {c}\n")?)),
+        None => Ok(None),
+    }
+}
+
+fn revoke_line(alloc: Global, conference: &str, request: &str) -> Result<Option<String>, AllocError>
+    ensures value { IfOk result (λ line. option_map string_bytes line
+        ≡ revoke_line conference.now request.now) }
+{
+    match (read_u32(conference), read_u16(request)) {
+        (Some(c), Some(r)) => Ok(Some(format!(in alloc; "revoke {c} {r}\n")?)),
+        _ => Ok(None),
+    }
+}
+
+fn leave_line(alloc: Global, conference: &str, n: &str) -> Result<Option<String>, AllocError>
+    ensures value { IfOk result (λ line. option_map string_bytes line
+        ≡ leave_line conference.now n.now) }
+{
+    match (read_u32(conference), read_u32(n)) {
+        (Some(c), Some(n)) => Ok(Some(format!(in alloc; "leave {c} {n}\n")?)),
+        _ => Ok(None),
+    }
 }
 
 /// What the server answers to a line; `None` where it can't be asked, or doesn't answer.

@@ -5,6 +5,7 @@
 //! it, and whole. What goes to the server only the first thread writes.
 
 use crate::deadline::Deadline;
+use crate::reset::reset;
 use floor_web::{End, Relay, Side};
 use std::alloc::Global;
 use std::io::{ErrorKind, Read, Write};
@@ -87,7 +88,7 @@ impl Pair {
         }
     }
 
-    /// Carries what the server sends until the relay has ended, or the server's stream has.
+    /// Carries what the server sends until the relay has ended, or the server's stream has, and ends its connection.
     pub fn carry_down<R: Wait>(&self, rt: &R) {
         let mut server = &self.server;
         let mut piece = [0u8; 4_096];
@@ -106,15 +107,28 @@ impl Pair {
                 break;
             }
         }
+        self.end_server(rt);
         // The browser closes its side by it, and so ends the other thread's read.
         let _outcome = self.browser.shutdown(Shutdown::Write);
     }
 
-    /// Ends the reading of the server, which ends the relay.
+    /// Ends the reading of the server, which ends the relay. The server isn't told by it.
     pub fn hang_up(&self) {
         self.is_hung_up.store(true, Ordering::SeqCst);
         // It may be shut down already.
-        let _outcome = self.server.shutdown(Shutdown::Both);
+        let _outcome = self.server.shutdown(Shutdown::Read);
+    }
+
+    /// Ends the server's connection, of which nobody reads any more: in order where the participant leaves. Else it
+    /// is reset, since the participant may come again.
+    fn end_server<R: Wait>(&self, rt: &R) {
+        let is_leave = match self.relay.lock(rt).end() {
+            Some(end) => end.is_leave(),
+            None => false,
+        };
+        if is_leave || !reset(&self.server) {
+            let _outcome = self.server.shutdown(Shutdown::Both);
+        }
     }
 
     /// Waits a while for the browser to close its side, and tells how the relay ended.

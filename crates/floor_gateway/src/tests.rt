@@ -1,6 +1,7 @@
 //! A gateway from its start to its end: the faults that it names, and a browser that is served.
 
 use crate::running::run;
+use crate::under_way::{MAX_UNDER_WAY, UnderWay};
 use std::alloc::Global;
 use std::io::{Read, Write};
 use std::net::{Net, TcpListener, TcpStream};
@@ -8,7 +9,7 @@ use std::rt::Files;
 use std::sync::Wait;
 use std::test::Fail;
 use std::thread::Threads;
-use std::time::Clock;
+use std::time::{Clock, Duration};
 use std::{fs, thread};
 
 /// A user without a port, up to the token.
@@ -260,5 +261,36 @@ fn a_browser_is_served_until_the_input_ends(rt: HostRuntime) -> Result<(), Fail>
     fs::remove_file(&rt, "served/index.html")?;
     fs::remove_dir(&rt, "served")?;
     fs::remove_file(&rt, "served.toml")?;
+    Ok(())
+}
+
+/// The two ends of a connection.
+fn ends<R>(rt: &R, listener: &TcpListener) -> Result<(TcpStream, TcpStream), Fail>
+where
+    R: Net<Listener = TcpListener, Stream = TcpStream>,
+{
+    let client = TcpStream::connect(rt, listener.local_addr()?)?;
+    let (server, _) = listener.accept()?;
+    Ok((client, server))
+}
+
+#[test]
+fn one_request_too_many_ends_the_oldest_and_no_other(rt: HostRuntime) -> Result<(), Fail> {
+    let alloc = rt.alloc();
+    let listener = TcpListener::bind(&rt, "127.0.0.1:0")?;
+    let mut under_way = UnderWay::new(alloc);
+    let (mut first, oldest) = ends(&rt, &listener)?;
+    let (mut second, mut others) = ends(&rt, &listener)?;
+    first.set_read_timeout(Some(Duration::from_secs(10)))?;
+    second.set_read_timeout(Some(Duration::from_secs(10)))?;
+    let _number = under_way.begin(oldest)?;
+    for _ in 1..MAX_UNDER_WAY {
+        let _number = under_way.begin(others.try_clone()?)?;
+    }
+    let _number = under_way.begin(others.try_clone()?)?;
+    let mut byte = [0; 1];
+    assert_eq!(rt; first.read(&mut byte)?, 0);
+    others.write_all(b"a")?;
+    assert_eq!(rt; second.read(&mut byte)?, 1);
     Ok(())
 }

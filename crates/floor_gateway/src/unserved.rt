@@ -5,6 +5,8 @@ use std::alloc::{AllocError, AllocFailed};
 /// Why a connection isn't answered.
 #[derive(Clone, Copy, Debug, PartialEq, Eq)]
 pub enum Unserved {
+    /// Too many connections are about to end.
+    Full,
     /// No thread can be made for it.
     NoThread,
     /// Memory was refused.
@@ -15,6 +17,7 @@ impl Unserved {
     /// Its name.
     pub fn name(self) -> &'static str {
         match self {
+            Unserved::Full => "Full",
             Unserved::NoThread => "NoThread",
             Unserved::Memory => "Memory",
         }

@@ -6,7 +6,7 @@ use clap::{Arg, ArgAction, ArgMatches, Command, Error};
 use std::alloc::Global;
 
 /// The version, and the logic that the program is proved with.
-const VERSION: &str = "0.1.0 (logic dac8208d650f15bf)";
+const VERSION: &str = "0.2.0 (logic dac8208d650f15bf)";
 
 /// How many connections there may be at once where no word says it: each may have two threads and two
 /// descriptors.
@@ -29,8 +29,12 @@ pub struct Words {
     pub control: Option<String>,
     /// The file that has the operator's token, where there is an operator's page.
     pub operator: Option<String>,
-    /// How many connections there may be at once.
+    /// The file that has the token of whoever sees the operator's page and orders nothing.
+    pub observer: Option<String>,
+    /// How many connections of pages there may be at once.
     pub connections: u16,
+    /// The field of a request's head in which a proxy names the client's address.
+    pub client_address: Option<String>,
     /// Whether each connection that joins, is refused or leaves is told.
     pub has_log: bool,
 }
@@ -70,6 +74,8 @@ fn parsed(alloc: Global, words: &[String]) -> Result<Words, Error> {
         door: matches.get_one::<u16>("door-by-id"),
         control: optional_text(alloc, &matches, "control")?,
         operator: optional_text(alloc, &matches, "operator")?,
+        observer: optional_text(alloc, &matches, "observer")?,
+        client_address: optional_text(alloc, &matches, "client-address")?,
         connections: matches.get_one::<u16>("connections").unwrap_or(CONNECTIONS),
         has_log: matches.get_flag("log"),
     })
@@ -119,12 +125,30 @@ fn command<'a>(alloc: Global) -> Result<Command<'a>, Error> {
                 .help("A file with the token of the operator's page, /operator#TOKEN."),
         )?
         .arg(
+            Arg::new(alloc, "observer")
+                .long("observer")
+                .value_name("file")
+                .action(ArgAction::Set)
+                .help(
+                    "A file with a token by which the operator's page is seen, and orders nothing.",
+                ),
+        )?
+        .arg(
             Arg::new(alloc, "connections")
                 .long("connections")
                 .value_name("count")
                 .action(ArgAction::Set)
                 .value_parser(ValueParser::unsigned(1, u64::from(u16::MAX)))
-                .help("How many connections there may be at once, if not 1024."),
+                .help("How many connections of pages there may be at once, if not 1024."),
+        )?
+        .arg(
+            Arg::new(alloc, "client-address")
+                .long("client-address")
+                .value_name("field")
+                .action(ArgAction::Set)
+                .help(
+                    "The field of a request in which a proxy names its client's address, as X-Real-IP.",
+                ),
         )?
         .arg(
             Arg::new(alloc, "log")

@@ -1,5 +1,6 @@
 -- The frames that a server sends, and the close that an end has.
-use Rattle.std.proofs.Common.{◌≡◌, ℕ, true, List, [], ◌∷◌, ◌++◌, Option, None, Some, IsSome, Ok, Err, refl, sym, ap, subst, ◌∙◌, inl, inr, ◌⊎◌, append-nil, append_assoc}
+use Rattle.std.proofs.Common.{◌≡◌, ℕ, Bool, true, false, List, [], ◌∷◌, ◌++◌, Option, None, Some, IsSome, Ok, Err, refl, sym, ap, subst, ◌∙◌, inl, inr, ◌⊎◌, append-nil, append_assoc}
+use Rattle.std.specs.Prelude.{◌==◌, if◌then◌else◌}
 use Rattle.websocket.specs.declared.protocol.config.Role.{Role}
 use Rattle.websocket.specs.declared.protocol.config.Role.TheVariants.{Server}
 use Rattle.websocket.specs.declared.protocol.frame.coding.CloseCode.{CloseCode}
@@ -15,7 +16,7 @@ use Rattle.websocket.specs.CloseCode.{close_code_number, close_code_of, is_allow
 use Rattle.websocket.specs.View.{Leaves}
 use Rattle.floor_web.specs.declared.end.End.{End}
 use Rattle.floor_web.specs.declared.end.End.TheVariants as Why
-use Rattle.floor_web.specs.End.{code_of}
+use Rattle.floor_web.specs.End.{code_of, end_of_close}
 use Rattle.floor_web.specs.Frames.{Read, read_front, frame_of, bytes_of, close_frame, closing, farewell, replies, end_of_message, StoppedBy, OutOfMemory}
 use Rattle.floor_web.specs.Relay.{IsLast}
 use Rattle.floor_web.specs.steps.Hearing.{CanClose, Closes, Follows}
@@ -41,6 +42,15 @@ closing_is_last (Some code) = inr (close_payload (Some (code, [])), refl)
 pub farewell_is_last : (end : End) → IsLast (farewell end)
 farewell_is_last end = closing_is_last (code_of end)
 
+silent_code : (b : Bool) → code_of (if b then Why.Closed else Why.GoingAway) ≡ None
+silent_code true = refl
+silent_code false = refl
+
+-- a browser's own close is answered by no second one
+pub silent_close : (c : Option (CloseCode × List ℕ)) → code_of (end_of_close c) ≡ None
+silent_close None = refl
+silent_close (Some p) = silent_code (close_code_number p.0 == 1000)
+
 no_reply : (reply : Option Outgoing) (end : End) (last : List Outgoing) → reply ≡ None → last ≡ replies reply ++ farewell end → IsLast last
 no_reply reply end last none is = subst IsLast (sym (is ∙ ap (λ (r : Option Outgoing). replies r ++ farewell end) none)) (farewell_is_last end)
 
@@ -52,8 +62,9 @@ stopping_frame (Some (binary b)) reply next end last follows why is = no_reply r
 stopping_frame (Some (ping b)) reply next end last follows why is = absurd (cc why)
 stopping_frame (Some (pong b)) reply next end last follows why is = absurd (cc why)
 stopping_frame (Some (close c)) reply next end last follows why is =
-    let closed : end ≡ Why.Closed = cc why in
-    inr (follows.0.0, is ∙ ap (λ (r : Option Outgoing). replies r ++ farewell end) follows.0.1 ∙ ap (λ (e : End). replies (Some (record { opcode = Op.Control Close; payload = follows.0.0 })) ++ farewell e) closed)
+    let same : end_of_close c ≡ end = cc why in
+    let silent = subst (λ (e : End). code_of e ≡ None) same (silent_close c) in
+    inr (follows.0.0, is ∙ ap (λ (r : Option Outgoing). replies r ++ farewell end) follows.0.1 ∙ ap (λ (code : Option CloseCode). replies (Some (record { opcode = Op.Control Close; payload = follows.0.0 })) ++ closing code) silent)
 
 stopped_read : (bytes : List ℕ) (r : Read) (end : End) (last : List Outgoing) → read_front bytes ≡ r → StoppedBy r end last → IsLast last
 stopped_read bytes (Err e) end last is why = subst IsLast (sym why.1) (farewell_is_last end)
@@ -72,6 +83,7 @@ stop_is_last bytes end last (inr why) = memory_is_last last why.1
 
 codes_allowed : (end : End) (code : CloseCode) → code_of end ≡ Some code → is_allowed (close_code_of (close_code_number code)) ≡ true
 codes_allowed Why.Closed code is = absurd (cc is)
+codes_allowed Why.GoingAway code is = absurd (cc is)
 codes_allowed Why.Gone code is = absurd (cc is)
 codes_allowed Why.ServerGone code is = let e : code ≡ Code.Away = cc is in rw e refl
 codes_allowed Why.NoServer code is = let e : code ≡ Code.Library 4404 = cc is in rw e refl

@@ -15,12 +15,12 @@ use Rattle.websocket.specs.View.{Returns, ReadLeaves, KeepsRest, GivesError}
 use Rattle.websocket.proofs.StreamLemmas.{TookFrame_from_read}
 use Rattle.floor_web.specs.declared.end.End.{End}
 use Rattle.floor_web.specs.declared.end.End.TheVariants as Why
-use Rattle.floor_web.specs.End.{code_of, end_of_error}
+use Rattle.floor_web.specs.End.{code_of, end_of_close, end_of_error}
 use Rattle.floor_web.specs.Frames.{Read, read_front, start, bytes_of, farewell, replies, carried, end_of_message, StoppedBy}
 use Rattle.floor_web.specs.Relay.{Front, GoesOn, carried_by, replies_to}
 use Rattle.floor_web.specs.steps.Hearing.{is_binary, Carries, CanClose, Closes, Follows, Takes, Waiting, Ending, HearsAll}
 use Rattle.floor_web.proofs.Effects.{read_follows}
-use Rattle.floor_web.proofs.Closing.{Sends-server, bytes_of-append}
+use Rattle.floor_web.proofs.Closing.{Sends-server, bytes_of-append, silent_close}
 use Rattle.floor_web.proofs.Fronts.{Front-then}
 
 -- ---- what a read returned
@@ -111,7 +111,8 @@ active_closes (Some (binary b)) reply next end follows why some = rw follows.1 r
 active_closes (Some (ping b)) reply next end follows why some = rw follows.1 refl
 active_closes (Some (pong b)) reply next end follows why some = rw follows.1 refl
 active_closes (Some (close c)) reply next end follows (inl why) some =
-    let closed : end ≡ Why.Closed = cc why in absurd (cc (rw closed at some))
+    let same : end_of_close c ≡ end = cc why in
+    absurd (cc (rw (subst (λ (e : End). code_of e ≡ None) same (silent_close c)) at some))
 active_closes (Some (close c)) reply next end follows (inr why) some = absurd (cc why.1)
 
 pub can_close : (bytes input : List ℕ) (step : Step) (after : Connection) (up_old up_new down_old down_new : List ℕ) (end : End)
@@ -146,16 +147,17 @@ no_reply (Some (pong b)) reply next follows is = absurd (cc is)
 no_reply (Some (close c)) reply next follows is = absurd (cc is)
 
 -- nor where it was refused to a close: only a frame without a reply has one
-unanswered : (m : Option Content) (reply : Option Outgoing) (next : Connection) (end : End) → Follows m reply next → end_of_message m ≡ Some end → (reply ≡ None) ⊎ (end ≡ Why.Closed)
+unanswered : (m : Option Content) (reply : Option Outgoing) (next : Connection) (end : End) → Follows m reply next → end_of_message m ≡ Some end → (reply ≡ None) ⊎ (code_of end ≡ None)
 unanswered None reply next end follows why = inl follows.0
 unanswered (Some (text t)) reply next end follows why = inl follows.0
 unanswered (Some (binary b)) reply next end follows why = inl follows.0
 unanswered (Some (ping b)) reply next end follows why = absurd (cc why)
 unanswered (Some (pong b)) reply next end follows why = absurd (cc why)
-unanswered (Some (close c)) reply next end follows why = inr (cc why)
+unanswered (Some (close c)) reply next end follows why =
+    let same : end_of_close c ≡ end = cc why in inr (subst (λ (e : End). code_of e ≡ None) same (silent_close c))
 
 ending_with : (r : Read) (end result : End) (up_old up_new down_old down_mid down_new : List ℕ) (reply : Option Outgoing) → up_new ≡ up_old → down_mid ≡ down_old ++ bytes_of (replies reply)
-    → (StoppedBy r end (replies reply ++ farewell end)) ⊎ ((end ≡ Why.Memory) × (reply ≡ None)) → (reply ≡ None) ⊎ (end ≡ Why.Closed)
+    → (StoppedBy r end (replies reply ++ farewell end)) ⊎ ((end ≡ Why.Memory) × (reply ≡ None)) → (reply ≡ None) ⊎ (code_of end ≡ None)
     → Closes end down_mid down_new result → Ending r result up_old up_new down_old down_new
 ending_with r end result up_old up_new down_old down_mid down_new reply up down (inl why) none (inl closed) =
     record {
@@ -178,8 +180,8 @@ ending_with r end result up_old up_new down_old down_mid down_new reply up down 
       up = up;
       down = failed.1 ∙ down ∙ ap (λ (x : Option Outgoing). down_old ++ bytes_of (replies x)) none;
     }
-ending_with r end result up_old up_new down_old down_mid down_new reply up down why (inr is_closed) (inr failed) =
-    absurd (cc (subst (λ (e : End). IsSome (code_of e)) is_closed failed.2))
+ending_with r end result up_old up_new down_old down_mid down_new reply up down why (inr is_silent) (inr failed) =
+    absurd (cc (rw is_silent at failed.2))
 
 -- a frame that ends the relay
 pub turn_ends : (bytes input : List ℕ) (step : Step) (after : Connection) (up_old up_new down_old down_mid down_new : List ℕ) (end result : End)

@@ -146,12 +146,19 @@ with_length (Ok None) fields = ordered fields
 with_length (Ok (Some length)) fields = if bytes_eq length (codes "0") then ordered fields else Err BadRequest
 with_length (Err e) fields = Err e
 
+abbrev pub without_body : Fields → Result Wanted Refusal
+without_body fields =
+    if has_field fields (codes "Transfer-Encoding") then Err BadRequest else with_length (only (values_of fields (codes "Content-Length"))) fields
+
+-- one Host
+abbrev pub posted_to : Fields → Option (List ℕ) → Result Wanted Refusal
+posted_to fields None = Err BadRequest
+posted_to fields (Some host) = without_body fields
+
 -- an order of the operator's
 abbrev pub posted : Fields → (path : List ℕ) → Result Wanted Refusal
 posted fields path =
-    if bytes_eq path (codes "/operator/order")
-    then (if has_field fields (codes "Transfer-Encoding") then Err BadRequest else with_length (only (values_of fields (codes "Content-Length"))) fields)
-    else Err MethodNotAllowed
+    if bytes_eq path (codes "/operator/order") then after (only (values_of fields (codes "Host"))) (posted_to fields) else Err MethodNotAllowed
 
 -- the order: the method, one Host, no body, and then what its path asks for; what stands behind a `?` isn't looked at
 abbrev pub asked : List (List ℕ) → (method target : List ℕ) → Fields → Result Wanted Refusal

@@ -16,6 +16,11 @@ only [] = Ok None
 only (v ∷ []) = Ok (Some v)
 only (v ∷ w ∷ more) = Err BadRequest
 
+-- the last of these values; the one before them where there is none
+abbrev pub last_behind : Option (List ℕ) → List (List ℕ) → Option (List ℕ)
+last_behind found [] = found
+last_behind found (v ∷ vs) = last_behind (Some v) vs
+
 -- a byte that parts the words of a list: a comma, or white space
 abbrev pub is_separator : ℕ → Bool
 is_separator b = (b == 44) || (b == 32) || (b == 9)

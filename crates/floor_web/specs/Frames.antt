@@ -17,7 +17,7 @@ use Rattle.websocket.specs.Connection.{Connection, Effect, Outgoing, read_step, 
 use Rattle.websocket.specs.Frame.{encode_frame}
 use Rattle.floor_web.specs.declared.end.End.{End}
 use Rattle.floor_web.specs.declared.end.End.TheVariants as Why
-use Rattle.floor_web.specs.End.{code_of, end_of_error}
+use Rattle.floor_web.specs.End.{code_of, end_of_close, end_of_error}
 
 -- what a WebSocket takes: frames and messages as long as the longest BFCP message, of 12 bytes and 65,535 units of 4
 abbrev pub limits : WebSocketConfig
@@ -65,7 +65,7 @@ end_of_message (Some (text t)) = Some Why.Text
 end_of_message (Some (binary b)) = if length b == message_len b then None else Some Why.NoMessage
 end_of_message (Some (ping b)) = None
 end_of_message (Some (pong b)) = None
-end_of_message (Some (close c)) = Some Why.Closed
+end_of_message (Some (close c)) = Some (end_of_close c)
 
 -- what the floor control server is sent for a message that goes on: a binary message
 abbrev pub carried : Option Content → List (List ℕ)

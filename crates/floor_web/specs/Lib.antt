@@ -11,5 +11,6 @@ pub mod Kinds
 pub mod Replies
 pub mod Participants
 pub mod Bearer
+pub mod Places
 -- the steps of the proofs
 pub mod steps

@@ -1,7 +1,7 @@
--- Why a request isn't served, as HTTP says it (RFC 9110, section 15; RFC 6585, section 5).
+-- Why a request isn't served, as HTTP says it (RFC 9110, section 15; RFC 6585, sections 4 and 5).
 use Rattle.std.specs.Prelude.{ℕ, List, [], codes}
 use Rattle.floor_web.specs.declared.refusal.Refusal.{Refusal}
-use Rattle.floor_web.specs.declared.refusal.Refusal.TheVariants.{BadRequest, Forbidden, NotFound, MethodNotAllowed, TooSlow, UpgradeRequired, TooLarge, BadGateway, Unavailable}
+use Rattle.floor_web.specs.declared.refusal.Refusal.TheVariants.{BadRequest, Forbidden, NotFound, MethodNotAllowed, TooSlow, UpgradeRequired, TooMany, TooLarge, BadGateway, Unavailable}
 
 -- the status of a refusal, with its phrase
 abbrev pub status : Refusal → List ℕ
@@ -11,6 +11,7 @@ status NotFound = codes "404 Not Found"
 status MethodNotAllowed = codes "405 Method Not Allowed"
 status TooSlow = codes "408 Request Timeout"
 status UpgradeRequired = codes "426 Upgrade Required"
+status TooMany = codes "429 Too Many Requests"
 status TooLarge = codes "431 Request Header Fields Too Large"
 status BadGateway = codes "502 Bad Gateway"
 status Unavailable = codes "503 Service Unavailable"
@@ -23,6 +24,7 @@ fields NotFound = []
 fields MethodNotAllowed = codes "Allow: GET, HEAD\r\n"
 fields TooSlow = []
 fields UpgradeRequired = codes "Upgrade: websocket\r\nSec-WebSocket-Version: 13\r\n"
+fields TooMany = codes "Retry-After: 10\r\n"
 fields TooLarge = []
 fields BadGateway = []
 fields Unavailable = codes "Retry-After: 10\r\n"

@@ -97,6 +97,18 @@ fn posted<'a>(head: &'a [u8], spans: &[HeaderSpan], path: &[u8]) -> Result<Asked
     if path != b"/operator/order".as_slice() {
         return Err(Refusal::MethodNotAllowed);
     }
+    match only(head, spans, b"Host") {
+        Ok(Some(_)) => without_body(head, spans),
+        Ok(None) => Err(Refusal::BadRequest),
+        Err(refusal) => Err(refusal),
+    }
+}
+
+/// The order, where no body follows.
+fn without_body<'a>(head: &'a [u8], spans: &[HeaderSpan]) -> Result<Asked<'a>, Refusal>
+    requires within { All (IsHeaderWithin (length head.now)) spans.now }
+    ensures value { spec.Answers (spec.without_body (fields_of head.now spans.now)) result }
+{
     if has_field(head, spans, b"Transfer-Encoding") {
         return Err(Refusal::BadRequest);
     }

@@ -1,16 +1,21 @@
 //! Why a relay ended, and the code that its WebSocket is closed by (RFC 6455, section 7.4.1).
 
 ghost use Rattle.std.specs.Prelude.{◌≡◌};
+ghost use Rattle.websocket.specs.Content.{close_content};
 ghost use Rattle.floor_web.specs.End as spec;
 
 use websocket::error::Error;
-use websocket::protocol::CloseCode;
+use websocket::protocol::{CloseCode, CloseFrame};
 
 /// Why a relay carries nothing any more.
 #[derive(Clone, Copy, Debug, PartialEq, Eq)]
 pub enum End {
-    /// The browser closed the WebSocket, and its close is answered.
+    /// The page closed the WebSocket by code 1000, or without a code: it says that its user leaves.
+    /// Its close is answered.
     Closed,
+    /// The browser closed the WebSocket by another code, as by 1001 where its page is loaded anew or its
+    /// window is closed. Its close is answered.
+    GoingAway,
     /// The browser's stream ended without a close.
     Gone,
     /// The floor control server's stream ended, or it refused the connection. Code 1001.
@@ -44,6 +49,7 @@ impl End {
     {
         match self {
             End::Closed => "Closed",
+            End::GoingAway => "GoingAway",
             End::Gone => "Gone",
             End::ServerGone => "ServerGone",
             End::NoServer => "NoServer",
@@ -64,7 +70,7 @@ impl End {
         ensures value { result ≡ spec.code_of self }
     {
         match self {
-            End::Closed | End::Gone => None,
+            End::Closed | End::GoingAway | End::Gone => None,
             End::ServerGone => Some(CloseCode::Away),
             // Codes from 4000 on are an application's own.
             End::NoServer => Some(CloseCode::Library(4_404)),
@@ -75,6 +81,48 @@ impl End {
             End::TooLong => Some(CloseCode::Size),
             End::Memory => Some(CloseCode::Error),
         }
+    }
+
+    /// Whether the participant leaves the conference by it. By any other end the participant may come
+    /// again, and the server is to be told that the connection is lost.
+    pub fn is_leave(self) -> bool
+        ensures value { result ≡ spec.is_leave self }
+    {
+        match self {
+            End::Closed => true,
+            End::GoingAway
+            | End::Gone
+            | End::ServerGone
+            | End::NoServer
+            | End::Refused
+            | End::Broken
+            | End::Fragment
+            | End::Text
+            | End::NoUtf8
+            | End::NoMessage
+            | End::TooLong
+            | End::Memory => false,
+        }
+    }
+}
+
+/// The end that a browser's close is.
+pub(crate) fn end_of_close(frame: Option<CloseFrame<'_>>) -> End
+    ensures value { result ≡ spec.end_of_close (close_content frame.entry) }
+{
+    match frame {
+        None => End::Closed,
+        Some(frame) => end_of_code(frame.code),
+    }
+}
+
+fn end_of_code(code: CloseCode) -> End
+    ensures value { result ≡ spec.end_of_code code }
+{
+    if u16::from(code) == 1_000 {
+        End::Closed
+    } else {
+        End::GoingAway
     }
 }
 

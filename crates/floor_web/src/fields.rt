@@ -1,6 +1,6 @@
 //! The fields of a request's head (RFC 9110, section 5).
 
-ghost use Rattle.std.specs.Prelude.{◌≡◌, All, bytes_eq, length};
+ghost use Rattle.std.specs.Prelude.{◌≡◌, All, None, bytes_eq, length};
 ghost use Rattle.std.specs.List.{list_any};
 ghost use Rattle.std.specs.Option.{option_copied};
 ghost use Rattle.httparse.specs.Spans.{IsHeaderWithin};
@@ -32,6 +32,21 @@ pub(crate) fn only<'a>(
         }
     }
     Ok(found)
+}
+
+/// The value of the last field with this name.
+pub(crate) fn last<'a>(head: &'a [u8], spans: &[HeaderSpan], name: &[u8]) -> Option<&'a [u8]>
+    requires within { All (IsHeaderWithin (length head.now)) spans.now }
+    ensures value { option_copied result
+        ≡ spec.last_behind None (spec.values_of (fields_of head.now spans.now) name.now) }
+{
+    let mut value = None;
+    for span in spans {
+        if is_same_word(span.name.of(head), name) {
+            value = Some(span.value.of(head));
+        }
+    }
+    value
 }
 
 /// Whether there is a field with this name.

@@ -1,10 +1,13 @@
 //! The head of a request, as far as it has come.
 
-ghost use Rattle.std.specs.Prelude.{map, string_bytes};
-ghost use Rattle.httparse.specs.Spans.{IsRequestAt, IsRequestWithin};
+ghost use Rattle.std.specs.Prelude.{◌≡◌, None, map, string_bytes};
+ghost use Rattle.std.specs.Option.{option_copied};
+ghost use Rattle.httparse.specs.Spans.{IsRequestAt, IsRequestWithin, name_and_value};
+ghost use Rattle.floor_web.specs.Fields.{last_behind, values_of};
 ghost use Rattle.floor_web.specs.Head as spec;
 
 use crate::asked::{Asked, asked_by};
+use crate::fields::last;
 use crate::origins::Origins;
 use crate::refusal::Refusal;
 use httparse::spans::{EMPTY_HEADER_SPAN, HeaderSpan, RequestSpans, parse_request};
@@ -60,6 +63,9 @@ fn whole<'a>(
     if found.len > MAX_HEAD_LEN {
         return Reading::Refused(Refusal::TooLarge);
     }
+    if found.version != 1 {
+        return Reading::Refused(Refusal::BadRequest);
+    }
     let method = found.method.of(bytes);
     let target = found.path.of(bytes);
     match asked_by(origins, bytes, &spans[..found.headers], method, target) {
@@ -69,4 +75,33 @@ fn whole<'a>(
         },
         Err(refusal) => Reading::Refused(refusal),
     }
+}
+
+/// The value of the last field with this name in the head that stands at the front of the bytes. Takes no
+/// memory.
+pub fn last_value<'a>(bytes: &'a [u8], name: &[u8]) -> Option<&'a [u8]>
+    ensures value { spec.HasLast bytes.now name.now (option_copied result) }
+{
+    let mut spans = [EMPTY_HEADER_SPAN; MAX_FIELDS];
+    match parse_request(bytes, &mut spans) {
+        Ok(Status::Complete(found)) => last_in(bytes, &found, &spans, name),
+        Ok(Status::Partial) => None,
+        Err(Error::TooManyHeaders) => None,
+        Err(_) => None,
+    }
+}
+
+/// The value of the last field with this name in a whole head.
+fn last_in<'a>(
+    bytes: &'a [u8],
+    found: &RequestSpans,
+    spans: &[HeaderSpan],
+    name: &[u8],
+) -> Option<&'a [u8]>
+    requires within { IsRequestWithin bytes.now spans.now found.now }
+    ensures value { (h : _) → IsRequestAt bytes.now spans.now found.now h
+        → option_copied result
+        ≡ last_behind None (values_of (map name_and_value h.fields) name.now) }
+{
+    last(bytes, &spans[..found.headers], name)
 }

@@ -7,7 +7,7 @@ ghost use Rattle.websocket.specs.View.{GivesError, IfMessage, IfReceived, KeepsR
 ghost use Rattle.floor_web.specs.Frames.{read_front, start};
 ghost use Rattle.floor_web.specs.steps.Hearing.{Carries, CanClose, Closes, Hears, HearsAll};
 
-use crate::end::{End, end_of_error};
+use crate::end::{End, end_of_close, end_of_error};
 use bytes::BytesMut;
 use floor_wire::Frame;
 use std::alloc::Global;
@@ -112,7 +112,7 @@ fn carry(alloc: Global, unread: &[u8], message: &Option<Received>, up: &mut Vec<
         Message::Text(_) => Some(End::Text),
         Message::Binary(bytes) => carry_message(alloc, bytes, up),
         Message::Ping(_) | Message::Pong(_) => None,
-        Message::Close(_) => Some(End::Closed),
+        Message::Close(frame) => Some(end_of_close(frame)),
     }
 }
 

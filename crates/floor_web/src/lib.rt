@@ -1,10 +1,10 @@
 //! A browser's way to a floor control server (RFC 8857), without sockets, threads and clocks: what the
-//! head of a request asks for, who has which token, the files of a page, the answers, and the relay
-//! between a WebSocket and the server's stream.
+//! head of a request asks for, who has which token, who holds which place, the files of a page, the answers, and
+//! the relay between a WebSocket and the server's stream.
 //!
 //! It stands on `floor_wire`, on `floor_config`, on `floor_follow`, whose picture of a conference pages are told, and on the kit's `websocket`, `httparse` and `toml`, and
-//! does no input or output. To the caller it leaves the sockets of both sides, how long each may be silent, how many
-//! connections there may be, and reading the files.
+//! does no input or output. To the caller it leaves the sockets of both sides, how long each may be silent, and
+//! reading the files.
 #![tactic(auto)]
 
 mod asked;
@@ -17,6 +17,7 @@ mod origins;
 mod pages;
 mod participants;
 mod picture;
+mod places;
 mod refusal;
 mod relay;
 mod reply;
@@ -24,13 +25,14 @@ mod titles;
 
 pub use asked::{Asked, Source};
 pub use end::End;
-pub use head::{MAX_FIELDS, MAX_HEAD_LEN, Reading, read_request};
+pub use head::{MAX_FIELDS, MAX_HEAD_LEN, Reading, last_value, read_request};
 pub use origins::Origins;
 pub use pages::{File, Kind, Pages, kind_of};
 pub use participants::{
     Participant, Participants, ParticipantsFault, is_strong_token, read_participants,
 };
 pub use picture::{bearer, meeting_of, overview_of};
+pub use places::{Holder, MAX_OF_NETWORK, MAX_OF_USER, NoPlace, Places};
 pub use refusal::Refusal;
 pub use relay::{MAX_MESSAGE_LEN, Relay, Side};
 pub use reply::{refuse, serve, stream, welcome};

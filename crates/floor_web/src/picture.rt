@@ -1,8 +1,16 @@
 //! What pages are told of a conference that is followed at the control socket, as JSON: a user's page of its
 //! meeting, and the operator's of all.
 //!
-//! What floorhub doesn't know stands in words beside the conference: `token.10` is the token of user 10,
-//! `title` what the page calls the conference, and `title.2` what it calls floor 2.
+//! What floorhub doesn't know stands in words beside the conference:
+//!
+//! | key | value |
+//! |---|---|
+//! | `token.10` | the token of user 10 |
+//! | `title`, `title.2` | what the page calls the conference, and its floor 2 |
+//! | `kind.2` | what floor 2 is for, by which the page chooses its texts: `microphone`, `screen` |
+//! | `priorities` | `chair` where the page is to offer nobody but a chair a priority above normal |
+//! | `grace` | for how many seconds the server keeps the place of whoever is lost: 1 to 65,535 |
+//! | `limit.2` | for how many seconds one should have floor 2: 1 to 65,535 |
 
 ghost use Rattle.std.specs.Prelude.{◌≡◌, find, is_some, option_copied};
 ghost use Rattle.floor_web.specs.Bearer as spec;
@@ -23,8 +31,10 @@ struct Meeting<'a> {
     name: &'a str,
     proxy: bool,
     ended: bool,
+    grace: Option<u16>,
+    priorities: &'a str,
     floors: Vec<ShownFloor<'a>>,
-    users: Vec<ShownUser<'a>>,
+    users: Vec<ShownParticipant<'a>>,
 }
 
 /// A floor, with how many hold it at once.
@@ -34,6 +44,8 @@ struct ShownFloor<'a> {
     title: &'a str,
     room: u16,
     chair: Option<u16>,
+    kind: &'a str,
+    limit: Option<u16>,
 }
 
 /// A user of the conference.
@@ -41,6 +53,15 @@ struct ShownFloor<'a> {
 struct ShownUser<'a> {
     id: u16,
     name: &'a str,
+}
+
+/// A user of the conference, and how a page is told whether the user is in it: `here`, `away` (the connection is
+/// lost, and the place is kept) or `gone`.
+#[derive(Drop, Serialize)]
+struct ShownParticipant<'a> {
+    id: u16,
+    name: &'a str,
+    presence: &'static str,
 }
 
 /// What the operator's page is told.
@@ -151,8 +172,10 @@ pub fn meeting_of(
         name: text_of(&person.name),
         proxy: person.proxy,
         ended: conference.phase != Phase::Running,
+        grace: read_seconds(value_of(conference, "grace").unwrap_or("")),
+        priorities: value_of(conference, "priorities").unwrap_or(""),
         floors: floors_of(alloc, conference, titles)?,
-        users: users_of(alloc, conference)?,
+        users: participants_of(alloc, conference)?,
     };
     match serde_json::to_string(alloc, &meeting) {
         Ok(text) => Ok(Some(text)),
@@ -206,6 +229,8 @@ fn floors_of<'a>(
                 title: title_of(alloc, conference, Some(floor.id), titles)?,
                 room: floor.room,
                 chair: floor.chair,
+                kind: word_of(alloc, conference, "kind", floor.id)?,
+                limit: read_seconds(word_of(alloc, conference, "limit", floor.id)?),
             })?;
         }
     }
@@ -226,6 +251,36 @@ fn users_of<'a>(
         }
     }
     Ok(users)
+}
+
+fn participants_of<'a>(
+    alloc: Global,
+    conference: &'a Conference,
+) -> Result<Vec<ShownParticipant<'a>>, AllocError> {
+    let mut users = Vec::new(alloc);
+    for fact in conference.facts.as_slice() {
+        if let Fact::User(person) = fact {
+            users.push(ShownParticipant {
+                id: person.id,
+                name: text_of(&person.name),
+                presence: presence_of(conference, person.id),
+            })?;
+        }
+    }
+    Ok(users)
+}
+
+/// Whether a user is in the conference: one who has a connection that isn't lost is.
+fn presence_of(conference: &Conference, user: u16) -> &'static str {
+    let mut presence = "gone";
+    for fact in conference.facts.as_slice() {
+        match fact {
+            Fact::Member(member) if member.user == user && !member.is_away => return "here",
+            Fact::Member(member) if member.user == user => presence = "away",
+            _ => {}
+        }
+    }
+    presence
 }
 
 fn members_of(alloc: Global, conference: &Conference) -> Result<Vec<ShownMember>, AllocError> {
@@ -299,15 +354,42 @@ fn title_of<'a>(
         None => String::from_str(alloc, "title")?,
         Some(floor) => format!(in alloc; "title.{floor}")?,
     };
+    match value_of(conference, key.as_str()) {
+        Some(title) => Ok(title),
+        None => Ok(titles.find(conference.number, floor)),
+    }
+}
+
+/// What a word of a floor says; empty where there is none.
+fn word_of<'a>(
+    alloc: Global,
+    conference: &'a Conference,
+    name: &str,
+    floor: u16,
+) -> Result<&'a str, AllocError> {
+    let key = format!(in alloc; "{name}.{floor}")?;
+    Ok(value_of(conference, key.as_str()).unwrap_or(""))
+}
+
+/// What the word with this key says, if there is one.
+fn value_of<'a>(conference: &'a Conference, key: &str) -> Option<&'a str> {
     for fact in conference.facts.as_slice() {
         match fact {
-            Fact::Word(word) if word.key.as_str() == key.as_str() => {
-                return Ok(utf8_of(word.value.as_slice()));
+            Fact::Word(word) if word.key.as_str() == key => {
+                return Some(utf8_of(word.value.as_slice()));
             }
             _ => {}
         }
     }
-    Ok(titles.find(conference.number, floor))
+    None
+}
+
+/// The seconds that a word writes; none where it writes no number, or 0.
+fn read_seconds(text: &str) -> Option<u16> {
+    match read_u16(text) {
+        Some(seconds) if 0 < seconds => Some(seconds),
+        _ => None,
+    }
 }
 
 /// A name; empty where there is none.

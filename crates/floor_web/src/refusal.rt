@@ -8,7 +8,7 @@ ghost use Rattle.floor_web.specs.Refusal as spec;
 pub enum Refusal {
     /// 400: it is no request of HTTP/1.1, or no handshake for `bfcp`.
     BadRequest,
-    /// 403: a page of an origin that isn't allowed asks for it.
+    /// 403: a page of an origin that isn't allowed asks for it, or whoever may only see orders something.
     Forbidden,
     /// 404: nothing has the path, or nobody the token.
     NotFound,
@@ -18,6 +18,8 @@ pub enum Refusal {
     TooSlow,
     /// 426: the path is served as a WebSocket of version 13 alone.
     UpgradeRequired,
+    /// 429: its user, or the network that it comes from, has as many connections as one may.
+    TooMany,
     /// 431: its head is too long, or has too many fields.
     TooLarge,
     /// 502: the floor control server doesn't take the connection.
@@ -38,6 +40,7 @@ impl Refusal {
             Refusal::MethodNotAllowed => "405 Method Not Allowed",
             Refusal::TooSlow => "408 Request Timeout",
             Refusal::UpgradeRequired => "426 Upgrade Required",
+            Refusal::TooMany => "429 Too Many Requests",
             Refusal::TooLarge => "431 Request Header Fields Too Large",
             Refusal::BadGateway => "502 Bad Gateway",
             Refusal::Unavailable => "503 Service Unavailable",
@@ -51,7 +54,7 @@ impl Refusal {
         match self {
             Refusal::MethodNotAllowed => "Allow: GET, HEAD\r\n",
             Refusal::UpgradeRequired => "Upgrade: websocket\r\nSec-WebSocket-Version: 13\r\n",
-            Refusal::Unavailable => "Retry-After: 10\r\n",
+            Refusal::TooMany | Refusal::Unavailable => "Retry-After: 10\r\n",
             Refusal::BadRequest
             | Refusal::Forbidden
             | Refusal::NotFound

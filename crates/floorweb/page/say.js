@@ -19,6 +19,7 @@ export function prepareTexts() {
   document.title = texts.page;
   for (const root of [document, ...[...document.querySelectorAll("template")].map((template) => template.content)]) {
     for (const node of root.querySelectorAll("[data-text]")) node.textContent = texts[node.dataset.text];
+    for (const node of root.querySelectorAll("[data-label]")) node.setAttribute("aria-label", texts[node.dataset.label]);
     for (const node of root.querySelectorAll("[data-placeholder]")) node.placeholder = texts[node.dataset.placeholder];
   }
 }
@@ -59,12 +60,13 @@ export function warn(text) {
 
 /** Says why there is nothing to take part in, and takes the cards away; `again` does what may help. */
 export function showNotice(kind, again) {
-  const { title, text } = notices[kind];
+  const { title, text, again: label } = notices[kind];
   const notice = $("notice");
   notice.querySelector("h2").textContent = title;
   notice.querySelector("p").textContent = text;
   const button = notice.querySelector("button");
   button.hidden = !again;
+  button.textContent = label ?? texts.tryAgain;
   button.onclick = again;
   document.body.classList.add("without");
   notice.hidden = false;

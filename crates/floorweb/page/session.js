@@ -10,6 +10,10 @@ const ANSWER_WAIT = 10_000;
 /** The codes by which floorweb closes where nobody is at the server's port, and where the server takes no connection of the user's. */
 const NO_SERVER = 4404;
 const NOT_TAKEN = 4403;
+/** The code of a page that is done: its user leaves. By any other one the user may come again. */
+const DONE = 1000;
+/** The code of a page that connects anew. */
+const ANEW = 4000;
 // The error code of a floor that the conference hasn't (RFC 8855, section 5.2.6).
 const INVALID_FLOOR = 6;
 /** At which of them running nothing is tried any more: a server that starts anew is back before. */
@@ -32,10 +36,12 @@ export class Lost extends Error {}
  */
 export class Session extends EventTarget {
   state = "connecting";
-  /** Once it has ended: `meeting` (it isn't there any more), `full` (it isn't, or takes nobody more of this user), `messages` (they were taken for no BFCP) or `refused`. */
+  /** Once it has ended: `left` (its user has left), `meeting` (it isn't there any more), `full` (it isn't, or takes nobody more of this user), `messages` (they were taken for no BFCP) or `refused`. */
   cause = "";
   /** Once it waits: how many seconds it does. */
   seconds = 0;
+  /** How often it has connected. */
+  count = 0;
   /** The ongoing requests of each floor, as the server told them last. */
   floors = new Map();
   #token;
@@ -64,6 +70,7 @@ export class Session extends EventTarget {
 
   connect() {
     clearTimeout(this.#timer);
+    this.count++;
     this.#enter("connecting");
     const { protocol, host } = location;
     const scheme = protocol === "https:" ? "wss:" : "ws:";
@@ -79,6 +86,11 @@ export class Session extends EventTarget {
   /** The meeting is known to have ended. */
   finish() {
     if (this.state !== "ended") this.#end("meeting");
+  }
+
+  /** Its user leaves the meeting. */
+  leave() {
+    this.#end("left");
   }
 
   /** Asks to be told of the floors of the meeting, of which there are others than before. */
@@ -98,7 +110,7 @@ export class Session extends EventTarget {
       if (this.#socket?.readyState !== WebSocket.OPEN) return reject(new Lost("not connected"));
       const transaction = (this.#transaction % 0xffff) + 1;
       this.#transaction = transaction;
-      const timer = setTimeout(() => this.#socket.close(), ANSWER_WAIT);
+      const timer = setTimeout(() => this.#socket.close(ANEW), ANSWER_WAIT);
       this.#waiting.set(transaction, { resolve, reject, timer });
       const { conference, user } = this.#meeting;
       this.#socket.send(encode({ primitive, conference, transaction, user, attributes }));
@@ -111,6 +123,8 @@ export class Session extends EventTarget {
       const ack = await this.ask(hello());
       this.supports = new Set(first(ack.attributes, "SUPPORTED-ATTRIBUTES"));
       this.#take(await this.ask(floorQuery(this.#meeting.floors.map((floor) => floor.id))));
+      // Of the other floors it is told in front of the next answer.
+      await this.ask(hello());
       this.#wait = FIRST_WAIT;
       this.#refused = 0;
       this.#unknown = 0;
@@ -118,7 +132,7 @@ export class Session extends EventTarget {
     } catch (error) {
       if (error instanceof Lost) return;
       // A server that began anew may not have a floor of before; which it has the page is told besides.
-      if (error.code === INVALID_FLOOR && ++this.#unknown < MAX_REFUSED) return this.#socket.close();
+      if (error.code === INVALID_FLOOR && ++this.#unknown < MAX_REFUSED) return this.#socket.close(ANEW);
       // An Error 1 says that the conference doesn't exist (RFC 8855, section 5.2.6).
       this.#end(error.code === 1 ? "meeting" : "refused");
     }
@@ -175,7 +189,7 @@ export class Session extends EventTarget {
     clearTimeout(this.#timer);
     this.cause = cause;
     this.#enter("ended");
-    this.#socket.close();
+    this.#socket.close(DONE);
   }
 
   #enter(state) {

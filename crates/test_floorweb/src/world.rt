@@ -28,12 +28,13 @@ const DESCRIPTORS: &str = "/proc/self/fd";
 const CONFIGURATION: &str = "meeting.toml";
 
 /// The files that it serves, and a folder that has no page.
-const FILES: [(&str, &str); 6] = [
+const FILES: [(&str, &str); 7] = [
     ("page/index.html", "<p>floors"),
     ("page/app.min.js", "// two dots"),
     ("page/NOTES", "of no kind"),
     ("page/operator.html", "<p>all"),
     ("operator.token", "the-token-of-the-operator\n"),
+    ("observer.token", "the-token-of-an-observer\n"),
     ("other/style.css", "p { }"),
 ];
 
@@ -156,6 +157,7 @@ where
     ///   the user's token, and further fields behind the user; `NAME status` prints the status of the answer,
     ///   `NAME answer` the body too, to the end of the stream.
     /// - `NAME greet USER BYTE BYTES` asks for a WebSocket with a frame right behind the request.
+    /// - `NAME crowd COUNT STEP` has so many do a step, NAME.1 and so on, one after another.
     /// - `NAME frame BYTE BYTES` sends a frame by its first byte and its payload, `NAME send BYTES` sends bytes,
     ///   `NAME fill COUNT` so many of one byte, `NAME text TEXT` a text, `NAME tell LINES` lines that `|` ends, and
     ///   `NAME flood COUNT BYTES` so many times these bytes, however long that takes, beside what comes next.
@@ -305,13 +307,15 @@ where
     /// What somebody does.
     fn act(&mut self, name: &str, verb: &str, rest: &str) -> Result<(), Fault> {
         match verb {
-            "ask" => {
-                let text = rest.replace(self.alloc, "|", "\r\n")?;
-                self.connect(name, text.as_bytes())
-            }
-            "open" => {
-                let (user, fields) = rest.split_once(' ').unwrap_or((rest, ""));
-                self.open(name, user, fields, &[])
+            "ask" | "open" => self.come(name, verb, rest),
+            "crowd" => {
+                let (count, step) = rest.split_once(' ').unwrap_or((rest, ""));
+                let (verb, rest) = step.split_once(' ').unwrap_or((step, ""));
+                for number in 1..=number_in(count)? {
+                    let name = format!(in self.alloc; "{name}.{number}")?;
+                    self.come(name.as_str(), verb, rest)?;
+                }
+                Ok(())
             }
             "greet" => {
                 let (user, frame) = rest.split_once(' ').unwrap_or((rest, ""));
@@ -367,6 +371,16 @@ where
             "hear" => self.hear(name, rest),
             _ => Err(Fault::Layout("no such step")),
         }
+    }
+
+    /// Connects, and asks for something.
+    fn come(&mut self, name: &str, verb: &str, rest: &str) -> Result<(), Fault> {
+        if verb == "ask" {
+            let text = rest.replace(self.alloc, "|", "\r\n")?;
+            return self.connect(name, text.as_bytes());
+        }
+        let (user, fields) = rest.split_once(' ').unwrap_or((rest, ""));
+        self.open(name, user, fields, &[])
     }
 
     fn place_of(&self, name: &str) -> Result<usize, Fault> {
