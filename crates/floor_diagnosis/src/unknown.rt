@@ -12,14 +12,15 @@ const MAX_BYTES: usize = 268_435_456;
 const MAX_TOLD: usize = 100;
 
 /// The keys of a conference's table, of a user's and of a floor's. `title` and `token` say nothing to a
-/// server, and something to the gateway for browsers, which reads the same file.
+/// server, and something to the gateway for browsers, as `udp` does to the gateway for room systems:
+/// they read the same file.
 const CONFERENCE: [&str; 6] = ["id", "limit", "connections", "user", "floor", "title"];
 
-const USER: [&str; 6] = ["id", "name", "uri", "proxy", "port", "token"];
+const USER: [&str; 7] = ["id", "name", "uri", "proxy", "port", "token", "udp"];
 
 const FLOOR: [&str; 4] = ["id", "room", "chair", "title"];
 
-/// A key that says nothing, neither to a server nor to the gateway for browsers.
+/// A key that says nothing, neither to a server nor to a gateway.
 #[derive(Debug, Drop)]
 pub struct UnknownKey {
     /// The line, counted from 1, that it stands in, or that its value begins in where that is an array

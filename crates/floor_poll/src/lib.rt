@@ -3,7 +3,8 @@
 //! A [`Server`] starts them, and asks them, by a thread that waits for the answer, or by [`Server::send`] for
 //! somebody who doesn't: then the loop answers into an [`Inbox`]. It stands on floor_loop, which serves a hub, and
 //! on floor_server, which has what all servers share: here are the sockets, the threads and the clock. A conference
-//! belongs to one loop, with its ports and its connections; loops share nothing but the log.
+//! belongs to one loop, with its ports and its connections. Loops share the log, who has which conference, and the
+//! inbox in which they leave what the control socket is to know: no lock is held while a message is served.
 #![tactic(auto)]
 
 mod accepting;

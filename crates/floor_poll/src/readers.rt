@@ -1,4 +1,4 @@
-//! What a loop tells of its conferences.
+//! What a loop tells of its conferences, and its part of showing a member out and of forgetting a conference.
 
 ghost use Rattle.std.specs.Prelude.{◌≡◌, ◌≤◌, ◌<◌, ◌+◌, ◌++◌, drop, find, flat_map, IfOk, IfSome, length, List, MatchResult, nat_eq, OnErr, OnOk, Some, string_bytes, take};
 ghost use Rattle.std.specs.Option.{option_copied};

@@ -178,6 +178,22 @@ impl Stream {
         Ok((Heard::Nothing, Vec::new(alloc)))
     }
 
+    /// The status of the answer that comes next, which stays to be read; none where no answer comes.
+    pub fn status(&mut self) -> Result<Option<u16>, Fault> {
+        for _ in 0..100_000 {
+            if let Some(end) = end_of_head(self.held.as_slice()) {
+                let head = std::str::from_utf8(&self.held[..end]).unwrap_or("");
+                let status = head.split(' ').nth(1).unwrap_or("");
+                return Ok(status.parse().ok());
+            }
+            let wanted = self.held.len().saturating_add(1);
+            if self.hold(wanted)? != Heard::Enough {
+                return Ok(None);
+            }
+        }
+        Ok(None)
+    }
+
     /// The next frame of a WebSocket: its first byte and its payload.
     pub fn frame(&mut self, alloc: Global) -> Result<(Heard, u8, Vec<u8>), Fault> {
         let (heard, front) = self.bytes(alloc, 2)?;

@@ -156,8 +156,11 @@ where
     /// - `NAME ask TEXT` sends a request, in which `|` ends a line; `NAME open USER` asks for a WebSocket with
     ///   the user's token, and further fields behind the user; `NAME status` prints the status of the answer,
     ///   `NAME answer` the body too, to the end of the stream.
+    /// - `NAME again STEP` does that step anew until it is answered with neither 429 nor 503, which say that a place
+    ///   isn't given back yet.
     /// - `NAME greet USER BYTE BYTES` asks for a WebSocket with a frame right behind the request.
-    /// - `NAME crowd COUNT STEP` has so many do a step, NAME.1 and so on, one after another.
+    /// - `NAME crowd COUNT STEP` has so many do a step, NAME.1 and so on, one after another; `NAME answered COUNT`
+    ///   waits until so many of them are answered, whose answers stay to be read.
     /// - `NAME frame BYTE BYTES` sends a frame by its first byte and its payload, `NAME send BYTES` sends bytes,
     ///   `NAME fill COUNT` so many of one byte, `NAME text TEXT` a text, `NAME tell LINES` lines that `|` ends, and
     ///   `NAME flood COUNT BYTES` so many times these bytes, however long that takes, beside what comes next.
@@ -317,6 +320,17 @@ where
                 }
                 Ok(())
             }
+            "again" => {
+                let (verb, rest) = rest.split_once(' ').unwrap_or((rest, ""));
+                self.come_again(name, verb, rest)
+            }
+            "answered" => {
+                for number in 1..=number_in(rest)? {
+                    let name = format!(in self.alloc; "{name}.{number}")?;
+                    let _status = self.stream(name.as_str())?.status()?;
+                }
+                Ok(())
+            }
             "greet" => {
                 let (user, frame) = rest.split_once(' ').unwrap_or((rest, ""));
                 let frame = self.bytes_of("frame", frame)?;
@@ -381,6 +395,23 @@ where
         }
         let (user, fields) = rest.split_once(' ').unwrap_or((rest, ""));
         self.open(name, user, fields, &[])
+    }
+
+    /// Comes, and goes and comes again while there is no place.
+    fn come_again(&mut self, name: &str, verb: &str, rest: &str) -> Result<(), Fault> {
+        for _ in 0..self.patience.saturating_mul(20) {
+            self.come(name, verb, rest)?;
+            match self.stream(name)?.status()? {
+                Some(429 | 503) => {
+                    let place = self.place_of(name)?;
+                    let _stream = self.streams.remove(place);
+                }
+                _ => return Ok(()),
+            }
+            thread::sleep(&self.rt, Duration::from_millis(50));
+        }
+        write!(self.printed, "{name} finds no place\n")?;
+        Ok(())
     }
 
     fn place_of(&self, name: &str) -> Result<usize, Fault> {
