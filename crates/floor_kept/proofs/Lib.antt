@@ -7,6 +7,8 @@ pub mod Texts
 pub mod Written
 pub mod Bodies
 pub mod Heads
+pub mod HeadsOfTables
+pub mod HeadsRead
 pub mod Leading
 pub mod Files
 pub mod Readings

@@ -1,16 +1,19 @@
 -- What stands in the file of a kept conference is read as that conference and as no other.
-use Rattle.std.specs.Prelude.{◌≡◌, ◌≤◌, ◌+◌, ℕ, Bool, true, false, if◌then◌else◌, List, [], ◌∷◌, ◌++◌, length, None}
-use Rattle.toml.specs.Data.{Members}
+use Rattle.std.specs.Prelude.{◌≡◌, ◌≤◌, ◌+◌, ℕ, Bool, true, false, if◌then◌else◌, List, [], ◌∷◌, ◌++◌, length, map, None, Ok}
+use Rattle.toml.specs.Data.{Members, members_depth}
 use Rattle.floor_config.specs.Configuration.{Configuration}
+use Rattle.floor_config.specs.Reading.{reading}
 use Rattle.floor_machine.specs.declared.event.Event.{Event}
 use Rattle.floor_machine.specs.Journal.{MAX_EVENTS}
 use Rattle.floor_kept.specs.Body.{event_of, events_of, is_end, is_one_line}
 use Rattle.floor_kept.specs.Entries.{IsBorne, IsEntry, entry_line}
 use Rattle.floor_kept.specs.File.{IsFile}
-use Rattle.floor_kept.specs.Head.{IsHeadOf}
+use Rattle.floor_kept.specs.Head.{IsHeadOf, document_of}
+use Rattle.floor_kept.specs.NewHeads.{AreHeadsIn}
 use Rattle.floor_kept.specs.Writing.{turn_lines}
 use Rattle.floor_kept.specs.declared.entry.Entry.{Entry}
 use Rattle.floor_kept.specs.declared.entry.Entry.TheVariants.{End}
+use Rattle.floor_kept.specs.declared.head.NewHead.{NewHead}
 
 -- bytes are the file of one conference at most, with one configuration and one list of entries
 abbrev pub OneFile : Type 0
@@ -65,3 +68,14 @@ WrittenIsFile =
     (conference : Members) (head : List ℕ) (config : Configuration) (turns : List Turn) (is_ended : Bool) (torn : List ℕ) → IsHeadOf conference head config → GoOn [] turns → is_one_line torn ≡ true →
     let bytes = head ++ ((turns_lines 0 turns ++ end_behind is_ended (journal_behind [] turns)) ++ torn) in
     ((entries : List Entry) × (head_lines : ℕ) × (stands : ℕ) × IsFile bytes config entries head_lines stands) × IsReadAs bytes config (journal_behind [] turns)
+
+-- no conference stands in a document that is deeper than a reader takes
+abbrev pub AreShallow : List Members → Type 0
+AreShallow [] = Unit {0}
+AreShallow (conference ∷ conferences) = (members_depth (document_of conference) ≤ 80) × AreShallow conferences
+
+-- heads of a text's conferences have the configurations that the text is read as, in its order
+abbrev pub HeadsReadAsText : Type 0
+HeadsReadAsText =
+    (text : List ℕ) (heads : List NewHead) (configs : List Configuration) (are : AreHeadsIn text heads)
+    → AreShallow are.conferences → reading text ≡ Ok configs → map (λ head. head.config) heads ≡ configs

@@ -1,3 +1,4 @@
 pub mod Parsed
 pub mod Cut
+pub mod Heads
 pub mod Ran

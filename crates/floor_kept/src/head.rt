@@ -1,12 +1,13 @@
 //! The head of the file in which a conference is kept: the configuration that it opened with.
 
-ghost use Rattle.std.specs.Prelude.{◌≡◌, ◌≤◌, ◌++◌, [], ◌∷◌, ℕ, IfErr, IfOk, All, List, MatchOption, string_bytes};
+ghost use Rattle.std.specs.Prelude.{◌≡◌, ◌≤◌, ◌++◌, [], ◌∷◌, ℕ, IfErr, IfOk, List, MatchOption, string_bytes};
 ghost use Rattle.toml.specs.Data.{members_depth};
 ghost use Rattle.toml.specs.Parse.{parse_document};
 ghost use Rattle.toml.specs.View.{table_view};
 ghost use Rattle.floor_kept.specs.Head.{IsHead, IsHeadFault, IsHeadOf, document_of, divider, first_line};
-ghost use Rattle.floor_kept.specs.NewHeads.{IsNewHead};
+ghost use Rattle.floor_kept.specs.NewHeads.{AreHeadsIn};
 ghost use Rattle.floor_kept.specs.steps.Cut.{IsCut, IsHeadBefore, IsNotOne, IsUncut};
+ghost use Rattle.floor_kept.specs.steps.Heads.{AreHeadsOfValues, IsHeadOfValue};
 ghost use Rattle.floor_config.specs.Reading.{reading};
 
 use floor_config::{Config, ConfigFault, read_configs};
@@ -187,7 +188,7 @@ pub fn head_of(alloc: Global, conference: Table) -> Result<NewHead, HeadFault>
 /// The heads of the conferences of a configuration's text, in its order. Refused as its reader refuses it, and
 /// where one of them has no head.
 pub fn heads_of(alloc: Global, text: &str) -> Result<Vec<NewHead>, HeadFault>
-    ensures each { IfOk result (λ heads. All IsNewHead heads.items) }
+    ensures heads { IfOk result (λ heads. AreHeadsIn text.now heads.items) }
 {
     match read_configs(alloc, text) {
         Ok(_) => {}
@@ -207,7 +208,7 @@ pub fn heads_of(alloc: Global, text: &str) -> Result<Vec<NewHead>, HeadFault>
 
 /// The heads of the tables among values, which are tables all.
 fn heads_in(alloc: Global, conferences: Vec<Value>) -> Result<Vec<NewHead>, HeadFault>
-    ensures each { IfOk result (λ heads. All IsNewHead heads.items) }
+    ensures heads { IfOk result (λ heads. AreHeadsOfValues conferences.items heads.items) }
 {
     let mut heads = Vec::new(alloc);
     for conference in conferences {
@@ -218,7 +219,7 @@ fn heads_in(alloc: Global, conferences: Vec<Value>) -> Result<Vec<NewHead>, Head
 
 /// The head of a value that is a conference's table.
 fn head_in(alloc: Global, conference: Value) -> Result<NewHead, HeadFault>
-    ensures value { IfOk result IsNewHead }
+    ensures value { IfOk result (λ head. IsHeadOfValue conference head) }
 {
     match conference {
         Value::Table(table) => head_of(alloc, table),

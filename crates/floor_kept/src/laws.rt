@@ -1,6 +1,6 @@
 //! The laws of kept files: what was written is what is read. Each is the contract of a function that does nothing.
 
-ghost use Rattle.floor_kept.specs.Laws.{OneFile, WrittenIsFile};
+ghost use Rattle.floor_kept.specs.Laws.{HeadsReadAsText, OneFile, WrittenIsFile};
 
 use floor_words::{numbers_are_read_back, words_are_read_back};
 
@@ -21,3 +21,9 @@ pub fn what_is_written_is_read()
     words_are_read_back();
     numbers_are_read_back();
 }
+
+/// The heads of a text's conferences have the configurations that the text is read as, in its order, where no
+/// conference stands in a document that is nested deeper than 80.
+pub fn heads_read_as_their_text()
+    ensures { HeadsReadAsText }
+{}

@@ -27,7 +27,7 @@ pub use floor_machine::{AddedUser, Event};
 pub use floor_room::{Place, Room};
 pub use floor_wire::Octets;
 pub use head::{Head, HeadFault, NewHead, head_of, heads_of, read_head};
-pub use laws::{a_file_says_one_conference, what_is_written_is_read};
+pub use laws::{a_file_says_one_conference, heads_read_as_their_text, what_is_written_is_read};
 pub use opening::{OpenFault, Opened, Unlawful, open_kept};
 pub use parsing::is_key;
 pub use printing::entry_line;

@@ -1,8 +1,8 @@
 //! A conference that is to be opened.
 
 ghost use Rattle.std.specs.Prelude.{◌≡◌, IfOk, None, map};
-ghost use Rattle.floor_poll.specs.Fresh.{config_of};
-ghost use Rattle.floor_poll.specs.declared.fresh.Fresh.TheVariants.{Kept};
+ghost use Rattle.floor_poll.specs.Fresh.{AreFresh, config_of};
+ghost use Rattle.floor_poll.specs.declared.fresh.Fresh.TheVariants.{Kept, Unkept};
 ghost use Rattle.floor_poll.specs.Refusals.{refusal_of_head};
 
 use floor_config::Config;
@@ -39,7 +39,9 @@ pub fn fresh_of(
     path: &str,
     text: &str,
     is_kept: bool,
-) -> Result<Vec<Fresh>, Reason> {
+) -> Result<Vec<Fresh>, Reason>
+    ensures each { IfOk result (λ all. AreFresh is_kept text.now all.items) }
+{
     let configs = configurations(alloc, path, text)?;
     let all = if is_kept {
         match heads_of(alloc, text) {
@@ -57,7 +59,7 @@ pub fn fresh_of(
 
 /// A conference for each configuration, none of which is kept.
 fn all_unkept(alloc: Global, configs: Vec<Config>) -> Result<Vec<Fresh>, AllocError>
-    ensures configs { IfOk result (λ all. map config_of all.items ≡ configs.items) }
+    ensures configs { IfOk result (λ all. all.items ≡ map Unkept configs.items) }
 {
     let mut all = Vec::with_capacity(alloc, configs.len())?;
     for config in configs {

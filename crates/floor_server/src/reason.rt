@@ -1,7 +1,8 @@
 //! Why a file or a port can't be had, and the line that a person is told of it.
 
-ghost use Rattle.std.specs.Prelude.{◌≡◌};
+ghost use Rattle.std.specs.Prelude.{◌≡◌, IfOk, Ok};
 ghost use Rattle.std.specs.IoError.{error_kind};
+ghost use Rattle.floor_config.specs.Reading.{reading};
 ghost use Rattle.floor_server.specs.Faults.{refusal_of_configuration, refusal_of_port, refusal_of_reading};
 
 use crate::entry::{Door, Entrance};
@@ -118,7 +119,9 @@ fn refusal_of_reading(error: &io::Error) -> BoardRefusal
 }
 
 /// The configurations of a file's text.
-pub fn configurations(alloc: Global, path: &str, text: &str) -> Result<Vec<Config>, Reason> {
+pub fn configurations(alloc: Global, path: &str, text: &str) -> Result<Vec<Config>, Reason>
+    ensures value { IfOk result (λ configs. reading text.now ≡ Ok configs.items) }
+{
     match read_configs(alloc, text) {
         Ok(configs) => Ok(configs),
         Err(fault) => Err(Reason {
