@@ -24,3 +24,5 @@ pub mod Standing
 pub mod Ending
 pub mod Resumed
 pub mod Carrying
+pub mod Filling
+pub mod Found

@@ -1,11 +1,16 @@
 -- What a call of a loop has done: steps of its hub.
-use Rattle.std.specs.Prelude.{◌≡◌, ◌≤◌, ℕ, List, [], ◌∷◌, ◌++◌, length, Option, Some, None}
+use Rattle.std.specs.Prelude.{◌≡◌, ◌≤◌, ◌<◌, ℕ, List, [], ◌∷◌, ◌++◌, length, map, Bool, true, false, Option, Some, None}
+use Rattle.floor_machine.specs.declared.event.Event.TheVariants.{Message}
+use Rattle.floor_room.specs.Room.{Room}
+use Rattle.floor_hub.specs.declared.connection.Connection.{Connection}
 use Rattle.floor_hub.specs.declared.step.Step.{Step}
 use Rattle.floor_hub.specs.declared.step.Step.TheVariants.{Attach, Leave, Piece, Serve}
-use Rattle.floor_hub.specs.Hub.{Hub}
+use Rattle.floor_hub.specs.Connections.{connection_at}
+use Rattle.floor_hub.specs.Hub.{Hub, room_at}
 use Rattle.floor_hub.specs.Runs.{run}
 use Rattle.floor_hub.specs.StandsFor.{StandsFor}
 use Rattle.floor_hub.specs.World.{World}
+use Rattle.floor_loop.specs.Loop.{HoldsNoMessage}
 
 -- Such steps lead from this world to one that the hub stands for now.
 pub record Goes (Are : List Step → Type 0) (new : Hub) (w : World) : Type 0 where
@@ -63,3 +68,16 @@ Returns conference user back = Then (AtMost 1 (Attach conference user)) (Leaves 
 abbrev pub LeavesIf : Option ℕ → List Step → Type 0
 LeavesIf None = NoSteps
 LeavesIf (Some k) = AtMost 1 (Leave k)
+
+-- so many messages of the connection with this number have come to the journal of its conference, and nothing else
+abbrev pub AddsMessages : ℕ → ℕ → Hub → Hub → Type 0
+AddsMessages number count old new =
+    (y : Connection) (r s : Room) → connection_at new.connections number ≡ Some y → room_at old y.conference ≡ Some r → room_at new y.conference ≡ Some s →
+    (added : List (List ℕ)) × (length added ≡ count) × (s.ledger.journal ≡ r.ledger.journal ++ map (Message y.n) added)
+
+-- Messages of the connection with this number were served: as many as may be, and more may be left; or fewer, and no whole one is left.
+pub record Serves (number most : ℕ) (more : Bool) (old new : Hub) : Type 0 where
+  pub count : ℕ
+  pub added : AddsMessages number count old new
+  pub all : more ≡ true → count ≡ most
+  pub none : more ≡ false → (count < most) × HoldsNoMessage new number

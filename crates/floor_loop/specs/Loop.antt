@@ -1,8 +1,12 @@
 -- A loop, as contracts see it: a hub, and what is on its way to each of its connections.
-use Rattle.std.specs.Prelude.{◌≡◌, ◌≤◌, ℕ, List, [], nat_eq, min, Option, Some, None, IsSome, option_and_then}
+use Rattle.std.specs.Prelude.{◌≡◌, ◌⊎◌, ◌≤◌, ℕ, List, [], length, nat_eq, min, Option, Some, None, IsSome, option_and_then}
 use Rattle.std.specs.Map.{lookup}
 use Rattle.std.specs.Option.{option_map_or}
+use Rattle.floor_wire.specs.Message.{messages}
+use Rattle.floor_hub.specs.declared.connection.Connection.{Connection}
+use Rattle.floor_hub.specs.Connections.{connection_at}
 use Rattle.floor_hub.specs.Hub.{Hub}
+use Rattle.floor_hub.specs.Rooms.{first_at}
 use Rattle.floor_loop.specs.declared.stay.Stay.{Stay}
 use Rattle.floor_loop.specs.Away.{Away, ends_of, stay_of}
 
@@ -88,3 +92,17 @@ IsEnded a number = (o : Outgoing) → outgoing_in a number ≡ Some o → IsSome
 -- the connection with this number, if there is one, is ready, and is to be shut down by now, since its socket failed
 abbrev pub HasFailed : Attended → ℕ → Type 0
 HasFailed a number = (o : Outgoing) → outgoing_in a number ≡ Some o → IsSome o.ready × ((until : ℕ) × (o.fails ≡ Some until) × (until ≤ a.time))
+
+-- no further parcel is taken from the hub before some are acknowledged: 64 are on their way, or 64 KiB
+abbrev pub IsFull : Outgoing → Type 0
+IsFull o = (64 ≤ o.parcels) ⊎ (65536 ≤ length o.rest)
+
+-- For the connection with this number, if there is one, nothing waits in the hub any more; or as much is on its way as may be; or it is to be shut down
+-- by now, as one for which memory was refused.
+abbrev pub IsFilled : Loop → ℕ → Type 0
+IsFilled l number =
+    (o : Outgoing) → outgoing_at l number ≡ Some o → (first_at l.hub (connection_at l.hub.connections number) ≡ None) ⊎ (IsFull o ⊎ ((until : ℕ) × (o.fails ≡ Some until) × (until ≤ l.attended.time)))
+
+-- no whole message is left of what came from the connection with this number
+abbrev pub HoldsNoMessage : Hub → ℕ → Type 0
+HoldsNoMessage h number = (x : Connection) → connection_at h.connections number ≡ Some x → messages x.held ≡ []

@@ -10,3 +10,4 @@ pub mod Carried
 pub mod Entered
 pub mod Losing
 pub mod Replayed
+pub mod Found

@@ -9,7 +9,7 @@ ghost use Rattle.floor_loop.specs.Loop.{Outgoing as Way, outgoing_in, over_in, u
 ghost use Rattle.floor_loop.specs.steps.Changed.{changed, given, marked, unended, whole_of, wrote_of};
 ghost use Rattle.floor_loop.specs.steps.Joined.{Adds, Attaches};
 ghost use Rattle.floor_loop.specs.steps.Listed.{deadline};
-ghost use Rattle.floor_loop.specs.steps.Taken.{TakenFor};
+ghost use Rattle.floor_loop.specs.steps.Taken.{Fills, TakenFor};
 
 use crate::away::{Away, soonest, stay_over};
 use crate::changing::{
@@ -314,6 +314,8 @@ impl Attended {
     /// where 64 parcels or 64 KiB are on their way.
     pub(crate) fn take_one(&mut self, hub: &mut Hub, number: ConnNo) -> Result<bool, HubRefusal>
         ensures next { TakenFor number self.old.outgoing self.new.outgoing hub.old hub.new }
+        ensures filled { IfOk result (λ waited. Fills number waited self.old.outgoing
+            self.new.outgoing hub.new) }
         ensures time { self.new.time ≡ self.old.time }
         ensures away { self.new.away ≡ self.old.away }
         ensures stands { (w : World) → StandsFor hub.old w → StandsFor hub.new w }

@@ -1,6 +1,6 @@
 //! What becomes of one connection, and of a line: each function looks at whom it speaks of, and at nobody else.
 
-ghost use Rattle.std.specs.Prelude.{◌≡◌, ◌≤◌, ◌<◌, ◌++◌, ◌∷◌, [], if◌then◌else◌, OnOk, ℕ, IfNone, IfSome, MatchOption, None, Some, drop, false, is_none, length, nat_eq, option_and_then};
+ghost use Rattle.std.specs.Prelude.{◌≡◌, ◌⊎◌, ◌≤◌, ◌<◌, ◌++◌, ◌∷◌, [], if◌then◌else◌, OnOk, ℕ, IfNone, IfOk, IfSome, MatchOption, None, Some, drop, false, is_none, length, nat_eq, option_and_then, true};
 ghost use Rattle.std.specs.Option.{option_map, option_map_or};
 ghost use Rattle.indexmap.specs.IndexMap.{get, insert_entry, spare};
 ghost use Rattle.floor_hub.specs.StandsFor.{StandsFor};
@@ -9,7 +9,7 @@ ghost use Rattle.floor_loop.specs.declared.outgoing.Mark.TheVariants.{Ready};
 ghost use Rattle.floor_loop.specs.Loop.{Outgoing as Way, earlier};
 ghost use Rattle.floor_loop.specs.steps.Changed.{changed, carrying, given, mark_of, marked, unended, whole_of, wrote_of};
 ghost use Rattle.floor_loop.specs.steps.Listed.{HasMore, HasRoom, IsListed, is_time};
-ghost use Rattle.floor_loop.specs.steps.Taken.{TakenFor};
+ghost use Rattle.floor_loop.specs.steps.Taken.{Fills, TakenFor};
 
 use crate::line::{Entry, Line};
 use crate::outgoing::{Mark, Outgoing};
@@ -212,6 +212,8 @@ pub(crate) fn take_in(
     number: ConnNo,
 ) -> Result<bool, HubRefusal>
     ensures next { TakenFor number outgoing.old.entries outgoing.new.entries hub.old hub.new }
+    ensures filled { IfOk result (λ waited. Fills number waited outgoing.old.entries
+        outgoing.new.entries hub.new) }
     ensures stands { (w : World) → StandsFor hub.old w → StandsFor hub.new w }
 {
     match outgoing.get_mut(&number) {
@@ -228,6 +230,7 @@ pub(crate) fn take_in(
 /// Whether no parcel more is taken from the hub before these are acknowledged.
 fn is_full(parcels: u32, rest: usize) -> bool
     ensures room { result ≡ false → parcels < 64 }
+    ensures full { result ≡ true → (64 ≤ parcels) ⊎ (65536 ≤ rest) }
 {
     MAX_PARCELS <= parcels || MAX_WRITE <= rest
 }

@@ -11,8 +11,8 @@ ghost use Rattle.floor_room.specs.Room.{Room};
 ghost use Rattle.floor_room.specs.Standing.{backlog_of, config_of, shown_of};
 ghost use Rattle.floor_room.specs.Status.{IsStatus};
 ghost use Rattle.floor_loop.specs.Laws.{IsNew};
-ghost use Rattle.floor_loop.specs.Loop.{HasFailed, IsEnded, outgoing_at, over_at, parcels_at, ready_at, rest_at, stay_at, until_at};
-ghost use Rattle.floor_loop.specs.Done.{AtMost, Each, Hands, NoSteps, Reads, Returns, Steps};
+ghost use Rattle.floor_loop.specs.Loop.{HasFailed, IsEnded, IsFilled, outgoing_at, over_at, parcels_at, ready_at, rest_at, stay_at, until_at};
+ghost use Rattle.floor_loop.specs.Done.{AtMost, Each, Hands, NoSteps, Reads, Returns, Serves, Steps};
 ghost use Rattle.floor_loop.specs.Returned.{IsKeptPlace, Returned, StaysAreOwn};
 ghost use Rattle.floor_loop.specs.Written.{Acknowledges, Follow, IsOver, IsServing, IsSparedOrOver, Spares, Took, TookNothing, Wakes, acknowledged_by};
 ghost use Rattle.floor_loop.specs.steps.Moved.{IsLoop, loop_of};
@@ -283,6 +283,8 @@ impl Loop {
         ensures steps { Steps (Reads number bytes.now most) self.old.hub self.new.hub }
         ensures handed { OnOk result
             (Steps (Hands number bytes.now most) self.old.hub self.new.hub) }
+        ensures served { IfOk result (λ more. Serves number most more
+            self.old.hub self.new.hub) }
         ensures took { TookNothing self.old self.new }
         ensures woke { Wakes self.old self.new }
         ensures refused { OnErr result (IsEnded self.new.attended number) }
@@ -328,13 +330,14 @@ impl Loop {
     }
 
     /// The connection that has something to write or is to be shut down since longest, and wasn't given since: each
-    /// once.
+    /// once. What waits for it in the hub is taken, up to 64 parcels or 64 KiB, so that `writing` lends it.
     pub fn ready(&mut self) -> Option<ConnNo>
         ensures steps { Steps NoSteps self.old.hub self.new.hub }
         ensures took { TookNothing self.old self.new }
         ensures found { IfSome result (λ number. IsSome (ready_at self.old number)) }
         ensures none { IfNone result ((number : ℕ) → ready_at self.old number ≡ None) }
         ensures given { IfSome result (λ number. ready_at self.new number ≡ None) }
+        ensures filled { IfSome result (λ number. IsFilled self.new number) }
         ensures others { IfSome result (λ number. (k : ℕ) → nat_eq number k ≡ false
             → outgoing_at self.new k ≡ outgoing_at self.old k) }
         ensures spares { Spares self.old self.new }

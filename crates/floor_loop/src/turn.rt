@@ -9,10 +9,11 @@ ghost use Rattle.floor_hub.specs.Rooms.{Joins};
 ghost use Rattle.floor_hub.specs.declared.connection.Connection.{Connection};
 ghost use Rattle.floor_hub.specs.declared.step.Step.TheVariants.{Attach, Leave, Serve, Took};
 ghost use Rattle.floor_loop.specs.Away.{stay_of};
-ghost use Rattle.floor_loop.specs.Loop.{HasFailed, IsEnded, Outgoing as Way, outgoing_in};
+ghost use Rattle.floor_loop.specs.Loop.{HasFailed, IsEnded, IsFilled, Outgoing as Way, outgoing_in};
 ghost use Rattle.floor_loop.specs.Returned.{StaysAreOwn};
-ghost use Rattle.floor_loop.specs.Done.{AtMost, Hands, NoSteps, Reads, Steps};
+ghost use Rattle.floor_loop.specs.Done.{AtMost, Hands, NoSteps, Reads, Serves, Steps};
 ghost use Rattle.floor_loop.specs.Written.{Acknowledges, IsOver, IsServing, IsSparedOrOver, IsTimed, Spares, TookNothing, Wakes};
+ghost use Rattle.floor_loop.specs.steps.Found.{Finds};
 ghost use Rattle.floor_loop.specs.steps.Moved.{AreWoken, IsLoop, IsSpared, IsWoken, KeepsAll, Moved, SameEnds, SameLedgers, WasLive, loop_of};
 ghost use Rattle.floor_loop.specs.steps.Thrown.{Thrown};
 
@@ -84,6 +85,8 @@ pub(crate) fn read_turn(
         (Spares (loop_of hub.old attended.old) (loop_of hub.new attended.new)) }
     ensures others { IsLoop (loop_of hub.old attended.old) → (k : ℕ) → nat_eq number k ≡ false
         → IsSparedOrOver (loop_of hub.old attended.old) (loop_of hub.new attended.new) k }
+    ensures served { IsLoop (loop_of hub.old attended.old) → IfOk result (λ more. Serves number turns
+        more hub.old hub.new) }
 {
     match hub.piece(number, bytes) {
         Ok(()) => {}
@@ -111,6 +114,8 @@ pub(crate) fn serve_turn(
         (Spares (loop_of hub.old attended.old) (loop_of hub.new attended.new)) }
     ensures others { IsLoop (loop_of hub.old attended.old) → (k : ℕ) → nat_eq number k ≡ false
         → IsSparedOrOver (loop_of hub.old attended.old) (loop_of hub.new attended.new) k }
+    ensures served { IsLoop (loop_of hub.old attended.old) → IfOk result (λ more. Serves number turns
+        more hub.old hub.new) }
 {
     for _turn in 0..turns {
         match serve_one(hub, attended, number) {
@@ -134,6 +139,8 @@ fn serve_one(hub: &mut Hub, attended: &mut Attended, number: ConnNo) -> Result<S
         (Spares (loop_of hub.old attended.old) (loop_of hub.new attended.new)) }
     ensures others { IsLoop (loop_of hub.old attended.old) → (k : ℕ) → nat_eq number k ≡ false
         → IsSparedOrOver (loop_of hub.old attended.old) (loop_of hub.new attended.new) k }
+    ensures found { IsLoop (loop_of hub.old attended.old) → IfOk result (λ found. Finds number found
+        hub.old hub.new) }
 {
     let served = hub.serve(number);
     wake(hub, attended);
@@ -302,6 +309,7 @@ pub(crate) fn fill(hub: &mut Hub, attended: &mut Attended, number: ConnNo)
         → outgoing_in attended.new k ≡ outgoing_in attended.old k }
     ensures ends { SameEnds attended.old attended.new }
     ensures ledgers { SameLedgers hub.old hub.new }
+    ensures filled { IsFilled (loop_of hub.new attended.new) number }
 {
     for _turn in 0..MAX_PARCELS {
         match attended.take_one(hub, number) {

@@ -1,11 +1,11 @@
 -- A parcel that was taken from the hub for a connection.
-use Rattle.std.specs.Prelude.{◌≡◌, ◌⊎◌, ℕ, ◌+◌, List, nat_eq, if◌then◌else◌, Bool, Some, None, Result, OnOk, MatchResult}
+use Rattle.std.specs.Prelude.{◌≡◌, ◌⊎◌, ℕ, ◌+◌, List, nat_eq, if◌then◌else◌, Bool, true, false, Some, None, Result, OnOk, MatchResult}
 use Rattle.std.specs.Map.{lookup}
 use Rattle.floor_hub.specs.declared.refusal.HubRefusal.{HubRefusal}
 use Rattle.floor_hub.specs.Connections.{connection_at}
 use Rattle.floor_hub.specs.Hub.{Hub}
-use Rattle.floor_hub.specs.Rooms.{KeptOf, TakenInto}
-use Rattle.floor_loop.specs.Loop.{Outgoing}
+use Rattle.floor_hub.specs.Rooms.{KeptOf, TakenInto, first_at}
+use Rattle.floor_loop.specs.Loop.{IsFull, Outgoing}
 use Rattle.floor_loop.specs.steps.Changed.{carrying, changed}
 
 -- the hub was asked for the first parcel that waits for the connection, and what it gave, if anything, was put behind what is on its way
@@ -26,3 +26,8 @@ pub record TakenFor (number : ℕ) (before after : List (ℕ × Outgoing)) (old 
   pub next : after ≡ changed (carrying rest parcels) number before
   pub took : (o : Outgoing) → lookup (nat_eq number) before ≡ Some o → Took number o rest parcels old new
   pub none : lookup (nat_eq number) before ≡ None → new ≡ old
+
+-- Of the connection with this number, if there is one: a parcel more is on its way; or none is taken, since none waits or as much is on its way as may be.
+abbrev pub Fills : ℕ → Bool → List (ℕ × Outgoing) → List (ℕ × Outgoing) → Hub → Type 0
+Fills number true before after new = (p : Outgoing) → lookup (nat_eq number) after ≡ Some p → (o : Outgoing) × (lookup (nat_eq number) before ≡ Some o) × (p.parcels ≡ o.parcels + 1)
+Fills number false before after new = (p : Outgoing) → lookup (nat_eq number) after ≡ Some p → IsFull p ⊎ (first_at new (connection_at new.connections number) ≡ None)

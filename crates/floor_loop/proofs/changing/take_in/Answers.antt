@@ -1,11 +1,13 @@
-use Rattle.std.proofs.Common.{◌≡◌, ℕ, ◌+◌, Bool, [], ap, inl, inr, refl, subst, sym, ◌∙◌}
-use Rattle.std.specs.Prelude.{Result, Ok, Err, IfOk, OnErr, MatchResult, if◌then◌else◌}
+use Rattle.std.proofs.Common.{◌≡◌, ◌⊎◌, ℕ, ◌+◌, ◌≤◌, Bool, List, [], ap, inl, inr, refl, subst, sym, ◌∙◌}
+use Rattle.std.specs.Prelude.{Result, Ok, Err, IfOk, OnErr, MatchResult, if◌then◌else◌, length, nat_eq}
+use Rattle.std.specs.Map.{lookup}
 use Rattle.std.proofs.lemmas.Option.{none-some}
 use Rattle.floor_hub.specs.declared.refusal.HubRefusal.{HubRefusal}
 use Rattle.floor_loop.specs.Loop.{Outgoing}
 use Rattle.floor_loop.specs.steps.Changed.{carrying}
 use Rattle.floor_loop.specs.steps.Taken.{Took}
 use Rattle.floor_loop.proofs.Altering.{changed-is, changed-none}
+use Rattle.floor_loop.proofs.Filling.{fills-asked, fills-full}
 use Rattle.floor_loop.proofs.Stepping.{some-out}
 use Rattle.floor_loop.proofs.changing.take_in.Goals as goal
 
@@ -25,6 +27,8 @@ returns-then-is_full c =
         took = λ q is. let same = some-out o q (c.in-Some.ensures.value ∙ is) in inl (ap (λ (z : Outgoing). z.rest) same, ap (λ (z : Outgoing). z.parcels) same, refl);
         none = λ is. absurd (none-some o (sym is ∙ sym c.in-Some.ensures.value));
       };
+      filled = fills-full c.args.number c.args.outgoing.now.entries _ c.args.hub.now o (h.0 ∙ changed-is (carrying o.rest o.parcels) c.args.number c.args.outgoing.now.entries o o (sym c.in-Some.ensures.value) refl) (sym c.in-Some.ensures.value)
+          (subst (λ (k : ℕ). (64 ≤ k) ⊎ (65536 ≤ length o.rest)) c.parcels.ensures.value (subst (λ (z : List ℕ). (64 ≤ c.parcels.result) ⊎ (65536 ≤ length z)) c.rest.ensures.value (c.is_full.ensures.full c.if-is_full.true)));
       stands = λ w st. st;
     }
 
@@ -42,6 +46,7 @@ returns-else-is_full c =
             (inr (record { result = c.take_one.result; given = c.take_one.ensures.given; kept = c.take_one.ensures.kept; count = counted c.take_one.result p.parcels o.parcels c.take_one.ensures.parcels c.take_one.ensures.left }));
         none = λ is. absurd (none-some o (sym is ∙ sym c.in-Some.ensures.value));
       };
+      filled = fills-asked c.args.number c.args.outgoing.now.entries _ c.args.hub.now c.take_one.new.hub c.take_one.result o p.rest p.parcels (h.0 ∙ changed-is (carrying p.rest p.parcels) c.args.number c.args.outgoing.now.entries o p (sym c.in-Some.ensures.value) c.take_one.ensures.same) (sym c.in-Some.ensures.value) c.take_one.ensures.given c.take_one.ensures.parcels;
       stands = c.take_one.ensures.stands;
     }
 
@@ -55,5 +60,6 @@ returns-in-None c =
         took = λ q is. absurd (none-some q (c.in-None.ensures.value ∙ is));
         none = λ is. refl;
       };
+      filled = λ p is_p. absurd (none-some p (c.in-None.ensures.value ∙ ap (λ m. lookup (nat_eq c.args.number) m.entries) (sym c.get_mut.follows.holds-at-none) ∙ is_p));
       stands = λ w st. st;
     }

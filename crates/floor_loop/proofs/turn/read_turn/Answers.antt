@@ -10,6 +10,7 @@ use Rattle.floor_loop.proofs.Moving.{fewer, loop-moves, moved-both, moved-of, pi
 use Rattle.floor_loop.proofs.Sparing.{live-there, spared-before, spared-behind, spared-one, stay-in}
 use Rattle.floor_loop.proofs.Waking.{spared-refl}
 use Rattle.floor_loop.proofs.Stepping.{keeps-refl, stays-kept, wakes-both, wakes-same}
+use Rattle.floor_loop.proofs.Found.{serves-behind}
 use Rattle.floor_loop.proofs.turn.read_turn.Goals as goal
 
 pub returns-in-Err : goal.returns-in-Err
@@ -24,6 +25,7 @@ returns-in-Err c =
       woke = λ l. wakes-same old new c.piece.ensures.rooms (stays-kept (outgoing_in c.args.attended.now) (outgoing_in c.end.new.attended) c.end.ensures.kept);
       refused = c.end.ensures.ended;
       spares = λ l. tt;
+      served = λ l. tt;
       others = λ l k ne.
           spared-one old new k l.serving (stay-in c.args.hub.now c.piece.new.self pieced.live)
           (λ x y is_x is_y. spared-before c.piece.new.self c.args.attended.now c.args.attended.now c.end.new.attended k (c.end.ensures.others k ne) (spared-refl c.piece.new.self c.args.attended.now k));
@@ -45,6 +47,9 @@ returns c =
           wakes-both (AtMost 1 (Piece c.args.number c.args.bytes.now)) (AtMost c.args.turns (Serve c.args.number)) old mid new first c.serve_turn.ensures.moved m.serving
           (wakes-same old mid c.piece.ensures.rooms (stays-kept (outgoing_in c.args.attended.now) (outgoing_in c.args.attended.now) keeps)) (c.serve_turn.ensures.woke m);
       refused = c.serve_turn.ensures.refused;
+      served = λ l.
+          let m = loop-moves (AtMost 1 (Piece c.args.number c.args.bytes.now)) old mid first l in
+          serves-behind c.args.number c.args.turns old.hub mid.hub new.hub c.piece.ensures.rooms c.serve_turn.result (c.serve_turn.ensures.served m);
       spares = λ l.
           let m = loop-moves (AtMost 1 (Piece c.args.number c.args.bytes.now)) old mid first l in
           on-ok-of (Spares mid new) (Spares old new) c.serve_turn.result (λ f k. spared-behind old mid new k (live-there c.args.hub.now c.piece.new.self c.piece.ensures.connections k) (λ i o is. (o, is, refl)) (f k)) (c.serve_turn.ensures.spares m);

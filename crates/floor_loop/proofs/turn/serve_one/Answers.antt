@@ -2,6 +2,7 @@ use Rattle.std.proofs.Common.{◌∙◌}
 use Rattle.floor_loop.specs.Loop.{outgoing_in}
 use Rattle.floor_loop.specs.steps.Moved.{AreWoken, loop_of}
 use Rattle.floor_loop.proofs.Calls.{moved-serve}
+use Rattle.floor_loop.proofs.Found.{finds}
 use Rattle.floor_loop.proofs.Sparing.{spared-before, spared-one, spares-by, stay-in}
 use Rattle.floor_loop.proofs.Stepping.{keeps-both, stays-kept, wakes-on, woken-on}
 use Rattle.floor_loop.proofs.Moving.{fewer}
@@ -18,6 +19,7 @@ returns-in-Ok c =
       refused = tt;
       spares = λ l. spares-by old new l.serving (stay-in c.args.hub.now c.serve-served.new.self moved.live) (λ k x y is_x is_y. c.wake.ensures.spared k);
       others = λ l k ne. spared-one old new k l.serving (stay-in c.args.hub.now c.serve-served.new.self moved.live) (λ x y is_x is_y. c.wake.ensures.spared k);
+      found = λ l. finds c.args.number c.args.hub.now c.serve-served.new.self l.world l.stands c.in-Ok.found (c.in-Ok.ensures.next l.world l.stands) c.in-Ok.ensures.room c.serve-served.ensures.connections;
     }
 
 pub returns-in-Err : goal.returns-in-Err
@@ -35,4 +37,5 @@ returns-in-Err c =
       others = λ l k ne.
           spared-one old new k l.serving (stay-in c.args.hub.now c.serve-served.new.self moved.live)
           (λ x y is_x is_y. spared-before c.serve-served.new.self c.args.attended.now c.wake.new.attended c.end.new.attended k (c.end.ensures.others k ne) (c.wake.ensures.spared k));
+      found = λ l. tt;
     }

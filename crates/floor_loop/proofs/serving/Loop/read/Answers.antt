@@ -1,6 +1,6 @@
 use Rattle.std.proofs.Common.{◌≡◌, ℕ, Some, ap, refl, subst}
-use Rattle.std.specs.Prelude.{OnOk}
-use Rattle.floor_loop.specs.Done.{Hands, NoSteps, Reads, Steps}
+use Rattle.std.specs.Prelude.{IfOk, OnOk}
+use Rattle.floor_loop.specs.Done.{Hands, NoSteps, Reads, Serves, Steps}
 use Rattle.floor_loop.specs.Loop.{Attended, Loop, Outgoing, outgoing_in}
 use Rattle.floor_loop.specs.Written.{IsSparedOrOver, Spares, TookNothing, Wakes}
 use Rattle.floor_loop.specs.steps.Moved.{IsLoop, KeepsAll, Moved, loop_of}
@@ -51,6 +51,9 @@ returns-clause-woke c = subst (λ (l : Loop). Wakes l (new c)) c.self.view_is (w
 
 pub returns-clause-handed : goal.returns-clause-handed
 returns-clause-handed c = subst (λ (l : Loop). OnOk c.read_turn.result (Steps (Hands c.args.number c.args.bytes.now c.args.most) l.hub (new c).hub)) c.self.view_is c.read_turn.ensures.handed
+
+pub returns-clause-served : goal.returns-clause-served
+returns-clause-served c = subst (λ (l : Loop). IfOk c.read_turn.result (λ more. Serves c.args.number c.args.most more l.hub (new c).hub)) c.self.view_is (c.read_turn.ensures.served (later c))
 
 found : (c : goal.After-read_turn) (k : ℕ) (o : Outgoing) → outgoing_in c.self.inside.attended k ≡ Some o → (p : Outgoing) × (outgoing_in c.pass.new.self k ≡ Some p) × (p.ends ≡ o.ends)
 found c = passed-found c.self.inside.attended c.pass.new.self (ap (λ (z : Attended). z.outgoing) c.pass.ensures.next)

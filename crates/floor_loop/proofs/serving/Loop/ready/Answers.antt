@@ -42,6 +42,7 @@ returns-in-Some c =
       found = subst (λ (l : Loop). IsSome (ready_at l c.in-Some.number)) c.self.view_is (ready-some-at a c.in-Some.number f.0 f.1 f.2);
       none = tt;
       given = c.fill.ensures.ready c.in-Some.number ∙ given-ready a b c.in-Some.number (given-to c);
+      filled = c.fill.ensures.filled;
       others = λ k ne. c.fill.ensures.others k ne ∙ changed-beside given c.in-Some.number a b (given-to c) k ne ∙ ap (λ (l : Loop). outgoing_at l k) c.self.view_is;
       spares = subst (λ (l : Loop). Spares l (new c)) c.self.view_is (spares-same (old c) (new c) (λ k. c.fill.ensures.ends k ∙ ends-changed given c.in-Some.number a b (given-to c) (λ o. refl) k));
     }
