@@ -1,6 +1,6 @@
 //! A conference that is to be opened.
 
-ghost use Rattle.std.specs.Prelude.{◌≡◌, IfOk, None, map};
+ghost use Rattle.std.specs.Prelude.{◌≡◌, IfOk, None, Ok, map};
 ghost use Rattle.floor_poll.specs.Fresh.{AreFresh, config_of};
 ghost use Rattle.floor_poll.specs.declared.fresh.Fresh.TheVariants.{Kept, Unkept};
 ghost use Rattle.floor_poll.specs.Refusals.{refusal_of_head};
@@ -43,14 +43,19 @@ pub fn fresh_of(
     ensures each { IfOk result (λ all. AreFresh is_kept text.now all.items) }
 {
     let configs = configurations(alloc, path, text)?;
-    let all = if is_kept {
-        match heads_of(alloc, text) {
-            Ok(heads) => all_kept(alloc, heads),
-            Err(fault) => return Err(reason_of(fault)),
-        }
-    } else {
-        all_unkept(alloc, configs)
-    };
+    if !is_kept {
+        return or_reason(all_unkept(alloc, configs));
+    }
+    match heads_of(alloc, text) {
+        Ok(heads) => or_reason(all_kept(alloc, heads)),
+        Err(fault) => Err(reason_of(fault)),
+    }
+}
+
+/// The conferences, or why there are none where memory was refused.
+fn or_reason(all: Result<Vec<Fresh>, AllocError>) -> Result<Vec<Fresh>, Reason>
+    ensures same { IfOk result (λ fresh. all ≡ Ok fresh) }
+{
     match all {
         Ok(all) => Ok(all),
         Err(_) => Err(reason_of(HeadFault::Memory)),
