@@ -34,12 +34,7 @@ impl Fresh {
 }
 
 /// The conferences of a configuration's text, which a person knows by this path; with heads where they are kept.
-pub fn fresh_of(
-    alloc: Global,
-    path: &str,
-    text: &str,
-    is_kept: bool,
-) -> Result<Vec<Fresh>, Reason>
+pub fn fresh_of(alloc: Global, path: &str, text: &str, is_kept: bool) -> Result<Vec<Fresh>, Reason>
     ensures each { IfOk result (λ all. AreFresh is_kept text.now all.items) }
 {
     let configs = configurations(alloc, path, text)?;
