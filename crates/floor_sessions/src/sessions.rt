@@ -78,8 +78,8 @@ impl Sessions {
         ensures others { spec.IsAlone place self.old self.new }
         ensures len { length self.new ≡ length self.old }
     {
-        let seat = &mut self.seats[place];
-        seat.take()
+        let taken = &mut self.seats[place];
+        taken.take()
     }
 
     /// Puts a session at a place, or none.

@@ -12,14 +12,13 @@ use floor_sessions::User;
 use mio::net::UdpSocket;
 use mio::{Poll, Waker};
 use std::alloc::Global;
-use std::fs;
 use std::io::{Read, Write};
 use std::net::{Net, SocketAddr};
 use std::rt::Files;
 use std::sync::{Arc, Wait};
-use std::thread;
 use std::thread::Threads;
 use std::time::Clock;
+use std::{fs, thread};
 
 /// Serves until `input` ends, or checks the words and the configuration; prints the name of a fault to `errors`, and
 /// gives the exit status. A log that the words ask for goes to the sink.

@@ -148,9 +148,10 @@ impl Table {
     fn add(&mut self, user: User) -> Result<(), AllocError> {
         let place = self.free.iter().position(|free| *free);
         if let Some(place) = place {
-            if let (Some(stands), Some(free)) =
-                (self.users.get_mut(place), self.free.get_mut(place))
-            {
+            if let (Some(stands), Some(free)) = (
+                self.users.get_mut(place),
+                self.free.get_mut(place),
+            ) {
                 *stands = user;
                 *free = false;
                 return Ok(());

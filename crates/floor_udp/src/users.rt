@@ -49,14 +49,8 @@ pub fn read_users(alloc: Global, path: &str, text: &str) -> Result<Vec<User>, Re
 #[derive(Clone, Copy, Debug)]
 enum Fault {
     Config(ConfigFault),
-    BadAddress {
-        conference: u32,
-        user: u16,
-    },
-    OneConnection {
-        conference: u32,
-        user: u16,
-    },
+    BadAddress { conference: u32, user: u16 },
+    OneConnection { conference: u32, user: u16 },
 }
 
 impl Fault {

@@ -108,7 +108,9 @@ fn command<'a>(alloc: Global) -> Result<Command<'a>, Error> {
                 .long("control")
                 .value_name("path")
                 .action(ArgAction::Set)
-                .help("The server's control socket: a word udp.<user> of a conference says from where a user may come."),
+                .help(
+                    "The server's control socket: a word udp.<user> of a conference says from where a user may come.",
+                ),
         )?
         .arg(number(
             alloc,
