@@ -1,5 +1,7 @@
 //! The gateway: its socket, the sessions of its users, and their connections to the server.
 
+ghost use Rattle.floor_datagram.specs.SessionView.{IsLimit};
+
 use crate::allowance::Allowance;
 use crate::entry::Entry;
 use crate::following::Following;
@@ -14,7 +16,7 @@ use floor_sessions::Sessions;
 use indexmap::IndexMap;
 use mio::event::Event;
 use mio::net::UdpSocket;
-use mio::{Events, Interest, Poll, Token};
+use mio::{Events, Poll, Token};
 use std::alloc::{AllocError, Global};
 use std::collections::VecDeque;
 use std::net::Net;
@@ -25,7 +27,7 @@ use std::time::{Clock, Duration, Instant};
 /// The tokens of the waker, of the socket and of the control socket. A connection's is its number.
 pub const WAKER: Token = Token(0);
 
-const SOCKET: Token = Token(1);
+pub const SOCKET: Token = Token(1);
 
 pub const CONTROL: Token = Token(2);
 
@@ -154,8 +156,6 @@ where
 
     /// Serves until its input has ended, and all were told of that.
     pub fn run(&mut self, mut events: Events<Global>) {
-        let registry = self.poll.registry();
-        let _told = registry.register(&mut self.socket, SOCKET, Interest::READABLE);
         let rt = self.rt;
         for _ in rt.forever() {
             let patience = self.patience();
@@ -248,7 +248,9 @@ where
     }
 
     /// What holds of the session of a user of a conference.
-    pub fn terms(&self, conference: u32, user: u16) -> Terms {
+    pub fn terms(&self, conference: u32, user: u16) -> Terms
+        ensures limit { IsLimit result }
+    {
         Terms {
             conference,
             user,

@@ -2,7 +2,7 @@
 
 use crate::fault::UdpFault;
 use crate::following::Following;
-use crate::gate::{Gate, Manner, WAKER};
+use crate::gate::{Gate, Manner, SOCKET, WAKER};
 use crate::input::{Stop, wait_for_end};
 use crate::table::Table;
 use crate::users::read_users;
@@ -10,7 +10,7 @@ use crate::words::{Words, WordsFault, parse_words};
 use floor_log::Log;
 use floor_sessions::User;
 use mio::net::UdpSocket;
-use mio::{Poll, Waker};
+use mio::{Interest, Poll, Waker};
 use std::alloc::Global;
 use std::io::{Read, Write};
 use std::net::{Net, SocketAddr};
@@ -137,7 +137,10 @@ where
     let (Ok(poll), table) = (Poll::new(&rt), Table::new(alloc, users)?) else {
         return Err(UdpFault::CannotListen);
     };
-    let Ok(waker) = Waker::new(poll.registry(), WAKER) else {
+    let registry = poll.registry();
+    let mut socket = socket;
+    let registered = registry.register(&mut socket, SOCKET, Interest::READABLE);
+    let (Ok(waker), Ok(())) = (Waker::new(registry, WAKER), registered) else {
         return Err(UdpFault::CannotListen);
     };
     let stop = Arc::new(alloc, Stop::new(waker))?;
