@@ -1,5 +1,10 @@
 //! From where a user may come: an IP address, or one and a port.
 
+ghost use Rattle.std.specs.Prelude.{◌≡◌, IfSome, None};
+ghost use Rattle.std.specs.Net.Socket.{socket_ip, socket_port};
+ghost use Rattle.floor_udp.specs.Origin as spec;
+ghost use Rattle.floor_udp.specs.declared.origin.Origin.{Origin as From};
+
 use floor_sessions::{Source, User};
 use std::net::{IpAddr, SocketAddr};
 
@@ -38,9 +43,15 @@ impl Origin {
     }
 }
 
+/// How many addresses stand before those of IPv4 that are written as IPv6: those before `::ffff:0:0`.
+const MAPPED: u128 = 0xffff_0000_0000;
+
 /// What a text says: `192.0.2.7`, `192.0.2.7:50000`, `2001:db8::7` or `[2001:db8::7]:50000`; `None` where it is
 /// none of these.
-pub fn read_origin(text: &str) -> Option<Origin> {
+pub fn read_origin(text: &str) -> Option<Origin>
+    ensures found { IfSome result (spec.IsOriginText text.now) }
+    ensures none { result ≡ None → (from : From) → ¬ (spec.IsOriginText text.now from) }
+{
     if let Ok(ip) = IpAddr::parse_ascii(text.as_bytes()) {
         return Some(Origin {
             address: number_of(ip),
@@ -57,7 +68,10 @@ pub fn read_origin(text: &str) -> Option<Origin> {
 }
 
 /// From where a datagram came.
-pub fn source_of(peer: SocketAddr) -> Source {
+pub fn source_of(peer: SocketAddr) -> Source
+    ensures value { result
+        ≡ record { address = spec.number_of (socket_ip peer); port = socket_port peer } }
+{
     Source {
         address: number_of(peer.ip()),
         port: peer.port(),
@@ -66,9 +80,11 @@ pub fn source_of(peer: SocketAddr) -> Source {
 
 /// The number of an address: that of one of IPv4 is its number behind `::ffff:0:0`, as a socket of both families
 /// has it.
-fn number_of(ip: IpAddr) -> u128 {
+fn number_of(ip: IpAddr) -> u128
+    ensures value { result ≡ spec.number_of ip }
+{
     match ip {
-        IpAddr::V4(ip) => ip.to_ipv6_mapped().to_bits(),
+        IpAddr::V4(ip) => MAPPED + u128::from(ip.to_bits()),
         IpAddr::V6(ip) => ip.to_bits(),
     }
 }
