@@ -378,8 +378,10 @@ def words(programs):
     time.sleep(0.2)
     first.next = 100
     check("then the file counts", first.ask(HELLO)[1], 12)
+    time.sleep(QUIET)
     check("they are shut out", sum(1 for line in gate.log() if line.endswith(": ShutOut")), 3)
-    check("and lost to floorhub", gate.hub_says("away InsideMessage"), 3)
+    # Who is back at once has left: its user is there.
+    check("and lost to floorhub", gate.hub_says(" InsideMessage"), 3)
     gate.end()
 
 

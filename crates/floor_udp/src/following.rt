@@ -2,7 +2,7 @@
 //!
 //! What is known is kept while the socket is lost.
 
-use crate::gate::{CONTROL, Gate};
+use crate::gate::{CONTROL, Gate, front};
 use crate::origin::{NOWHERE, Origin, read_origin};
 use floor_datagram::End;
 use floor_follow::{Conference, Fact, Follower, Lines, NextLine, Told, Word, read_line};
@@ -152,7 +152,7 @@ impl Following {
             match stream.read(buffer) {
                 Ok(0) => return false,
                 Ok(count) => {
-                    let bytes = buffer.as_slice().get(..count).unwrap_or(&[]);
+                    let bytes = front(buffer, count);
                     if self.lines.take_in(bytes).is_err() || !self.take_lines() {
                         return false;
                     }

@@ -1,5 +1,6 @@
 //! The gateway: its socket, the sessions of its users, and their connections to the server.
 
+ghost use Rattle.std.specs.Prelude.{◌≡◌, take};
 ghost use Rattle.floor_datagram.specs.SessionView.{IsLimit};
 
 use crate::allowance::Allowance;
@@ -289,4 +290,12 @@ where
     pub fn drop_one(&mut self) {
         self.dropped = self.dropped.saturating_add(1);
     }
+}
+
+/// The first bytes of a buffer.
+pub fn front(buffer: &[u8], len: usize) -> &[u8]
+    ensures value { result.now ≡ take len buffer.now }
+{
+    let len = len.min(buffer.len());
+    &buffer[..len]
 }

@@ -1,7 +1,7 @@
 //! The connections to the server, and what passes between them and the sessions.
 
 use crate::entry::Entry;
-use crate::gate::Gate;
+use crate::gate::{Gate, front};
 use crate::link::{Flow, Link};
 use floor_datagram::End;
 use floor_sessions::{User, Way};
@@ -47,8 +47,16 @@ where
 
     /// The session at a place goes on by a new connection. The one before ends once the server has said something to
     /// the new one: so a user whose bound of requests and members stands has joined before it is lost.
-    pub fn take_link(&mut self, place: usize, number: u64, link: Link, before: Option<u64>) {
+    pub fn take_link(
+        &mut self,
+        place: usize,
+        number: u64,
+        link: Link,
+        up: Vec<u8>,
+        before: Option<u64>,
+    ) {
         let mut link = link;
+        link.up = up;
         link.place = Some(place);
         link.before = before;
         link.until = self.now.saturating_add(REACH_MILLIS);
@@ -207,7 +215,7 @@ where
         let Some(mut seat) = self.take_seat(place) else {
             return;
         };
-        let bytes = self.buffer.as_slice().get(..count).unwrap_or(&[]);
+        let bytes = front(&self.buffer, count);
         let _memory = seat.session.server(bytes, self.now, &mut self.down);
         self.put_seat(place, seat);
         self.settle(place, None);

@@ -1,6 +1,6 @@
 //! What comes at the socket.
 
-use crate::gate::Gate;
+use crate::gate::{Gate, front};
 use crate::origin::source_of;
 use floor_datagram::error;
 use floor_sessions::{Admission, Source, Way, admit};
@@ -36,7 +36,7 @@ where
     /// Does what becomes of the datagram that the buffer has.
     fn receive(&mut self, len: usize, peer: SocketAddr) {
         let from = source_of(peer);
-        let datagram = self.buffer.as_slice().get(..len).unwrap_or(&[]);
+        let datagram = front(&self.buffer, len);
         if datagram.len() < 12 {
             return self.drop_one();
         }
@@ -52,7 +52,7 @@ where
         if !self.errors.take(1, self.now) {
             return self.drop_one();
         }
-        let datagram = self.buffer.as_slice().get(..len).unwrap_or(&[]);
+        let datagram = front(&self.buffer, len);
         if datagram.len() < 12 {
             return self.drop_one();
         }
@@ -63,7 +63,7 @@ where
 
     /// Does what becomes of a datagram of the user at a place.
     fn go(&mut self, place: usize, from: Source, len: usize, peer: SocketAddr) {
-        let datagram = self.buffer.as_slice().get(..len).unwrap_or(&[]);
+        let datagram = front(&self.buffer, len);
         if datagram.len() < 12 || self.sessions.len() <= place {
             return self.drop_one();
         }
@@ -100,20 +100,16 @@ where
             return;
         };
         let number = self.last.saturating_add(1);
-        let mut link = self.open(number, user.conference, user.user);
+        let link = self.open(number, user.conference, user.user);
         self.last = number;
-        let mut nowhere = Vec::new(self.alloc);
-        let up = match &mut link {
-            Some(link) => &mut link.up,
-            None => &mut nowhere,
-        };
-        if !self.apply(place, way, from, len, up) {
+        let mut up = Vec::new(self.alloc);
+        if !self.apply(place, way, from, len, &mut up) {
             return self.drop_one();
         }
         let before = self.leave_before(place, way);
         self.seat(place, user, peer);
         match link {
-            Some(link) => self.take_link(place, number, link, before),
+            Some(link) => self.take_link(place, number, link, up, before),
             None => {
                 self.lose_link(before);
                 self.end_server(place);
@@ -135,7 +131,7 @@ where
             return false;
         };
         let terms = self.terms(user.conference, user.user);
-        let datagram = self.buffer.as_slice().get(..len).unwrap_or(&[]);
+        let datagram = front(&self.buffer, len);
         if datagram.len() < 12 || self.sessions.len() <= place {
             return false;
         }

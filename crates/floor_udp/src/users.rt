@@ -41,7 +41,7 @@ pub fn read_users(alloc: Global, path: &str, text: &str) -> Result<Vec<User>, Re
     };
     match found {
         Ok(users) => Ok(users),
-        Err(fault) => Err(refused(alloc, path, text, fault)),
+        Err(fault) => Err(refusal_of(alloc, path, text, fault)),
     }
 }
 
@@ -114,7 +114,7 @@ fn origin_of(value: &Value) -> Option<Origin> {
 }
 
 /// The fault, and what a person is told of it.
-fn refused(alloc: Global, path: &str, text: &str, fault: Fault) -> Refused {
+fn refusal_of(alloc: Global, path: &str, text: &str, fault: Fault) -> Refused {
     match line_of(alloc, path, text, fault) {
         Ok(line) => Refused {
             fault: fault.named(),
