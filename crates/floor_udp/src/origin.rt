@@ -52,18 +52,18 @@ pub fn read_origin(text: &str) -> Option<Origin>
     ensures found { IfSome result (spec.IsOriginText text.now) }
     ensures none { result ≡ None → (from : From) → ¬ (spec.IsOriginText text.now from) }
 {
-    if let Ok(ip) = IpAddr::parse_ascii(text.as_bytes()) {
-        return Some(Origin {
+    match IpAddr::parse_ascii(text.as_bytes()) {
+        Ok(ip) => Some(Origin {
             address: number_of(ip),
             port: None,
-        });
-    }
-    match SocketAddr::parse_ascii(text.as_bytes()) {
-        Ok(socket) => Some(Origin {
-            address: number_of(socket.ip()),
-            port: Some(socket.port()),
         }),
-        Err(_) => None,
+        Err(_) => match SocketAddr::parse_ascii(text.as_bytes()) {
+            Ok(socket) => Some(Origin {
+                address: number_of(socket.ip()),
+                port: Some(socket.port()),
+            }),
+            Err(_) => None,
+        },
     }
 }
 
