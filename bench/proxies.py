@@ -8,6 +8,9 @@ Then each user is answered, as nobody else; whoever has no certificate, another'
 no user is ended unheard; what is beyond the bound on connections is ended, and what is within it goes on; and
 the sockets to the users have TCP's keep-alive.
 
+A haproxy on fingerprints.cfg knows certificates that their owners signed by their fingerprints: each is answered as
+the user that the map says, nobody else is heard, and one that is added to the map is let in.
+
 haproxy needs no line for a user: so users of both conferences are answered at its one port, and one whose
 session is resumed by a ticket, and a certificate of two names counts as the first. It is run once more with
 certificates optional and their faults let through, so that the server has to refuse them. Each refusal at the
@@ -16,6 +19,7 @@ haproxy, and one is killed: its users alone are ended, and are answered again wh
 
 The status is 1 where anything is otherwise.
 """
+import hashlib
 import os
 import pathlib
 import shutil
@@ -33,7 +37,8 @@ EXAMPLES = pathlib.Path(__file__).resolve().parent.parent / 'examples'
 # The name of each user of conference 1, its number, and its own port before stunnel.
 USERS = {'ann': (10, 17010), 'ben': (11, 17011), 'chair': (12, 17012)}
 TOGETHER = 17000
-DOOR, HEALTH = 7900, 7902
+DOOR, HEALTH, BY_ID = 7900, 7902, 7901
+ROOMS = 17001
 # Who is who at the door, by the certificate's name.
 NAMED = {'1.10': (1, 10), '1.11': (1, 11), '1.12': (1, 12), '2.10': (2, 10), '2.11': (2, 11)}
 # Certificates whose names name nobody: the subject, and by which name the server refuses them.
@@ -84,6 +89,17 @@ def certificates(folder):
         certificate(folder, file, subject, 'users')
     certificate(folder, 'two', '/CN=1.10/CN=1.11', 'users')
     certificate(folder, 'expired', '/CN=1.10', 'users', -1)
+    for name in ('room', 'other-room'):
+        openssl('req', '-x509', '-newkey', 'rsa:2048', '-nodes', '-days', '2', '-subj', '/CN=' + name,
+                '-keyout', f'{folder}/{name}.key', '-out', f'{folder}/{name}.crt')
+        pathlib.Path(f'{folder}/{name}.pem').write_text(
+            pathlib.Path(f'{folder}/{name}.crt').read_text() + pathlib.Path(f'{folder}/{name}.key').read_text())
+
+
+def fingerprint(folder, name):
+    """The SHA-256 of a certificate, in capitals without colons."""
+    der = ssl.PEM_cert_to_DER_cert(pathlib.Path(f'{folder}/{name}.crt').read_text())
+    return hashlib.sha256(der).hexdigest().upper()
 
 
 class Proxy:
@@ -228,6 +244,32 @@ def try_haproxy(folder, log):
         for name, (_, refusal) in NOBODY.items():
             wrong += try_refused(folder, log, name, refusal)
         wrong += try_bound('haproxy', folder, '1.10')
+    finally:
+        proxy.stop()
+    return wrong
+
+
+def try_fingerprints(folder):
+    """Certificates that their owners signed, known by their fingerprints."""
+    rooms = pathlib.Path(folder) / 'rooms.map'
+    rooms.write_text(fingerprint(folder, 'room') + ' 1.10\n')
+    text = (EXAMPLES / 'fingerprints.cfg').read_text().replace('/run/haproxy/', folder + '/')
+    proxy = Proxy('haproxy', text, folder)
+    print('haproxy, by fingerprints', flush=True)
+    wrong = 0
+    try:
+        wrong += claim(is_heard(folder, ROOMS, 'room'), 'who is in the map is answered')
+        with reach(folder, ROOMS, 'room') as client:
+            client.sendall(hello(1, 1, 11))
+            wrong += claim(hear(client, 16)[1] == 13 and answered(client, 1, 10), 'as nobody else')
+        for name, what in ((None, 'without a certificate'), ('other-room', 'who is not in it'),
+                           ('1.10', 'by a certificate of an authority')):
+            wrong += claim(not is_heard(folder, ROOMS, name), f'nobody is heard {what}')
+        with socket.socket(socket.AF_UNIX) as order:
+            order.connect(folder + '/rooms.sock')
+            order.sendall(f'add map {rooms} {fingerprint(folder, "other-room")} 1.11\n'.encode())
+            order.recv(4096)
+        wrong += claim(is_heard(folder, ROOMS, 'other-room', 11), 'one that is added is answered')
     finally:
         proxy.stop()
     return wrong
@@ -392,7 +434,7 @@ def try_two(floorhub, folder):
 
 def served(floorhub, log=None):
     """A floorhub on the example's configuration, with a door and a port for probes; its log goes to a file."""
-    words = ('--door', str(DOOR), '--health', str(HEALTH), *(['--log'] if log else []))
+    words = ('--door', str(DOOR), '--health', str(HEALTH), '--door-by-id', str(BY_ID), *(['--log'] if log else []))
     return Server(floorhub, (EXAMPLES / 'conferences.toml').read_text(), words=words,
                   errors=open(log, 'w') if log else None)
 
@@ -411,6 +453,7 @@ def main():
             for kind in kinds:
                 wrong += try_haproxy(folder, log) if kind == 'haproxy' else try_proxy(kind, folder)
             if 'haproxy' in kinds:
+                wrong += try_fingerprints(folder)
                 wrong += try_optional(folder, log)
                 wrong += try_door(server, log)
         finally:

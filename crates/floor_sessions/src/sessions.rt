@@ -1,6 +1,7 @@
 //! The sessions of users, each at its user's place (RFC 8855, sections 6.2 and 8.3).
 
 ghost use Rattle.std.specs.Prelude.{◌≡◌, ◌≤◌, ◌<◌, ◌++◌, ◌∷◌, [], None, length, slice_index_or, OnOk, OnErr};
+ghost use Rattle.std.specs.Option.{option_copied};
 ghost use Rattle.floor_datagram.specs.SessionView.{terms_of, IsLimit};
 
 use crate::admission::Source;
@@ -14,8 +15,9 @@ use std::marker::Model;
 
 /// The sessions of users: one at most for each user, at the user's place.
 ///
-/// `way` tells what becomes of a datagram of the user at a place, and `datagram` does it; `seat` lends a
-/// session for its other calls. Whatever a datagram does, it does at the place of its user alone.
+/// `way` tells what becomes of a datagram of the user at a place, and `datagram` does it; `take` takes a
+/// session from its place for its other calls, and `put` puts it back. Whatever any of these does, it does at
+/// one place alone.
 #[derive(Drop)]
 pub struct Sessions {
     alloc: Global,
@@ -58,6 +60,36 @@ impl Sessions {
         ensures value { result ≡ length self.now }
     {
         self.seats.len()
+    }
+
+    /// The session at a place.
+    pub fn seat(&self, place: usize) -> Option<&Seat>
+        requires place { place < length self.now }
+        ensures value { option_copied result ≡ slice_index_or self.now place None }
+    {
+        self.seats[place].as_ref()
+    }
+
+    /// Takes the session from a place, which has none until one is put there.
+    pub fn take(&mut self, place: usize) -> Option<Seat>
+        requires place { place < length self.old }
+        ensures value { result ≡ slice_index_or self.old place None }
+        ensures next { slice_index_or self.new place None ≡ None }
+        ensures others { spec.IsAlone place self.old self.new }
+        ensures len { length self.new ≡ length self.old }
+    {
+        let taken = &mut self.seats[place];
+        taken.take()
+    }
+
+    /// Puts a session at a place, or none.
+    pub fn put(&mut self, place: usize, seat: Option<Seat>)
+        requires place { place < length self.old }
+        ensures next { slice_index_or self.new place None ≡ seat }
+        ensures others { spec.IsAlone place self.old self.new }
+        ensures len { length self.new ≡ length self.old }
+    {
+        self.seats[place] = seat;
     }
 
     /// What becomes of a datagram of the user at this place that has a whole header.
