@@ -70,16 +70,31 @@ where
     let text = fs::read_to_string(&rt, path)?;
     let cases = read_cases(alloc, text.as_str())?;
     for named in cases.iter() {
-        let mut world = World::new(rt)?;
-        let script = named.case.script.as_str();
-        let (configuration, steps) = script.split_once("\n---\n").unwrap_or(("", script));
-        fs::write(&rt, world::CONFIGURATION, configuration)?;
-        for step in steps.lines() {
-            world.step(step)?;
-        }
-        named
-            .case
-            .compare(alloc, named.name.as_str(), world.printed.as_bytes())?;
+        named.passes(alloc, |script| run_script(rt, script))?;
     }
     Ok(format!(in alloc; "{path} {}", cases.len())?)
+}
+
+/// Runs a script, and gives what it prints.
+fn run_script<R>(rt: R, script: &str) -> Result<String, Fault>
+where
+    R: Net<Listener = TcpListener, Stream = TcpStream>
+        + Files
+        + AllocGlobal
+        + Clock
+        + Threads
+        + Wait
+        + Copy
+        + Drop
+        + Send
+        + 'static,
+{
+    let mut world = World::new(rt)?;
+    let (configuration, steps) = script.split_once("\n---\n").unwrap_or(("", script));
+    fs::write(&rt, world::CONFIGURATION, configuration)?;
+    for step in steps.lines() {
+        world.step(step)?;
+    }
+    let World { printed, .. } = world;
+    Ok(printed)
 }
