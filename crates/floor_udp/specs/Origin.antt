@@ -1,5 +1,5 @@
 -- From where a user may come: an IP address, or one and a port.
-use Rattle.std.specs.Prelude.{◌≡◌, ◌⊎◌, ℕ, ◌+◌, List, Option, Some, None}
+use Rattle.std.specs.Prelude.{◌≡◌, ◌⊎◌, ℕ, ◌+◌, List, Some, None}
 use Rattle.std.specs.Net.Addr.{ipv4_bits, ipv6_bits}
 use Rattle.std.specs.Net.Grammar.{IsIpText, IsSocketText}
 use Rattle.std.specs.Net.Socket.{socket_ip, socket_port}
