@@ -102,7 +102,7 @@ where
     /// - `NAME peer ADDRESS` is a peer at an address and port of this machine; `NAME say BYTES` has it send a datagram,
     ///   `NAME listen` prints the next one that it is sent, and `NAME quiet` whether none comes for a while;
     ///   `NAME flood COUNT BYTES` sends a message so often, each with the next Transaction ID, and `NAME count` prints how
-    ///   many datagrams come until none does for a while.
+    ///   many datagrams come until none does for a while, `NAME count LEAST MOST` whether they are as many.
     /// - `NAME accept` is the next connection to the server, and prints the name in its header; `NAME hear COUNT`
     ///   prints so many bytes, `NAME rest` all to the end of the stream and how it ends, `NAME send BYTES` sends some,
     ///   `NAME long COUNT UNITS HEADER` so often a message by its header, with so many units of zeros,
@@ -203,7 +203,7 @@ where
                 self.peers.send(name, bytes.as_slice(), self.port)
             }
             "flood" => self.flood(name, rest),
-            "count" => self.count(name),
+            "count" => self.count(name, rest),
             "listen" => self.listen(name, self.patience),
             "quiet" => self.listen(name, QUIET),
             _ if self.place_of(name).is_none() => {
@@ -295,14 +295,21 @@ where
         Ok(())
     }
 
-    /// Prints how many datagrams come until none does for a while.
-    fn count(&mut self, name: &str) -> Result<(), Fault> {
-        let mut count = 0u32;
+    /// Prints how many datagrams come until none does for a while; of a number and another whether they are as many,
+    /// since time goes by while they come, in which more may be sent.
+    fn count(&mut self, name: &str, rest: &str) -> Result<(), Fault> {
+        let mut count = 0u64;
         for _ in 0..10_000 {
             if self.peers.hear(name, QUIET)?.is_none() {
                 break;
             }
             count = count.saturating_add(1);
+        }
+        if let Some((least, most)) = rest.split_once(' ') {
+            if number_in(least)? <= count && count <= number_in(most)? {
+                write!(self.printed, "{name} {least} to {most}\n")?;
+                return Ok(());
+            }
         }
         write!(self.printed, "{name} {count}\n")?;
         Ok(())
