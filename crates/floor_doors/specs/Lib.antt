@@ -1,0 +1,6 @@
+-- What a reader has to believe, in the order of reading.
+pub mod Names
+pub mod Newcomer
+pub mod Follows
+pub mod Laws
+pub mod Examples
