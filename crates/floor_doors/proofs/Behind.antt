@@ -6,7 +6,6 @@ use Rattle.std.proofs.lemmas.List.{length-append, drop-append-le, length-drop}
 use Rattle.floor_proxy.specs.declared.header.NamedBy.{NamedBy}
 use Rattle.floor_proxy.specs.declared.header.ProxyRead.{ProxyRead}
 use Rattle.floor_proxy.specs.declared.header.ProxyRead.TheVariants.{More, Local, Named}
-use Rattle.floor_proxy.specs.declared.name.Name.{Name}
 use Rattle.floor_proxy.specs.declared.refusal.ProxyRefusal.{ProxyRefusal}
 use Rattle.floor_proxy.specs.declared.refusal.ProxyRefusal.TheVariants.{BadHeader}
 use Rattle.floor_proxy.specs.Header.{◌>>=◌, addresses_len, agrees, behind_command, behind_family, behind_high, behind_signature, proxy, signature, whole, who, with_len}
@@ -27,13 +26,14 @@ lacks-other : (n : ℕ) (refusal : ProxyRefusal) (all : Answer) → Lacks n (Err
 lacks-other n refusal all = record { fewer = λ conference user len some front is. absurd cc }
 
 -- who is named has the length that was read
-named-len : (n : ℕ) (found : Result Name ProxyRefusal) (conference user len : ℕ) → (found >>= with_len n) ≡ Ok (Named conference user len) → len ≡ n
-named-len n (Ok name) conference user len e = cc
-named-len n (Err refusal) conference user len e = absurd cc
+named-len : {A : Type 0} (n : ℕ) (found : Result A ProxyRefusal) (next : A → Answer) → ((a : A) (conference user len : ℕ) → next a ≡ Ok (Named conference user len) → len ≡ n)
+    → (conference user len : ℕ) → (found >>= next) ≡ Ok (Named conference user len) → len ≡ n
+named-len n (Ok name) next same conference user len e = same name conference user len e
+named-len n (Err refusal) next same conference user len e = absurd cc
 
-never-more : (n : ℕ) (found : Result Name ProxyRefusal) → (found >>= with_len n) ≡ Ok More → ⊥
-never-more n (Ok name) e = cc
-never-more n (Err refusal) e = cc
+never-more : {A : Type 0} (found : Result A ProxyRefusal) (next : A → Answer) → ((a : A) → next a ≡ Ok More → ⊥) → (found >>= next) ≡ Ok More → ⊥
+never-more (Ok name) next never e = never name e
+never-more (Err refusal) next never e = cc
 
 lacks-whole : (by : NamedBy) (addresses len : ℕ) (rest more : List ℕ) → Lacks (16 + length rest) (whole by addresses len rest) (whole by addresses len more)
 lacks-whole by addresses len rest more = record { fewer = λ conference user l some front is. by_tests (nat_lt (length rest) len) (nat_lt (length more) len) refl conference user l front is }
@@ -45,9 +45,9 @@ lacks-whole by addresses len rest more = record { fewer = λ conference user l s
     by_tests true true e conference user l front is = absurd cc
     by_tests true false e conference user l front is =
         let few = ltb-true (length rest) len e in
-        let same = named-len (16 + len) (who by (take (len - addresses) (drop addresses more))) conference user l is in
+        let same = named-len (16 + len) (who by (take (len - addresses) (drop addresses more))) (with_len (16 + len)) (λ a c u k e. cc) conference user l is in
         omega (arith, few, same)
-    by_tests false b e conference user l front is = absurd (never-more (16 + len) (who by (take (len - addresses) (drop addresses rest))) front)
+    by_tests false b e conference user l front is = absurd (never-more (who by (take (len - addresses) (drop addresses rest))) (with_len (16 + len)) (λ a e. cc) front)
 
 -- a front of fewer than 16 bytes
 lacks-short : (n : ℕ) (front all : Answer) → n < 16 → Lacks n front all

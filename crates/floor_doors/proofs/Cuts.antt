@@ -18,11 +18,12 @@ append_none (x ∷ xs) = ap (λ l. x ∷ l) (append_none xs)
 -- what stands behind the first n bytes of two pieces, of which the first is shorter
 drop_first : (n : ℕ) (held piece : List ℕ) → length held ≤ n → drop n (held ++ piece) ≡ drop (n - length held) piece
 drop_first n [] piece h = refl
-drop_first n (x ∷ held) piece h = by n h
+drop_first n (x ∷ held) piece h = by n h (λ m g. drop_first m held piece g)
   where
-    by : (n : ℕ) → length (x ∷ held) ≤ n → drop n ((x ∷ held) ++ piece) ≡ drop (n - length (x ∷ held)) piece
-    by zero h = absurd (omega (arith, h))
-    by (suc m) h = drop_first m held piece (omega (arith, h)) ∙ ap (λ (k : ℕ). drop k piece) (omega (arith, h))
+    by : (n : ℕ) → length (x ∷ held) ≤ n → ((m : ℕ) → length held ≤ m → drop m (held ++ piece) ≡ drop (m - length held) piece)
+        → drop n ((x ∷ held) ++ piece) ≡ drop (n - length (x ∷ held)) piece
+    by zero h rec = absurd (omega (arith, h))
+    by (suc m) h rec = rec m (omega (arith, h)) ∙ ap (λ (k : ℕ). drop k piece) (omega (arith, h))
 
 -- one piece, and what is answered of those behind it
 piece_is : (by : NamedBy) (held piece behind : List ℕ) (later : Heard) (answer : Answer) → answer ≡ proxy by (held ++ piece) → proxy by held ≡ Ok More
@@ -41,8 +42,8 @@ piece_is by held piece behind later (Ok (Named conference user len)) is front re
     let more = ends_behind by held piece conference user len some front (sym is) in
     let rest : drop len ((held ++ piece) ++ behind) ≡ drop (len - length held) piece ++ behind =
     drop-append-le len (held ++ piece) behind there ∙ ap (λ (l : List ℕ). l ++ behind) (drop_first len held piece (omega (arith, more))) in
-    let of : List ℕ → Heard = λ l. record { answer = Ok (Named conference user len); rest = l } in
-    ap of (sym rest) ∙ ap (λ (a : Answer). at_once a ((held ++ piece) ++ behind)) (is ∙ sym stays)
+    let with_rest : List ℕ → Heard = λ l. record { answer = Ok (Named conference user len); rest = l } in
+    ap with_rest (sym rest) ∙ ap (λ (a : Answer). at_once a ((held ++ piece) ++ behind)) (is ∙ sym stays)
 piece_is by held piece behind later (Err refusal) is front rec =
     let stays = answers_stay by (held ++ piece) behind (λ more. let e = is ∙ more in cc) in
     ap (λ (a : Answer). at_once a ((held ++ piece) ++ behind)) (is ∙ sym stays)

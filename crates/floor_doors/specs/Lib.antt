@@ -2,5 +2,6 @@
 pub mod Names
 pub mod Newcomer
 pub mod Follows
+pub mod steps
 pub mod Laws
 pub mod Examples

@@ -1,14 +1,16 @@
 //! Somebody at a door, who hasn't said yet who it is.
 
-ghost use Rattle.std.specs.Prelude.{◌≡◌, ◌≢◌, ◌≤◌, ◌+◌, ◌++◌, ℕ, [], Ok, if◌then◌else◌, length, nat_le};
+ghost use Rattle.std.specs.Prelude.{◌≡◌, ◌≢◌, ◌≤◌, ◌+◌, ◌++◌, ℕ, [], Ok, if◌then◌else◌, length, nat_le, take};
 ghost use Rattle.floor_doors.specs.declared.newcomer.Verdict.TheVariants as verdict;
 ghost use Rattle.floor_doors.specs.declared.refusal.DoorRefusal.TheVariants as refusal;
 ghost use Rattle.floor_doors.specs.Follows.{by_then, follows};
+ghost use Rattle.floor_doors.specs.Newcomer.{IsAwaited};
+ghost use Rattle.floor_doors.specs.steps.{kept};
 ghost use Rattle.floor_proxy.specs.Header.{proxy};
 ghost use Rattle.floor_proxy.specs.declared.header.ProxyRead.TheVariants.{Named};
 
 use crate::refusal::DoorRefusal;
-use floor_proxy::{MAX_HEADER, NamedBy, ProxyRead, ProxyRefusal, answers_stay, read_proxy};
+use floor_proxy::{MAX_HEADER, NamedBy, ProxyRead, ProxyRefusal, read_proxy};
 use std::alloc::Global;
 use std::marker::Model;
 
@@ -91,25 +93,7 @@ impl Newcomer {
             → self.new ≡ record self.old { held = self.old.held ++ bytes.now } }
         ensures left { result ≢ verdict.Wait → self.new ≡ self.old }
     {
-        let before = self.held.len();
-        let room = MAX_HEADER - before;
-        let part = if bytes.len() <= room {
-            bytes
-        } else {
-            &bytes[..room]
-        };
-        if self.held.extend_from_slice(part).is_err() {
-            return Verdict::Refuse(DoorRefusal::Memory);
-        }
-        answers_stay();
-        let follows = verdict_of(before, read_proxy(self.named_by, self.held.as_slice()));
-        match follows {
-            Verdict::Wait => {}
-            Verdict::Enter { .. } | Verdict::LetGo | Verdict::Refuse(_) => {
-                self.held.truncate(before);
-            }
-        }
-        follows
+        came_in(self.named_by, &mut self.held, bytes)
     }
 
     /// What follows where the stream is over.
@@ -128,6 +112,46 @@ impl Newcomer {
         } else {
             Verdict::Wait
         }
+    }
+}
+
+/// What follows from bytes that came behind these, which are kept where more have to come.
+fn came_in(named_by: NamedBy, held: &mut Vec<u8>, bytes: &[u8]) -> Verdict
+    requires { IsAwaited named_by held.old.items }
+    ensures value { result ≢ verdict.Refuse refusal.Memory
+        → result ≡ follows (length held.old.items)
+        (proxy named_by (held.old.items ++ bytes.now)) }
+    ensures header { (conference user at : ℕ) → result ≡ verdict.Enter conference user at
+        → (at ≤ length bytes.now) × (proxy named_by (held.old.items ++ bytes.now)
+        ≡ Ok (Named conference user (length held.old.items + at))) }
+    ensures next { result ≡ verdict.Wait → held.new.items ≡ held.old.items ++ bytes.now }
+    ensures left { result ≢ verdict.Wait → held.new.items ≡ held.old.items }
+    ensures awaited { IsAwaited named_by held.new.items }
+{
+    let before = held.len();
+    let part = first_of(bytes, MAX_HEADER - before);
+    if held.extend_from_slice(part).is_err() {
+        return Verdict::Refuse(DoorRefusal::Memory);
+    }
+    let follows = verdict_of(before, read_proxy(named_by, held.as_slice()));
+    cut_back(held, before, follows);
+    follows
+}
+
+/// The first so many bytes, or all.
+fn first_of(bytes: &[u8], most: usize) -> &[u8]
+    ensures value { result.now ≡ take most bytes.now }
+{
+    bytes.get(..most).unwrap_or(bytes)
+}
+
+/// Keeps so many bytes alone, unless more have to come.
+fn cut_back(held: &mut Vec<u8>, before: usize, follows: Verdict)
+    ensures next { held.new.items ≡ kept follows before held.old.items }
+{
+    match follows {
+        Verdict::Wait => {}
+        Verdict::Enter { .. } | Verdict::LetGo | Verdict::Refuse(_) => held.truncate(before),
     }
 }
 

@@ -205,13 +205,13 @@ turn_sound behind w st group slot rest b sound first is = record { once = λ k. 
         subst (λ (z : ℕ). count_by (nat_eq z) (cond b (behind ++ group ∷ []) behind) ≡ cond (nat_eq (length (queue_in (set w group rest) z)) 0) 0 1) u.1
         (here b is ∙ sym (ap (λ (l : List ℕ). cond (nat_eq (length l) 0) 0 1) (get_or-set_same w group rest [] hg)))
     turns g (inr u) =
-        there b ∙ sym (plus (count-cons g group behind) apart) ∙ sound.turns g ∙ sym (ap (λ (l : List ℕ). cond (nat_eq (length l) 0) 0 1) (queue-other w group g rest u.0))
+        there b ∙ sym (plus _ _ _ (count-cons g group behind) apart) ∙ sound.turns g ∙ sym (ap (λ (l : List ℕ). cond (nat_eq (length l) 0) 0 1) (queue-other w group g rest u.0))
       where
         apart : cond (nat_eq g group) 1 0 ≡ 0
         apart = none_of (nat_eq g group) (eq_no g group (λ e. u.1 (sym e)))
 
-        plus : {a b c : ℕ} → a ≡ b + c → b ≡ 0 → a ≡ c
-        plus e f = omega arith
+        plus : (a b c : ℕ) → a ≡ b + c → b ≡ 0 → a ≡ c
+        plus a b c e f = omega arith
 
         plus_none : (n m : ℕ) → m ≡ 0 → n + m ≡ n
         plus_none n m e = omega arith
