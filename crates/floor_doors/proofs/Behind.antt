@@ -8,11 +8,15 @@ use Rattle.floor_proxy.specs.declared.header.ProxyRead.{ProxyRead}
 use Rattle.floor_proxy.specs.declared.header.ProxyRead.TheVariants.{More, Local, Named}
 use Rattle.floor_proxy.specs.declared.refusal.ProxyRefusal.{ProxyRefusal}
 use Rattle.floor_proxy.specs.declared.refusal.ProxyRefusal.TheVariants.{BadHeader}
-use Rattle.floor_proxy.specs.Header.{◌>>=◌, addresses_len, agrees, behind_command, behind_family, behind_high, behind_signature, proxy, signature, whole, who, with_len}
+use Rattle.floor_proxy.specs.Header.{IsWithin, ◌>>=◌, addresses_len, agrees, behind_command, behind_family, behind_high, behind_signature, proxy, signature, whole, who, with_len}
 use Rattle.floor_proxy.proofs.Cuts.{other-signature, signature-whole}
 
 abbrev pub Answer : Type 0
 Answer = Result ProxyRead ProxyRefusal
+
+-- so many bytes fit the answer
+abbrev pub Fits : ℕ → Answer → Type 0
+Fits n answer = IfOk answer (IsWithin n)
 
 -- where more are wanted behind n bytes, and with others behind somebody is named by a header of 16 bytes or more, it has more than n
 pub record Lacks (n : ℕ) (front all : Answer) : Type 0 where

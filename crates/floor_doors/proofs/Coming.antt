@@ -1,17 +1,16 @@
 -- What follows from bytes that came.
 use Rattle.std.proofs.Common.{◌≡◌, ◌≢◌, ℕ, zero, suc, ◌+◌, ◌-◌, ◌<◌, ◌≤◌, List, [], ◌∷◌, ◌++◌, length, take, drop, Result, Ok, Err, refl, sym, ap, ◌∙◌, arith, append_assoc, subst}
-use Rattle.std.specs.Prelude.{IfOk}
 use Rattle.std.proofs.lemmas.List.{length-append}
 use Rattle.floor_proxy.specs.declared.header.NamedBy.{NamedBy}
 use Rattle.floor_proxy.specs.declared.header.ProxyRead.TheVariants.{More, Local, Named}
-use Rattle.floor_proxy.specs.Header.{IsWithin, proxy}
+use Rattle.floor_proxy.specs.Header.{proxy}
 use Rattle.floor_proxy.proofs.Cuts.{answers_stay, within}
 use Rattle.floor_doors.specs.declared.newcomer.Verdict.{Verdict}
 use Rattle.floor_doors.specs.declared.newcomer.Verdict.TheVariants.{Wait, Enter, LetGo, Refuse}
 use Rattle.floor_doors.specs.Newcomer.{IsAwaited}
 use Rattle.floor_doors.specs.Follows.{follows}
 use Rattle.floor_doors.specs.steps.{kept}
-use Rattle.floor_doors.proofs.Behind.{Answer, ends_behind}
+use Rattle.floor_doors.proofs.Behind.{Answer, Fits, ends_behind}
 
 take_front : (xs ys : List ℕ) → take (length xs) (xs ++ ys) ≡ xs
 take_front [] ys = refl
@@ -58,7 +57,7 @@ came_is by held bytes part room v after waits is_room is_part is_v is_after = by
 
     by_answer : (a : Answer) → a ≡ proxy by (held ++ part) → v ≡ follows (length held) a → Came by held bytes after v
     by_answer (Ok More) is w =
-        let few : length (held ++ part) < 1024 = subst (λ (a : Answer). IfOk a (IsWithin (length (held ++ part)))) (sym is) (within by (held ++ part)) in
+        let few : length (held ++ part) < 1024 = subst (λ (a : Answer). Fits (length (held ++ part)) a) (sym is) (within by (held ++ part)) in
         let count = length-append held part in
         let less : length (take room bytes) < room = subst (λ (l : List ℕ). length l < room) is_part (omega (arith, few, count, is_room, waits.1)) in
         let same : part ≡ bytes = is_part ∙ all_taken room bytes less in
@@ -85,7 +84,7 @@ came_is by held bytes part room v after waits is_room is_part is_v is_after = by
     by_answer (Ok (Named conference user len)) is w =
         let all = stays (Ok (Named conference user len)) is (λ e. cc) in
         let now = back (Enter conference user (len - length held)) w refl in
-        let fits : IfOk (Ok (Named conference user len)) (IsWithin (length (held ++ bytes))) = subst (λ (a : Answer). IfOk a (IsWithin (length (held ++ bytes)))) all (within by (held ++ bytes)) in
+        let fits : Fits (length (held ++ bytes)) (Ok (Named conference user len)) = subst (λ (a : Answer). Fits (length (held ++ bytes)) a) all (within by (held ++ bytes)) in
         let some : 16 ≤ len = fits.0 in
         let there : len ≤ length (held ++ bytes) = fits.2 in
         let fewer = ends_behind by held bytes conference user len some waits.0 all in

@@ -1,15 +1,14 @@
 -- Pieces are answered as all their bytes at once.
 use Rattle.std.proofs.Common.{◌≡◌, ◌≢◌, ℕ, zero, suc, ◌+◌, ◌-◌, ◌<◌, ◌≤◌, List, [], ◌∷◌, ◌++◌, length, drop, Result, Ok, Err, refl, sym, ap, ◌∙◌, arith, append_assoc, subst}
-use Rattle.std.specs.Prelude.{IfOk}
 use Rattle.std.proofs.lemmas.List.{length-append, drop-append-le}
 use Rattle.floor_proxy.specs.declared.header.NamedBy.{NamedBy}
 use Rattle.floor_proxy.specs.declared.header.ProxyRead.{ProxyRead}
 use Rattle.floor_proxy.specs.declared.header.ProxyRead.TheVariants.{More, Local, Named}
 use Rattle.floor_proxy.specs.declared.refusal.ProxyRefusal.{ProxyRefusal}
-use Rattle.floor_proxy.specs.Header.{IsWithin, proxy}
+use Rattle.floor_proxy.specs.Header.{proxy}
 use Rattle.floor_proxy.proofs.Cuts.{answers_stay, within}
 use Rattle.floor_doors.specs.Laws.{CutsChangeNothing, Heard, at_once, at_piece, heard, whole}
-use Rattle.floor_doors.proofs.Behind.{Answer, ends_behind}
+use Rattle.floor_doors.proofs.Behind.{Answer, Fits, ends_behind}
 
 append_none : (xs : List ℕ) → xs ++ [] ≡ xs
 append_none [] = refl
@@ -17,7 +16,7 @@ append_none (x ∷ xs) = ap (λ l. x ∷ l) (append_none xs)
 
 -- what stands behind the first n bytes of two pieces, of which the first is shorter
 drop_first : (n : ℕ) (held piece : List ℕ) → length held ≤ n → drop n (held ++ piece) ≡ drop (n - length held) piece
-drop_first n [] piece h = refl
+drop_first n [] piece h = let e : n ≡ n - 0 = omega arith in ap (λ (k : ℕ). drop k piece) e
 drop_first n (x ∷ held) piece h = by n h (λ m g. drop_first m held piece g)
   where
     by : (n : ℕ) → length (x ∷ held) ≤ n → ((m : ℕ) → length held ≤ m → drop m (held ++ piece) ≡ drop (m - length held) piece)
@@ -35,8 +34,8 @@ piece_is by held piece behind later (Ok Local) is front rec =
     ap (λ (a : Answer). at_once a ((held ++ piece) ++ behind)) (is ∙ sym stays)
 piece_is by held piece behind later (Ok (Named conference user len)) is front rec =
     let stays = answers_stay by (held ++ piece) behind (λ more. let e = is ∙ more in cc) in
-    let fits : IfOk (Ok (Named conference user len)) (IsWithin (length (held ++ piece))) =
-    subst (λ (a : Answer). IfOk a (IsWithin (length (held ++ piece)))) (sym is) (within by (held ++ piece)) in
+    let fits : Fits (length (held ++ piece)) (Ok (Named conference user len)) =
+    subst (λ (a : Answer). Fits (length (held ++ piece)) a) (sym is) (within by (held ++ piece)) in
     let some : 16 ≤ len = fits.0 in
     let there : len ≤ length (held ++ piece) = fits.2 in
     let more = ends_behind by held piece conference user len some front (sym is) in
