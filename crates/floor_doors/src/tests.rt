@@ -1,3 +1,5 @@
+ghost use Rattle.std.specs.Prelude.{◌<◌};
+
 use crate::{DoorRefusal, MAX_HEADER_MICROS, NamedBy, Newcomer, ProxyRefusal, Verdict};
 use std::alloc::{AllocError, Global};
 
@@ -5,7 +7,9 @@ use std::alloc::{AllocError, Global};
 const HEADER: &[u8] = b"\r\n\r\n\0\r\nQUIT\n\x21\x00\x00\x0a\x05\x00\x077.65535";
 
 /// Who comes in where the bytes come in pieces of this length, and the user's bytes behind the header.
-fn heard(alloc: Global, bytes: &[u8], length: usize) -> Result<(Verdict, Vec<u8>), AllocError> {
+fn heard(alloc: Global, bytes: &[u8], length: usize) -> Result<(Verdict, Vec<u8>), AllocError>
+    requires { 0 < length }
+{
     let mut newcomer = Newcomer::new(alloc, NamedBy::UniqueId, 0);
     let mut rest = Vec::new(alloc);
     let mut answer = Verdict::Wait;

@@ -23,11 +23,11 @@ eq_no a b ne = by (eqb_tells a b) where
 pub not_both : {A : Type 0} → true ≡ false → A
 not_both e = absurd cc
 
-one_of : (b : Bool) → b ≡ true → cond b 1 0 ≡ 1
+one_of : (b : Bool) → b ≡ true → ◌≡◌ {A = ℕ} (cond b 1 0) 1
 one_of true e = refl
 one_of false e = absurd cc
 
-none_of : (b : Bool) → b ≡ false → cond b 1 0 ≡ 0
+none_of : (b : Bool) → b ≡ false → ◌≡◌ {A = ℕ} (cond b 1 0) 0
 none_of false e = refl
 none_of true e = absurd cc
 
@@ -224,7 +224,7 @@ turn_sound behind w st group slot rest b sound first is = record { once = λ k. 
 pub nobody : (w : List (List ℕ)) (st : List Bool) → IsInTurn [] w st → (k : ℕ) → times_in w k ≡ 0
 nobody w st sound k = all_empty w (λ g. empty (nat_eq (length (queue_in w g)) 0) (length (queue_in w g)) refl (sound.turns g))
   where
-    empty : (b : Bool) (n : ℕ) → nat_eq n 0 ≡ b → 0 ≡ cond b 0 1 → n ≡ 0
+    empty : (b : Bool) (n : ℕ) → nat_eq n 0 ≡ b → ◌≡◌ {A = ℕ} 0 (cond b 0 1) → n ≡ 0
     empty true n is e = by (eqb_tells n 0) where
       by : (((nat_eq n 0 ≡ true) × (n ≡ 0)) ⊎ ((nat_eq n 0 ≡ false) × (n ≢ 0))) → n ≡ 0
       by (inl u) = u.1

@@ -100,12 +100,12 @@ renamed role group l = record l { role = role; group = group }
 
 -- the first where it is being shut, else the second
 abbrev pub at_shut : Asked → Life → Life → Life
-at_shut asked.Nothing yes no = no
-at_shut asked.Accept yes no = no
-at_shut asked.Read yes no = no
-at_shut asked.Serve yes no = no
-at_shut asked.Write yes no = no
-at_shut asked.Shut yes no = yes
+at_shut asked.Nothing asked_for other = other
+at_shut asked.Accept asked_for other = other
+at_shut asked.Read asked_for other = other
+at_shut asked.Serve asked_for other = other
+at_shut asked.Write asked_for other = other
+at_shut asked.Shut asked_for other = asked_for
 
 -- it is to be shut down, which answers whatever else was asked
 abbrev pub over : Life → Life
@@ -124,37 +124,37 @@ is_shutting asked.Shut = true
 
 -- the first where a read was asked, else the second
 abbrev pub at_read : Asked → Life → Life → Life
-at_read asked.Nothing yes no = no
-at_read asked.Accept yes no = no
-at_read asked.Read yes no = yes
-at_read asked.Serve yes no = no
-at_read asked.Write yes no = no
-at_read asked.Shut yes no = no
+at_read asked.Nothing asked_for other = other
+at_read asked.Accept asked_for other = other
+at_read asked.Read asked_for other = asked_for
+at_read asked.Serve asked_for other = other
+at_read asked.Write asked_for other = other
+at_read asked.Shut asked_for other = other
 
 -- the same of an accept, of what is served, and of a write
 abbrev pub at_accept : Asked → Life → Life → Life
-at_accept asked.Nothing yes no = no
-at_accept asked.Accept yes no = yes
-at_accept asked.Read yes no = no
-at_accept asked.Serve yes no = no
-at_accept asked.Write yes no = no
-at_accept asked.Shut yes no = no
+at_accept asked.Nothing asked_for other = other
+at_accept asked.Accept asked_for other = asked_for
+at_accept asked.Read asked_for other = other
+at_accept asked.Serve asked_for other = other
+at_accept asked.Write asked_for other = other
+at_accept asked.Shut asked_for other = other
 
 abbrev pub at_serve : Asked → Life → Life → Life
-at_serve asked.Nothing yes no = no
-at_serve asked.Accept yes no = no
-at_serve asked.Read yes no = no
-at_serve asked.Serve yes no = yes
-at_serve asked.Write yes no = no
-at_serve asked.Shut yes no = no
+at_serve asked.Nothing asked_for other = other
+at_serve asked.Accept asked_for other = other
+at_serve asked.Read asked_for other = other
+at_serve asked.Serve asked_for other = asked_for
+at_serve asked.Write asked_for other = other
+at_serve asked.Shut asked_for other = other
 
 abbrev pub at_write : Asked → Life → Life → Life
-at_write asked.Nothing yes no = no
-at_write asked.Accept yes no = no
-at_write asked.Read yes no = no
-at_write asked.Serve yes no = no
-at_write asked.Write yes no = yes
-at_write asked.Shut yes no = no
+at_write asked.Nothing asked_for other = other
+at_write asked.Accept asked_for other = other
+at_write asked.Read asked_for other = other
+at_write asked.Serve asked_for other = other
+at_write asked.Write asked_for other = asked_for
+at_write asked.Shut asked_for other = other
 
 -- a read found so many bytes: where these are 4,096, or the stream ends, more may be there
 abbrev pub came : ℕ → Bool → Life → Life
