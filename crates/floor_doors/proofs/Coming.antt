@@ -1,12 +1,12 @@
 -- What follows from bytes that came.
-use Rattle.std.proofs.Common.{◌≡◌, ◌≢◌, ℕ, zero, suc, ◌+◌, ◌-◌, ◌<◌, ◌≤◌, List, [], ◌∷◌, ◌++◌, length, take, drop, Result, Ok, Err, refl, sym, ap, ◌∙◌, arith, append_assoc, subst}
+use Rattle.std.proofs.Common.{◌≡◌, ◌≢◌, ℕ, zero, suc, ◌+◌, ◌-◌, ◌<◌, ◌≤◌, List, [], ◌∷◌, ◌++◌, length, take, drop, Ok, Err, refl, sym, ap, ◌∙◌, arith, append_assoc, subst}
 use Rattle.std.proofs.lemmas.List.{length-append}
 use Rattle.floor_proxy.specs.declared.header.NamedBy.{NamedBy}
 use Rattle.floor_proxy.specs.declared.header.ProxyRead.TheVariants.{More, Local, Named}
 use Rattle.floor_proxy.specs.Header.{proxy}
 use Rattle.floor_proxy.proofs.Cuts.{answers_stay, within}
 use Rattle.floor_doors.specs.declared.newcomer.Verdict.{Verdict}
-use Rattle.floor_doors.specs.declared.newcomer.Verdict.TheVariants.{Wait, Enter, LetGo, Refuse}
+use Rattle.floor_doors.specs.declared.newcomer.Verdict.TheVariants.{Wait, Enter, LetGo}
 use Rattle.floor_doors.specs.Newcomer.{IsAwaited}
 use Rattle.floor_doors.specs.Follows.{follows}
 use Rattle.floor_doors.specs.steps.{kept}

@@ -1,10 +1,8 @@
 -- Pieces are answered as all their bytes at once.
-use Rattle.std.proofs.Common.{◌≡◌, ◌≢◌, ℕ, zero, suc, ◌+◌, ◌-◌, ◌<◌, ◌≤◌, List, [], ◌∷◌, ◌++◌, length, drop, Result, Ok, Err, refl, sym, ap, ◌∙◌, arith, append_assoc, subst}
-use Rattle.std.proofs.lemmas.List.{length-append, drop-append-le}
+use Rattle.std.proofs.Common.{◌≡◌, ℕ, zero, suc, ◌-◌, ◌≤◌, List, [], ◌∷◌, ◌++◌, length, drop, Ok, Err, refl, sym, ap, ◌∙◌, arith, append_assoc, subst}
+use Rattle.std.proofs.lemmas.List.{drop-append-le}
 use Rattle.floor_proxy.specs.declared.header.NamedBy.{NamedBy}
-use Rattle.floor_proxy.specs.declared.header.ProxyRead.{ProxyRead}
 use Rattle.floor_proxy.specs.declared.header.ProxyRead.TheVariants.{More, Local, Named}
-use Rattle.floor_proxy.specs.declared.refusal.ProxyRefusal.{ProxyRefusal}
 use Rattle.floor_proxy.specs.Header.{proxy}
 use Rattle.floor_proxy.proofs.Cuts.{answers_stay, within}
 use Rattle.floor_doors.specs.Laws.{CutsChangeNothing, Heard, at_once, at_piece, heard, whole}

@@ -1,5 +1,5 @@
 -- Headers as HAProxy 2.6.12 writes them, cut, and what follows.
-use Rattle.std.specs.Prelude.{◌≡◌, List, [], ◌∷◌, ◌++◌, Ok, refl, ℕ}
+use Rattle.std.specs.Prelude.{◌≡◌, [], ◌∷◌, ◌++◌, Ok, refl}
 use Rattle.floor_proxy.specs.declared.header.NamedBy.TheVariants.{Certificate}
 use Rattle.floor_proxy.specs.declared.header.ProxyRead.TheVariants.{Local, Named}
 use Rattle.floor_proxy.specs.Examples.{addresses, ann, hello, name, version}

@@ -1,4 +1,4 @@
-use Rattle.std.proofs.Common.{rules, ◌≡◌, ap, ◌∙◌, sym, refl, length, List, ℕ, ◌-◌, ◌++◌, take, arith}
+use Rattle.std.proofs.Common.{rules, ◌≡◌, ap, ◌∙◌, refl, length, List, ℕ, ◌-◌, ◌++◌, take}
 use Rattle.floor_proxy.specs.Header.{proxy}
 use Rattle.floor_doors.specs.Follows.{follows}
 use Rattle.floor_doors.specs.steps.{kept}

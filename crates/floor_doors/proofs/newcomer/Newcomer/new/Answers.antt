@@ -1,5 +1,3 @@
-use Rattle.std.proofs.Common.{ap, arith, ◌∙◌, length, List, ℕ}
-use Rattle.floor_proxy.specs.Header.{proxy}
 use Rattle.floor_doors.proofs.Coming.{nothing_waits}
 use Rattle.floor_doors.proofs.newcomer.Newcomer.new.Goals as goal
 
