@@ -6,3 +6,5 @@ pub mod Reading
 pub mod Serving
 pub mod Numbers
 pub mod Ordering
+pub mod Fitting
+pub mod Holding

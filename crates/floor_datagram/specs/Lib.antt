@@ -15,6 +15,7 @@ pub mod Run
 pub mod Order
 pub mod NoticeIds
 pub mod Newest
+pub mod Holding
 -- what the fields of the types stand for
 pub mod Views
 pub mod OutView

@@ -1,6 +1,7 @@
 //! What follows from the definitions, over whole runs. No code runs here.
 
 ghost use Rattle.std.specs.Prelude.{◌≡◌, ℕ, Bool, ◌+◌, ◌%◌, ◌<◌, ◌≤◌, [], ◌∷◌, ◌++◌, List, Option, None, Some, true};
+ghost use Rattle.floor_datagram.specs.Holding.{Holds};
 ghost use Rattle.floor_datagram.specs.Fragments.{joined, payload_of, placed_in, range_of, whole_of};
 ghost use Rattle.floor_datagram.specs.Newest.{IsNewest, beginning, begun_behind};
 ghost use Rattle.floor_datagram.specs.Notices.{Notices, acknowledged, fresh_id, is_out, put, told, waits};
@@ -63,4 +64,12 @@ pub fn fragments_come_in_any_order()
         → placed_in fragment since (come before ranges)
         ≡ whole_of fragment since (joined 0 (payload_of fragment) (come after ranges))
         (come after ranges) }
+{}
+
+/// What a session holds at most, whatever comes: of fragments no more bytes than came, and 8,180 at most; the
+/// datagrams of one answer and of one notice; of each subject one message that waits, and of each own request
+/// one that tells of it; and of the server's stream no whole message.
+pub fn what_a_session_holds_is_bounded()
+    ensures { (terms : Terms) (first now : ℕ) (inputs : List Input)
+        → Holds (came inputs) (run (begins terms first now) inputs).after }
 {}
