@@ -8,3 +8,5 @@ pub mod Numbers
 pub mod Ordering
 pub mod Fitting
 pub mod Holding
+pub mod Passing
+pub mod Losing

@@ -45,3 +45,7 @@ pub record Holds (came : List (List ℕ)) (s : Session) : Type 0 where
   pub waiting : AreApart s.notices.waiting
   pub own : AreApart s.own
   pub stream : messages s.stream ≡ []
+
+-- nothing is sent to the server, or what is fits where so many bytes wait already
+abbrev pub HasRoom : (waiting : ℕ) → List ℕ → Type 0
+HasRoom waiting up = (up ≡ []) ⊎ (waiting + length up ≤ 65536)

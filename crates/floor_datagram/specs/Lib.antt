@@ -16,6 +16,7 @@ pub mod Order
 pub mod NoticeIds
 pub mod Newest
 pub mod Holding
+pub mod Losing
 -- what the fields of the types stand for
 pub mod Views
 pub mod OutView
