@@ -10,3 +10,4 @@ pub mod Fitting
 pub mod Holding
 pub mod Passing
 pub mod Losing
+pub mod Sending

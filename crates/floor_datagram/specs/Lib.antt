@@ -17,6 +17,7 @@ pub mod NoticeIds
 pub mod Newest
 pub mod Holding
 pub mod Losing
+pub mod Sending
 -- what the fields of the types stand for
 pub mod Views
 pub mod OutView

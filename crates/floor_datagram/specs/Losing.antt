@@ -18,4 +18,3 @@ Loses s (ends now) = ⊥
 Loses s (shut end now) = end ≡ Why.Lost
 Loses s (lost end now) = end ≡ Why.Lost
 Loses s (late now) = IsOverdue s.notices.out now
-

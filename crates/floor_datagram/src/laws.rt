@@ -11,6 +11,7 @@ ghost use Rattle.floor_datagram.specs.NoticeIds.{IsLastId, Own};
 ghost use Rattle.floor_datagram.specs.Numbering.{age_of};
 ghost use Rattle.floor_datagram.specs.Order.{come, Comes, Follow};
 ghost use Rattle.floor_datagram.specs.Run.{Input, run, step, came, AreWhole, Serves};
+ghost use Rattle.floor_datagram.specs.Sending.{Sends, whole};
 ghost use Rattle.floor_datagram.specs.Session.{Session, Terms, begins, datagram};
 ghost use Rattle.floor_datagram.specs.declared.fragments.Range.{Range};
 ghost use Rattle.floor_datagram.specs.declared.numbering.Age.TheVariants.{Older};
@@ -89,4 +90,13 @@ pub fn a_peer_is_lost_that_does_not_acknowledge()
         → (run (begins terms first now) inputs).after.end ≡ None
         → ((step (run (begins terms first now) inputs).after next).after.end ≡ Some Lost)
         ↔ Loses (run (begins terms first now) inputs).after next }
+{}
+
+/// Of any run: the peer is sent each answer of the server's, once for the first time, in their order; notices,
+/// each a message of the server's or the session's Goodbye; what the session itself answers; and what was sent
+/// before once more. It is sent nothing else (RFC 8855, sections 6.2, 8.2 and 8.3).
+pub fn nothing_else_is_sent()
+    ensures { (terms : Terms) (first now : ℕ) (inputs : List Input)
+        → Sends terms (whole (begins terms first now) inputs)
+        (run (begins terms first now) inputs).down }
 {}
