@@ -11,3 +11,4 @@ pub mod Holding
 pub mod Passing
 pub mod Losing
 pub mod Sending
+pub mod Dividing

@@ -1,7 +1,7 @@
 -- When a peer is lost.
-use Rattle.std.proofs.Common.{◌≡◌, ◌⊎◌, inl, inr, ℕ, suc, ◌+◌, ◌*◌, ◌-◌, ◌^◌, ◌<◌, ◌≤◌, ◌==◌, Bool, true, false, ◌&&◌, List, [], ◌∷◌, ◌++◌, Option, Some, None, is_some, nat_le, nat_lt, refl, sym, ap, subst, ◌∙◌, if◌then◌else◌, arith}
+use Rattle.std.proofs.Common.{◌≡◌, inl, inr, ℕ, ◌*◌, ◌-◌, ◌^◌, ◌<◌, ◌≤◌, ◌==◌, Bool, true, false, ◌&&◌, List, [], ◌∷◌, ◌++◌, Option, Some, None, is_some, nat_le, nat_lt, refl, sym, ap, subst, ◌∙◌, if◌then◌else◌, arith}
 use Rattle.std.specs.Prelude.{◌↔◌}
-use Rattle.std.proofs.lemmas.Bool.{le-leb, lt-leb, le-ltb}
+use Rattle.std.proofs.lemmas.Bool.{le-leb, le-ltb}
 use Rattle.std.proofs.lemmas.Bool.Decides.{leb_tells}
 use Rattle.floor_wire.specs.Message.{messages, rest}
 use Rattle.floor_datagram.specs.Datagrams.{id_of}
@@ -11,9 +11,7 @@ use Rattle.floor_datagram.specs.Requests.{forgotten}
 use Rattle.floor_datagram.specs.Notices as notes
 use Rattle.floor_datagram.specs.Notices.{Notices, Out, put, waits, told, crossed, pumped, pumped_with, begun, closed_with, is_out_as, acknowledged, again, again_with, given_up, pace_with, is_due, is_lost, tries_of, has_subject, is_out}
 use Rattle.floor_datagram.specs.Pace.{t2_of, Pace, due_after}
-use Rattle.floor_datagram.specs.HelloAck.{extended}
-use Rattle.floor_datagram.specs.Session as session
-use Rattle.floor_datagram.specs.Session.{Session, Effect, Terms, nothing, begins, finished, hears, noted, tells, answers, message, messages_take, server, parts as parts_with, loses, shuts_out, unless_ended, refused, server_ends, expires, expired, last_of, probes, waits_for, is_late, goodbye}
+use Rattle.floor_datagram.specs.Session.{Session, Effect, Terms, nothing, begins, hears, noted, tells, answers, message, messages_take, parts as parts_with, loses, shuts_out, unless_ended, refused, server_ends, expires, expired, last_of, probes, waits_for, is_late}
 use Rattle.floor_datagram.specs.Run.{Input, datagram, piece, ends, shut, lost, late, step, run}
 use Rattle.floor_datagram.specs.Losing.{IsOverdue, Loses}
 use Rattle.floor_datagram.specs.declared.heard.Heard.{Heard}
@@ -164,7 +162,7 @@ message-end : (s : Session) (now : ℕ) (m : List ℕ) (b : Bool) → (if b then
 message-end s now m true = refl
 message-end s now m false = refl
 
-messages-end : (s : Session) (now : ℕ) (ms : List (List ℕ)) → (messages_take s now ms).after.end ≡ s.end
+pub messages-end : (s : Session) (now : ℕ) (ms : List (List ℕ)) → (messages_take s now ms).after.end ≡ s.end
 messages-end s now [] = refl
 messages-end s now (m ∷ ms) = messages-end (message s now m).after now ms ∙ message-end s now m (id_of m == 0)
 
@@ -172,7 +170,7 @@ refused-ends : (now : ℕ) (s : Session) (last : Option ℕ) → Ends (refused l
 refused-ends now s None = never (Some Why.NoServer) (λ h. cc h)
 refused-ends now s (Some id) = never (Some Why.NoServer) (λ h. cc h)
 
-probes-end : (o : Option (List ℕ)) (s : Session) (now : ℕ) → (probes o s now).after.end ≡ s.end
+pub probes-end : (o : Option (List ℕ)) (s : Session) (now : ℕ) → (probes o s now).after.end ≡ s.end
 probes-end None s now = refl
 probes-end (Some m) s now = by (nat_le s.terms.probe (now - s.heard))
   where

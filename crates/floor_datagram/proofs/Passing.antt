@@ -1,13 +1,13 @@
 -- What is sent to the server fits.
-use Rattle.std.proofs.Common.{◌≡◌, ◌⊎◌, inl, inr, ℕ, ◌+◌, ◌≤◌, ◌==◌, Bool, true, false, List, [], ◌∷◌, ◌++◌, length, Option, Some, None, nat_lt, refl, sym, ◌∙◌, if◌then◌else◌, arith}
+use Rattle.std.proofs.Common.{◌≡◌, inl, inr, ℕ, ◌+◌, ◌≤◌, ◌==◌, Bool, true, false, List, [], ◌∷◌, length, Option, Some, None, nat_lt, refl, sym, ◌∙◌, if◌then◌else◌, arith}
 use Rattle.std.specs.List.{list_any}
-use Rattle.std.proofs.lemmas.Bool.{lt-ltb, le-ltb}
+use Rattle.std.proofs.lemmas.Bool.{lt-ltb}
 use Rattle.std.proofs.lemmas.Bool.Decides.{leb_tells}
 use Rattle.floor_datagram.specs.Datagrams.{id_of, primitive_of, kind_of}
 use Rattle.floor_datagram.specs.Numbering.{age_of}
 use Rattle.floor_datagram.specs.Written.{lowered}
 use Rattle.floor_datagram.specs.Fragments.{Fragments, Placed, placed, placed_in, held_of, since_of, whole_of, with_range, is_same_range, overlaps, payload_of, fragment_of, joined}
-use Rattle.floor_datagram.specs.Requests.{Requests, Effect, silent, passed_on, parted, taken, asked, judged, put_together, aged, parts, does, effect, max_waiting}
+use Rattle.floor_datagram.specs.Requests.{Requests, Effect, silent, passed_on, parted, taken, asked, judged, put_together, aged, parts, does, max_waiting}
 use Rattle.floor_datagram.specs.Session as session
 use Rattle.floor_datagram.specs.Session.{Session}
 use Rattle.floor_datagram.specs.Holding.{HasRoom}

@@ -24,6 +24,20 @@ abbrev pub whole : Session → List Input → List (List ℕ)
 whole s [] = []
 whole s (i ∷ is) = whole_by s i ++ whole (step s i).after is
 
+-- the bytes of the server's that come with an input, while the session goes on
+abbrev pub said_by : Session → Input → List ℕ
+said_by s (datagram waiting now d) = []
+said_by s (piece now p) = if is_some s.end then [] else p
+said_by s (ends now) = []
+said_by s (shut end now) = []
+said_by s (lost end now) = []
+said_by s (late now) = []
+
+-- those of a run
+abbrev pub said : Session → List Input → List ℕ
+said s [] = []
+said s (i ∷ is) = said_by s i ++ said (step s i).after is
+
 -- an answer of the server's; a notice under this ID; or what the session itself answers
 pub data Said : Type 0 where
   answer : List ℕ → Said
