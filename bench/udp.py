@@ -67,7 +67,7 @@ def requests(programs):
         peer.send(datagram)
         check(name, peer.hear(), error(datagram, 13))
     peer.next = 2
-    check("an unknown primitive", peer.ask(99)[12:16], bytes([12, 3, 3, 0]))
+    check("an unknown primitive", (peer.ask(99) or b"")[12:16], bytes([12, 3, 3, 0]))
     peer.send(peer.message(HELLO, 3, first=0x47))
     check("reserved bits", peer.hear()[:2], bytes([0x50, 12]))
     for transaction in (30000, 60000, 65535):
@@ -107,13 +107,17 @@ def unread(gate, member):
     peer, leaves = Peer(12), gate.hub_says("left EndOfStream")
     peer.ask(HELLO)
     peer.ask(FLOOR_QUERY, floor(1))
+    # Until it waits for its sockets.
+    time.sleep(QUIET)
     gate.process.send_signal(signal.SIGSTOP)
     for _ in range(5):
         member.ask(FLOOR_RELEASE, request_id(request_of(member.ask(FLOOR_REQUEST, floor(1)))))
     peer.send(peer.message(GOODBYE, peer.next))
     time.sleep(0.1)
     gate.process.send_signal(signal.SIGCONT)
-    check("Goodbye over unread bytes", peer.hear(), peer.message(GOODBYE_ACK, peer.next, first=0x50))
+    # A notice may come ahead of the answer.
+    answer = next((it for it in iter(peer.hear, None) if it[0] & 16), None)
+    check("Goodbye over unread bytes", answer, peer.message(GOODBYE_ACK, peer.next, first=0x50))
     time.sleep(QUIET)
     check("it is a leave", gate.hub_says("left EndOfStream"), leaves + 1)
     check("behind it nothing is told", peer.all(QUIET), [])
@@ -185,8 +189,9 @@ def notices(programs):
     check("an answer doesn't wait for a notice", [answer[0], answer[1]], [0x50, FLOOR_STATUS])
     again.acknowledge(notice)
     crossed = again.hear()
-    check("an answer that crossed is told again", [crossed[0], crossed[12:]], [0x40, answer[12:]])
-    again.acknowledge(crossed)
+    check("an answer that crossed is told again", crossed and [crossed[0], crossed[12:]], [0x40, answer[12:]])
+    if crossed:
+        again.acknowledge(crossed)
     again.next += 1
     # An acknowledgement after 0.4 s, of a notice that was sent once, makes T1 longer.
     for _ in range(2):
@@ -259,6 +264,11 @@ def cut(message, *ranges):
             for at, count in ranges]
 
 
+def begun(peer, transaction):
+    """The first fragment, of a unit, of the longest request that is put together."""
+    return peer.message(FLOOR_QUERY, transaction, first=0x48)[:2] + struct.pack(">HIHHHHI", 2044, peer.conference, transaction, peer.user, 0, 1, 0)
+
+
 def fragments(programs):
     gate = begin(programs, floors=8)
     peer = Peer(10)
@@ -282,7 +292,7 @@ def fragments(programs):
     message = peer.message(FLOOR_QUERY, transaction, floor(1, 2, 3))
     for name, pieces in [
             ("one is missing", cut(message, (0, 1), (2, 1))), ("in two calls that overlap", cut(message, (0, 2), (1, 2))),
-            ("of one that overlapped", cut(message, (0, 2), (1, 2), (2, 1))),
+            ("of one that overlapped", cut(peer.message(FLOOR_QUERY, transaction + 1, floor(1, 2, 3)), (0, 2), (1, 2), (2, 1))),
             ("without a unit", cut(message, (0, 0))), ("of fewer than 16 bytes", [cut(message, (0, 1))[0][:15]]),
             ("with R", [bytes([0x58]) + message[1:12] + struct.pack(">HH", 0, 3) + message[12:]])]:
         for piece in pieces:
@@ -307,10 +317,10 @@ def fragments(programs):
     check("fragments begin nothing", alone.all(0.1), [])
     before = gate.memory()
     for number in range(300):
-        begun = peer.message(FLOOR_QUERY, transaction + 1 + number, bytes(4))
-        peer.send(begun[:2] + struct.pack(">H", 2000) + begun[4:12] + struct.pack(">HH", 0, 1) + bytes(4))
+        peer.send(begun(peer, transaction + 1 + number))
         time.sleep(0.012)
-    check("300 that were begun take no memory", gate.memory() - before < 4096)
+    check("what is begun isn't answered", peer.all(0.1), [])
+    check("300 that were begun take no memory", gate.memory() - before < 1024)
     gate.end()
     long_messages(programs)
 
@@ -393,7 +403,7 @@ def who(programs):
     second.listen(QUIET)
     start = time.monotonic()
     probe = second.hear(8)
-    check("who holds a floor is asked behind 5 s", [probe[1], 4.5 < time.monotonic() - start < 6.5], [REQUEST_STATUS, True])
+    check("who holds a floor is asked behind 5 s", probe and [probe[1], 4.5 < time.monotonic() - start < 6.5], [REQUEST_STATUS, True])
     check("of the request that it has", request_of(probe), number)
     second.acknowledge(probe)
     quiet = Peer(11)
@@ -660,9 +670,8 @@ def many(programs):
     check("at most 3 times the processor of floorhub alone", used[0] + used[1] <= 3 * max(used[1], 0.05))
     before = gate.memory()
     for peer in peers:
-        begun = peer.message(FLOOR_QUERY, peer.next, bytes(4))
-        peer.send(begun[:2] + struct.pack(">H", 2044) + bytes([begun[4]]) + begun[5:12] + struct.pack(">HH", 0, 1) + bytes(4))
-    check("who has begun is answered", id_of(peers[-1].ask(HELLO)), peers[-1].next - 1)
+        peer.send(begun(peer, peer.next))
+    check("what is begun isn't answered", peers[-1].hear(QUIET), None)
     check("200 that were begun hold what came, and not what they announce", gate.memory() - before < 600)
     gate.process.kill()
     gate.process.wait()
