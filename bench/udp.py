@@ -708,12 +708,12 @@ def talk():
             (peer, FLOOR_REQUEST, REQUEST_STATUS), (peer, FLOOR_RELEASE, REQUEST_STATUS), (peer, GOODBYE, GOODBYE_ACK),
             (other, HELLO, HELLO_ACK), (other, GOODBYE, GOODBYE_ACK)]:
         payload = {FLOOR_QUERY: floor(1, 2), FLOOR_REQUEST: floor(1), FLOOR_RELEASE: request_id(number)}.get(primitive, b"")
-        answer = who.ask(primitive, payload, tries=2, wait=0.15)
+        answer = who.ask(primitive, payload, tries=2, wait=0.4)
         if not has_begun_anew and (answer is None or answer[1] == ERROR):
             has_begun_anew = True
-            answer = who.ask(HELLO, tries=3, wait=0.15)
+            answer = who.ask(HELLO, tries=3, wait=0.4)
             wrong += answer is None or answer[1] != HELLO_ACK
-            answer = who.ask(primitive, payload, tries=2, wait=0.15)
+            answer = who.ask(primitive, payload, tries=2, wait=0.4)
         # Whose session was lost may have no request any more.
         wrong += answer is None or answer[1] not in (wanted, ERROR if has_begun_anew and primitive == FLOOR_RELEASE else wanted)
         number = request_of(answer) if answer and answer[1] == REQUEST_STATUS else number
