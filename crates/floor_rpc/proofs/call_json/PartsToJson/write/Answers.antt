@@ -1,0 +1,23 @@
+use Rattle.std.proofs.Common.{◌≡◌, ◌∷◌, [], ◌++◌, ◌∙◌, ap, sym}
+use Rattle.std.specs.Prelude.{codes}
+use Rattle.json.specs.Json as json
+use Rattle.json.specs.Token as token
+use Rattle.json.specs.Tree.{json_tokens, members_tokens}
+use Rattle.floor_rpc.specs.CallsWritten.{parts_fields, parts_json}
+use Rattle.floor_rpc.proofs.Chain.{on_ok, then_more}
+use Rattle.floor_rpc.proofs.Fields.{members_tokens_of}
+use Rattle.floor_rpc.proofs.call_json.PartsToJson.write.Goals as goal
+
+pub returns : goal.returns
+returns c = record {
+  took =
+      on_ok _ (c.close.new.writer.tokens ≡ c.args.writer.now.tokens ++ json_tokens (parts_json c.args.self.now)) c.close.result (λ e. then_more c.args.writer.now.tokens c.open.new.writer.tokens c.close.new.writer.tokens _ _ c.in_ok-open.ensures.took
+      (then_more c.open.new.writer.tokens c.optional_member.new.writer.tokens c.close.new.writer.tokens _ _ c.in_ok-optional_member.ensures.took
+      (then_more c.optional_member.new.writer.tokens c.optional_member-2.new.writer.tokens c.close.new.writer.tokens _ _ c.in_ok-optional_member-2.ensures.took
+      (then_more c.optional_member-2.new.writer.tokens c.optional_member-3.new.writer.tokens c.close.new.writer.tokens _ _ c.in_ok-optional_member-3.ensures.took
+      (then_more c.optional_member-3.new.writer.tokens c.optional_member-4.new.writer.tokens c.close.new.writer.tokens _ _ c.in_ok-optional_member-4.ensures.took
+      (then_more c.optional_member-4.new.writer.tokens c.member.new.writer.tokens c.close.new.writer.tokens _ _ c.in_ok-member.ensures.took
+      (then_more c.member.new.writer.tokens c.member-2.new.writer.tokens c.close.new.writer.tokens _ _ c.in_ok-member-2.ensures.took e))))))
+      ∙ ap (λ ts. c.args.writer.now.tokens ++ (token.begin_object ∷ ts)) (sym (members_tokens_of (parts_fields c.args.self.now)))) c.close.ensures.took;
+  before = c.close.ensures.before ∙ c.in_ok-member-2.ensures.before ∙ c.in_ok-member.ensures.before ∙ c.in_ok-optional_member-4.ensures.before ∙ c.in_ok-optional_member-3.ensures.before ∙ c.in_ok-optional_member-2.ensures.before ∙ c.in_ok-optional_member.ensures.before ∙ c.in_ok-open.ensures.before;
+}
