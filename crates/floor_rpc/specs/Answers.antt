@@ -1,8 +1,8 @@
 -- What answers a request, as JSON.
-use Rattle.std.specs.Prelude.{ℕ, List, codes, map}
+use Rattle.std.specs.Prelude.{[], codes}
 use Rattle.json.specs.Json as json
 use Rattle.json.specs.Json.{Json}
-use Rattle.floor_rpc.specs.Json.{list_json, number_json, option_json}
+use Rattle.floor_rpc.specs.Json.{list_json, number_json, object_of, one_member, option_json, two_members}
 use Rattle.floor_rpc.specs.Methods.{methods, name_of}
 use Rattle.floor_rpc.specs.Names.{method_json, phase_json, status_json}
 use Rattle.floor_rpc.specs.Pictures.{picture_json}
@@ -26,9 +26,7 @@ use Rattle.floor_rpc.specs.declared.answer.WordsTold.{WordsTold}
 
 -- the place of an event in its conference's journal, which begins with 1
 abbrev pub placed_json : Placed → Json
-placed_json p =
-    json.object (
-    json.member (codes "place") (number_json p.place) json.no_members)
+placed_json p = one_member (codes "place") (number_json p.place)
 
 -- a conference that was opened, and the numbers that it got
 abbrev pub opened_json : Opened → Json
@@ -52,24 +50,15 @@ conference_standing_json c =
 
 -- conferences, ascending
 abbrev pub conferences_json : Conferences → Json
-conferences_json c =
-    json.object (
-    json.member (codes "conferences") (list_json conference_standing_json c.conferences) (
-    json.member (codes "more") (json.boolean c.more) json.no_members))
+conferences_json c = two_members (codes "conferences") (list_json conference_standing_json c.conferences) (codes "more") (json.boolean c.more)
 
 -- a user that was added
 abbrev pub user_added_json : UserAdded → Json
-user_added_json u =
-    json.object (
-    json.member (codes "user") (number_json u.user) (
-    json.member (codes "place") (number_json u.place) json.no_members))
+user_added_json u = two_members (codes "user") (number_json u.user) (codes "place") (number_json u.place)
 
 -- a floor that was added, or whose chair was set
 abbrev pub floor_changed_json : FloorChanged → Json
-floor_changed_json f =
-    json.object (
-    json.member (codes "floor") (number_json f.floor) (
-    json.member (codes "place") (number_json f.place) json.no_members))
+floor_changed_json f = two_members (codes "floor") (number_json f.floor) (codes "place") (number_json f.place)
 
 -- a floor request that was made
 abbrev pub created_json : Created → Json
@@ -88,16 +77,11 @@ words_told_json w =
 
 -- the place of a conference's next event
 abbrev pub next_place_json : NextPlace → Json
-next_place_json n =
-    json.object (
-    json.member (codes "conference") (number_json n.conference) (
-    json.member (codes "next") (number_json n.next) json.no_members))
+next_place_json n = two_members (codes "conference") (number_json n.conference) (codes "next") (number_json n.next)
 
 -- what is watched from now on
 abbrev pub watched_from_json : WatchedFrom → Json
-watched_from_json w =
-    json.object (
-    json.member (codes "next") (list_json next_place_json w.next) json.no_members)
+watched_from_json w = one_member (codes "next") (list_json next_place_json w.next)
 
 -- an event of a journal
 abbrev pub journal_entry_json : JournalEntry → Json
@@ -109,10 +93,7 @@ journal_entry_json j =
 
 -- a part of a journal
 abbrev pub journal_part_json : JournalPart → Json
-journal_part_json j =
-    json.object (
-    json.member (codes "entries") (list_json journal_entry_json j.entries) (
-    json.member (codes "next") (number_json j.next) json.no_members))
+journal_part_json j = two_members (codes "entries") (list_json journal_entry_json j.entries) (codes "next") (number_json j.next)
 
 -- how the server stands
 abbrev pub server_standing_json : ServerStanding → Json
@@ -127,10 +108,7 @@ server_standing_json s =
 
 -- what a server that stopped looked after
 abbrev pub stopped_json : Stopped → Json
-stopped_json s =
-    json.object (
-    json.member (codes "seats") (number_json s.seats) (
-    json.member (codes "events") (number_json s.events) json.no_members))
+stopped_json s = two_members (codes "seats") (number_json s.seats) (codes "events") (number_json s.events)
 
 -- the methods, in the order of the table
 abbrev pub help_json : Json
@@ -138,7 +116,7 @@ help_json = json.object (json.member (codes "methods") (list_json method_json me
 
 -- what a request that was carried out is answered by
 abbrev pub answer_json : Answer → Json
-answer_json answer.Done = json.object json.no_members
+answer_json answer.Done = object_of []
 answer_json (answer.Placed a) = placed_json a
 answer_json (answer.Opened a) = opened_json a
 answer_json (answer.Conferences a) = conferences_json a

@@ -1,9 +1,10 @@
 -- Calls, as JSON: what isn't given is left out.
-use Rattle.std.specs.Prelude.{ℕ, Bool, true, false, Option, Some, None, List, [], ◌∷◌, codes}
+use Rattle.std.specs.Prelude.{ℕ, Bool, true, Option, [], ◌∷◌, codes}
+use Rattle.std.specs.Bool.{then_some}
 use Rattle.json.specs.Json as json
 use Rattle.json.specs.Json.{Json}
 use Rattle.floor_rpc.specs.Ids.{id_json}
-use Rattle.floor_rpc.specs.Json.{Fields, given, given_where, list_json, number_json, object_of, option_json}
+use Rattle.floor_rpc.specs.Json.{Fields, given, given_where, list_json, number_json, object_of, one_member, option_json, two_members}
 use Rattle.floor_rpc.specs.Methods.{name_of}
 use Rattle.floor_rpc.specs.declared.call.Call.{Call}
 use Rattle.floor_rpc.specs.declared.call.Call.TheVariants as call
@@ -38,8 +39,7 @@ use Rattle.floor_rpc.specs.declared.request.Request.{Request}
 
 -- a mark, where it is set
 abbrev pub set : Bool → Option Bool
-set true = Some true
-set false = None
+set mark = then_some mark true
 
 -- a user that is to be added. What isn't given is the server's to choose, or isn't there
 abbrev pub new_user_fields : NewUser → Fields
@@ -231,8 +231,8 @@ floor_addition_json f = object_of (floor_addition_fields f)
 
 -- who is to be shown out
 abbrev pub removal_json_of : ℕ → Whom → Json
-removal_json_of c (whom.Member n) = object_of (given (codes "conference") (number_json c) ∷ given (codes "member") (number_json n) ∷ [])
-removal_json_of c (whom.User user) = object_of (given (codes "conference") (number_json c) ∷ given (codes "user") (number_json user) ∷ [])
+removal_json_of c (whom.Member n) = two_members (codes "conference") (number_json c) (codes "member") (number_json n)
+removal_json_of c (whom.User user) = two_members (codes "conference") (number_json c) (codes "user") (number_json user)
 
 abbrev pub removal_json : Removal → Json
 removal_json r = removal_json_of r.conference r.whom
@@ -240,12 +240,12 @@ removal_json r = removal_json_of r.conference r.whom
 -- which conferences are to be told
 abbrev pub listing_json : Listing → Json
 listing_json listing.First = object_of []
-listing_json (listing.Only c) = object_of (given (codes "conference") (number_json c) ∷ [])
-listing_json (listing.After c) = object_of (given (codes "after") (number_json c) ∷ [])
+listing_json (listing.Only c) = one_member (codes "conference") (number_json c)
+listing_json (listing.After c) = one_member (codes "after") (number_json c)
 
 -- a conference that is to be opened
 abbrev pub opening_json : Opening → Json
-opening_json (opening.Toml text) = object_of (given (codes "toml") (json.string text) ∷ [])
+opening_json (opening.Toml text) = one_member (codes "toml") (json.string text)
 opening_json (opening.Parts p) = parts_json p
 
 -- the method that is called

@@ -6,7 +6,7 @@ use Rattle.floor_rpc.specs.Answers.{answer_json}
 use Rattle.floor_rpc.specs.Errors.{name_of, number_of}
 use Rattle.floor_rpc.specs.Faults.{why_name}
 use Rattle.floor_rpc.specs.Ids.{id_json}
-use Rattle.floor_rpc.specs.Json.{integer_json, number_json, option_json}
+use Rattle.floor_rpc.specs.Json.{integer_json, number_json, one_member, option_json}
 use Rattle.floor_rpc.specs.declared.answer.Answer.{Answer}
 use Rattle.floor_rpc.specs.declared.error.ErrorName.{ErrorName}
 use Rattle.floor_rpc.specs.declared.error.ErrorName.TheVariants as error
@@ -28,7 +28,7 @@ failure_of fault.Memory = record { name = error.Memory; about = about.All }
 
 -- what an error is about: an object that names it, or `null`
 abbrev pub numbered : List ℕ → ℕ → Json
-numbered key n = json.object (json.member key (number_json n) json.no_members)
+numbered key n = one_member key (number_json n)
 
 abbrev pub about_json : About → Json
 about_json about.All = json.null

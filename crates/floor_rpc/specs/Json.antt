@@ -52,6 +52,13 @@ members_of (f ∷ fs) = member_where f.0 f.1 (members_of fs)
 abbrev pub object_of : Fields → Json
 object_of fs = json.object (members_of fs)
 
+-- an object of one member, and of two
+abbrev pub one_member : List ℕ → Json → Json
+one_member key j = object_of (given key j ∷ [])
+
+abbrev pub two_members : List ℕ → Json → List ℕ → Json → Json
+two_members key j other k = object_of (given key j ∷ given other k ∷ [])
+
 -- the line of a value: its one spelling, and a line feed
 abbrev pub line_of : Json → List ℕ
 line_of j = print (json_tokens j) ++ 10 ∷ []

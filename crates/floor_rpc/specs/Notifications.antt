@@ -2,7 +2,7 @@
 use Rattle.std.specs.Prelude.{ℕ, List, codes}
 use Rattle.json.specs.Json as json
 use Rattle.json.specs.Json.{Json}
-use Rattle.floor_rpc.specs.Json.{list_json, number_json, option_json}
+use Rattle.floor_rpc.specs.Json.{list_json, number_json, option_json, two_members}
 use Rattle.floor_rpc.specs.Names.{primitive_json}
 use Rattle.floor_rpc.specs.Pictures.{request_shown_json}
 use Rattle.floor_rpc.specs.declared.notification.ChairTold.{ChairTold}
@@ -26,32 +26,30 @@ use Rattle.floor_rpc.specs.declared.notification.What.TheVariants as what
 
 -- a member and its user
 abbrev pub member_of_json : MemberOf → Json
-member_of_json m =
-    json.object (
-    json.member (codes "member") (number_json m.member) (
-    json.member (codes "user") (number_json m.user) json.no_members))
+member_of_json m = two_members (codes "member") (number_json m.member) (codes "user") (number_json m.user)
 
 -- a floor request that holds a floor, and its beneficiary
 abbrev pub holder_json : Holder → Json
-holder_json h =
-    json.object (
-    json.member (codes "request") (number_json h.request) (
-    json.member (codes "user") (number_json h.user) json.no_members))
+holder_json h = two_members (codes "request") (number_json h.request) (codes "user") (number_json h.user)
 
 -- a floor, and who holds it
 abbrev pub floor_holders_json : FloorHolders → Json
-floor_holders_json f =
+floor_holders_json f = two_members (codes "floor") (number_json f.floor) (codes "holders") (list_json holder_json f.holders)
+
+-- the word for what happened, and one thing that it names, or two
+abbrev pub event_of : List ℕ → List ℕ → Json → Json
+event_of event key j = json.object (json.member (codes "event") (json.string event) (json.member key j json.no_members))
+
+abbrev pub event_of_two : List ℕ → List ℕ → Json → List ℕ → Json → Json
+event_of_two event key j other k =
     json.object (
-    json.member (codes "floor") (number_json f.floor) (
-    json.member (codes "holders") (list_json holder_json f.holders) json.no_members))
+    json.member (codes "event") (json.string event) (
+    json.member key j (
+    json.member other k json.no_members)))
 
 -- a member and its user, behind the word for what happened
 abbrev pub member_of_event : List ℕ → MemberOf → Json
-member_of_event event m =
-    json.object (
-    json.member (codes "event") (json.string event) (
-    json.member (codes "member") (number_json m.member) (
-    json.member (codes "user") (number_json m.user) json.no_members)))
+member_of_event event m = event_of_two event (codes "member") (number_json m.member) (codes "user") (number_json m.user)
 
 -- a message that was sent, behind the word for what happened
 abbrev pub message_of_event : List ℕ → MessageOf → Json
@@ -85,33 +83,19 @@ floor_told_event event f =
 
 -- a floor's chair, behind the word for what happened
 abbrev pub chair_told_event : List ℕ → ChairTold → Json
-chair_told_event event c =
-    json.object (
-    json.member (codes "event") (json.string event) (
-    json.member (codes "floor") (number_json c.floor) (
-    json.member (codes "chair") (option_json number_json c.chair) json.no_members)))
+chair_told_event event c = event_of_two event (codes "floor") (number_json c.floor) (codes "chair") (option_json number_json c.chair)
 
 -- a floor request that was revoked, behind the word for what happened
 abbrev pub revoked_told_event : List ℕ → RevokedTold → Json
-revoked_told_event event r =
-    json.object (
-    json.member (codes "event") (json.string event) (
-    json.member (codes "request") (number_json r.request) json.no_members))
+revoked_told_event event r = event_of event (codes "request") (number_json r.request)
 
 -- a word that was set; without a text it was taken away, behind the word for what happened
 abbrev pub word_told_event : List ℕ → WordTold → Json
-word_told_event event w =
-    json.object (
-    json.member (codes "event") (json.string event) (
-    json.member (codes "key") (json.string w.key) (
-    json.member (codes "text") (option_json json.string w.text) json.no_members)))
+word_told_event event w = event_of_two event (codes "key") (json.string w.key) (codes "text") (option_json json.string w.text)
 
 -- a user, behind the word for what happened
 abbrev pub user_of_event : List ℕ → UserOf → Json
-user_of_event event u =
-    json.object (
-    json.member (codes "event") (json.string event) (
-    json.member (codes "user") (number_json u.user) json.no_members))
+user_of_event event u = event_of event (codes "user") (number_json u.user)
 
 -- a word for what happened, alone
 abbrev pub bare_event : List ℕ → Json
@@ -154,10 +138,7 @@ event_told_json e =
 
 -- what happened beside the events of a conference
 abbrev pub server_told_json : ServerTold → Json
-server_told_json s =
-    json.object (
-    json.member (codes "conference") (number_json s.conference) (
-    json.member (codes "what") (happened_json s.what) json.no_members))
+server_told_json s = two_members (codes "conference") (number_json s.conference) (codes "what") (happened_json s.what)
 
 -- a notification: its method and its parameters
 abbrev pub told_json : List ℕ → Json → Json

@@ -2,7 +2,7 @@
 use Rattle.std.specs.Prelude.{ℕ, codes}
 use Rattle.json.specs.Json as json
 use Rattle.json.specs.Json.{Json}
-use Rattle.floor_rpc.specs.Json.{list_json, number_json, option_json}
+use Rattle.floor_rpc.specs.Json.{list_json, number_json, option_json, two_members}
 use Rattle.floor_rpc.specs.Names.{phase_json, status_json}
 use Rattle.floor_rpc.specs.Words.{words_json}
 use Rattle.floor_rpc.specs.declared.picture.FloorShown.{FloorShown}
@@ -47,10 +47,7 @@ floor_shown_json f =
 
 -- a floor of a floor request, and how that stands with it
 abbrev pub floor_status_json : FloorStatus → Json
-floor_status_json f =
-    json.object (
-    json.member (codes "floor") (number_json f.floor) (
-    json.member (codes "status") (status_json f.status) json.no_members))
+floor_status_json f = two_members (codes "floor") (number_json f.floor) (codes "status") (status_json f.status)
 
 -- a floor request as it is shown
 abbrev pub request_shown_json : RequestShown → Json

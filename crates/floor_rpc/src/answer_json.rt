@@ -2,38 +2,27 @@
 
 ghost use Rattle.std.specs.Prelude.{◌≡◌};
 ghost use Rattle.json.specs.Tree.{json_tokens};
-ghost use Rattle.floor_rpc.specs.Answers.{answer_json, conference_standing_json, conferences_json, created_json, floor_changed_json, help_json, journal_entry_json, journal_part_json, next_place_json, opened_json, placed_json, server_standing_json, stopped_json, user_added_json, watched_from_json, words_told_json};
+ghost use Rattle.floor_rpc.specs.Answers.{answer_json, conference_standing_json, created_json, help_json, journal_entry_json, next_place_json, opened_json, server_standing_json, words_told_json};
 ghost use Rattle.floor_rpc.specs.Json.{Adds};
 
 use crate::answer::{
-    Answer, ConferenceStanding, Conferences, Created, FloorChanged, JournalEntry, JournalPart,
-    NextPlace, Opened, Placed, ServerStanding, Stopped, UserAdded, WatchedFrom, WordsTold,
+    Answer, ConferenceStanding, Created, JournalEntry, NextPlace, Opened, ServerStanding, WordsTold,
 };
 use crate::method::METHODS;
-use crate::value::{ToJson, close, key, member, open, write_items};
+use crate::value::{ToJson, member, text_member, write_items, write_nothing, write_one, write_two};
 use crate::words::words_member;
 use json::Writer;
 use std::alloc::AllocError;
-
-impl ToJson for Placed {
-    ghost json = { placed_json };
-
-    fn write(&self, writer: &mut Writer) -> Result<(), AllocError> {
-        open(writer)?;
-        member(writer, "place", &self.place)?;
-        close(writer)
-    }
-}
 
 impl ToJson for Opened {
     ghost json = { opened_json };
 
     fn write(&self, writer: &mut Writer) -> Result<(), AllocError> {
-        open(writer)?;
+        writer.begin_object()?;
         member(writer, "conference", &self.conference)?;
         member(writer, "users", &self.users)?;
         member(writer, "floors", &self.floors)?;
-        close(writer)
+        writer.end_object()
     }
 }
 
@@ -41,48 +30,15 @@ impl ToJson for ConferenceStanding {
     ghost json = { conference_standing_json };
 
     fn write(&self, writer: &mut Writer) -> Result<(), AllocError> {
-        open(writer)?;
+        writer.begin_object()?;
         member(writer, "conference", &self.conference)?;
         member(writer, "title", &self.title)?;
-        member(writer, "phase", &self.phase)?;
+        text_member(writer, "phase", self.phase.name())?;
         member(writer, "members", &self.members)?;
         member(writer, "ongoing", &self.ongoing)?;
         member(writer, "events", &self.events)?;
         member(writer, "kept", &self.kept)?;
-        close(writer)
-    }
-}
-
-impl ToJson for Conferences {
-    ghost json = { conferences_json };
-
-    fn write(&self, writer: &mut Writer) -> Result<(), AllocError> {
-        open(writer)?;
-        member(writer, "conferences", &self.conferences)?;
-        member(writer, "more", &self.more)?;
-        close(writer)
-    }
-}
-
-impl ToJson for UserAdded {
-    ghost json = { user_added_json };
-
-    fn write(&self, writer: &mut Writer) -> Result<(), AllocError> {
-        open(writer)?;
-        member(writer, "user", &self.user)?;
-        member(writer, "place", &self.place)?;
-        close(writer)
-    }
-}
-
-impl ToJson for FloorChanged {
-    ghost json = { floor_changed_json };
-
-    fn write(&self, writer: &mut Writer) -> Result<(), AllocError> {
-        open(writer)?;
-        member(writer, "floor", &self.floor)?;
-        member(writer, "place", &self.place)?;
-        close(writer)
+        writer.end_object()
     }
 }
 
@@ -90,12 +46,12 @@ impl ToJson for Created {
     ghost json = { created_json };
 
     fn write(&self, writer: &mut Writer) -> Result<(), AllocError> {
-        open(writer)?;
+        writer.begin_object()?;
         member(writer, "request", &self.request)?;
         member(writer, "status", &self.status)?;
         member(writer, "position", &self.position)?;
         member(writer, "place", &self.place)?;
-        close(writer)
+        writer.end_object()
     }
 }
 
@@ -103,9 +59,9 @@ impl ToJson for WordsTold {
     ghost json = { words_told_json };
 
     fn write(&self, writer: &mut Writer) -> Result<(), AllocError> {
-        open(writer)?;
+        writer.begin_object()?;
         words_member(writer, "words", &self.words)?;
-        close(writer)
+        writer.end_object()
     }
 }
 
@@ -113,20 +69,7 @@ impl ToJson for NextPlace {
     ghost json = { next_place_json };
 
     fn write(&self, writer: &mut Writer) -> Result<(), AllocError> {
-        open(writer)?;
-        member(writer, "conference", &self.conference)?;
-        member(writer, "next", &self.next)?;
-        close(writer)
-    }
-}
-
-impl ToJson for WatchedFrom {
-    ghost json = { watched_from_json };
-
-    fn write(&self, writer: &mut Writer) -> Result<(), AllocError> {
-        open(writer)?;
-        member(writer, "next", &self.next)?;
-        close(writer)
+        write_two(writer, "conference", &self.conference, "next", &self.next)
     }
 }
 
@@ -134,22 +77,11 @@ impl ToJson for JournalEntry {
     ghost json = { journal_entry_json };
 
     fn write(&self, writer: &mut Writer) -> Result<(), AllocError> {
-        open(writer)?;
+        writer.begin_object()?;
         member(writer, "place", &self.place)?;
         member(writer, "time", &self.time)?;
         member(writer, "line", &self.line)?;
-        close(writer)
-    }
-}
-
-impl ToJson for JournalPart {
-    ghost json = { journal_part_json };
-
-    fn write(&self, writer: &mut Writer) -> Result<(), AllocError> {
-        open(writer)?;
-        member(writer, "entries", &self.entries)?;
-        member(writer, "next", &self.next)?;
-        close(writer)
+        writer.end_object()
     }
 }
 
@@ -157,25 +89,14 @@ impl ToJson for ServerStanding {
     ghost json = { server_standing_json };
 
     fn write(&self, writer: &mut Writer) -> Result<(), AllocError> {
-        open(writer)?;
+        writer.begin_object()?;
         member(writer, "version", &self.version)?;
         member(writer, "since", &self.since)?;
         member(writer, "conferences", &self.conferences)?;
         member(writer, "connections", &self.connections)?;
         member(writer, "memory", &self.memory)?;
         member(writer, "draining", &self.draining)?;
-        close(writer)
-    }
-}
-
-impl ToJson for Stopped {
-    ghost json = { stopped_json };
-
-    fn write(&self, writer: &mut Writer) -> Result<(), AllocError> {
-        open(writer)?;
-        member(writer, "seats", &self.seats)?;
-        member(writer, "events", &self.events)?;
-        close(writer)
+        writer.end_object()
     }
 }
 
@@ -183,18 +104,10 @@ impl ToJson for Stopped {
 fn write_help(writer: &mut Writer) -> Result<(), AllocError>
     ensures { Adds result writer.old writer.new (json_tokens help_json) }
 {
-    open(writer)?;
-    key(writer, "methods")?;
+    writer.begin_object()?;
+    writer.key("methods")?;
     write_items(writer, &METHODS)?;
-    close(writer)
-}
-
-/// Writes an object without members.
-fn write_done(writer: &mut Writer) -> Result<(), AllocError>
-    ensures { Adds result writer.old writer.new (json_tokens (answer_json Answer.Done)) }
-{
-    open(writer)?;
-    close(writer)
+    writer.end_object()
 }
 
 impl ToJson for Answer {
@@ -202,20 +115,30 @@ impl ToJson for Answer {
 
     fn write(&self, writer: &mut Writer) -> Result<(), AllocError> {
         match self {
-            Answer::Done => write_done(writer),
+            Answer::Done => write_nothing(writer),
+            Answer::Placed(placed) => write_one(writer, "place", &placed.place),
+            Answer::Opened(opened) => opened.write(writer),
+            Answer::Conferences(told) => {
+                write_two(writer, "conferences", &told.conferences, "more", &told.more)
+            }
+            Answer::Picture(picture) => picture.write(writer),
+            Answer::UserAdded(added) => {
+                write_two(writer, "user", &added.user, "place", &added.place)
+            }
+            Answer::FloorChanged(changed) => {
+                write_two(writer, "floor", &changed.floor, "place", &changed.place)
+            }
+            Answer::Created(created) => created.write(writer),
+            Answer::Words(told) => told.write(writer),
+            Answer::Watched(watched) => write_one(writer, "next", &watched.next),
+            Answer::Journal(part) => {
+                write_two(writer, "entries", &part.entries, "next", &part.next)
+            }
+            Answer::Server(server) => server.write(writer),
+            Answer::Stopped(stopped) => {
+                write_two(writer, "seats", &stopped.seats, "events", &stopped.events)
+            }
             Answer::Help => write_help(writer),
-            Answer::Placed(answer) => answer.write(writer),
-            Answer::Opened(answer) => answer.write(writer),
-            Answer::Conferences(answer) => answer.write(writer),
-            Answer::Picture(answer) => answer.write(writer),
-            Answer::UserAdded(answer) => answer.write(writer),
-            Answer::FloorChanged(answer) => answer.write(writer),
-            Answer::Created(answer) => answer.write(writer),
-            Answer::Words(answer) => answer.write(writer),
-            Answer::Watched(answer) => answer.write(writer),
-            Answer::Journal(answer) => answer.write(writer),
-            Answer::Server(answer) => answer.write(writer),
-            Answer::Stopped(answer) => answer.write(writer),
         }
     }
 }

@@ -8,7 +8,7 @@ ghost use Rattle.floor_rpc.specs.Params.{Reads, each, list_of, list_or_empty, ne
 use crate::call::{NewFloor, NewUser, OfConference, Watched};
 use crate::fault::{RequestFault, Why};
 use crate::list::List;
-use crate::params::{bad_param, needed_u32, only, optional_place, u16_named};
+use crate::params::{Param, bad_param, needed, only, optional};
 use crate::reading::{read_conference, read_new_floor, read_new_user};
 use json::Value;
 use std::alloc::Global;
@@ -33,7 +33,7 @@ impl ListItem for u16 {
     ghost reads = { floor_id };
 
     fn read_item(alloc: Global, value: &Value<'_>) -> Result<u16, RequestFault> {
-        u16_named(alloc, value, "floors")
+        u16::read(alloc, value, "floors")
     }
 }
 
@@ -61,8 +61,8 @@ impl ListItem for Watched {
 
     fn read_item(alloc: Global, value: &Value<'_>) -> Result<Watched, RequestFault> {
         only(alloc, value, &["conference", "from"])?;
-        let conference = needed_u32(alloc, value, "conference")?;
-        let from = optional_place(alloc, value, "from")?;
+        let conference = needed(alloc, value, "conference")?;
+        let from = optional(alloc, value, "from")?;
         Ok(Watched { conference, from })
     }
 }

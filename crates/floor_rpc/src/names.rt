@@ -2,13 +2,12 @@
 
 ghost use Rattle.std.specs.Prelude.{◌≡◌};
 ghost use Rattle.floor_rpc.specs.Ids.{id_json};
-ghost use Rattle.floor_rpc.specs.Names.{method_json, phase_json, primitive_json, primitive_name, status_json, status_name};
+ghost use Rattle.floor_rpc.specs.Names.{method_json, primitive_name, status_json, status_name};
 
 use crate::id::Id;
 use crate::method::Method;
 use crate::value::ToJson;
 use floor_message::{Primitive, RequestStatus};
-use floor_room::Phase;
 use json::Writer;
 use std::alloc::AllocError;
 
@@ -32,27 +31,11 @@ impl ToJson for Method {
     }
 }
 
-impl ToJson for Phase {
-    ghost json = { phase_json };
-
-    fn write(&self, writer: &mut Writer) -> Result<(), AllocError> {
-        writer.string(self.name())
-    }
-}
-
 impl ToJson for RequestStatus {
     ghost json = { status_json };
 
     fn write(&self, writer: &mut Writer) -> Result<(), AllocError> {
         writer.string(status_name(self))
-    }
-}
-
-impl ToJson for Primitive {
-    ghost json = { primitive_json };
-
-    fn write(&self, writer: &mut Writer) -> Result<(), AllocError> {
-        writer.string(primitive_name(self))
     }
 }
 
@@ -72,7 +55,7 @@ fn status_name(status: &RequestStatus) -> &'static str
 }
 
 /// The name of a primitive (RFC 8855, section 5.1).
-fn primitive_name(primitive: &Primitive) -> &'static str
+pub(crate) fn primitive_name(primitive: &Primitive) -> &'static str
     ensures { result.now ≡ primitive_name primitive.now }
 {
     match primitive {

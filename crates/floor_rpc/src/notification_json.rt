@@ -3,13 +3,14 @@
 ghost use Rattle.std.specs.Prelude.{◌≡◌};
 ghost use Rattle.json.specs.Tree.{json_tokens};
 ghost use Rattle.floor_rpc.specs.Json.{Adds};
-ghost use Rattle.floor_rpc.specs.Notifications.{bare_event, chair_told_event, event_told_json, floor_holders_json, floor_told_event, happened_json, holder_json, member_of_event, member_of_json, message_of_event, notification_json, revoked_told_event, server_told_json, told_json, user_of_event, user_told_event, what_json, word_told_event};
+ghost use Rattle.floor_rpc.specs.Notifications.{bare_event, event_of, event_of_two, event_told_json, floor_holders_json, floor_told_event, happened_json, holder_json, member_of_json, message_of_event, notification_json, server_told_json, told_json, user_told_event, what_json};
 
+use crate::names::primitive_name;
 use crate::notification::{
-    ChairTold, EventTold, FloorHolders, FloorTold, Happened, Holder, MemberOf, MessageOf,
-    Notification, RevokedTold, ServerTold, UserOf, UserTold, What, WordTold,
+    EventTold, FloorHolders, FloorTold, Happened, Holder, MemberOf, MessageOf, Notification,
+    ServerTold, UserTold, What,
 };
-use crate::value::{ToJson, close, member, open, text_member};
+use crate::value::{ToJson, member, text_member, write_two};
 use json::Writer;
 use std::alloc::AllocError;
 
@@ -17,10 +18,7 @@ impl ToJson for MemberOf {
     ghost json = { member_of_json };
 
     fn write(&self, writer: &mut Writer) -> Result<(), AllocError> {
-        open(writer)?;
-        member(writer, "member", &self.member)?;
-        member(writer, "user", &self.user)?;
-        close(writer)
+        write_two(writer, "member", &self.member, "user", &self.user)
     }
 }
 
@@ -28,10 +26,7 @@ impl ToJson for Holder {
     ghost json = { holder_json };
 
     fn write(&self, writer: &mut Writer) -> Result<(), AllocError> {
-        open(writer)?;
-        member(writer, "request", &self.request)?;
-        member(writer, "user", &self.user)?;
-        close(writer)
+        write_two(writer, "request", &self.request, "user", &self.user)
     }
 }
 
@@ -39,116 +34,91 @@ impl ToJson for FloorHolders {
     ghost json = { floor_holders_json };
 
     fn write(&self, writer: &mut Writer) -> Result<(), AllocError> {
-        open(writer)?;
-        member(writer, "floor", &self.floor)?;
-        member(writer, "holders", &self.holders)?;
-        close(writer)
+        write_two(writer, "floor", &self.floor, "holders", &self.holders)
     }
 }
 
-/// Writes a member and its user, behind the word for what happened.
-fn write_member_of(writer: &mut Writer, event: &str, member_of: &MemberOf) -> Result<(), AllocError>
-    ensures { Adds result writer.old writer.new (json_tokens (member_of_event event.now member_of.now)) }
+/// Writes the word for what happened, and what it names.
+fn write_event_of<T: ToJson>(
+    writer: &mut Writer,
+    event: &str,
+    key: &str,
+    value: &T,
+) -> Result<(), AllocError>
+    ensures { Adds result writer.old writer.new
+        (json_tokens (event_of event.now key.now (T.json value.now))) }
 {
-    open(writer)?;
+    writer.begin_object()?;
     text_member(writer, "event", event)?;
-    member(writer, "member", &member_of.member)?;
-    member(writer, "user", &member_of.user)?;
-    close(writer)
+    member(writer, key, value)?;
+    writer.end_object()
+}
+
+/// Writes the word for what happened, and the two things that it names.
+fn write_event_of_two<A: ToJson, B: ToJson>(
+    writer: &mut Writer,
+    event: &str,
+    key: &str,
+    value: &A,
+    other_key: &str,
+    other: &B,
+) -> Result<(), AllocError>
+    ensures { Adds result writer.old writer.new
+        (json_tokens (event_of_two event.now key.now (A.json value.now) other_key.now (B.json other.now))) }
+{
+    writer.begin_object()?;
+    text_member(writer, "event", event)?;
+    member(writer, key, value)?;
+    member(writer, other_key, other)?;
+    writer.end_object()
 }
 
 /// Writes a message that was sent, behind the word for what happened.
 fn write_message_of(writer: &mut Writer, event: &str, message: &MessageOf) -> Result<(), AllocError>
     ensures { Adds result writer.old writer.new (json_tokens (message_of_event event.now message.now)) }
 {
-    open(writer)?;
+    writer.begin_object()?;
     text_member(writer, "event", event)?;
     member(writer, "member", &message.member)?;
     member(writer, "user", &message.user)?;
-    member(writer, "primitive", &message.primitive)?;
+    text_member(writer, "primitive", primitive_name(&message.primitive))?;
     member(writer, "request", &message.request)?;
-    close(writer)
+    writer.end_object()
 }
 
 /// Writes a user that was added, behind the word for what happened.
 fn write_user_told(writer: &mut Writer, event: &str, user: &UserTold) -> Result<(), AllocError>
     ensures { Adds result writer.old writer.new (json_tokens (user_told_event event.now user.now)) }
 {
-    open(writer)?;
+    writer.begin_object()?;
     text_member(writer, "event", event)?;
     member(writer, "user", &user.user)?;
     member(writer, "name", &user.name)?;
     member(writer, "uri", &user.uri)?;
     member(writer, "proxy", &user.proxy)?;
     member(writer, "port", &user.port)?;
-    close(writer)
+    writer.end_object()
 }
 
 /// Writes a floor that was added, behind the word for what happened.
 fn write_floor_told(writer: &mut Writer, event: &str, floor: &FloorTold) -> Result<(), AllocError>
     ensures { Adds result writer.old writer.new (json_tokens (floor_told_event event.now floor.now)) }
 {
-    open(writer)?;
+    writer.begin_object()?;
     text_member(writer, "event", event)?;
     member(writer, "floor", &floor.floor)?;
     member(writer, "room", &floor.room)?;
     member(writer, "chair", &floor.chair)?;
-    close(writer)
-}
-
-/// Writes a floor's chair, behind the word for what happened.
-fn write_chair_told(writer: &mut Writer, event: &str, chair: &ChairTold) -> Result<(), AllocError>
-    ensures { Adds result writer.old writer.new (json_tokens (chair_told_event event.now chair.now)) }
-{
-    open(writer)?;
-    text_member(writer, "event", event)?;
-    member(writer, "floor", &chair.floor)?;
-    member(writer, "chair", &chair.chair)?;
-    close(writer)
-}
-
-/// Writes a floor request that was revoked, behind the word for what happened.
-fn write_revoked_told(
-    writer: &mut Writer,
-    event: &str,
-    revoked: &RevokedTold,
-) -> Result<(), AllocError>
-    ensures { Adds result writer.old writer.new (json_tokens (revoked_told_event event.now revoked.now)) }
-{
-    open(writer)?;
-    text_member(writer, "event", event)?;
-    member(writer, "request", &revoked.request)?;
-    close(writer)
-}
-
-/// Writes a word that was set; without a text it was taken away, behind the word for what happened.
-fn write_word_told(writer: &mut Writer, event: &str, word: &WordTold) -> Result<(), AllocError>
-    ensures { Adds result writer.old writer.new (json_tokens (word_told_event event.now word.now)) }
-{
-    open(writer)?;
-    text_member(writer, "event", event)?;
-    member(writer, "key", &word.key)?;
-    member(writer, "text", &word.text)?;
-    close(writer)
-}
-
-/// Writes a user, behind the word for what happened.
-fn write_user_of(writer: &mut Writer, event: &str, user: &UserOf) -> Result<(), AllocError>
-    ensures { Adds result writer.old writer.new (json_tokens (user_of_event event.now user.now)) }
-{
-    open(writer)?;
-    text_member(writer, "event", event)?;
-    member(writer, "user", &user.user)?;
-    close(writer)
+    writer.end_object()
 }
 
 /// Writes a word for what happened, alone.
 fn write_bare(writer: &mut Writer, event: &str) -> Result<(), AllocError>
     ensures { Adds result writer.old writer.new (json_tokens (bare_event event.now)) }
 {
-    open(writer)?;
+    writer.begin_object()?;
     text_member(writer, "event", event)?;
-    close(writer)
+    writer.end_object()
 }
 
 impl ToJson for What {
@@ -157,13 +127,19 @@ impl ToJson for What {
     fn write(&self, writer: &mut Writer) -> Result<(), AllocError> {
         match self {
             What::Closed => write_bare(writer, "closed"),
-            What::Joined(what) => write_member_of(writer, "joined", what),
-            What::Left(what) => write_member_of(writer, "left", what),
-            What::Message(what) => write_message_of(writer, "message", what),
-            What::User(what) => write_user_told(writer, "user", what),
-            What::Floor(what) => write_floor_told(writer, "floor", what),
-            What::Chair(what) => write_chair_told(writer, "chair", what),
-            What::Revoked(what) => write_revoked_told(writer, "revoked", what),
+            What::Joined(who) => {
+                write_event_of_two(writer, "joined", "member", &who.member, "user", &who.user)
+            }
+            What::Left(who) => {
+                write_event_of_two(writer, "left", "member", &who.member, "user", &who.user)
+            }
+            What::Message(message) => write_message_of(writer, "message", message),
+            What::User(user) => write_user_told(writer, "user", user),
+            What::Floor(floor) => write_floor_told(writer, "floor", floor),
+            What::Chair(told) => {
+                write_event_of_two(writer, "chair", "floor", &told.floor, "chair", &told.chair)
+            }
+            What::Revoked(told) => write_event_of(writer, "revoked", "request", &told.request),
         }
     }
 }
@@ -177,11 +153,17 @@ impl ToJson for Happened {
             Happened::Forgotten => write_bare(writer, "forgotten"),
             Happened::Broken => write_bare(writer, "broken"),
             Happened::Unkept => write_bare(writer, "unkept"),
-            Happened::Word(what) => write_word_told(writer, "word", what),
-            Happened::Away(what) => write_member_of(writer, "away", what),
-            Happened::Back(what) => write_member_of(writer, "back", what),
-            Happened::Removed(what) => write_user_of(writer, "removed", what),
-            Happened::Admitted(what) => write_user_of(writer, "admitted", what),
+            Happened::Word(word) => {
+                write_event_of_two(writer, "word", "key", &word.key, "text", &word.text)
+            }
+            Happened::Away(who) => {
+                write_event_of_two(writer, "away", "member", &who.member, "user", &who.user)
+            }
+            Happened::Back(who) => {
+                write_event_of_two(writer, "back", "member", &who.member, "user", &who.user)
+            }
+            Happened::Removed(who) => write_event_of(writer, "removed", "user", &who.user),
+            Happened::Admitted(who) => write_event_of(writer, "admitted", "user", &who.user),
         }
     }
 }
@@ -190,7 +172,7 @@ impl ToJson for EventTold {
     ghost json = { event_told_json };
 
     fn write(&self, writer: &mut Writer) -> Result<(), AllocError> {
-        open(writer)?;
+        writer.begin_object()?;
         member(writer, "conference", &self.conference)?;
         member(writer, "place", &self.place)?;
         member(writer, "time", &self.time)?;
@@ -198,7 +180,7 @@ impl ToJson for EventTold {
         member(writer, "requests", &self.requests)?;
         member(writer, "cut", &self.cut)?;
         member(writer, "floors", &self.floors)?;
-        close(writer)
+        writer.end_object()
     }
 }
 
@@ -206,10 +188,7 @@ impl ToJson for ServerTold {
     ghost json = { server_told_json };
 
     fn write(&self, writer: &mut Writer) -> Result<(), AllocError> {
-        open(writer)?;
-        member(writer, "conference", &self.conference)?;
-        member(writer, "what", &self.what)?;
-        close(writer)
+        write_two(writer, "conference", &self.conference, "what", &self.what)
     }
 }
 
@@ -218,11 +197,11 @@ fn write_told<T: ToJson>(writer: &mut Writer, method: &str, params: &T) -> Resul
     ensures { Adds result writer.old writer.new
         (json_tokens (told_json method.now (T.json params.now))) }
 {
-    open(writer)?;
+    writer.begin_object()?;
     text_member(writer, "jsonrpc", "2.0")?;
     text_member(writer, "method", method)?;
     member(writer, "params", params)?;
-    close(writer)
+    writer.end_object()
 }
 
 impl ToJson for Notification {

@@ -1,6 +1,6 @@
 //! What a parameter says.
 
-ghost use Rattle.std.specs.Prelude.{◌≡◌, ◌⊎◌, ◌^◌, Ok, Err, Some, find, is_none, map, not, option_map};
+ghost use Rattle.std.specs.Prelude.{◌≡◌, ◌⊎◌, Some, find, map, not, option_map};
 ghost use Rattle.std.specs.List.{list_any};
 ghost use Rattle.std.specs.Str.{bytes_eq};
 ghost use Rattle.json.specs.Strict.{keys};
@@ -17,73 +17,97 @@ use std::alloc::Global;
 /// The greatest priority (RFC 8855, section 5.2.4).
 const MAX_PRIORITY: u16 = 4;
 
-/// A number of 16 bits: a user, a floor, a floor request, a port.
-fn u16_of(value: &Value<'_>) -> Result<u16, Why>
-    ensures { result ≡ u16_of (value_view value.now) }
-{
-    match value.as_number() {
-        None => Err(Why::WrongType),
-        Some(digits) => match read_u16(digits) {
-            None => Err(Why::OutOfRange),
-            Some(number) => Ok(number),
-        },
+/// A value that a parameter can have.
+pub(crate) trait Param: Drop {
+    ghost use Rattle.std.specs.Prelude.{Result};
+    ghost use Rattle.json.specs.Json.{Json};
+    ghost use Rattle.json.specs.Value.{value_view};
+    ghost use Rattle.floor_rpc.specs.Params.{Reads, named};
+    ghost use Rattle.floor_rpc.specs.declared.fault.Why.{Why};
+
+    ghost reads: { Json → Result Self Why };
+
+    /// What a value says, as that of the parameter of this name.
+    fn read(alloc: Global, value: &Value<'_>, name: &str) -> Result<Self, RequestFault>
+        ensures { Reads (named name.now (reads (value_view value.now))) result };
+}
+
+/// A user, a floor, a floor request or a port.
+impl Param for u16 {
+    ghost reads = { u16_of };
+
+    fn read(alloc: Global, value: &Value<'_>, name: &str) -> Result<u16, RequestFault> {
+        match value.as_number() {
+            None => Err(bad_param(alloc, name, Why::WrongType)),
+            Some(digits) => match read_u16(digits) {
+                None => Err(bad_param(alloc, name, Why::OutOfRange)),
+                Some(number) => Ok(number),
+            },
+        }
     }
 }
 
-/// A number of 32 bits: a conference, a member.
-fn u32_of(value: &Value<'_>) -> Result<u32, Why>
-    ensures { result ≡ u32_of (value_view value.now) }
-{
-    match value.as_number() {
-        None => Err(Why::WrongType),
-        Some(digits) => match read_u32(digits) {
-            None => Err(Why::OutOfRange),
-            Some(number) => Ok(number),
-        },
+/// A conference or a member.
+impl Param for u32 {
+    ghost reads = { u32_of };
+
+    fn read(alloc: Global, value: &Value<'_>, name: &str) -> Result<u32, RequestFault> {
+        match value.as_number() {
+            None => Err(bad_param(alloc, name, Why::WrongType)),
+            Some(digits) => match read_u32(digits) {
+                None => Err(bad_param(alloc, name, Why::OutOfRange)),
+                Some(number) => Ok(number),
+            },
+        }
     }
 }
 
-/// A number of ten digits at most: a place, a count.
-fn place_of(value: &Value<'_>) -> Result<u64, Why>
-    ensures { result ≡ place_of (value_view value.now) }
-{
-    match value.as_number() {
-        None => Err(Why::WrongType),
-        Some(digits) => match read_u64(digits) {
-            None => Err(Why::OutOfRange),
-            Some(number) => Ok(number),
-        },
+/// A place or a count: a number of ten digits at most.
+impl Param for u64 {
+    ghost reads = { place_of };
+
+    fn read(alloc: Global, value: &Value<'_>, name: &str) -> Result<u64, RequestFault> {
+        match value.as_number() {
+            None => Err(bad_param(alloc, name, Why::WrongType)),
+            Some(digits) => match read_u64(digits) {
+                None => Err(bad_param(alloc, name, Why::OutOfRange)),
+                Some(number) => Ok(number),
+            },
+        }
     }
 }
 
-/// A priority.
-fn priority_of(value: &Value<'_>) -> Result<u16, Why>
-    ensures { result ≡ priority_of (value_view value.now) }
-{
-    let priority = u16_of(value)?;
-    if priority <= MAX_PRIORITY {
-        Ok(priority)
-    } else {
-        Err(Why::OutOfRange)
+impl Param for bool {
+    ghost reads = { bool_of };
+
+    fn read(alloc: Global, value: &Value<'_>, name: &str) -> Result<bool, RequestFault> {
+        match value.as_bool() {
+            None => Err(bad_param(alloc, name, Why::WrongType)),
+            Some(flag) => Ok(flag),
+        }
     }
 }
 
-fn bool_of(value: &Value<'_>) -> Result<bool, Why>
-    ensures { result ≡ bool_of (value_view value.now) }
-{
-    match value.as_bool() {
-        None => Err(Why::WrongType),
-        Some(flag) => Ok(flag),
+impl Param for Text {
+    ghost reads = { text_of };
+
+    fn read(alloc: Global, value: &Value<'_>, name: &str) -> Result<Text, RequestFault> {
+        match value.as_str() {
+            None => Err(bad_param(alloc, name, Why::WrongType)),
+            Some(text) => Ok(Text::from_string(String::from_str(alloc, text)?)),
+        }
     }
 }
 
-/// A text, as a text of its own.
-fn text_of(alloc: Global, value: &Value<'_>, name: &str) -> Result<Text, RequestFault>
-    ensures { Reads (named name.now (text_of (value_view value.now))) result }
-{
-    match value.as_str() {
-        None => Err(bad_param(alloc, name, Why::WrongType)),
-        Some(text) => Ok(Text::from_string(String::from_str(alloc, text)?)),
+/// A value that may be `null`.
+impl<T: Param> Param for Option<T> {
+    ghost reads = { or_null T.reads };
+
+    fn read(alloc: Global, value: &Value<'_>, name: &str) -> Result<Option<T>, RequestFault> {
+        if value.is_null() {
+            return Ok(None);
+        }
+        Ok(Some(T::read(alloc, value, name)?))
     }
 }
 
@@ -100,134 +124,43 @@ pub(crate) fn bad_param(alloc: Global, name: &str, why: Why) -> RequestFault
     }
 }
 
-/// What was read of the parameter of this name, or its fault.
-fn named<T: Drop>(alloc: Global, name: &str, read: Result<T, Why>) -> Result<T, RequestFault>
-    ensures { Reads (named name.now read) result }
-{
-    match read {
-        Ok(value) => Ok(value),
-        Err(why) => Err(bad_param(alloc, name, why)),
-    }
-}
-
-/// A number of 16 bits that is of the parameter of this name.
-pub(crate) fn u16_named(alloc: Global, value: &Value<'_>, name: &str) -> Result<u16, RequestFault>
-    ensures { Reads (named name.now (u16_of (value_view value.now))) result }
-{
-    named(alloc, name, u16_of(value))
-}
-
-/// A number of 16 bits that has to be there.
-pub(crate) fn needed_u16(alloc: Global, params: &Value<'_>, name: &str) -> Result<u16, RequestFault>
-    ensures { Reads (needed u16_of name.now (value_view params.now)) result }
-{
-    match params.get(name) {
-        None => Err(bad_param(alloc, name, Why::Missing)),
-        Some(value) => named(alloc, name, u16_of(value)),
-    }
-}
-
-/// A number of 32 bits that has to be there.
-pub(crate) fn needed_u32(alloc: Global, params: &Value<'_>, name: &str) -> Result<u32, RequestFault>
-    ensures { Reads (needed u32_of name.now (value_view params.now)) result }
-{
-    match params.get(name) {
-        None => Err(bad_param(alloc, name, Why::Missing)),
-        Some(value) => named(alloc, name, u32_of(value)),
-    }
-}
-
-/// A text that has to be there.
-pub(crate) fn needed_text(
+/// A parameter that has to be there.
+pub(crate) fn needed<T: Param>(
     alloc: Global,
     params: &Value<'_>,
     name: &str,
-) -> Result<Text, RequestFault>
-    ensures { Reads (needed text_of name.now (value_view params.now)) result }
+) -> Result<T, RequestFault>
+    ensures { Reads (needed T.reads name.now (value_view params.now)) result }
 {
     match params.get(name) {
         None => Err(bad_param(alloc, name, Why::Missing)),
-        Some(value) => text_of(alloc, value, name),
+        Some(value) => T::read(alloc, value, name),
     }
 }
 
-/// A number of 16 bits, or `null`, that has to be there.
-pub(crate) fn needed_u16_or_null(
+/// A parameter that may be left out.
+pub(crate) fn optional<T: Param>(
     alloc: Global,
     params: &Value<'_>,
     name: &str,
-) -> Result<Option<u16>, RequestFault>
-    ensures { Reads (needed (or_null u16_of) name.now (value_view params.now)) result }
-{
-    match params.get(name) {
-        None => Err(bad_param(alloc, name, Why::Missing)),
-        Some(value) => {
-            if value.is_null() {
-                return Ok(None);
-            }
-            Ok(Some(named(alloc, name, u16_of(value))?))
-        }
-    }
-}
-
-/// A text, or `null`, that has to be there.
-pub(crate) fn needed_text_or_null(
-    alloc: Global,
-    params: &Value<'_>,
-    name: &str,
-) -> Result<Option<Text>, RequestFault>
-    ensures { Reads (needed (or_null text_of) name.now (value_view params.now)) result }
-{
-    match params.get(name) {
-        None => Err(bad_param(alloc, name, Why::Missing)),
-        Some(value) => {
-            if value.is_null() {
-                return Ok(None);
-            }
-            Ok(Some(text_of(alloc, value, name)?))
-        }
-    }
-}
-
-/// A number of 16 bits that may be left out.
-pub(crate) fn optional_u16(
-    alloc: Global,
-    params: &Value<'_>,
-    name: &str,
-) -> Result<Option<u16>, RequestFault>
-    ensures { Reads (optional u16_of name.now (value_view params.now)) result }
+) -> Result<Option<T>, RequestFault>
+    ensures { Reads (optional T.reads name.now (value_view params.now)) result }
 {
     match params.get(name) {
         None => Ok(None),
-        Some(value) => Ok(Some(named(alloc, name, u16_of(value))?)),
+        Some(value) => Ok(Some(T::read(alloc, value, name)?)),
     }
 }
 
-/// A number of 32 bits that may be left out.
-pub(crate) fn optional_u32(
-    alloc: Global,
-    params: &Value<'_>,
-    name: &str,
-) -> Result<Option<u32>, RequestFault>
-    ensures { Reads (optional u32_of name.now (value_view params.now)) result }
+/// A priority.
+fn priority_of(alloc: Global, value: &Value<'_>, name: &str) -> Result<u16, RequestFault>
+    ensures { Reads (named name.now (priority_of (value_view value.now))) result }
 {
-    match params.get(name) {
-        None => Ok(None),
-        Some(value) => Ok(Some(named(alloc, name, u32_of(value))?)),
-    }
-}
-
-/// A place or a count that may be left out.
-pub(crate) fn optional_place(
-    alloc: Global,
-    params: &Value<'_>,
-    name: &str,
-) -> Result<Option<u64>, RequestFault>
-    ensures { Reads (optional place_of name.now (value_view params.now)) result }
-{
-    match params.get(name) {
-        None => Ok(None),
-        Some(value) => Ok(Some(named(alloc, name, place_of(value))?)),
+    let priority = u16::read(alloc, value, name)?;
+    if priority <= MAX_PRIORITY {
+        Ok(priority)
+    } else {
+        Err(bad_param(alloc, name, Why::OutOfRange))
     }
 }
 
@@ -241,21 +174,7 @@ pub(crate) fn optional_priority(
 {
     match params.get(name) {
         None => Ok(None),
-        Some(value) => Ok(Some(named(alloc, name, priority_of(value))?)),
-    }
-}
-
-/// A text that may be left out.
-pub(crate) fn optional_text(
-    alloc: Global,
-    params: &Value<'_>,
-    name: &str,
-) -> Result<Option<Text>, RequestFault>
-    ensures { Reads (optional text_of name.now (value_view params.now)) result }
-{
-    match params.get(name) {
-        None => Ok(None),
-        Some(value) => Ok(Some(text_of(alloc, value, name)?)),
+        Some(value) => Ok(Some(priority_of(alloc, value, name)?)),
     }
 }
 
@@ -265,7 +184,7 @@ pub(crate) fn flag(alloc: Global, params: &Value<'_>, name: &str) -> Result<bool
 {
     match params.get(name) {
         None => Ok(false),
-        Some(value) => named(alloc, name, bool_of(value)),
+        Some(value) => bool::read(alloc, value, name),
     }
 }
 
@@ -282,7 +201,7 @@ fn is_among(names: &[&str], key: &str) -> bool
 }
 
 /// The first key of an object that isn't among the names.
-fn first_unknown<'v>(value: &'v Value<'_>, names: &[&str]) -> Option<&'v str>
+pub(crate) fn first_unknown<'v>(value: &'v Value<'_>, names: &[&str]) -> Option<&'v str>
     ensures { option_map (λ key. key.now) result
         ≡ first_unknown (map (λ name. name.now) names.now) (value_view value.now) }
 {
@@ -314,16 +233,5 @@ pub(crate) fn only(alloc: Global, params: &Value<'_>, names: &[&str]) -> Result<
     match first_unknown(params, names) {
         None => Ok(()),
         Some(name) => Err(bad_param(alloc, name, Why::Unknown)),
-    }
-}
-
-/// Whether an object has no key but these.
-pub(crate) fn has_only(value: &Value<'_>, names: &[&str]) -> bool
-    ensures { result ≡ is_none
-        (first_unknown (map (λ name. name.now) names.now) (value_view value.now)) }
-{
-    match first_unknown(value, names) {
-        None => true,
-        Some(_) => false,
     }
 }

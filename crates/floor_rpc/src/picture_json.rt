@@ -3,7 +3,7 @@
 ghost use Rattle.floor_rpc.specs.Pictures.{floor_shown_json, floor_status_json, member_shown_json, picture_json, request_shown_json, user_shown_json};
 
 use crate::picture::{FloorShown, FloorStatus, MemberShown, Picture, RequestShown, UserShown};
-use crate::value::{ToJson, close, member, open};
+use crate::value::{ToJson, member, text_member, write_two};
 use crate::words::words_member;
 use json::Writer;
 use std::alloc::AllocError;
@@ -12,12 +12,12 @@ impl ToJson for MemberShown {
     ghost json = { member_shown_json };
 
     fn write(&self, writer: &mut Writer) -> Result<(), AllocError> {
-        open(writer)?;
+        writer.begin_object()?;
         member(writer, "member", &self.member)?;
         member(writer, "behind", &self.behind)?;
         member(writer, "cut", &self.cut)?;
         member(writer, "away", &self.away)?;
-        close(writer)
+        writer.end_object()
     }
 }
 
@@ -25,7 +25,7 @@ impl ToJson for UserShown {
     ghost json = { user_shown_json };
 
     fn write(&self, writer: &mut Writer) -> Result<(), AllocError> {
-        open(writer)?;
+        writer.begin_object()?;
         member(writer, "user", &self.user)?;
         member(writer, "name", &self.name)?;
         member(writer, "uri", &self.uri)?;
@@ -33,7 +33,7 @@ impl ToJson for UserShown {
         member(writer, "port", &self.port)?;
         member(writer, "removed", &self.removed)?;
         member(writer, "members", &self.members)?;
-        close(writer)
+        writer.end_object()
     }
 }
 
@@ -41,7 +41,7 @@ impl ToJson for FloorShown {
     ghost json = { floor_shown_json };
 
     fn write(&self, writer: &mut Writer) -> Result<(), AllocError> {
-        open(writer)?;
+        writer.begin_object()?;
         member(writer, "floor", &self.floor)?;
         member(writer, "title", &self.title)?;
         member(writer, "room", &self.room)?;
@@ -49,7 +49,7 @@ impl ToJson for FloorShown {
         member(writer, "holders", &self.holders)?;
         member(writer, "waiting", &self.waiting)?;
         member(writer, "pending", &self.pending)?;
-        close(writer)
+        writer.end_object()
     }
 }
 
@@ -57,10 +57,7 @@ impl ToJson for FloorStatus {
     ghost json = { floor_status_json };
 
     fn write(&self, writer: &mut Writer) -> Result<(), AllocError> {
-        open(writer)?;
-        member(writer, "floor", &self.floor)?;
-        member(writer, "status", &self.status)?;
-        close(writer)
+        write_two(writer, "floor", &self.floor, "status", &self.status)
     }
 }
 
@@ -68,7 +65,7 @@ impl ToJson for RequestShown {
     ghost json = { request_shown_json };
 
     fn write(&self, writer: &mut Writer) -> Result<(), AllocError> {
-        open(writer)?;
+        writer.begin_object()?;
         member(writer, "request", &self.request)?;
         member(writer, "user", &self.user)?;
         member(writer, "by", &self.by)?;
@@ -80,7 +77,7 @@ impl ToJson for RequestShown {
         member(writer, "reason", &self.reason)?;
         member(writer, "since", &self.since)?;
         member(writer, "granted", &self.granted)?;
-        close(writer)
+        writer.end_object()
     }
 }
 
@@ -88,9 +85,9 @@ impl ToJson for Picture {
     ghost json = { picture_json };
 
     fn write(&self, writer: &mut Writer) -> Result<(), AllocError> {
-        open(writer)?;
+        writer.begin_object()?;
         member(writer, "next", &self.next)?;
-        member(writer, "phase", &self.phase)?;
+        text_member(writer, "phase", self.phase.name())?;
         member(writer, "members", &self.members)?;
         member(writer, "ongoing", &self.ongoing)?;
         member(writer, "title", &self.title)?;
@@ -101,6 +98,6 @@ impl ToJson for Picture {
         member(writer, "floors", &self.floors)?;
         member(writer, "requests", &self.requests)?;
         words_member(writer, "words", &self.words)?;
-        close(writer)
+        writer.end_object()
     }
 }

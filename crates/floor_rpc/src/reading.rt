@@ -2,7 +2,7 @@
 
 ghost use Rattle.std.specs.Prelude.{◌≡◌};
 ghost use Rattle.json.specs.Value.{value_view};
-ghost use Rattle.floor_rpc.specs.Calls.{call_of, chair_setting, conference_in, creation, decision, floor_addition, journal_from, known_call, listing, new_floor, new_user, of_conference, of_request, of_user, only_one, member_in, opening, parts, release, removal, toml, unwatching, user_addition, watching, whom_in, word_setting, words_of};
+ghost use Rattle.floor_rpc.specs.Calls.{call_of, chair_setting, creation, decision, floor_addition, journal_from, known_call, listing, new_floor, new_user, of_conference, of_request, of_user, opening, parts, release, removal, unwatching, user_addition, watching, whom_in, word_setting, words_of};
 ghost use Rattle.floor_rpc.specs.Params.{Reads};
 
 use crate::call::{
@@ -13,10 +13,7 @@ use crate::call::{
 use crate::fault::RequestFault;
 use crate::lists::{read_list_or_empty, read_needed_list, read_optional_list};
 use crate::method::Method;
-use crate::params::{
-    flag, needed_text, needed_text_or_null, needed_u16, needed_u16_or_null, needed_u32, only,
-    optional_place, optional_priority, optional_text, optional_u16, optional_u32,
-};
+use crate::params::{flag, needed, only, optional, optional_priority};
 use json::Value;
 use std::alloc::Global;
 
@@ -69,27 +66,23 @@ fn read_opening(alloc: Global, params: &Value<'_>) -> Result<Opening, RequestFau
     ensures { Reads (opening (value_view params.now)) result }
 {
     match params.get("toml") {
-        Some(_) => read_toml(alloc, params),
+        // A configuration's text stands alone.
+        Some(_) => {
+            only(alloc, params, &["toml"])?;
+            let text = needed(alloc, params, "toml")?;
+            Ok(Opening::Toml(text))
+        }
         None => Ok(Opening::Parts(read_parts(alloc, params)?)),
     }
-}
-
-/// The text of a configuration, which stands alone.
-fn read_toml(alloc: Global, params: &Value<'_>) -> Result<Opening, RequestFault>
-    ensures { Reads (toml (value_view params.now)) result }
-{
-    only(alloc, params, &["toml"])?;
-    let text = needed_text(alloc, params, "toml")?;
-    Ok(Opening::Toml(text))
 }
 
 fn read_parts(alloc: Global, params: &Value<'_>) -> Result<Parts, RequestFault>
     ensures { Reads (parts (value_view params.now)) result }
 {
-    let id = optional_u32(alloc, params, "id")?;
-    let title = optional_text(alloc, params, "title")?;
-    let limit = optional_u16(alloc, params, "limit")?;
-    let connections = optional_u16(alloc, params, "connections")?;
+    let id = optional(alloc, params, "id")?;
+    let title = optional(alloc, params, "title")?;
+    let limit = optional(alloc, params, "limit")?;
+    let connections = optional(alloc, params, "connections")?;
     let users = read_needed_list(alloc, params, "users")?;
     let floors = read_needed_list(alloc, params, "floors")?;
     Ok(Parts {
@@ -106,11 +99,11 @@ fn read_parts(alloc: Global, params: &Value<'_>) -> Result<Parts, RequestFault>
 pub(crate) fn read_new_user(alloc: Global, params: &Value<'_>) -> Result<NewUser, RequestFault>
     ensures { Reads (new_user (value_view params.now)) result }
 {
-    let id = optional_u16(alloc, params, "id")?;
-    let name = optional_text(alloc, params, "name")?;
-    let uri = optional_text(alloc, params, "uri")?;
+    let id = optional(alloc, params, "id")?;
+    let name = optional(alloc, params, "name")?;
+    let uri = optional(alloc, params, "uri")?;
     let proxy = flag(alloc, params, "proxy")?;
-    let port = optional_u16(alloc, params, "port")?;
+    let port = optional(alloc, params, "port")?;
     Ok(NewUser {
         id,
         name,
@@ -124,10 +117,10 @@ pub(crate) fn read_new_user(alloc: Global, params: &Value<'_>) -> Result<NewUser
 pub(crate) fn read_new_floor(alloc: Global, params: &Value<'_>) -> Result<NewFloor, RequestFault>
     ensures { Reads (new_floor (value_view params.now)) result }
 {
-    let id = optional_u16(alloc, params, "id")?;
-    let room = optional_u16(alloc, params, "room")?;
-    let chair = optional_u16(alloc, params, "chair")?;
-    let title = optional_text(alloc, params, "title")?;
+    let id = optional(alloc, params, "id")?;
+    let room = optional(alloc, params, "room")?;
+    let chair = optional(alloc, params, "chair")?;
+    let title = optional(alloc, params, "title")?;
     Ok(NewFloor {
         id,
         room,
@@ -140,27 +133,17 @@ fn read_listing(alloc: Global, params: &Value<'_>) -> Result<Listing, RequestFau
     ensures { Reads (listing (value_view params.now)) result }
 {
     match params.get("conference") {
-        Some(_) => read_only_one(alloc, params),
-        None => match optional_u32(alloc, params, "after")? {
+        // One conference stands alone.
+        Some(_) => {
+            only(alloc, params, &["conference"])?;
+            let conference = needed(alloc, params, "conference")?;
+            Ok(Listing::Only(conference))
+        }
+        None => match optional(alloc, params, "after")? {
             Some(conference) => Ok(Listing::After(conference)),
             None => Ok(Listing::First),
         },
     }
-}
-
-/// One conference, which stands alone.
-fn read_only_one(alloc: Global, params: &Value<'_>) -> Result<Listing, RequestFault>
-    ensures { Reads (only_one (value_view params.now)) result }
-{
-    only(alloc, params, &["conference"])?;
-    let conference = conference_in(alloc, params)?;
-    Ok(Listing::Only(conference))
-}
-
-fn conference_in(alloc: Global, params: &Value<'_>) -> Result<u32, RequestFault>
-    ensures { Reads (conference_in (value_view params.now)) result }
-{
-    needed_u32(alloc, params, "conference")
 }
 
 /// A conference, and nothing else.
@@ -170,14 +153,14 @@ pub(crate) fn read_conference(
 ) -> Result<OfConference, RequestFault>
     ensures { Reads (of_conference (value_view params.now)) result }
 {
-    let conference = conference_in(alloc, params)?;
+    let conference = needed(alloc, params, "conference")?;
     Ok(OfConference { conference })
 }
 
 fn read_user_addition(alloc: Global, params: &Value<'_>) -> Result<UserAddition, RequestFault>
     ensures { Reads (user_addition (value_view params.now)) result }
 {
-    let conference = conference_in(alloc, params)?;
+    let conference = needed(alloc, params, "conference")?;
     let user = read_new_user(alloc, params)?;
     Ok(UserAddition { conference, user })
 }
@@ -185,7 +168,7 @@ fn read_user_addition(alloc: Global, params: &Value<'_>) -> Result<UserAddition,
 fn read_floor_addition(alloc: Global, params: &Value<'_>) -> Result<FloorAddition, RequestFault>
     ensures { Reads (floor_addition (value_view params.now)) result }
 {
-    let conference = conference_in(alloc, params)?;
+    let conference = needed(alloc, params, "conference")?;
     let floor = read_new_floor(alloc, params)?;
     Ok(FloorAddition { conference, floor })
 }
@@ -193,9 +176,9 @@ fn read_floor_addition(alloc: Global, params: &Value<'_>) -> Result<FloorAdditio
 fn read_chair_setting(alloc: Global, params: &Value<'_>) -> Result<ChairSetting, RequestFault>
     ensures { Reads (chair_setting (value_view params.now)) result }
 {
-    let conference = conference_in(alloc, params)?;
-    let floor = needed_u16(alloc, params, "floor")?;
-    let chair = needed_u16_or_null(alloc, params, "chair")?;
+    let conference = needed(alloc, params, "conference")?;
+    let floor = needed(alloc, params, "floor")?;
+    let chair = needed(alloc, params, "chair")?;
     Ok(ChairSetting {
         conference,
         floor,
@@ -206,7 +189,7 @@ fn read_chair_setting(alloc: Global, params: &Value<'_>) -> Result<ChairSetting,
 fn read_removal(alloc: Global, params: &Value<'_>) -> Result<Removal, RequestFault>
     ensures { Reads (removal (value_view params.now)) result }
 {
-    let conference = conference_in(alloc, params)?;
+    let conference = needed(alloc, params, "conference")?;
     let whom = read_whom(alloc, params)?;
     Ok(Removal { conference, whom })
 }
@@ -215,40 +198,36 @@ fn read_whom(alloc: Global, params: &Value<'_>) -> Result<Whom, RequestFault>
     ensures { Reads (whom_in (value_view params.now)) result }
 {
     match params.get("member") {
-        Some(_) => read_member(alloc, params),
+        // No user stands beside a member.
+        Some(_) => {
+            only(alloc, params, &["conference", "member"])?;
+            let n = needed(alloc, params, "member")?;
+            Ok(Whom::Member(n))
+        }
         None => {
-            let user = needed_u16(alloc, params, "user")?;
+            let user = needed(alloc, params, "user")?;
             Ok(Whom::User(user))
         }
     }
 }
 
-/// A member, beside which no user stands.
-fn read_member(alloc: Global, params: &Value<'_>) -> Result<Whom, RequestFault>
-    ensures { Reads (member_in (value_view params.now)) result }
-{
-    only(alloc, params, &["conference", "member"])?;
-    let n = needed_u32(alloc, params, "member")?;
-    Ok(Whom::Member(n))
-}
-
 fn read_user(alloc: Global, params: &Value<'_>) -> Result<OfUser, RequestFault>
     ensures { Reads (of_user (value_view params.now)) result }
 {
-    let conference = conference_in(alloc, params)?;
-    let user = needed_u16(alloc, params, "user")?;
+    let conference = needed(alloc, params, "conference")?;
+    let user = needed(alloc, params, "user")?;
     Ok(OfUser { conference, user })
 }
 
 fn read_creation(alloc: Global, params: &Value<'_>) -> Result<Creation, RequestFault>
     ensures { Reads (creation (value_view params.now)) result }
 {
-    let conference = conference_in(alloc, params)?;
-    let beneficiary = needed_u16(alloc, params, "for")?;
+    let conference = needed(alloc, params, "conference")?;
+    let beneficiary = needed(alloc, params, "for")?;
     let floors = read_needed_list(alloc, params, "floors")?;
     let priority = optional_priority(alloc, params, "priority")?;
-    let info = optional_text(alloc, params, "info")?;
-    let by = optional_u16(alloc, params, "by")?;
+    let info = optional(alloc, params, "info")?;
+    let by = optional(alloc, params, "by")?;
     Ok(Creation {
         conference,
         beneficiary,
@@ -262,9 +241,9 @@ fn read_creation(alloc: Global, params: &Value<'_>) -> Result<Creation, RequestF
 fn read_release(alloc: Global, params: &Value<'_>) -> Result<Release, RequestFault>
     ensures { Reads (release (value_view params.now)) result }
 {
-    let conference = conference_in(alloc, params)?;
-    let request = needed_u16(alloc, params, "request")?;
-    let by = optional_u16(alloc, params, "by")?;
+    let conference = needed(alloc, params, "conference")?;
+    let request = needed(alloc, params, "request")?;
+    let by = optional(alloc, params, "by")?;
     Ok(Release {
         conference,
         request,
@@ -275,11 +254,11 @@ fn read_release(alloc: Global, params: &Value<'_>) -> Result<Release, RequestFau
 fn read_decision(alloc: Global, params: &Value<'_>) -> Result<Decision, RequestFault>
     ensures { Reads (decision (value_view params.now)) result }
 {
-    let conference = conference_in(alloc, params)?;
-    let request = needed_u16(alloc, params, "request")?;
+    let conference = needed(alloc, params, "conference")?;
+    let request = needed(alloc, params, "request")?;
     let floors = read_optional_list(alloc, params, "floors")?;
-    let reason = optional_text(alloc, params, "reason")?;
-    let by = optional_u16(alloc, params, "by")?;
+    let reason = optional(alloc, params, "reason")?;
+    let by = optional(alloc, params, "by")?;
     Ok(Decision {
         conference,
         request,
@@ -292,8 +271,8 @@ fn read_decision(alloc: Global, params: &Value<'_>) -> Result<Decision, RequestF
 fn read_request(alloc: Global, params: &Value<'_>) -> Result<OfRequest, RequestFault>
     ensures { Reads (of_request (value_view params.now)) result }
 {
-    let conference = conference_in(alloc, params)?;
-    let request = needed_u16(alloc, params, "request")?;
+    let conference = needed(alloc, params, "conference")?;
+    let request = needed(alloc, params, "request")?;
     Ok(OfRequest {
         conference,
         request,
@@ -303,9 +282,9 @@ fn read_request(alloc: Global, params: &Value<'_>) -> Result<OfRequest, RequestF
 fn read_word_setting(alloc: Global, params: &Value<'_>) -> Result<WordSetting, RequestFault>
     ensures { Reads (word_setting (value_view params.now)) result }
 {
-    let conference = conference_in(alloc, params)?;
-    let key = needed_text(alloc, params, "key")?;
-    let text = needed_text_or_null(alloc, params, "text")?;
+    let conference = needed(alloc, params, "conference")?;
+    let key = needed(alloc, params, "key")?;
+    let text = needed(alloc, params, "text")?;
     Ok(WordSetting {
         conference,
         key,
@@ -316,8 +295,8 @@ fn read_word_setting(alloc: Global, params: &Value<'_>) -> Result<WordSetting, R
 fn read_words_of(alloc: Global, params: &Value<'_>) -> Result<WordsOf, RequestFault>
     ensures { Reads (words_of (value_view params.now)) result }
 {
-    let conference = conference_in(alloc, params)?;
-    let key = optional_text(alloc, params, "key")?;
+    let conference = needed(alloc, params, "conference")?;
+    let key = optional(alloc, params, "key")?;
     Ok(WordsOf { conference, key })
 }
 
@@ -340,9 +319,9 @@ fn read_unwatching(alloc: Global, params: &Value<'_>) -> Result<Unwatching, Requ
 fn read_journal_from(alloc: Global, params: &Value<'_>) -> Result<JournalFrom, RequestFault>
     ensures { Reads (journal_from (value_view params.now)) result }
 {
-    let conference = conference_in(alloc, params)?;
-    let from = optional_place(alloc, params, "from")?;
-    let count = optional_place(alloc, params, "count")?;
+    let conference = needed(alloc, params, "conference")?;
+    let from = optional(alloc, params, "from")?;
+    let count = optional(alloc, params, "count")?;
     Ok(JournalFrom {
         conference,
         from,

@@ -14,7 +14,7 @@ use crate::call::Call;
 use crate::fault::{RequestFault, Why};
 use crate::id::{Id, Numeral};
 use crate::method::{Method, method_named};
-use crate::params::has_only;
+use crate::params::first_unknown;
 use crate::reading::call_of;
 use floor_config::Text;
 use json::{Error, Scratch, Value};
@@ -147,11 +147,13 @@ fn request_call(alloc: Global, value: &Value<'_>) -> Result<Call, RequestFault>
     if !may_be_version(value.get("jsonrpc")) {
         return Err(RequestFault::NotRequest);
     }
-    if !has_only(value, &["jsonrpc", "id", "method", "params"]) {
-        return Err(RequestFault::NotRequest);
+    match first_unknown(value, &["jsonrpc", "id", "method", "params"]) {
+        Some(_) => Err(RequestFault::NotRequest),
+        None => {
+            let method = method_in(value.get("method"))?;
+            call_with(alloc, method, value.get("params"))
+        }
     }
-    let method = method_in(value.get("method"))?;
-    call_with(alloc, method, value.get("params"))
 }
 
 /// Whether a request is of the version 2.0, or doesn't say of which.
@@ -196,19 +198,15 @@ fn call_with(
             Value::Object(_) => call_of(alloc, method, value),
             Value::Array(_) => match value.at(0) {
                 None => call_of(alloc, method, &Value::Object(Vec::new(alloc))),
-                Some(_) => Err(unnamed()),
+                Some(_) => Err(RequestFault::BadParam {
+                    param: None,
+                    why: Why::Unnamed,
+                }),
             },
-            _ => Err(unnamed()),
+            _ => Err(RequestFault::BadParam {
+                param: None,
+                why: Why::Unnamed,
+            }),
         },
-    }
-}
-
-/// The fault of parameters without names.
-fn unnamed() -> RequestFault
-    ensures { result ≡ BadParam None Unnamed }
-{
-    RequestFault::BadParam {
-        param: None,
-        why: Why::Unnamed,
     }
 }

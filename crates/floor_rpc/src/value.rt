@@ -4,7 +4,7 @@ ghost use Rattle.std.specs.Prelude.{◌≡◌, ◌∷◌, [], option_map};
 ghost use Rattle.json.specs.Token as token;
 ghost use Rattle.json.specs.Json as json;
 ghost use Rattle.json.specs.Tree.{json_tokens};
-ghost use Rattle.floor_rpc.specs.Json.{Adds, list_json, number_json, option_json, value_tokens};
+ghost use Rattle.floor_rpc.specs.Json.{Adds, list_json, number_json, object_of, one_member, option_json, two_members, value_tokens};
 
 use crate::list::List;
 use floor_config::Text;
@@ -95,33 +95,12 @@ pub(crate) fn write_items<T: ToJson>(writer: &mut Writer, items: &[T]) -> Result
     writer.end_array()
 }
 
-/// Opens an object.
-pub(crate) fn open(writer: &mut Writer) -> Result<(), AllocError>
-    ensures { Adds result writer.old writer.new (token.begin_object ∷ []) }
-{
-    writer.begin_object()
-}
-
-/// Ends an object.
-pub(crate) fn close(writer: &mut Writer) -> Result<(), AllocError>
-    ensures { Adds result writer.old writer.new (token.end_object ∷ []) }
-{
-    writer.end_object()
-}
-
 /// Writes a member of an object.
 pub(crate) fn member<T: ToJson>(writer: &mut Writer, key: &str, value: &T) -> Result<(), AllocError>
     ensures { Adds result writer.old writer.new (token.key key.now ∷ json_tokens (T.json value.now)) }
 {
     writer.key(key)?;
     value.write(writer)
-}
-
-/// Writes the key of a member, whose value is to follow.
-pub(crate) fn key(writer: &mut Writer, name: &str) -> Result<(), AllocError>
-    ensures { Adds result writer.old writer.new (token.key name.now ∷ []) }
-{
-    writer.key(name)
 }
 
 /// Writes a member of an object that is a text.
@@ -145,4 +124,43 @@ pub(crate) fn optional_member<T: ToJson>(
         Some(value) => member(writer, key, value),
         None => Ok(()),
     }
+}
+
+/// Writes an object without members.
+pub(crate) fn write_nothing(writer: &mut Writer) -> Result<(), AllocError>
+    ensures { Adds result writer.old writer.new (json_tokens (object_of [])) }
+{
+    writer.begin_object()?;
+    writer.end_object()
+}
+
+/// Writes an object of one member.
+pub(crate) fn write_one<T: ToJson>(
+    writer: &mut Writer,
+    key: &str,
+    value: &T,
+) -> Result<(), AllocError>
+    ensures { Adds result writer.old writer.new
+        (json_tokens (one_member key.now (T.json value.now))) }
+{
+    writer.begin_object()?;
+    member(writer, key, value)?;
+    writer.end_object()
+}
+
+/// Writes an object of two members.
+pub(crate) fn write_two<A: ToJson, B: ToJson>(
+    writer: &mut Writer,
+    key: &str,
+    value: &A,
+    other_key: &str,
+    other: &B,
+) -> Result<(), AllocError>
+    ensures { Adds result writer.old writer.new
+        (json_tokens (two_members key.now (A.json value.now) other_key.now (B.json other.now))) }
+{
+    writer.begin_object()?;
+    member(writer, key, value)?;
+    member(writer, other_key, other)?;
+    writer.end_object()
 }

@@ -8,7 +8,7 @@ ghost use Rattle.floor_rpc.specs.Words.{word_members, words_json};
 
 use crate::answer::Word;
 use crate::list::List;
-use crate::value::{close, key, open, text_member};
+use crate::value::text_member;
 use json::Writer;
 use std::alloc::AllocError;
 
@@ -21,8 +21,8 @@ pub(crate) fn words_member(
     ensures { Adds result writer.old writer.new
         (token.key name.now ∷ json_tokens (words_json words.now)) }
 {
-    key(writer, name)?;
-    open(writer)?;
+    writer.key(name)?;
+    writer.begin_object()?;
     write_words(writer, words.as_slice())
 }
 
@@ -33,5 +33,5 @@ fn write_words(writer: &mut Writer, words: &[Word]) -> Result<(), AllocError>
     for word in words {
         text_member(writer, word.key.as_str(), word.text.as_str())?;
     }
-    close(writer)
+    writer.end_object()
 }

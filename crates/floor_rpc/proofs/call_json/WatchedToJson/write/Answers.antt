@@ -11,9 +11,9 @@ use Rattle.floor_rpc.proofs.call_json.WatchedToJson.write.Goals as goal
 pub returns : goal.returns
 returns c = record {
   took =
-      on_ok _ (c.close.new.writer.tokens ≡ c.args.writer.now.tokens ++ json_tokens (watched_json c.args.self.now)) c.close.result (λ e. then_more c.args.writer.now.tokens c.open.new.writer.tokens c.close.new.writer.tokens _ _ c.in_ok-open.ensures.took
-      (then_more c.open.new.writer.tokens c.member.new.writer.tokens c.close.new.writer.tokens _ _ c.in_ok-member.ensures.took
-      (then_more c.member.new.writer.tokens c.optional_member.new.writer.tokens c.close.new.writer.tokens _ _ c.in_ok-optional_member.ensures.took e))
-      ∙ ap (λ ts. c.args.writer.now.tokens ++ (token.begin_object ∷ ts)) (sym (members_tokens_of (watched_fields c.args.self.now)))) c.close.ensures.took;
-  before = c.close.ensures.before ∙ c.in_ok-optional_member.ensures.before ∙ c.in_ok-member.ensures.before ∙ c.in_ok-open.ensures.before;
+      on_ok _ (c.end_object.new.self.tokens ≡ c.args.writer.now.tokens ++ json_tokens (watched_json c.args.self.now)) c.end_object.result (λ e. then_more c.args.writer.now.tokens c.begin_object.new.self.tokens c.end_object.new.self.tokens _ _ c.in_ok-begin_object.ensures.ok
+      (then_more c.begin_object.new.self.tokens c.member.new.writer.tokens c.end_object.new.self.tokens _ _ c.in_ok-member.ensures.took
+      (then_more c.member.new.writer.tokens c.optional_member.new.writer.tokens c.end_object.new.self.tokens _ _ c.in_ok-optional_member.ensures.took e))
+      ∙ ap (λ ts. c.args.writer.now.tokens ++ (token.begin_object ∷ ts)) (sym (members_tokens_of (watched_fields c.args.self.now)))) c.end_object.ensures.ok;
+  before = c.end_object.ensures.room.0 ∙ c.in_ok-optional_member.ensures.before ∙ c.in_ok-member.ensures.before ∙ c.in_ok-begin_object.ensures.room.0;
 }
