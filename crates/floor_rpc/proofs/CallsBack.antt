@@ -1,23 +1,21 @@
 -- What is written of a call is read as that call.
-use Rattle.std.proofs.Common.{◌≡◌, ◌<◌, ◌≤◌, ◌^◌, ◌&&◌, ℕ, Bool, true, false, cond, not, List, [], ◌∷◌, length, map, refl, sym, ◌∙◌, ap, arith, rules}
-use Rattle.std.specs.Prelude.{Option, Some, None, Result, Ok, Err, codes, ⊤, nat_le, option_map}
-use Rattle.std.specs.Fmt.{decimal}
+use Rattle.std.proofs.Common.{◌≡◌, ◌<◌, ◌^◌, ◌&&◌, ℕ, Bool, true, false, cond, not, List, [], ◌∷◌, map, refl, sym, ◌∙◌, ap, arith}
+use Rattle.std.specs.Prelude.{Option, Some, None, Result, Ok, Err, codes, ⊤, option_map}
 use Rattle.std.specs.List.{find, list_any}
 use Rattle.std.specs.Str.{bytes_eq}
 use Rattle.std.proofs.lemmas.Bool.{false≢true, le-leb}
 use Rattle.floor_words.specs.Laws.{NumbersAreReadBack}
-use Rattle.floor_words.specs.Words.{number}
 use Rattle.json.specs.Json as json
 use Rattle.json.specs.Json.{Json, Members}
 use Rattle.json.specs.Find.{get, get_member, later_or}
 use Rattle.json.specs.Strict.{keys}
 use Rattle.json.specs.Value.{items_of}
-use Rattle.floor_rpc.specs.Calls.{call_by, call_of, chair_setting, conference_in, creation, decision, floor_addition, floor_id, floor_names, journal_from, known_call, listed_floor, listed_user, listing, new_floor, new_user, of_conference, of_request, of_user, opening, parts, release, removal, toml, unwatched, unwatching, user_addition, user_names, watched, watching, whom_in, words_of, word_setting}
+use Rattle.floor_rpc.specs.Calls.{call_by, call_of, chair_setting, conference_in, creation, decision, floor_addition, floor_id, floor_names, journal_from, known_call, listed_floor, listed_user, new_floor, new_user, of_conference, of_request, of_user, parts, release, removal, unwatched, unwatching, user_addition, user_names, watched, watching, whom_in, words_of, word_setting}
 use Rattle.floor_rpc.specs.CallsWritten.{chair_setting_fields, chair_setting_json, creation_fields, creation_json, decision_fields, decision_json, floor_addition_fields, floor_addition_json, journal_from_fields, journal_from_json, new_floor_fields, new_floor_json, new_user_fields, new_user_json, of_conference_fields, of_conference_json, of_request_fields, of_request_json, of_user_fields, of_user_json, parts_fields, parts_json, release_fields, release_json, unwatching_fields, unwatching_json, user_addition_fields, user_addition_json, watched_fields, watched_json, watching_fields, watching_json, word_setting_fields, word_setting_json, words_of_fields, words_of_json, listing_json, method_of, opening_json, params_json, removal_json, removal_json_of, set}
-use Rattle.floor_rpc.specs.Json.{Fields, given, given_where, list_json, member_where, members_of, number_json, object_of, option_json}
-use Rattle.floor_rpc.specs.Laws.{AllAre, AllAreWhere, BelowWhere, IsCall, IsChairSetting, IsCreation, IsDecision, IsFloorAddition, IsJournalFrom, IsListing, IsNewFloor, IsNewUser, IsOfConference, IsOfRequest, IsOfUser, IsOpening, IsParts, IsPlaceWhere, IsRelease, IsRemoval, IsU16, IsU32, IsUnwatching, IsUserAddition, IsWatched, IsWatching, IsWhom, IsWordSetting, IsWordsOf}
+use Rattle.floor_rpc.specs.Json.{Fields, given, list_json, member_where, members_of, number_json, object_of, option_json}
+use Rattle.floor_rpc.specs.Laws.{AllAre, AllAreWhere, BelowWhere, IsCall, IsChairSetting, IsCreation, IsDecision, IsFloorAddition, IsJournalFrom, IsListing, IsNewFloor, IsNewUser, IsOfConference, IsOfRequest, IsOfUser, IsOpening, IsParts, IsRelease, IsRemoval, IsU16, IsU32, IsUnwatching, IsUserAddition, IsWatched, IsWatching, IsWhom, IsWordSetting, IsWordsOf}
 use Rattle.floor_rpc.specs.Methods.{methods, name_of, parameters_of}
-use Rattle.floor_rpc.specs.Params.{and_rest, and_then, bool_of, each, first_unknown, flag, flag_in, list_in, list_or_empty, named, needed, needed_in, needed_list, number_of, only, optional, optional_in, optional_list, optional_list_in, or_null, or_why, place_of, priority_of, refuse, some, some_value, text_of, u16_of, u32_of, up_to_4}
+use Rattle.floor_rpc.specs.Params.{and_rest, and_then, each, first_unknown, flag, flag_in, list_in, list_or_empty, named, needed, needed_in, needed_list, only, optional, optional_in, optional_list, optional_list_in, or_null, or_why, place_of, priority_of, refuse, some, some_value, text_of, u16_of, u32_of, up_to_4}
 use Rattle.floor_rpc.specs.Requests.{with_params}
 use Rattle.floor_rpc.specs.declared.call.Call.{Call}
 use Rattle.floor_rpc.specs.declared.call.Call.TheVariants as call

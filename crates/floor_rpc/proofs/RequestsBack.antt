@@ -1,15 +1,13 @@
 -- What is written of a request is read as that request.
-use Rattle.std.proofs.Common.{◌≡◌, ◌≤◌, ℕ, true, false, cond, List, [], ◌∷◌, length, refl, ◌∙◌, ap}
-use Rattle.std.specs.Prelude.{Option, Some, None, Ok, Err, codes, is_none, option_map}
+use Rattle.std.proofs.Common.{◌≡◌, cond, length, refl, ◌∙◌, ap}
+use Rattle.std.specs.Prelude.{Option, Some, None, Ok, Err, codes, option_map}
 use Rattle.std.proofs.lemmas.Bool.{le-leb}
 use Rattle.floor_words.specs.Laws.{NumbersAreReadBack}
-use Rattle.json.specs.Json.{Json}
-use Rattle.floor_rpc.specs.CallsWritten.{method_of, params_json, request_fields, request_json}
+use Rattle.floor_rpc.specs.CallsWritten.{method_of, request_fields, request_json}
 use Rattle.floor_rpc.specs.Ids.{id_json}
-use Rattle.floor_rpc.specs.Json.{object_of}
 use Rattle.floor_rpc.specs.Laws.{IsCall, IsId, RequestsAreReadBack}
 use Rattle.floor_rpc.specs.Params.{and_then}
-use Rattle.floor_rpc.specs.Requests.{id_of, id_where, known_method, max_id, received_with, request_call, request_names, with_call, with_params}
+use Rattle.floor_rpc.specs.Requests.{id_where, known_method, max_id, received_with, request_call, request_names, with_call}
 use Rattle.floor_rpc.specs.declared.fault.RequestFault.TheVariants.{NotRequest}
 use Rattle.floor_rpc.specs.declared.id.Id.{Id}
 use Rattle.floor_rpc.specs.declared.id.Id.TheVariants.{Null, Number, Text}

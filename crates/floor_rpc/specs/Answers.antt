@@ -3,7 +3,7 @@ use Rattle.std.specs.Prelude.{[], codes}
 use Rattle.json.specs.Json as json
 use Rattle.json.specs.Json.{Json}
 use Rattle.floor_rpc.specs.Json.{list_json, number_json, object_of, one_member, option_json, two_members}
-use Rattle.floor_rpc.specs.Methods.{methods, name_of}
+use Rattle.floor_rpc.specs.Methods.{methods}
 use Rattle.floor_rpc.specs.Names.{method_json, phase_json, status_json}
 use Rattle.floor_rpc.specs.Pictures.{picture_json}
 use Rattle.floor_rpc.specs.Words.{words_json}

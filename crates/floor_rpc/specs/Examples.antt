@@ -1,5 +1,5 @@
 -- Requests and what they are read as, computed.
-use Rattle.std.specs.Prelude.{◌≡◌, Option, Some, None, Ok, Err, [], codes, refl}
+use Rattle.std.specs.Prelude.{◌≡◌, Some, None, Ok, Err, codes, refl}
 use Rattle.json.specs.Json as json
 use Rattle.json.specs.Json.{Json, no_items, no_members, member, item}
 use Rattle.floor_rpc.specs.Calls.{call_of}

@@ -33,7 +33,6 @@ use Rattle.floor_rpc.specs.declared.call.WordsOf.{WordsOf}
 use Rattle.floor_rpc.specs.declared.error.ErrorName.{ErrorName}
 use Rattle.floor_rpc.specs.declared.id.Id.{Id}
 use Rattle.floor_rpc.specs.declared.id.Id.TheVariants.{Null, Number, Text}
-use Rattle.floor_rpc.specs.declared.request.Received.{Received}
 use Rattle.floor_rpc.specs.declared.request.Request.{Request}
 
 -- ---- the numbers of a call are of their types: below a limit

@@ -1,9 +1,8 @@
 -- What a parameter says.
-use Rattle.std.specs.Prelude.{◌≡◌, ◌⊎◌, ◌^◌, ℕ, Bool, true, false, not, nat_le, cond, Option, Some, None, Result, Ok, Err, List, [], ◌∷◌, if◌then◌else◌}
+use Rattle.std.specs.Prelude.{◌≡◌, ◌⊎◌, ◌^◌, ℕ, Bool, false, not, nat_le, Option, Some, None, Result, Ok, Err, List, [], ◌∷◌, if◌then◌else◌}
 use Rattle.std.specs.List.{find, list_any}
 use Rattle.std.specs.Str.{bytes_eq}
 use Rattle.floor_words.specs.Words.{number}
-use Rattle.json.specs.Json as json
 use Rattle.json.specs.Json.{Json, Items, no_items, item, Members}
 use Rattle.json.specs.Find.{as_array, as_bool, as_number, as_object, as_str, get, is_null}
 use Rattle.json.specs.Strict.{keys}

@@ -1,5 +1,5 @@
 -- A whole conference, as JSON.
-use Rattle.std.specs.Prelude.{ℕ, codes}
+use Rattle.std.specs.Prelude.{codes}
 use Rattle.json.specs.Json as json
 use Rattle.json.specs.Json.{Json}
 use Rattle.floor_rpc.specs.Json.{list_json, number_json, option_json, two_members}

@@ -1,5 +1,5 @@
 -- Words that are kept beside a conference, as JSON: an object, in their order.
-use Rattle.std.specs.Prelude.{ℕ, List, [], ◌∷◌}
+use Rattle.std.specs.Prelude.{List, [], ◌∷◌}
 use Rattle.json.specs.Json as json
 use Rattle.json.specs.Json.{Json, Members}
 use Rattle.floor_rpc.specs.declared.answer.Word.{Word}

@@ -1,8 +1,5 @@
-use Rattle.std.proofs.Common.{◌≡◌, ◌∷◌, [], ◌++◌, ◌∙◌, ap, sym}
-use Rattle.std.specs.Prelude.{codes}
-use Rattle.json.specs.Json as json
-use Rattle.json.specs.Token as token
-use Rattle.json.specs.Tree.{json_tokens, members_tokens}
+use Rattle.std.proofs.Common.{◌≡◌, ◌++◌, ◌∙◌}
+use Rattle.json.specs.Tree.{json_tokens}
 use Rattle.floor_rpc.specs.Notifications.{floor_told_event}
 use Rattle.floor_rpc.proofs.Chain.{on_ok, then_more}
 use Rattle.floor_rpc.proofs.notification_json.write_floor_told.Goals as goal

@@ -1,4 +1,4 @@
-use Rattle.std.proofs.Common.{◌≡◌, ◌∷◌, [], ◌++◌, ◌∙◌, ap, sym}
+use Rattle.std.proofs.Common.{◌≡◌, ◌∷◌, [], ◌++◌, ◌∙◌, ap}
 use Rattle.std.specs.Prelude.{codes}
 use Rattle.json.specs.Token as token
 use Rattle.json.specs.Tree.{json_tokens}

@@ -1,8 +1,7 @@
 use Rattle.std.proofs.Common.{◌≡◌, ◌∷◌, [], ◌++◌, ◌∙◌, ap, sym}
 use Rattle.std.specs.Prelude.{codes}
-use Rattle.json.specs.Json as json
 use Rattle.json.specs.Token as token
-use Rattle.json.specs.Tree.{json_tokens, members_tokens}
+use Rattle.json.specs.Tree.{json_tokens}
 use Rattle.floor_rpc.specs.CallsWritten.{request_fields, request_json}
 use Rattle.floor_rpc.specs.Methods.{name_of}
 use Rattle.floor_rpc.proofs.Chain.{on_ok, then_more}

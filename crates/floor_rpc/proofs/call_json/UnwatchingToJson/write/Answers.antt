@@ -1,9 +1,9 @@
-use Rattle.std.proofs.Common.{◌≡◌, ◌∷◌, [], ◌++◌, ◌∙◌, ap, sym}
+use Rattle.std.proofs.Common.{◌≡◌, ◌∷◌, ◌++◌, ◌∙◌, ap, sym}
 use Rattle.std.specs.Prelude.{codes, option_map}
 use Rattle.json.specs.Json as json
 use Rattle.json.specs.Token as token
-use Rattle.json.specs.Tree.{json_tokens, members_tokens}
-use Rattle.floor_rpc.specs.CallsWritten.{set, unwatching_fields, unwatching_json}
+use Rattle.json.specs.Tree.{json_tokens}
+use Rattle.floor_rpc.specs.CallsWritten.{unwatching_fields, unwatching_json}
 use Rattle.floor_rpc.specs.Json.{value_tokens}
 use Rattle.floor_rpc.proofs.Chain.{on_ok, then_more}
 use Rattle.floor_rpc.proofs.Fields.{members_tokens_of}

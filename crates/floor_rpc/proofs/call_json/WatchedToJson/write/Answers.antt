@@ -1,8 +1,6 @@
-use Rattle.std.proofs.Common.{◌≡◌, ◌∷◌, [], ◌++◌, ◌∙◌, ap, sym}
-use Rattle.std.specs.Prelude.{codes}
-use Rattle.json.specs.Json as json
+use Rattle.std.proofs.Common.{◌≡◌, ◌∷◌, ◌++◌, ◌∙◌, ap, sym}
 use Rattle.json.specs.Token as token
-use Rattle.json.specs.Tree.{json_tokens, members_tokens}
+use Rattle.json.specs.Tree.{json_tokens}
 use Rattle.floor_rpc.specs.CallsWritten.{watched_fields, watched_json}
 use Rattle.floor_rpc.proofs.Chain.{on_ok, then_more}
 use Rattle.floor_rpc.proofs.Fields.{members_tokens_of}
