@@ -1,6 +1,6 @@
 -- Who waits for a turn, as sockets change.
 use Rattle.std.proofs.Common.{◌≡◌, ◌≢◌, ℕ, zero, suc, Bool, true, false, cond, List, [], ◌∷◌, length, Option, Some, None, refl, sym, ap, ◌∙◌, arith, subst, inl, inr, nat_eq}
-use Rattle.std.specs.Prelude.{◌⊎◌, All, is_some, not, filter}
+use Rattle.std.specs.Prelude.{◌⊎◌, All, is_some, not, filter, option_map}
 use Rattle.std.proofs.lemmas.Bool.Decides.{eqb_tells}
 use Rattle.std.proofs.lemmas.List.Elements.{All-cons, All-head, All-nil, All-tail, All-weaker}
 use Rattle.slab.specs.Slab.{Slab, get}
@@ -13,8 +13,9 @@ use Rattle.floor_sockets.specs.declared.role.Role.{Role}
 use Rattle.floor_sockets.specs.declared.role.Role.TheVariants as role
 use Rattle.floor_sockets.specs.Life.{at_deadline, deed_of, due_of, is_awaiting, is_something, next_asked, next_behind, shutting, to_ask}
 use Rattle.floor_sockets.specs.Rounds.{Rounds, times}
-use Rattle.floor_sockets.specs.steps.Listed.{Asks, HasLife, IsListed, with_asked}
-use Rattle.floor_sockets.proofs.Turning.{not_both}
+use Rattle.floor_sockets.specs.Sockets.{IsDueOf}
+use Rattle.floor_sockets.specs.steps.Listed.{Asks, HasLife, IsDueIn, IsListed, with_asked}
+use Rattle.floor_sockets.proofs.Turning.{eq_yes, not_both}
 
 some_out : (x y : Life) → Some x ≡ Some y → x ≡ y
 some_out x y e = cc
@@ -119,3 +120,63 @@ due_some l slot = by_role l.role
     by_role role.Console e = cc
     by_role role.Probe e = cc
     by_role role.Http e = cc
+
+-- one has no socket any more
+pub removed_listed : (old new : Slab Life) (line : Rounds) (slot : ℕ) → get new slot ≡ None → ((k : ℕ) → nat_eq slot k ≡ false → get new k ≡ get old k) → IsListed old line → IsListed new line
+removed_listed old new line slot gone others listed k l is waits = by (eqb_tells slot k)
+  where
+    by : (((nat_eq slot k ≡ true) × (slot ≡ k)) ⊎ ((nat_eq slot k ≡ false) × (slot ≢ k))) → times line k ≡ 1
+    by (inl u) = none_some l (get new slot) gone (ap (get new) u.1 ∙ is)
+    by (inr u) = listed k l (sym (others k u.0) ∙ is) waits
+
+pub apart : (slot k : ℕ) → nat_eq slot k ≡ false → k ≢ slot
+apart slot k e same = not_both (sym (eq_yes slot k (sym same)) ∙ e)
+
+-- whose time has come was asked
+pub due_listed : (old new : Slab Life) (line : Rounds) (due left : List Deadline) (time : ℕ) (deed : Deed) → IsDueIn old new due left time deed → IsListed old line → IsListed new line
+due_listed old new line due left time deed d listed k l is waits = by (eqb_tells d.deadline.slot k)
+  where
+    by : (((nat_eq d.deadline.slot k ≡ true) × (d.deadline.slot ≡ k)) ⊎ ((nat_eq d.deadline.slot k ≡ false) × (d.deadline.slot ≢ k))) → times line k ≡ 1
+    by (inl u) =
+        let same = some_out (at_deadline d.life) l (sym d.here ∙ ap (get new) u.1 ∙ is) in
+        not_both (sym waits ∙ ap is_awaiting (sym same) ∙ asked_idle ((at_deadline d.life).asked) d.deadline.slot deed (to_ask (at_deadline d.life)) d.by_deed)
+    by (inr u) = listed k l (sym (d.others k u.0) ∙ is) waits
+
+pub due_alive : (old new : Slab Life) (due left : List Deadline) (time : ℕ) (deed : Deed) → IsDueIn old new due left time deed → All (HasLife old) due → All (HasLife new) left
+due_alive old new due left time deed d alive = subst (λ (ds : List Deadline). All (HasLife new) ds) (sym d.rest) (alive_without old new d.deadline.slot due d.others alive)
+
+-- the same of the whole table
+pub due_all : (old new : Slab Life) (line : Rounds) (due left : List Deadline) (time : ℕ) (deed : Deed) → IsDueIn old new due left time deed
+    → IsDueOf (record { lives = old.slots; line = line; deadlines = due; time = time }) (record { lives = new.slots; line = line; deadlines = left; time = time }) deed
+due_all old new line due left time deed d = record {
+  deadline = d.deadline;
+  life = d.life;
+  stood = d.stood;
+  come = d.come;
+  was = d.was;
+  asked = d.by_deed;
+  changed = record {
+    here = d.here ∙ sym (ap (λ (z : Option Life). option_map at_deadline z) d.was);
+    others = d.others;
+    due = d.rest;
+    time = refl;
+  };
+}
+
+-- whoever had a socket has one still, where one is known otherwise
+pub set_kept : (old new : Slab Life) (slot : ℕ) (life : Life) → ((l : Life) → get old slot ≡ Some l → get new slot ≡ Some life) → ((k : ℕ) → nat_eq slot k ≡ false → get new k ≡ get old k)
+    → (k : ℕ) → is_some (get old k) ≡ true → is_some (get new k) ≡ true
+set_kept old new slot life here others k was = by (eqb_tells slot k)
+  where
+    at_slot : (z : Option Life) → get old slot ≡ z → is_some (get old slot) ≡ true → is_some (get new slot) ≡ true
+    at_slot None e h = not_both (sym h ∙ ap (λ (y : Option Life). is_some y) e)
+    at_slot (Some m) e h = ap (λ (y : Option Life). is_some y) (here m e)
+
+    by : (((nat_eq slot k ≡ true) × (slot ≡ k)) ⊎ ((nat_eq slot k ≡ false) × (slot ≢ k))) → is_some (get new k) ≡ true
+    by (inl u) = subst (λ (z : ℕ). is_some (get old z) ≡ true → is_some (get new z) ≡ true) u.1 (at_slot (get old slot) refl) was
+    by (inr u) = ap (λ (y : Option Life). is_some y) (others k u.0) ∙ was
+
+-- and where those of a slot are no more
+pub alive_where : (lives : Slab Life) (b : Bool) (slot : ℕ) (ds : List Deadline) → All (HasLife lives) ds → All (HasLife lives) (cond b (filter (λ d. not (nat_eq d.slot slot)) ds) ds)
+alive_where lives false slot ds alive = alive
+alive_where lives true slot ds alive = alive_without lives lives slot ds (λ k e. refl) alive

@@ -5,7 +5,7 @@ use Rattle.std.proofs.Math.ListN.{set}
 use Rattle.std.proofs.lemmas.Bool.Decides.{eqb_tells}
 use Rattle.std.proofs.lemmas.List.{get_or-set_same, length-append, get_or_past}
 use Rattle.std.proofs.lemmas.List.Sums.{sum_by-cons, sum_by-set, sum_by_push}
-use Rattle.floor_sockets.specs.Rounds.{queue_in, times_in, total_in, turn_of, new_turn}
+use Rattle.floor_sockets.specs.Rounds.{IsTurn, Rounds, SameQueues, queue_in, times, times_in, total_in, turn_of, new_turn}
 use Rattle.floor_sockets.specs.steps.Rounds.{IsInTurn, stands_in}
 
 pub eq_yes : (a b : ℕ) → a ≡ b → nat_eq a b ≡ true
@@ -207,7 +207,7 @@ turn_sound behind w st group slot rest b sound first is = record { once = λ k. 
     turns g (inr u) =
         there b ∙ sym (plus _ _ _ (count-cons g group behind) apart) ∙ sound.turns g ∙ sym (ap (λ (l : List ℕ). cond (nat_eq (length l) 0) 0 1) (queue-other w group g rest u.0))
       where
-        apart : cond (nat_eq g group) 1 0 ≡ 0
+        apart : ◌≡◌ {A = ℕ} (cond (nat_eq g group) 1 0) 0
         apart = none_of (nat_eq g group) (eq_no g group (λ e. u.1 (sym e)))
 
         plus : (a b c : ℕ) → a ≡ b + c → b ≡ 0 → a ≡ c
@@ -277,3 +277,62 @@ pub turn_behind : (behind rest : List ℕ) (group : ℕ) (b : Bool) → b ≡ no
 turn_behind behind [] group b is = ap (λ (t : Bool). cond t (behind ++ group ∷ []) behind) is ∙ sym (append_none behind)
 turn_behind behind (x ∷ rest) group b is =
     ap (λ (t : Bool). cond t (behind ++ group ∷ []) behind) (is ∙ ap (λ (t : Bool). not t) (eq_no (length (x ∷ rest)) 0 (λ e. absurd (omega (arith, e)))))
+
+-- where each group's queue is the same, each slot waits as often
+pub times-same : (w v : List (List ℕ)) (k : ℕ) → ((g : ℕ) → queue_in w g ≡ queue_in v g) → times_in w k ≡ times_in v k
+times-same [] [] k same = refl
+times-same [] (q ∷ v) k same = sym (sum_by-cons (λ (p : List ℕ). count_by (nat_eq k) p) q v ∙ none_more _ _ (ap (λ (p : List ℕ). count_by (nat_eq k) p) (sym (same 0))) ∙ sym (times-same [] v k (λ g. none g ∙ same (suc g))))
+  where
+    none_more : (a b : ℕ) → a ≡ 0 → a + b ≡ b
+    none_more a b e = omega arith
+
+    none : (g : ℕ) → queue_in [] g ≡ queue_in [] (suc g)
+    none zero = refl
+    none (suc g) = refl
+times-same (q ∷ w) [] k same = sum_by-cons (λ (p : List ℕ). count_by (nat_eq k) p) q w ∙ none_more _ _ (ap (λ (p : List ℕ). count_by (nat_eq k) p) (same 0)) ∙ times-same w [] k (λ g. same (suc g) ∙ none g)
+  where
+    none_more : (a b : ℕ) → a ≡ 0 → a + b ≡ b
+    none_more a b e = omega arith
+
+    none : (g : ℕ) → queue_in [] (suc g) ≡ queue_in [] g
+    none zero = refl
+    none (suc g) = refl
+times-same (q ∷ w) (p ∷ v) k same =
+    sum_by-cons (λ (p : List ℕ). count_by (nat_eq k) p) q w
+    ∙ both _ _ _ _ (ap (λ (p : List ℕ). count_by (nat_eq k) p) (same 0)) (times-same w v k (λ g. same (suc g)))
+    ∙ sym (sum_by-cons (λ (p : List ℕ). count_by (nat_eq k) p) p v)
+  where
+    both : (a b c d : ℕ) → a ≡ c → b ≡ d → a + b ≡ c + d
+    both a b c d e f = omega arith
+
+-- one has had its turn: who waits, who has its mark and whose turns there are agree still
+pub next_sound : (groups behind after : List ℕ) (w v : List (List ℕ)) (st su : List Bool) (group slot : ℕ) (rest : List ℕ) (b : Bool) → IsInTurn groups w st → groups ≡ group ∷ behind
+    → queue_in w group ≡ slot ∷ rest → v ≡ set w group rest → b ≡ not (nat_eq (length rest) 0) → su ≡ set st slot false → after ≡ cond b (behind ++ group ∷ []) behind → IsInTurn after v su
+next_sound groups behind after w v st su group slot rest b sound first served left is mark again =
+    subst (λ (z : List ℕ). IsInTurn z v su) (sym again)
+    (subst (λ (z : List (List ℕ)). IsInTurn (cond b (behind ++ group ∷ []) behind) z su) (sym left)
+    (subst (λ (z : List Bool). IsInTurn (cond b (behind ++ group ∷ []) behind) (set w group rest) z) (sym mark)
+    (turn_sound behind w st group slot rest b (subst (λ (z : List ℕ). IsInTurn z w st) first sound) served is)))
+
+-- and it was the first of the first group
+pub next_turn : (groups behind after : List ℕ) (w v : List (List ℕ)) (group slot : ℕ) (rest : List ℕ) (b : Bool) → groups ≡ group ∷ behind → queue_in w group ≡ slot ∷ rest → v ≡ set w group rest
+    → b ≡ not (nat_eq (length rest) 0) → after ≡ cond b (behind ++ group ∷ []) behind → IsTurn (record { groups = groups; waiting = w }) (record { groups = after; waiting = v }) slot
+next_turn groups behind after w v group slot rest b first served left is again = record {
+  group = group;
+  behind = behind;
+  first = first;
+  served = served ∙ ap (λ (q : List ℕ). slot ∷ q) (sym now);
+  others = λ g e. ap (λ (z : List (List ℕ)). queue_in z g) left ∙ queue-other w group g rest e;
+  again = again ∙ turn_behind behind rest group b is ∙ ap (λ (q : List ℕ). behind ++ turn_of group q) (sym now);
+}
+  where
+    now : queue_in v group ≡ rest
+    now = ap (λ (z : List (List ℕ)). queue_in z group) left ∙ get_or-set_same w group rest [] (queue-there w group slot rest served)
+
+-- it waits no more
+pub next_none : (groups : List ℕ) (w v : List (List ℕ)) (st : List Bool) (group slot : ℕ) (rest : List ℕ) → IsInTurn groups w st → queue_in w group ≡ slot ∷ rest → v ≡ set w group rest → times_in v slot ≡ 0
+next_none groups w v st group slot rest sound served left = ap (λ (z : List (List ℕ)). times_in z slot) left ∙ turn_none groups w st group slot rest sound served
+
+-- where the same wait, each waits as often
+pub same_times : (old new : Rounds) → SameQueues old new → (k : ℕ) → times new k ≡ times old k
+same_times old new same k = times-same new.waiting old.waiting k same.queues
