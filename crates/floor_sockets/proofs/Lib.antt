@@ -1,2 +1,3 @@
 pub mod Turning
 pub mod Listing
+pub mod Timing

@@ -23,11 +23,11 @@ eq_no a b ne = by (eqb_tells a b) where
 pub not_both : {A : Type 0} → true ≡ false → A
 not_both e = absurd cc
 
-one_of : (b : Bool) → b ≡ true → ◌≡◌ {A = ℕ} (cond b 1 0) 1
+pub one_of : (b : Bool) → b ≡ true → ◌≡◌ {A = ℕ} (cond b 1 0) 1
 one_of true e = refl
 one_of false e = absurd cc
 
-none_of : (b : Bool) → b ≡ false → ◌≡◌ {A = ℕ} (cond b 1 0) 0
+pub none_of : (b : Bool) → b ≡ false → ◌≡◌ {A = ℕ} (cond b 1 0) 0
 none_of false e = refl
 none_of true e = absurd cc
 

@@ -1,5 +1,5 @@
 -- The table of sockets.
-use Rattle.std.specs.Prelude.{◌≡◌, ◌≤◌, ◌<◌, ◌++◌, ◌+◌, ℕ, Bool, true, false, not, min, List, [], ◌∷◌, if◌then◌else◌, Option, Some, None, All, Contains, filter, nat_eq, option_map, slice_index_or}
+use Rattle.std.specs.Prelude.{◌≡◌, ◌≤◌, ◌<◌, ◌++◌, ◌+◌, ℕ, Bool, true, false, not, min, List, [], ◌∷◌, if◌then◌else◌, Option, Some, None, All, Contains, count_by, filter, nat_eq, option_map, slice_index_or}
 use Rattle.floor_sockets.specs.declared.deadlines.Deadline.{Deadline}
 use Rattle.floor_sockets.specs.declared.life.Asked.{Asked}
 use Rattle.floor_sockets.specs.declared.life.Deed.{Deed}
@@ -7,7 +7,7 @@ use Rattle.floor_sockets.specs.declared.life.Life.{Life}
 use Rattle.floor_sockets.specs.declared.role.Role.{Role}
 use Rattle.floor_sockets.specs.declared.role.Role.TheVariants as role
 use Rattle.floor_sockets.specs.Life.{at_deadline, deed_of, is_accepting, is_awaiting, is_shutting, next_asked, opened, renamed}
-use Rattle.floor_sockets.specs.Rounds.{Rounds}
+use Rattle.floor_sockets.specs.Rounds.{Rounds, times}
 
 -- what is known of the socket in each slot, if there is one; whose turn it is; by when something is due for whom; and how late it is
 pub record Sockets : Type 0 where
@@ -40,10 +40,10 @@ without slot deadlines = filter (λ d. not (nat_eq d.slot slot)) deadlines
 abbrev pub later : ℕ → ℕ → ℕ
 later time micros = min (time + micros) 18446744073709551615
 
--- one deadline more, where the test says so
+-- where the test says so this is the slot's deadline, and none before it
 abbrev pub with_due : Bool → ℕ → ℕ → List Deadline → List Deadline
 with_due false slot until deadlines = deadlines
-with_due true slot until deadlines = deadlines ++ record { slot = slot; until = until } ∷ []
+with_due true slot until deadlines = without slot deadlines ++ record { slot = slot; until = until } ∷ []
 
 -- of a socket that isn't to be shut down yet, of one that isn't being shut, and of a listener of which an accept is awaited
 abbrev pub goes_on : Option Life → Bool
@@ -116,3 +116,12 @@ pub record IsDueOf (old new : Sockets) (deed : Deed) : Type 0 where
 pub record IsDone (s : Sockets) : Type 0 where
   pub early : All (λ d. s.time < d.until) s.deadlines
   pub nobody : (slot : ℕ) (l : Life) → life_at s slot ≡ Some l → is_awaiting l ≡ false
+
+-- how many deadlines a slot has
+abbrev pub due_times : List Deadline → ℕ → ℕ
+due_times deadlines slot = count_by (λ d. nat_eq d.slot slot) deadlines
+
+-- Each slot waits for one turn, and has one deadline, at most, whatever is told and asked of it.
+pub record IsBounded (s : Sockets) : Type 0 where
+  pub turns : (slot : ℕ) → times s.line slot ≤ 1
+  pub deadlines : (slot : ℕ) → due_times s.deadlines slot ≤ 1

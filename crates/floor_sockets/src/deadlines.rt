@@ -1,6 +1,6 @@
 //! By when something is due for a socket.
 
-ghost use Rattle.std.specs.Prelude.{◌≡◌, ◌≤◌, ◌<◌, [], All, Contains, IfNone, IfSome, OnOk, if◌then◌else◌, length};
+ghost use Rattle.std.specs.Prelude.{◌≡◌, ◌≤◌, ◌<◌, [], All, Contains, IfNone, IfSome, OnOk, if◌then◌else◌, length, vec_capacity};
 ghost use Rattle.floor_sockets.specs.Sockets.{with_due, without};
 ghost use Rattle.floor_sockets.specs.declared.deadlines.Deadline.{Deadline as Due};
 
@@ -14,7 +14,7 @@ pub struct Deadline {
     pub until: u64,
 }
 
-/// Deadlines, in no order: few sockets have one.
+/// Deadlines, in no order, one of each slot at most: few sockets have one.
 #[derive(Drop)]
 pub(crate) struct Deadlines {
     items: Vec<Deadline>,
@@ -47,12 +47,13 @@ impl Deadlines {
         self.items.reserve(1)
     }
 
-    /// One more, where the socket is to have one. There is room for it.
+    /// This is the slot's deadline, and none before it, where the socket is to have it. There is room for one more.
     pub(crate) fn put(&mut self, has_one: bool, slot: usize, until: u64)
         requires { length self.old.items < self.old.room }
         ensures next { self.new.items ≡ with_due has_one slot until self.old.items }
     {
         if has_one {
+            cancel_in(&mut self.items, slot);
             self.items.push_reserved(Deadline { slot, until });
         }
     }
@@ -61,7 +62,7 @@ impl Deadlines {
     pub(crate) fn cancel(&mut self, slot: usize)
         ensures next { self.new.items ≡ without slot self.old.items }
     {
-        self.items.retain(|deadline| deadline.slot != slot);
+        cancel_in(&mut self.items, slot);
     }
 
     /// The same, where this is so.
@@ -93,4 +94,13 @@ impl Deadlines {
     {
         self.items.iter().map(|deadline| deadline.until).min()
     }
+}
+
+/// Those of a slot are no more.
+fn cancel_in(items: &mut Vec<Deadline>, slot: usize)
+    ensures next { items.new.items ≡ without slot items.old.items }
+    ensures fewer { length items.new.items ≤ length items.old.items }
+    ensures room { vec_capacity items.new ≡ vec_capacity items.old }
+{
+    items.retain(|deadline| deadline.slot != slot);
 }

@@ -77,6 +77,7 @@ impl Rounds {
         ensures fewer { IfSome result (λ slot. total self.new < total self.old) }
         ensures none { IfNone result ((k : ℕ) → times self.old k ≡ 0) }
         ensures left { IfNone result (self.new ≡ self.old) }
+        ensures once { (k : ℕ) → times self.new k ≤ 1 }
     {
         let group = self.groups.pop_front()?;
         let (slot, has_more) = pop_in(&mut self.waiting, group)?;

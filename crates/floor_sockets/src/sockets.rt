@@ -2,7 +2,7 @@
 
 ghost use Rattle.std.specs.Prelude.{◌≡◌, ◌≤◌, ◌<◌, ◌⊎◌, ℕ, All, Contains, IfNone, IfOk, IfSome, None, OnErr, OnOk, false, max, option_map, true, []};
 ghost use Rattle.floor_sockets.specs.Life.{came, held, is_shutting, lent, none_came, one_came, over, put_off, served, taken, unblocked, worded};
-ghost use Rattle.floor_sockets.specs.Sockets.{Changed, Closed, IsDone, IsDueOf, IsTurnOf, Left, Opens, accepts, goes_on, is_there, later, life_at, renamed_due, renamed_life, with_due};
+ghost use Rattle.floor_sockets.specs.Sockets.{Changed, Closed, IsBounded, IsDone, IsDueOf, IsTurnOf, Left, Opens, accepts, goes_on, is_there, later, life_at, renamed_due, renamed_life, with_due};
 ghost use Rattle.floor_sockets.specs.declared.deadlines.Deadline.{Deadline as Due};
 ghost use Rattle.floor_sockets.specs.declared.life.Life.{Life as Known};
 
@@ -34,7 +34,7 @@ pub const ACCEPT_AGAIN_MICROS: u64 = 100_000;
 ///   wanted.
 ///
 /// A slot without a socket, and an answer to what wasn't asked, change nothing. Where memory is refused nothing has
-/// changed.
+/// changed. Each slot waits for one turn, and has one deadline, at most.
 #[derive(Drop)]
 pub struct Sockets {
     lives: Slab<Life>,
@@ -86,6 +86,8 @@ impl Sockets {
         ensures found { IfSome result (λ until. (d : Due) × Contains self.now.deadlines d × (d.until ≡ until)) }
         ensures first { IfSome result (λ until. All (λ d. until ≤ d.until) self.now.deadlines) }
         ensures none { IfNone result (self.now.deadlines ≡ []) }
+
+        ensures kept { IsBounded self.now }
     {
         self.deadlines.soonest()
     }

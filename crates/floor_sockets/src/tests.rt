@@ -92,6 +92,14 @@ impl Plain {
     fn cancel(&mut self, slot: usize) {
         self.deadlines.retain(|deadline| deadline.0 != slot);
     }
+
+    /// The one deadline of a socket.
+    fn put(&mut self, slot: usize, micros: u64) -> Result<(), AllocError> {
+        self.cancel(slot);
+        self.deadlines
+            .push((slot, self.time.saturating_add(micros)))?;
+        Ok(())
+    }
 }
 
 /// The role and the group of a socket that is opened.
@@ -129,9 +137,7 @@ fn open_one(
     };
     plain.set(slot, Some(life));
     if role == Role::AtDoor {
-        plain
-            .deadlines
-            .push((slot, plain.time.saturating_add(5_000_000)))?;
+        plain.put(slot, 5_000_000)?;
     }
     plain.opened = plain.opened.saturating_add(1);
     Ok(was_free)
@@ -164,14 +170,12 @@ fn tell_one(sockets: &mut Sockets, plain: &mut Plain, drawn: &mut Drawn) -> Resu
         5 => life.is_held = is_on,
         6 => {
             if !life.is_over {
-                plain
-                    .deadlines
-                    .push((slot, plain.time.saturating_add(10_000_000)))?;
+                plain.put(slot, 10_000_000)?;
             }
             life.is_over = true;
         }
         7 => {
-            plain.deadlines.push((slot, plain.time))?;
+            plain.put(slot, 0)?;
             life.is_over = true;
         }
         _ => {
@@ -227,9 +231,7 @@ fn answer_accept(
         _ => {
             sockets.unaccepted(slot)?;
             life.is_held = true;
-            plain
-                .deadlines
-                .push((slot, plain.time.saturating_add(100_000)))?;
+            plain.put(slot, 100_000)?;
         }
     }
     plain.set(slot, Some(life));

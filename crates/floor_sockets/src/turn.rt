@@ -5,7 +5,7 @@ ghost use Rattle.slab.specs.Slab.{get};
 ghost use Rattle.floor_sockets.specs.Life.{is_awaiting};
 ghost use Rattle.floor_sockets.specs.Rounds.{times};
 ghost use Rattle.floor_sockets.specs.declared.life.Life.{Life as Known};
-ghost use Rattle.floor_sockets.specs.steps.Listed.{Asks, HasLife, IsDueIn, IsListed};
+ghost use Rattle.floor_sockets.specs.steps.Listed.{Asks, HasLife, IsDueIn, IsListed, IsOnce};
 
 use crate::deadlines::Deadlines;
 use crate::life::{Deed, Life, deed_of};
@@ -37,6 +37,7 @@ pub(crate) fn set_in(
     ensures others { (k : ℕ) → nat_eq slot k ≡ false → get lives.new k ≡ get lives.old k }
     ensures left { OnErr result ((k : ℕ) → get lives.new k ≡ get lives.old k) }
     ensures listed { IsListed lives.old line.old → IsListed lives.new line.new }
+    ensures once { IsOnce line.old → IsOnce line.new }
 {
     stand_in(line, slot, life)?;
     put_in(lives, slot, life);
@@ -48,6 +49,7 @@ fn stand_in(line: &mut Rounds, slot: usize, life: Life) -> Result<(), AllocError
     ensures stands { OnOk result (is_awaiting life ≡ true → times line.new slot ≡ 1) }
     ensures others { (k : ℕ) → nat_eq slot k ≡ false → times line.new k ≡ times line.old k }
     ensures left { OnErr result ((k : ℕ) → times line.new k ≡ times line.old k) }
+    ensures once { IsOnce line.old → IsOnce line.new }
 {
     if life.is_awaiting() {
         line.put(life.group, slot)
@@ -73,6 +75,7 @@ pub(crate) fn ask_in(lives: &mut Slab<Life>, slot: usize) -> Option<Deed>
 /// The next turn: of the first who waits for one, and of whom anything is to be asked.
 pub(crate) fn turn_in(lives: &mut Slab<Life>, line: &mut Rounds) -> Option<Deed>
     ensures listed { IsListed lives.old line.old → IsListed lives.new line.new }
+    ensures once { IsOnce line.old → IsOnce line.new }
     ensures asked { IfSome result (λ deed. (slot : ℕ) × Asks lives.old lives.new slot deed) }
     ensures none { IfNone result ((k : ℕ) → get lives.new k ≡ get lives.old k) }
     ensures nothing { IfNone result (IsListed lives.old line.old → (k : ℕ) (l : Known)

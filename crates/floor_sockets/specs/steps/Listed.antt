@@ -7,10 +7,15 @@ use Rattle.floor_sockets.specs.declared.life.Deed.{Deed}
 use Rattle.floor_sockets.specs.declared.life.Life.{Life}
 use Rattle.floor_sockets.specs.Life.{at_deadline, deed_of, is_awaiting, next_asked}
 use Rattle.floor_sockets.specs.Rounds.{Rounds, times}
+use Rattle.floor_sockets.specs.Sockets.{due_times}
 
 -- each of whom something is to be asked stands in the line
 abbrev pub IsListed : Slab Life → Rounds → Type 0
 IsListed lives line = (slot : ℕ) (l : Life) → get lives slot ≡ Some l → is_awaiting l ≡ true → times line slot ≡ 1
+
+-- nobody stands in the line twice
+abbrev pub IsOnce : Rounds → Type 0
+IsOnce line = (slot : ℕ) → times line slot ≤ 1
 
 abbrev pub with_asked : Asked → Life → Life
 with_asked asked l = record l { asked = asked }
@@ -39,7 +44,9 @@ pub record IsDueIn (old new : Slab Life) (due left : List Deadline) (time : ℕ)
   pub others : (k : ℕ) → nat_eq deadline.slot k ≡ false → get new k ≡ get old k
   pub rest : left ≡ filter (λ d. not (nat_eq d.slot deadline.slot)) due
 
--- Each of whom something is to be asked stands in the line, and each slot of a deadline has a socket.
+-- Each of whom something is to be asked stands in the line, and each slot of a deadline has a socket; each stands there once, and has one deadline, at most.
 pub record IsSound (lives : Slab Life) (line : Rounds) (deadlines : List Deadline) : Type 0 where
   pub listed : IsListed lives line
   pub alive : All (HasLife lives) deadlines
+  pub once : IsOnce line
+  pub few : (slot : ℕ) → due_times deadlines slot ≤ 1
