@@ -3,3 +3,6 @@ pub mod Life
 pub mod Rounds
 pub mod steps
 pub mod Sockets
+pub mod Runs
+pub mod Laws
+pub mod Examples

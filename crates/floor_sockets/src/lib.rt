@@ -7,6 +7,7 @@
 #![tactic(auto)]
 
 mod deadlines;
+mod laws;
 mod life;
 mod queue;
 mod role;
@@ -17,6 +18,10 @@ mod tests;
 mod turn;
 
 pub use deadlines::Deadline;
+pub use laws::{
+    one_is_read, one_is_shut, who_fails_is_shut, who_is_ended_is_shut, who_is_told_of_is_read,
+    who_says_nothing_is_shut,
+};
 pub use life::{Asked, Deed, Life, MAX_READ};
 pub use role::Role;
 pub use sockets::{ACCEPT_AGAIN_MICROS, MAX_HEADER_MICROS, MAX_SHUT_MICROS, Sockets};
