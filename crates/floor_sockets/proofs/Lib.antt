@@ -4,4 +4,5 @@ pub mod Timing
 pub mod Running
 pub mod Hearing
 pub mod Worked
+pub mod Stopping
 pub mod Silent

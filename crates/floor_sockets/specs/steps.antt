@@ -2,3 +2,4 @@
 pub mod Rounds
 pub mod Due
 pub mod Listed
+pub mod Ending

@@ -7,6 +7,7 @@
 #![tactic(auto)]
 
 mod deadlines;
+mod ending;
 mod laws;
 mod life;
 mod queue;
@@ -18,6 +19,7 @@ mod tests;
 mod turn;
 
 pub use deadlines::Deadline;
+pub use ending::end_and_shut;
 pub use laws::{
     one_is_read, one_is_shut, who_fails_is_shut, who_is_ended_is_shut, who_is_told_of_is_read,
     who_says_nothing_is_shut,

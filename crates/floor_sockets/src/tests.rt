@@ -1,4 +1,4 @@
-use crate::{Asked, Deed, Life, Role, Sockets};
+use crate::{Asked, Deed, Life, Role, Sockets, end_and_shut};
 use std::alloc::{AllocError, Global};
 
 /// Numbers that are drawn from a seed.
@@ -454,5 +454,16 @@ fn who_is_over_is_written_for_ten_seconds_and_shut_once(rt: HostRuntime) -> Resu
     assert!(rt; sockets.due().is_none());
     assert_eq!(rt; sockets.open(Role::Probe, 0)?, member);
     assert!(rt; sockets.next().is_none());
+    Ok(())
+}
+
+#[test]
+fn whoever_is_ended_is_shut_behind_who_is_due_before(rt: HostRuntime) -> Result<(), AllocError> {
+    let mut sockets = Sockets::new(rt.alloc());
+    let door = sockets.open(Role::AtDoor, 0)?;
+    let member = sockets.open(Role::Member, 1)?;
+    end_and_shut(&mut sockets, member, 10_000_000)?;
+    assert!(rt; sockets.get(member).is_none());
+    assert!(rt; sockets.get(door).is_none());
     Ok(())
 }
