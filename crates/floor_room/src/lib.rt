@@ -5,6 +5,7 @@
 //! nothing.
 #![tactic(auto)]
 
+mod effects;
 mod journal;
 mod ledger;
 mod outbox;
@@ -16,6 +17,7 @@ mod status;
 pub use floor_machine::{
     Act, AddedUser, Config, Event, Floor, Frame, Info, Parcel, Refusal, SharedInfo, User,
 };
+pub use effects::Effects;
 pub use journal::{Place, add_end, add_lines, journal_text};
 pub use ledger::Ledger;
 pub use outbox::NoMember;

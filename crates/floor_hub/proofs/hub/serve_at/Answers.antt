@@ -33,6 +33,6 @@ returns-in-Some c =
               ),
             );
       };
-      concerned = subst (λ (z : Option Connection). ConcernedOf (λ x. live_in c.args.concerned.now x.conference) c.serve_room.new.told.items z (get nat_eq c.args.rooms.now) (get nat_eq c.serve_room.new.rooms) c.args.concerned.now c.serve_room.new.concerned)
+      concerned = subst (λ (z : Option Connection). ConcernedOf (λ x. live_in c.args.concerned.now x.conference) c.serve_room.new.effects.told.items z (get nat_eq c.args.rooms.now) (get nat_eq c.serve_room.new.rooms) c.args.concerned.now c.serve_room.new.concerned)
           c.in-Some.ensures.found c.serve_room.ensures.concerned;
     }
