@@ -72,8 +72,9 @@ pub(crate) fn admin_at(
 ) -> Result<(), HubRefusal>
     ensures room { AtRoom (EventIn (event_of_act act))
         (ended_or_none (contains nat_eq forgotten.now conference)) (get nat_eq rooms.old) (get nat_eq rooms.new) conference result }
-    ensures concerned { ConcernedBy (always (live_in concerned.old conference)) effects.new.told.items
-        (get nat_eq rooms.old) (get nat_eq rooms.new) conference concerned.old concerned.new }
+    ensures concerned { ConcernedBy (always (live_in concerned.old conference))
+        effects.new.told.items (get nat_eq rooms.old) (get nat_eq rooms.new) conference
+        concerned.old concerned.new }
     ensures changed { HandedBy (get nat_eq rooms.old) (get nat_eq rooms.new) conference
         effects.new.changed.items }
 {
@@ -189,8 +190,8 @@ pub(crate) fn leave_room(
         × LeaveFailsIn room new connection.now.n why) }
     ensures concerned { ConcernedBy
         (always (without number (live_in concerned.old connection.now.conference)))
-        effects.new.told.items (get nat_eq rooms.old) (get nat_eq rooms.new) connection.now.conference
-        concerned.old concerned.new }
+        effects.new.told.items (get nat_eq rooms.old) (get nat_eq rooms.new)
+        connection.now.conference concerned.old concerned.new }
     ensures changed { HandedBy (get nat_eq rooms.old) (get nat_eq rooms.new)
         connection.now.conference effects.new.changed.items }
 {
@@ -224,8 +225,8 @@ pub(crate) fn serve_room(
     ensures place { (connection.new.conference ≡ connection.old.conference)
         × (connection.new.n ≡ connection.old.n) }
     ensures concerned { ConcernedBy (always (live_in concerned.old connection.old.conference))
-        effects.new.told.items (get nat_eq rooms.old) (get nat_eq rooms.new) connection.old.conference
-        concerned.old concerned.new }
+        effects.new.told.items (get nat_eq rooms.old) (get nat_eq rooms.new)
+        connection.old.conference concerned.old concerned.new }
     ensures changed { HandedBy (get nat_eq rooms.old) (get nat_eq rooms.new)
         connection.old.conference effects.new.changed.items }
 {
@@ -257,8 +258,8 @@ pub(crate) fn took_room(
         → (new : Kept) × Updates nat_eq rooms.old rooms.new connection.now.conference (Some new)
         × EventIn (Took connection.now.n k) room new result }
     ensures concerned { ConcernedBy (always (live_in concerned.old connection.now.conference))
-        effects.new.told.items (get nat_eq rooms.old) (get nat_eq rooms.new) connection.now.conference
-        concerned.old concerned.new }
+        effects.new.told.items (get nat_eq rooms.old) (get nat_eq rooms.new)
+        connection.now.conference concerned.old concerned.new }
     ensures changed { HandedBy (get nat_eq rooms.old) (get nat_eq rooms.new)
         connection.now.conference effects.new.changed.items }
 {

@@ -405,8 +405,9 @@ impl Machine {
 
     /// Takes it that a member has left, appends what that tells the others to `out`, by ascending
     /// member, and puts what is shown of the floor requests that it changed into `changed`. Where it was
-    /// the last connection of its user, the floor requests for that user end. Refused are, in this order, `Broken`, `Ended` and `NoMember`; after a refusal nothing
-    /// has changed, but that `Memory`, which comes last, leaves the machine broken.
+    /// the last connection of its user, the floor requests for that user end. Refused are, in this order,
+    /// `Broken`, `Ended` and `NoMember`; after a refusal nothing has changed, but that `Memory`, which
+    /// comes last, leaves the machine broken.
     pub fn leave(
         &mut self,
         n: u32,

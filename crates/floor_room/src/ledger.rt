@@ -177,10 +177,10 @@ impl Ledger {
 
     /// Adds an event, where nothing refuses it, gives the parcels that it calls for, and puts what is
     /// shown of the floor requests that it changed into `changed`, in place of what stood there: nothing
-    /// where it is refused. A message is kept as a copy of exactly its length. Refused are, in this order, `Broken`, `Ended`,
-    /// `JournalFull`, and then as the machine refuses an event of its kind. After `Memory`, which comes
-    /// last, the ledger is broken off and its journal is as it was; after every other refusal nothing
-    /// has changed.
+    /// where it is refused. A message is kept as a copy of exactly its length. Refused are, in this
+    /// order, `Broken`, `Ended`, `JournalFull`, and then as the machine refuses an event of its kind.
+    /// After `Memory`, which comes last, the ledger is broken off and its journal is as it was; after
+    /// every other refusal nothing has changed.
     pub fn add(
         &mut self,
         event: Event,

@@ -14,10 +14,10 @@ mod replaying;
 mod room;
 mod status;
 
+pub use effects::Effects;
 pub use floor_machine::{
     Act, AddedUser, Config, Event, Floor, Frame, Info, Parcel, Refusal, SharedInfo, User,
 };
-pub use effects::Effects;
 pub use journal::{Place, add_end, add_lines, journal_text};
 pub use ledger::Ledger;
 pub use outbox::NoMember;

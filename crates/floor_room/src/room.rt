@@ -196,7 +196,12 @@ impl Room {
     /// grows by what the message tells them. Refused are, in this order, `Broken`, `Ended`,
     /// `JournalFull`, `NoMember` and `Cut`, and nothing has changed; after a `Memory` the room is broken
     /// off.
-    pub fn serve(&mut self, n: u32, frame: Frame, effects: &mut Effects) -> Result<Place, RoomRefusal>
+    pub fn serve(
+        &mut self,
+        n: u32,
+        frame: Frame,
+        effects: &mut Effects,
+    ) -> Result<Place, RoomRefusal>
         ensures place { IfOk result (λ place. place ≡ length self.new.ledger.journal) }
         ensures took { OnOk result (Applied self.old self.new (Message n frame)) }
         ensures told { OnOk result

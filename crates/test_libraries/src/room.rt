@@ -150,7 +150,10 @@ fn change(alloc: Global, room: &mut Room, word: &str, rest: &str) -> Result<Stri
         "hellos" => hellos(alloc, room, number(rest)),
         "took" => took(alloc, room, rest),
         "leave" => done(alloc, room.leave(number(rest), &mut Effects::new(alloc))),
-        "revoke" => done(alloc, room.admin(Act::Revoke(short), &mut Effects::new(alloc))),
+        "revoke" => done(
+            alloc,
+            room.admin(Act::Revoke(short), &mut Effects::new(alloc)),
+        ),
         "close" => done(alloc, room.admin(Act::Close, &mut Effects::new(alloc))),
         "take" => take(alloc, room, number(rest)),
         _ => {
@@ -182,13 +185,19 @@ fn serve(alloc: Global, room: &mut Room, words: &str) -> Result<String, AllocErr
     let (n, message) = words.split_once(' ').unwrap_or((words, ""));
     match frame(alloc, message)? {
         None => String::from_str(alloc, "no message"),
-        Some(frame) => numbered(alloc, room.serve(number(n), frame, &mut Effects::new(alloc))),
+        Some(frame) => numbered(
+            alloc,
+            room.serve(number(n), frame, &mut Effects::new(alloc)),
+        ),
     }
 }
 
 fn took(alloc: Global, room: &mut Room, words: &str) -> Result<String, AllocError> {
     let (n, k) = words.split_once(' ').unwrap_or((words, ""));
-    done(alloc, room.took(number(n), number(k), &mut Effects::new(alloc)))
+    done(
+        alloc,
+        room.took(number(n), number(k), &mut Effects::new(alloc)),
+    )
 }
 
 fn take(alloc: Global, room: &mut Room, n: u32) -> Result<String, AllocError> {

@@ -136,7 +136,12 @@ impl Machine {
     {
         match self.chair_refusal(floor, chair) {
             Some(refusal) => Err(refusal),
-            None => self.take(None, Decision::to(Change::SetChair(floor, chair)), out, changed),
+            None => self.take(
+                None,
+                Decision::to(Change::SetChair(floor, chair)),
+                out,
+                changed,
+            ),
         }
     }
 

@@ -159,10 +159,7 @@ impl Updates {
 }
 
 /// Hands out what is shown of each of these requests, behind what stands there.
-pub(crate) fn put_shown(
-    updates: &[Update],
-    changed: &mut Vec<SharedInfo>,
-) -> Result<(), AllocError>
+pub(crate) fn put_shown(updates: &[Update], changed: &mut Vec<SharedInfo>) -> Result<(), AllocError>
     ensures { OnOk result (changed.new.items
         ≡ changed.old.items ++ telling.infos_told updates.now) }
 {

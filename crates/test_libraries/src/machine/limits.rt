@@ -114,7 +114,8 @@ fn told_by(alloc: Global, machine: &mut Machine, case: &str) -> Result<String, A
 
 #[test]
 fn a_leave_ends_256_requests_and_tells_a_member_288_messages(rt: HostRuntime) {
-    let wanted = "256 asked, 256 ongoing, left true, 256 changed, 0 ongoing, 1 live, 288 told, all to 1 true";
+    let wanted =
+        "256 asked, 256 ongoing, left true, 256 changed, 0 ongoing, 1 live, 288 told, all to 1 true";
     assert_told(&rt, told_of_crowd(rt.alloc()), wanted);
 }
 
@@ -144,8 +145,8 @@ fn crowded(alloc: Global, machine: &mut Machine) -> Result<String, AllocError> {
     Ok(text)
 }
 
-/// Appends what the leave of member 2 changes, and what it tells: a status of each request and of each floor, all to the
-/// member that asked and watches. Who left is told nothing.
+/// Appends what the leave of member 2 changes, and what it tells: a status of each request and of each
+/// floor, all to the member that asked and watches. Who left is told nothing.
 fn push_leave(alloc: Global, text: &mut String, machine: &mut Machine) -> Result<(), AllocError> {
     let mut out = Vec::new(alloc);
     let mut changed = Vec::new(alloc);
