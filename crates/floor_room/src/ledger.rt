@@ -215,9 +215,9 @@ impl Ledger {
                 self.is_broken = false;
                 Ok(out)
             }
-            Err(_) => {
+            Err(refused) => {
                 changed.clear();
-                Err(RoomRefusal::Refused(Refusal::Memory))
+                Err(RoomRefusal::from(refused))
             }
         }
     }
