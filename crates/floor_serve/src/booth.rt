@@ -172,8 +172,12 @@ impl Booth {
         let _journal = self.journal();
         let (sender, taker) = pair(*self.senders.allocator())?;
         self.senders.reserve(1)?;
-        let event = Event::Join { user };
-        let out = add(&mut self.ledger, &self.senders, &mut self.changed, event)?;
+        let out = add(
+            &mut self.ledger,
+            &self.senders,
+            &mut self.changed,
+            Event::Join { user },
+        )?;
         self.senders.push_reserved(Some(sender));
         feed(
             rt,
