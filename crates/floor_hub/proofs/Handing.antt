@@ -1,5 +1,5 @@
 -- What each call of a hub hands out of what it changed.
-use Rattle.std.proofs.Common.{◌≡◌, ◌⊎◌, ◌++◌, ℕ, List, [], ◌∷◌, true, false, refl, sym, ap, subst, ◌∙◌, inl, inr, Some, None, append-nil}
+use Rattle.std.proofs.Common.{◌≡◌, ◌⊎◌, ◌++◌, ℕ, List, [], ◌∷◌, true, false, refl, sym, ap, ◌∙◌, inl, inr, Some, None, append-nil}
 use Rattle.std.specs.Prelude.{Bool, Option, nat_eq}
 use Rattle.std.proofs.lemmas.Bool.{eqb-true}
 use Rattle.std.proofs.lemmas.List.{append_cancel_left}

@@ -1,6 +1,5 @@
-use Rattle.std.proofs.Common.{◌≡◌, ◌∙◌, ◌∷◌, ◌++◌, [], List, ap, sym, subst}
+use Rattle.std.proofs.Common.{◌≡◌, sym, subst}
 use Rattle.std.specs.Prelude.{None}
-use Rattle.floor_machine.specs.declared.event.Event.{Event}
 use Rattle.floor_room.specs.Ledger as spec
 use Rattle.floor_room.specs.Ledger.{closed}
 use Rattle.floor_room.proofs.Ledgers.{IsOpen, ledger-few, ledger-taken, opened}
