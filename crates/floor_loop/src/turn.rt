@@ -222,7 +222,9 @@ pub(crate) fn acknowledge(hub: &mut Hub, attended: &mut Attended, number: ConnNo
 {
     let _acknowledged = hub.took(number, parcels);
     wake(hub, attended);
-    fill(hub, attended, number);
+    if hub.first(number).is_some() {
+        fill(hub, attended, number);
+    }
 }
 
 /// A connection is to be shut down.
