@@ -374,6 +374,8 @@ impl Loop {
         ensures acknowledged { drop count (rest_at self.old number) ≡ []
             → parcels_at self.old number ≢ 0
             → Acknowledges number (parcels_at self.old number) self.old.hub self.new.hub }
+        ensures filled { drop count (rest_at self.old number) ≡ []
+            → parcels_at self.old number ≢ 0 → IsFilled self.new number }
         ensures spares { Spares self.old self.new }
     {
         self.attended.pass(now);
