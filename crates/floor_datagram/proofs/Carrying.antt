@@ -21,20 +21,20 @@ use Rattle.floor_datagram.specs.declared.fragments.Range.{Range}
 
 -- ---- lists
 
-each-map : {X : Type 0} (P Q : X → Type 0) (f : (x : X) → P x → Q x) (xs : List X) → AllByRecursion P xs → AllByRecursion Q xs
+pub each-map : {X : Type 0} (P Q : X → Type 0) (f : (x : X) → P x → Q x) (xs : List X) → AllByRecursion P xs → AllByRecursion Q xs
 each-map P Q f [] p = tt
 each-map P Q f (x ∷ xs) p = (f x p.0, each-map P Q f xs p.1)
 
-each-append : {X : Type 0} (P : X → Type 0) (xs ys : List X) → AllByRecursion P xs → AllByRecursion P ys → AllByRecursion P (xs ++ ys)
+pub each-append : {X : Type 0} (P : X → Type 0) (xs ys : List X) → AllByRecursion P xs → AllByRecursion P ys → AllByRecursion P (xs ++ ys)
 each-append P [] ys p q = q
 each-append P (x ∷ xs) ys p q = (p.0, each-append P xs ys p.1 q)
 
-each-take : {X : Type 0} (P : X → Type 0) (n : ℕ) (xs : List X) → AllByRecursion P xs → AllByRecursion P (take n xs)
+pub each-take : {X : Type 0} (P : X → Type 0) (n : ℕ) (xs : List X) → AllByRecursion P xs → AllByRecursion P (take n xs)
 each-take P zero xs p = tt
 each-take P (suc n) [] p = tt
 each-take P (suc n) (x ∷ xs) p = (p.0, each-take P n xs p.1)
 
-each-drop : {X : Type 0} (P : X → Type 0) (n : ℕ) (xs : List X) → AllByRecursion P xs → AllByRecursion P (drop n xs)
+pub each-drop : {X : Type 0} (P : X → Type 0) (n : ℕ) (xs : List X) → AllByRecursion P xs → AllByRecursion P (drop n xs)
 each-drop P zero xs p = p
 each-drop P (suc n) [] p = tt
 each-drop P (suc n) (x ∷ xs) p = each-drop P n xs p.1
@@ -42,12 +42,12 @@ each-drop P (suc n) (x ∷ xs) p = each-drop P n xs p.1
 each-insert : {X : Type 0} (P : X → Type 0) (xs : List X) (n : ℕ) (y : X) → AllByRecursion P xs → P y → AllByRecursion P (insert xs n y)
 each-insert P xs n y p q = each-append P (take n xs) (y ∷ drop n xs) (each-take P n xs p) (q, each-drop P n xs p)
 
-among-more : (came more : List (List ℕ)) (d : List ℕ) → IsAmong came d → IsAmong (came ++ more) d
+pub among-more : (came more : List (List ℕ)) (d : List ℕ) → IsAmong came d → IsAmong (came ++ more) d
 among-more [] more d a = absurd a
 among-more (c ∷ came) more d (inl e) = inl e
 among-more (c ∷ came) more d (inr a) = inr (among-more came more d a)
 
-among-last : (came : List (List ℕ)) (d : List ℕ) → IsAmong (came ++ d ∷ []) d
+pub among-last : (came : List (List ℕ)) (d : List ℕ) → IsAmong (came ++ d ∷ []) d
 among-last [] d = inl refl
 among-last (c ∷ came) d = inr (among-last came d)
 

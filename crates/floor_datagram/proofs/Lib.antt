@@ -6,3 +6,9 @@ pub mod Reading
 pub mod Serving
 pub mod Numbers
 pub mod Ordering
+pub mod Fitting
+pub mod Holding
+pub mod Passing
+pub mod Losing
+pub mod Sending
+pub mod Dividing

@@ -9,7 +9,7 @@ use Rattle.floor_datagram.specs.declared.fragments.Range.{Range}
 
 -- ---- a range put in its place, from the front on
 
-abbrev from_front : (offset : ℕ) → List Range → ℕ
+abbrev pub from_front : (offset : ℕ) → List Range → ℕ
 from_front offset [] = 0
 from_front offset (r ∷ rs) = if is_from offset r then 0 else suc (from_front offset rs)
 
@@ -25,14 +25,14 @@ place-from offset i (r ∷ rs) = by (is_from offset r) (place-from offset (i + 1
         let sum : i + 1 + from_front offset rs ≡ i + suc (from_front offset rs) = omega arith in
         ap (λ n. unwrap_or (position_from (λ r. is_from offset r) (i + 1) rs) n) len ∙ rest ∙ sum
 
-place-front : (offset : ℕ) (rs : List Range) → place_of offset rs ≡ from_front offset rs
+pub place-front : (offset : ℕ) (rs : List Range) → place_of offset rs ≡ from_front offset rs
 place-front offset rs =
     let zero_sum : length rs ≡ 0 + length rs = omega arith in
     let result : 0 + from_front offset rs ≡ from_front offset rs = omega arith in
     ap (λ p. unwrap_or p (length rs)) (position_from-zero (λ r. is_from offset r) rs)
     ∙ ap (λ n. unwrap_or (position_from (λ r. is_from offset r) 0 rs) n) zero_sum ∙ place-from offset 0 rs ∙ result
 
-abbrev inserted : List ℕ → List Range → List Range
+abbrev pub inserted : List ℕ → List Range → List Range
 inserted d rs = insert rs (from_front (offset_of d) rs) (range_of d)
 
 -- ---- where ranges follow one another

@@ -11,7 +11,7 @@ use Rattle.floor_datagram.specs.Newest.{first_of, or_else, newest_of, IsDistinct
 
 -- ---- a message put in its place, from the front on
 
-abbrev placed : List ℕ → List (List ℕ) → List (List ℕ)
+abbrev pub placed : List ℕ → List (List ℕ) → List (List ℕ)
 placed m [] = m ∷ []
 placed m (w ∷ ws) = if is_same_subject m w then m ∷ ws else w ∷ placed m ws
 
@@ -63,7 +63,7 @@ same-self : (m : List ℕ) → is_same_subject m m ≡ true
 same-self m = both (primitive_of m == primitive_of m) (subject_number m == subject_number m) (eq-eqb _ _ refl) (eq-eqb _ _ refl)
 
 -- the other way round
-same-turned : (w m : List ℕ) → is_same_subject m w ≡ false → is_same_subject w m ≡ false
+pub same-turned : (w m : List ℕ) → is_same_subject m w ≡ false → is_same_subject w m ≡ false
 same-turned w m h = by (is_same_subject w m) refl
   where
     by : (b : Bool) → is_same_subject w m ≡ b → is_same_subject w m ≡ false
@@ -88,7 +88,7 @@ first_of-placed q m [] = refl
 first_of-placed q m (w ∷ ws) = first_of-step q m w ws (is_same_subject m w) (is_same_subject q m) (is_same_subject q w) refl refl refl (first_of-placed q m ws)
 
 -- what is of one subject finds the same
-first_of-same : (m w : List ℕ) (ws : List (List ℕ)) → is_same_subject m w ≡ true → first_of w ws ≡ first_of m ws
+pub first_of-same : (m w : List ℕ) (ws : List (List ℕ)) → is_same_subject m w ≡ true → first_of w ws ≡ first_of m ws
 first_of-same m w [] h = refl
 first_of-same m w (x ∷ ws) h =
     ap (λ b. if b then Some x else first_of w ws) (same-from m w x h) ∙ ap (λ o. if is_same_subject m x then Some x else o) (first_of-same m w ws h)
@@ -99,7 +99,7 @@ distinct-step m w ws true is d rest = (sym (first_of-same m w ws is) ∙ d.0, d.
 distinct-step m w ws false is d rest =
     (first_of-placed w m ws ∙ ap (λ b. if b then Some m else first_of w ws) (same-turned w m is) ∙ d.0, rest)
 
-distinct-placed : (m : List ℕ) (ws : List (List ℕ)) → IsDistinct ws → IsDistinct (placed m ws)
+pub distinct-placed : (m : List ℕ) (ws : List (List ℕ)) → IsDistinct ws → IsDistinct (placed m ws)
 distinct-placed m [] d = (refl, tt)
 distinct-placed m (w ∷ ws) d = distinct-step m w ws (is_same_subject m w) refl d (distinct-placed m ws d.1)
 

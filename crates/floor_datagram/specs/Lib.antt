@@ -15,6 +15,9 @@ pub mod Run
 pub mod Order
 pub mod NoticeIds
 pub mod Newest
+pub mod Holding
+pub mod Losing
+pub mod Sending
 -- what the fields of the types stand for
 pub mod Views
 pub mod OutView

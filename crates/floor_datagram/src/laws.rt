@@ -1,14 +1,19 @@
 //! What follows from the definitions, over whole runs. No code runs here.
 
-ghost use Rattle.std.specs.Prelude.{◌≡◌, ℕ, Bool, ◌+◌, ◌%◌, ◌<◌, ◌≤◌, [], ◌∷◌, ◌++◌, List, Option, None, Some, true};
+ghost use Rattle.std.specs.Prelude.{◌≡◌, ◌↔◌, ℕ, Bool, ◌+◌, ◌%◌, ◌<◌, ◌≤◌, [], ◌∷◌, ◌++◌, length, List, Option, None, Some, true};
+ghost use Rattle.floor_datagram.specs.Holding.{HasRoom, Holds};
 ghost use Rattle.floor_datagram.specs.Fragments.{joined, payload_of, placed_in, range_of, whole_of};
+ghost use Rattle.floor_datagram.specs.Losing.{Loses};
+ghost use Rattle.floor_datagram.specs.declared.end.End.TheVariants.{Lost};
 ghost use Rattle.floor_datagram.specs.Newest.{IsNewest, beginning, begun_behind};
 ghost use Rattle.floor_datagram.specs.Notices.{Notices, acknowledged, fresh_id, is_out, put, told, waits};
 ghost use Rattle.floor_datagram.specs.NoticeIds.{IsLastId, Own};
 ghost use Rattle.floor_datagram.specs.Numbering.{age_of};
 ghost use Rattle.floor_datagram.specs.Order.{come, Comes, Follow};
-ghost use Rattle.floor_datagram.specs.Run.{Input, run, came, AreWhole, Serves};
-ghost use Rattle.floor_datagram.specs.Session.{Terms, begins};
+ghost use Rattle.floor_datagram.specs.Run.{Input, run, step, came, AreWhole, Serves};
+ghost use Rattle.floor_datagram.specs.Sending.{Sends, said, whole};
+ghost use Rattle.floor_wire.specs.Message.{messages};
+ghost use Rattle.floor_datagram.specs.Session.{Session, Terms, begins, datagram};
 ghost use Rattle.floor_datagram.specs.declared.fragments.Range.{Range};
 ghost use Rattle.floor_datagram.specs.declared.numbering.Age.TheVariants.{Older};
 
@@ -63,4 +68,40 @@ pub fn fragments_come_in_any_order()
         → placed_in fragment since (come before ranges)
         ≡ whole_of fragment since (joined 0 (payload_of fragment) (come after ranges))
         (come after ranges) }
+{}
+
+/// What a session holds at most, whatever comes: of fragments no more bytes than came, and 8,180 at most; the
+/// datagrams of one answer and of one notice; of each subject one message that waits, and of each own request
+/// one that tells of it; and of the server's stream no whole message.
+pub fn what_a_session_holds_is_bounded()
+    ensures { (terms : Terms) (first now : ℕ) (inputs : List Input)
+        → Holds (came inputs) (run (begins terms first now) inputs).after }
+{}
+
+/// What a datagram adds to what waits for the server makes that no more than 65,536 bytes.
+pub fn what_waits_for_the_server_is_bounded()
+    ensures { (s : Session) (waiting now : ℕ) (d : List ℕ) → 12 ≤ length d
+        → HasRoom waiting (datagram s waiting now d).up }
+{}
+
+/// Of any run: a session that goes on is lost by the next input exactly where a notice is out that was sent four
+/// times and 15 T1 have passed since it was sent first, or where the caller says so (RFC 8855, section 8.3.1).
+pub fn a_peer_is_lost_that_does_not_acknowledge()
+    ensures { (terms : Terms) (first now : ℕ) (inputs : List Input) (next : Input)
+        → (run (begins terms first now) inputs).after.end ≡ None
+        → ((step (run (begins terms first now) inputs).after next).after.end ≡ Some Lost)
+        ↔ Loses (run (begins terms first now) inputs).after next }
+{}
+
+/// Of any run: the peer is sent each answer of the server's, once for the first time, in their order; notices,
+/// each a message of the server's or the session's Goodbye; what the session itself answers; and what was sent
+/// before once more. It is sent nothing else (RFC 8855, sections 6.2, 8.2 and 8.3). The server's messages are
+/// those of all that it said while the session went on, however that was cut.
+pub fn nothing_else_is_sent()
+    ensures sends { (terms : Terms) (first now : ℕ) (inputs : List Input)
+        → Sends terms (whole (begins terms first now) inputs)
+        (run (begins terms first now) inputs).down }
+    ensures whole { (terms : Terms) (first now : ℕ) (inputs : List Input)
+        → whole (begins terms first now) inputs
+        ≡ messages (said (begins terms first now) inputs) }
 {}
