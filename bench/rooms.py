@@ -20,7 +20,7 @@ HOST = "127.0.0.1"
 PORT = FIRST_PORT + 301
 GRACE = 3
 FLOOR_REQUEST, FLOOR_RELEASE, REQUEST_QUERY, REQUEST_STATUS, FLOOR_QUERY, FLOOR_STATUS = 1, 2, 3, 4, 7, 8
-HELLO, ERROR, REQUEST_ACK, FLOOR_ACK, GOODBYE, GOODBYE_ACK = 11, 13, 14, 15, 16, 17
+HELLO, HELLO_ACK, ERROR, REQUEST_ACK, FLOOR_ACK, GOODBYE, GOODBYE_ACK = 11, 12, 13, 14, 15, 16, 17
 GRANTED = 3
 
 # The names of the tries that gave what they should, and of those that didn't.
@@ -61,7 +61,7 @@ class Gate:
     """A floorhub, and a floorudp before it."""
 
     def __init__(self, floorhub, floorudp, text, *words, control=False, grace=GRACE):
-        self.program, self.words = floorudp, words
+        self.program, self.words, self.variables = floorudp, words, {}
         self.folder = tempfile.mkdtemp()
         self.hub_log = open(self.folder + "/hub.log", "w+")
         self.gate_log = open(self.folder + "/gate.log", "w+")
@@ -75,9 +75,10 @@ class Gate:
 
     def start(self):
         command = [self.program, "%s:%d" % (HOST, PORT), self.hub.path, "--door-by-id", str(DOOR), "--log", *self.words]
-        self.process = subprocess.Popen(command, stdin=subprocess.PIPE, stdout=subprocess.PIPE, stderr=self.gate_log)
+        self.process = subprocess.Popen(command, stdin=subprocess.PIPE, stdout=subprocess.PIPE, stderr=self.gate_log,
+                                        env={**os.environ, **self.variables})
         if self.process.stdout.readline() != b"ready\n":
-            raise SystemExit("floorudp isn't ready: " + self.log())
+            raise SystemExit("floorudp isn't ready: %r" % self.log())
 
     def log(self):
         """What floorudp told, without the times."""
@@ -89,17 +90,21 @@ class Gate:
         with open(self.folder + "/hub.log") as file:
             return sum(1 for line in file if word in line)
 
-    def messages(self, conference=1):
-        """The messages that the journal has of each member, as (primitive, Transaction ID), by user."""
+    def served(self, conference=1):
+        """The messages that the journal has of each member, by user."""
         users, found = {}, {}
         for line in self.hub.journal(conference):
             words = line.split()
             if words[1:2] == ["join"]:
                 users[len(users) + 1] = int(words[2])
             if words[1:2] == ["message"]:
-                message = bytes.fromhex(words[3])
-                found.setdefault(users[int(words[2])], []).append((message[1], id_of(message)))
+                found.setdefault(users[int(words[2])], []).append(bytes.fromhex(words[3]))
         return found
+
+    def messages(self, conference=1):
+        """The same, each as (primitive, Transaction ID)."""
+        served = self.served(conference)
+        return {user: [(message[1], id_of(message)) for message in served[user]] for user in served}
 
     def memory(self):
         """The resident memory of floorudp, in kB."""

@@ -1,24 +1,26 @@
 #!/usr/bin/env python3
 """A gateway for room systems, tried over sockets: bench/udp.py FLOORHUB FLOORUDP [GROUP ..]
 
-Starts a floorhub and a floorudp of its own for each group of tries: requests, notices, fragments, who, words, bounds,
-ends, loss, many, starts; and where they are named libre (which wants a C compiler and Debian's libre-dev) and dtls
-(which wants socat and openssl besides). What was served is read from the conference's journal, who was lost from
-floorhub's log. Prints a line for each try that fails, and how many passed; status 1 where one failed.
+Starts a floorhub and a floorudp of its own for each group of tries: starts, requests, notices, around, near, fragments,
+who, words, bounds, dropped, ends, loss, many; and where they are named memory (which wants a C compiler), libre (which
+wants Debian's libre-dev besides), lossy and dtls (which wants socat and openssl too). `loss:7` is loss with another seed.
+What was served is read from the conference's journal, who was lost from floorhub's log. Prints a line for each try that
+fails, and how many passed; status 1 where one failed.
 """
 import pathlib
 import random
-import socket
+import signal
 import struct
 import subprocess
 import sys
 import tempfile
+import threading
 import time
 
 import libre
 from datagrams import error, head, id_of, units_of, with_primitives
 from rooms import (
-    ERROR, FLOOR_ACK, FLOOR_QUERY, FLOOR_RELEASE, FLOOR_REQUEST, FLOOR_STATUS, GOODBYE, GOODBYE_ACK, GRACE, HELLO, HOST,
+    ERROR, FLOOR_ACK, FLOOR_QUERY, FLOOR_RELEASE, FLOOR_REQUEST, FLOOR_STATUS, GOODBYE, GOODBYE_ACK, HELLO, HELLO_ACK, HOST,
     PORT, REQUEST_STATUS, Gate, Member, Network, Peer, check, configuration, failed, floor, passed, request_id)
 
 USERS = {10: HOST, 11: HOST, 12: HOST, 13: HOST + ":50113", 20: None, 30: "127.0.0.9"}
@@ -65,20 +67,27 @@ def requests(programs):
         peer.send(datagram)
         check(name, peer.hear(), error(datagram, 13))
     peer.next = 2
-    check("an unknown primitive", peer.ask(99)[12:16], bytes([12, 3, 3, 0]))
+    check("an unknown primitive", (peer.ask(99) or b"")[12:16], bytes([12, 3, 3, 0]))
     peer.send(peer.message(HELLO, 3, first=0x47))
     check("reserved bits", peer.hear()[:2], bytes([0x50, 12]))
-    for transaction in (30000, 60000, 65535, 1):
+    for transaction in (30000, 60000, 65535):
         peer.send(peer.message(HELLO, transaction))
         check("ID %d" % transaction, id_of(peer.hear()), transaction)
+    peer.send(peer.message(HELLO, 0))
+    check("ID 0 behind 65535", peer.all(0.1), [])
+    peer.send(peer.message(HELLO, 1))
+    check("ID 1 behind 65535", id_of(peer.hear()), 1)
     goodbye = peer.message(GOODBYE, 2)
     for name in ("Goodbye", "its copy", "its second copy"):
         peer.send(goodbye)
         check(name, peer.hear(), peer.message(GOODBYE_ACK, 2, first=0x50))
     time.sleep(QUIET)
     check("Goodbye is a leave", gate.hub_says("left EndOfStream"), 1)
-    peer.send(peer.message(FLOOR_QUERY, 1, floor(1)))
-    check("a late copy of an older one", peer.all(QUIET), [])
+    for name, late in [("a late copy of an older one", peer.message(FLOOR_QUERY, 1, floor(1))),
+                       ("a late copy of a Hello", peer.message(HELLO, 1)),
+                       ("a newer one that is no Hello", peer.message(FLOOR_QUERY, 3, floor(1)))]:
+        peer.send(late)
+        check("behind Goodbye " + name, peer.all(QUIET), [])
     peer.next = 3
     check("a Hello behind Goodbye", peer.ask(HELLO)[1], 12)
     check("each is served once, in order", gate.messages()[10], [
@@ -89,7 +98,29 @@ def requests(programs):
     alone.send(alone.message(GOODBYE, 9))
     check("Goodbye without a session", alone.hear(), alone.message(GOODBYE_ACK, 9, first=0x50))
     check("it begins none", 11 in gate.messages(), False)
+    unread(gate, member)
     gate.end()
+
+
+def unread(gate, member):
+    """A Goodbye that comes while bytes of floorhub's are unread: a close would reset the stream, and that is no leave."""
+    peer, leaves = Peer(12), gate.hub_says("left EndOfStream")
+    peer.ask(HELLO)
+    peer.ask(FLOOR_QUERY, floor(1))
+    # Until it waits for its sockets.
+    time.sleep(QUIET)
+    gate.process.send_signal(signal.SIGSTOP)
+    for _ in range(5):
+        member.ask(FLOOR_RELEASE, request_id(request_of(member.ask(FLOOR_REQUEST, floor(1)))))
+    peer.send(peer.message(GOODBYE, peer.next))
+    time.sleep(0.1)
+    gate.process.send_signal(signal.SIGCONT)
+    # A notice may come ahead of the answer.
+    answer = next((it for it in iter(peer.hear, None) if it[0] & 16), None)
+    check("Goodbye over unread bytes", answer, peer.message(GOODBYE_ACK, peer.next, first=0x50))
+    time.sleep(QUIET)
+    check("it is a leave", gate.hub_says("left EndOfStream"), leaves + 1)
+    check("behind it nothing is told", peer.all(QUIET), [])
 
 
 # Notices
@@ -108,7 +139,7 @@ def notices(programs):
     check("the answer to a query of two floors", [came[0][1][0], came[0][1][1], came[0][1][12:16]], [0x50, FLOOR_STATUS, floor(1)])
     sent = came[1:]
     check("the second floor is a notice", [sent[0][1][0], sent[0][1][1], sent[0][1][12:16]], [0x40, FLOOR_STATUS, floor(2)])
-    check("its ID is far from the peer's", 0 < (id_of(sent[0][1]) - 2) % 65536 < 1024, False)
+    check("its ID is 32,768 more than the session's first", id_of(sent[0][1]), 32769)
     check("it is sent four times, the same", [datagram for _, datagram in sent], [sent[0][1]] * 4)
     check("and at its times", [round(at - sent[0][0], 1) for at, _ in sent], [0, 0.5, 1.5, 3.5])
     check("the peer is lost", gate.log()[-1], "left conference 1 user 10: Lost")
@@ -131,13 +162,24 @@ def notices(programs):
     requested = [request_of(member.ask(FLOOR_REQUEST, floor(1))) for _ in range(5)]
     for number in requested:
         member.ask(FLOOR_RELEASE, request_id(number))
+    check("while one is out no other comes", [it for it in again.all(0.4) if it != notice], [])
     again.acknowledge(notice)
-    newest = again.hear()
-    while newest == notice:
-        newest = again.hear()
+    newest = next_notice(again, notice)
     again.acknowledge(newest)
     check("of one floor the newest is told", newest[16:], b"")
     check("and nothing behind it", again.all(0.8), [])
+    # Of two floors that change while a notice is out each is told, in their order.
+    requested = request_of(member.ask(FLOOR_REQUEST, floor(1)))
+    notice = again.hear()
+    for number in (2, 1):
+        member.ask(FLOOR_RELEASE, request_id(request_of(member.ask(FLOOR_REQUEST, floor(number)))))
+    member.ask(FLOOR_RELEASE, request_id(requested))
+    for number in (2, 1):
+        again.acknowledge(notice)
+        notice = next_notice(again, notice)
+        check("floor %d is told" % number, notice and notice[12:], floor(number))
+    again.acknowledge(notice)
+    check("and no other", again.all(0.8), [])
     again.acknowledges = True
     # An answer that crosses a notice of its subject is told once more.
     member.ask(FLOOR_REQUEST, floor(2))
@@ -147,8 +189,9 @@ def notices(programs):
     check("an answer doesn't wait for a notice", [answer[0], answer[1]], [0x50, FLOOR_STATUS])
     again.acknowledge(notice)
     crossed = again.hear()
-    check("an answer that crossed is told again", [crossed[0], crossed[12:]], [0x40, answer[12:]])
-    again.acknowledge(crossed)
+    check("an answer that crossed is told again", crossed and [crossed[0], crossed[12:]], [0x40, answer[12:]])
+    if crossed:
+        again.acknowledge(crossed)
     again.next += 1
     # An acknowledgement after 0.4 s, of a notice that was sent once, makes T1 longer.
     for _ in range(2):
@@ -166,6 +209,32 @@ def notices(programs):
     check("it is sent again", again.hear(3), notice)
     check("behind a T1 that was measured", time.monotonic() - start > 0.7)
     again.acknowledge(notice)
+    gate.end()
+
+
+def next_notice(peer, notice):
+    """The next datagram that isn't this notice once more."""
+    following = notice
+    while following == notice:
+        following = peer.hear()
+    return following
+
+
+def around(programs):
+    """The server's IDs go around: 0 is passed over."""
+    gate = begin(programs)
+    peer, member = Peer(10, first=32767), Member(20)
+    peer.ask(HELLO)
+    peer.ask(FLOOR_QUERY, floor(1))
+    came = []
+    for _ in range(2):
+        number = request_of(member.ask(FLOOR_REQUEST, floor(1)))
+        came.append(peer.hear())
+        peer.acknowledge(came[-1])
+        member.ask(FLOOR_RELEASE, request_id(number))
+        came.append(peer.hear())
+        peer.acknowledge(came[-1])
+    check("IDs behind 65535", [notice and id_of(notice) for notice in came], [65535, 1, 2, 3])
     gate.end()
 
 
@@ -195,11 +264,16 @@ def cut(message, *ranges):
             for at, count in ranges]
 
 
+def begun(peer, transaction):
+    """The first fragment, of a unit, of the longest request that is put together."""
+    return peer.message(FLOOR_QUERY, transaction, first=0x48)[:2] + struct.pack(">HIHHHHI", 2044, peer.conference, transaction, peer.user, 0, 1, 0)
+
+
 def fragments(programs):
     gate = begin(programs, floors=8)
     peer = Peer(10)
     peer.ask(HELLO)
-    wanted, transaction = [(HELLO, 1)], 2
+    wanted, transaction = [peer.message(HELLO, 1)], 2
     ranges = [(0, 1), (1, 1), (2, 1)]
     for order in [(0, 1, 2), (2, 1, 0), (1, 0, 2), (0, 0, 1, 1, 2)]:
         message = peer.message(FLOOR_QUERY, transaction, floor(1, 2, 3))
@@ -207,17 +281,18 @@ def fragments(programs):
         for index in order:
             peer.send(pieces[index])
         answer = peer.hear()
-        check("fragments in order %r" % (order,), [answer[0], id_of(answer)], [0x50, transaction])
+        check("fragments in order %r" % (order,), [answer[0], id_of(answer), answer[1]], [0x50, transaction, FLOOR_STATUS])
         peer.listen(0.1)
         peer.send(pieces[0])
         check("a copy of the first fragment", peer.hear(), answer)
         peer.send(pieces[1])
         check("a copy of another one", peer.all(0.1), [])
-        wanted.append((FLOOR_QUERY, transaction))
+        wanted.append(message)
         transaction += 1
     message = peer.message(FLOOR_QUERY, transaction, floor(1, 2, 3))
     for name, pieces in [
             ("one is missing", cut(message, (0, 1), (2, 1))), ("in two calls that overlap", cut(message, (0, 2), (1, 2))),
+            ("of one that overlapped", cut(peer.message(FLOOR_QUERY, transaction + 1, floor(1, 2, 3)), (0, 2), (1, 2), (2, 1))),
             ("without a unit", cut(message, (0, 0))), ("of fewer than 16 bytes", [cut(message, (0, 1))[0][:15]]),
             ("with R", [bytes([0x58]) + message[1:12] + struct.pack(">HH", 0, 3) + message[12:]])]:
         for piece in pieces:
@@ -233,19 +308,19 @@ def fragments(programs):
     for piece in cut(message, *ranges):
         peer.send(piece)
     check("the same message once more", id_of(peer.hear()), transaction)
-    wanted.append((FLOOR_QUERY, transaction))
+    wanted.append(message)
     peer.listen(0.3)
-    check("each is served once", gate.messages()[10], wanted)
+    check("each is served once, whole", gate.served()[10], [b"\x20" + message[1:] for message in wanted])
     alone = Peer(11)
     for piece in cut(alone.message(HELLO, 1, bytes(8)), (0, 1), (1, 1)):
         alone.send(piece)
     check("fragments begin nothing", alone.all(0.1), [])
     before = gate.memory()
     for number in range(300):
-        begun = peer.message(FLOOR_QUERY, transaction + 1 + number, bytes(4))
-        peer.send(begun[:2] + struct.pack(">H", 2000) + begun[4:12] + struct.pack(">HH", 0, 1) + bytes(4))
+        peer.send(begun(peer, transaction + 1 + number))
         time.sleep(0.012)
-    check("300 that were begun take no memory", gate.memory() - before < 4096)
+    check("what is begun isn't answered", peer.all(0.1), [])
+    check("300 that were begun take no memory", gate.memory() - before < 1024)
     gate.end()
     long_messages(programs)
 
@@ -273,8 +348,12 @@ def long_messages(programs):
 
 
 def put_together(pieces):
-    """The message of these fragments."""
-    pieces = sorted(pieces, key=lambda piece: piece[12:14])
+    """The message of these fragments, each of which begins where the one before ends."""
+    pieces, at = sorted(pieces, key=lambda piece: piece[12:14]), 0
+    for piece in pieces:
+        offset, units = struct.unpack(">HH", piece[12:16])
+        check("a fragment's offset and length", [offset, 16 + 4 * units], [at, len(piece)])
+        at += units
     return bytes([pieces[0][0] & ~8]) + pieces[0][1:12] + b"".join(piece[16:] for piece in pieces)
 
 
@@ -302,8 +381,15 @@ def who(programs):
     first, second = Peer(10), Peer(10, first=500)
     first.ask(HELLO)
     number = request_of(first.ask(FLOOR_REQUEST, floor(1)))
+    first.ask(FLOOR_QUERY, floor(3))
     second.send(second.message(FLOOR_QUERY, 7, floor(1)))
     check("another port without a Hello", second.all(QUIET), [])
+    member = Member(20)
+    member.ask(FLOOR_REQUEST, floor(3))
+    told = first.hear()
+    check("a notice goes to the session's own port", told and [told[0], told[1], told[12:16]], [0x40, FLOOR_STATUS, floor(3)])
+    first.acknowledge(told)
+    check("and to no other", second.all(QUIET), [])
     check("and with one", second.ask(HELLO)[1], 12)
     time.sleep(QUIET)
     check("the session has moved", gate.log()[-2:], [
@@ -317,7 +403,7 @@ def who(programs):
     second.listen(QUIET)
     start = time.monotonic()
     probe = second.hear(8)
-    check("who holds a floor is asked behind 5 s", [probe[1], 4.5 < time.monotonic() - start < 6.5], [REQUEST_STATUS, True])
+    check("who holds a floor is asked behind 5 s", probe and [probe[1], 4.5 < time.monotonic() - start < 6.5], [REQUEST_STATUS, True])
     check("of the request that it has", request_of(probe), number)
     second.acknowledge(probe)
     quiet = Peer(11)
@@ -343,6 +429,30 @@ def who(programs):
     check("once it is acknowledged nothing more", quiet.all(0.8), [])
     closed.send(closed.message(HELLO, 9))
     check("no conference any more", closed.hear(), error(closed.message(HELLO, 9), 14))
+    gate.end()
+    silent(programs)
+
+
+def silent(programs):
+    """Who is silent is asked of the latest of its requests that goes on."""
+    gate = begin(programs, "--probe", "5")
+    peer = Peer(10)
+    peer.ask(HELLO)
+    first, second = [request_of(peer.ask(FLOOR_REQUEST, floor(number))) for number in (1, 2)]
+    peer.ask(FLOOR_RELEASE, request_id(second))
+    peer.listen(QUIET)
+    for name, number in [("not of one that has ended", first), ("of the latest", None)]:
+        if number is None:
+            number = request_of(peer.ask(FLOOR_REQUEST, floor(3)))
+            peer.ask(FLOOR_RELEASE, request_id(request_of(peer.ask(FLOOR_REQUEST, floor(2)))))
+            peer.listen(QUIET)
+        probe = peer.hear(8)
+        check("who is silent is asked, " + name, probe and [probe[1], request_of(probe)], [REQUEST_STATUS, number])
+        peer.acknowledge(probe)
+    for kept in (first, number):
+        peer.ask(FLOOR_RELEASE, request_id(kept))
+    peer.listen(QUIET)
+    check("who has none any more isn't asked", peer.hear(6), None)
     gate.end()
 
 
@@ -428,6 +538,30 @@ def bounds(programs):
     gate.end()
 
 
+# The log
+
+def dropped(programs):
+    """Once a minute it is told how much was dropped, where there was any."""
+    gate = begin(programs)
+    start = time.monotonic()
+    peer, other = Peer(10), Peer(10)
+    stranger = Peer(10, address="127.0.0.5")
+    peer.ask(HELLO)
+    for count, sender, datagram in [
+            (7, stranger, stranger.message(HELLO, 1)), (3, peer, peer.message(HELLO, 2)[:11]), (2, peer, bytes(20)),
+            (4, other, other.message(FLOOR_QUERY, 2, floor(1))), (5, peer, Peer(30).message(HELLO, 1, first=0x50))]:
+        for _ in range(count):
+            sender.send(datagram)
+    peer.listen(QUIET)
+    told = lambda: [line for line in gate.log() if line.startswith("dropped")]
+    check("what was dropped isn't told at once", told(), [])
+    time.sleep(start + 62 - time.monotonic())
+    check("a minute later it is told how much was dropped", told(), ["dropped 21"])
+    time.sleep(60)
+    check("where nothing was dropped nothing is told", told(), ["dropped 21"])
+    gate.end()
+
+
 # Ends
 
 def ends(programs):
@@ -460,15 +594,18 @@ def ends(programs):
 # A network that loses
 
 def run_link(gate, user, network, rounds, seed):
-    """A client behind a network: what it asked, and what it was told last of floor 1; None where the link was given up."""
+    """A client behind a network: what it asked, and the client, which was told of three floors; None for that where the
+    link was given up."""
     peer = Peer(user, to=network.address)
     chance = random.Random(seed)
     asked, mine = [], []
     def ask(primitive, payload=b""):
         asked.append((primitive, peer.next))
         return peer.ask(primitive, payload)
-    if ask(HELLO) is None or ask(FLOOR_QUERY, floor(1)) is None:
+    if ask(HELLO) is None or (status := ask(FLOOR_QUERY, floor(1, 2, 3))) is None:
         return asked, None
+    # What came before the answer to a query is older than it.
+    peer.told = [status]
     for _ in range(rounds):
         if mine and chance.random() < 0.5:
             answer = ask(FLOOR_RELEASE, request_id(mine.pop()))
@@ -482,13 +619,12 @@ def run_link(gate, user, network, rounds, seed):
     return asked, peer
 
 
-def loss(programs):
-    import threading
+def loss(programs, seed=0):
     gate = begin(programs, grace=20)
     links = {}
     def go(user):
-        network = Network(0.10, 0.15, 0.12, user)
-        links[user] = run_link(gate, user, network, 12, user)
+        network = Network(0.10, 0.15, 0.12, 100 * seed + user)
+        links[user] = run_link(gate, user, network, 12, 100 * seed + user)
         network.end()
     threads = [threading.Thread(target=go, args=(user,)) for user in (10, 11, 12)]
     for thread in threads:
@@ -496,7 +632,8 @@ def loss(programs):
     for thread in threads:
         thread.join()
     journal = gate.messages()
-    stand = Member(20).ask(FLOOR_QUERY, floor(1))
+    member = Member(20)
+    stand = {number: member.ask(FLOOR_QUERY, floor(number)) for number in (1, 2, 3)}
     lost = 0
     for user, (asked, peer) in links.items():
         served = journal.get(user, [])
@@ -505,9 +642,11 @@ def loss(programs):
             check("what user %d asked is served once, in order, as far as it came" % user, [it for it in asked if it in served][: len(served)], served)
             continue
         check("what user %d asked is served once, in order" % user, served, asked)
-        told = [notice for notice in peer.told if notice[1] == FLOOR_STATUS and notice[12:16] == floor(1)]
-        check("user %d ends with the floor as it is" % user, told[-1][12:] if told else None, stand[12:])
+        for number in stand:
+            told = [notice for notice in peer.told if notice[1] == FLOOR_STATUS and notice[12:16] == floor(number)]
+            check("user %d ends with floor %d as it is" % (user, number), told[-1][12:] if told else None, stand[number][12:])
     check("one link at most was given up", lost <= 1)
+    print("loss, seed %d: %d requests, %d links given up" % (seed, sum(len(asked) for asked, _ in links.values()), lost))
     gate.end()
 
 
@@ -529,11 +668,83 @@ def many(programs):
     used = [after - was for after, was in zip(gate.processor(), before)]
     print("processor: floorudp %.2f s, floorhub %.2f s, memory %d kB" % (*used, gate.memory()))
     check("at most 3 times the processor of floorhub alone", used[0] + used[1] <= 3 * max(used[1], 0.05))
+    before = gate.memory()
+    for peer in peers:
+        peer.send(begun(peer, peer.next))
+    check("what is begun isn't answered", peers[-1].hear(QUIET), None)
+    check("200 that were begun hold what came, and not what they announce", gate.memory() - before < 600)
     gate.process.kill()
     gate.process.wait()
     gate.start()
     check("a gateway that is killed and started anew", sum(1 for peer in peers if peer.ask(HELLO)), 200)
     gate.end()
+
+
+# Memory
+
+def talk():
+    """A participant's way, and another's Hello and Goodbye. Who isn't answered, or by an Error, begins anew by a Hello, once in
+    all. How much isn't answered as it should be."""
+    wrong, has_begun_anew, number, peer, other = 0, False, 0, Peer(10), Peer(11)
+    for who, primitive, wanted in [
+            (peer, HELLO, HELLO_ACK), (peer, FLOOR_QUERY, FLOOR_STATUS), (peer, FLOOR_REQUEST, REQUEST_STATUS),
+            (peer, FLOOR_REQUEST, REQUEST_STATUS), (peer, FLOOR_RELEASE, REQUEST_STATUS), (peer, GOODBYE, GOODBYE_ACK),
+            (other, HELLO, HELLO_ACK), (other, GOODBYE, GOODBYE_ACK)]:
+        payload = {FLOOR_QUERY: floor(1, 2), FLOOR_REQUEST: floor(1), FLOOR_RELEASE: request_id(number)}.get(primitive, b"")
+        answer = who.ask(primitive, payload, tries=2, wait=0.15)
+        if not has_begun_anew and (answer is None or answer[1] == ERROR):
+            has_begun_anew = True
+            answer = who.ask(HELLO, tries=3, wait=0.15)
+            wrong += answer is None or answer[1] != HELLO_ACK
+            answer = who.ask(primitive, payload, tries=2, wait=0.15)
+        # Whose session was lost may have no request any more.
+        wrong += answer is None or answer[1] not in (wanted, ERROR if has_begun_anew and primitive == FLOOR_RELEASE else wanted)
+        number = request_of(answer) if answer and answer[1] == REQUEST_STATUS else number
+    return wrong
+
+
+def memory(programs):
+    """One allocation of floorudp's is refused, the first behind its start, the second, up to as many as a talk makes.
+
+    It goes on, and ends by itself. The session that was refused memory ends as `Memory`, and floorhub takes its member as
+    lost; or nothing of it ends, and what is asked again is answered. Whoever comes then is served."""
+    with tempfile.TemporaryDirectory() as folder:
+        library, count = folder + "/refused.so", folder + "/count"
+        source = pathlib.Path(__file__).resolve().parent / "refused.c"
+        subprocess.run(["cc", "-O2", "-shared", "-fPIC", "-o", library, str(source)], check=True)
+        gate = begin(programs, grace=1)
+        variables = {"LD_PRELOAD": library, "REFUSE_COUNT": count, "MALLOC_ARENA_MAX": "1"}
+        made = []
+        for talks in (False, True):
+            gate.end_gate()
+            gate.variables = {**variables, "REFUSE": "0"}
+            gate.start()
+            if talks:
+                check("none is refused", talk(), 0)
+            gate.end_gate()
+            made.append(int(pathlib.Path(count).read_text()))
+        ends = {}
+        for number in range(made[0] - 40, made[1] + 5):
+            gate.variables = {**variables, "REFUSE": str(number)}
+            try:
+                gate.start()
+            except SystemExit:
+                check("allocation %d refused: it says so" % number, gate.process.wait(20), 1)
+                ends["not started"] = ends.get("not started", 0) + 1
+                continue
+            lines, away = len(gate.log()), gate.hub_says("away InsideMessage")
+            wrong = talk()
+            status, _ = gate.end_gate()
+            told = gate.log()[lines:]
+            check("allocation %d refused: whoever comes is served" % number, wrong, 0)
+            check("allocation %d refused: it ends by itself" % number, status, 0)
+            name = "Memory" if any(line.endswith(": Memory") for line in told) else "went on"
+            if name == "Memory":
+                check("allocation %d refused: who was refused is lost" % number, gate.hub_says("away InsideMessage") > away)
+            ends[name] = ends.get(name, 0) + 1
+        check("a session has ended for want of memory", ends.get("Memory", 0) > 0)
+        print("memory, %d allocations: %s" % (made[1] - made[0], ", ".join("%d %s" % (count, name) for name, count in sorted(ends.items()))))
+        gate.end()
 
 
 # Starts
@@ -561,15 +772,17 @@ def starts(programs):
         check("words %r" % (words_,), subprocess.run([programs[1], *words_], capture_output=True, timeout=20).returncode, 2)
 
 
-GROUPS = {it.__name__: it for it in (starts, requests, notices, near, fragments, who, words, bounds, ends, loss, many)}
-NAMED = {"libre": libre.straight, "lossy": libre.lossy, "dtls": libre.dtls}
+GROUPS = {it.__name__: it for it in (
+    starts, requests, notices, around, near, fragments, who, words, bounds, dropped, ends, loss, many)}
+NAMED = {"memory": memory, "libre": libre.straight, "lossy": libre.lossy, "dtls": libre.dtls}
 
 
 def main():
     programs = [str(pathlib.Path(it).resolve()) for it in sys.argv[1:3]]
     for name in sys.argv[3:] or GROUPS:
         start = time.monotonic()
-        ({**GROUPS, **NAMED}[name])(programs)
+        group, _, seed = name.partition(":")
+        ({**GROUPS, **NAMED}[group])(programs, *([int(seed)] if seed else []))
         print("%s: %.0f s" % (name, time.monotonic() - start), flush=True)
     print("%d passed, %d failed" % (len(passed), len(failed)))
     sys.exit(1 if failed else 0)

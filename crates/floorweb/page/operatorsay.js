@@ -1,5 +1,6 @@
 // What the operator's page says beside the conferences: how it is connected, what happened, what was refused.
 
+import { add } from "./log.js";
 import { language, notices, states, texts } from "./operatortexts.js";
 
 const MAX_EVENTS = 50;
@@ -37,16 +38,7 @@ export function stop(kind) {
   notice.querySelector("h2").focus();
 }
 
-export function tell(text, kind = "") {
-  const item = document.createElement("li");
-  item.className = kind;
-  const time = document.createElement("time");
-  time.textContent = new Date().toLocaleTimeString([], { hour: "2-digit", minute: "2-digit" });
-  item.append(time, ` ${text}`);
-  $("events").prepend(item);
-  while ($("events").children.length > MAX_EVENTS) $("events").lastElementChild.remove();
-  document.querySelector("#log .none").hidden = true;
-}
+export const tell = (text, kind = "") => add(text, kind, MAX_EVENTS);
 
 export function warn(text) {
   const alert = $("alert");

@@ -1,6 +1,7 @@
 // What the page says beside the cards: how it is connected, what happened, what was refused, why there is
 // nothing to take part in, and how many bytes a text may still have.
 
+import { add } from "./log.js";
 import { language, notices, states, texts } from "./texts.js";
 
 const $ = (id) => document.getElementById(id);
@@ -33,17 +34,7 @@ export function setChip(state, seconds) {
 }
 
 /** Adds to what happened. */
-export function tell(text, kind = "") {
-  const item = document.createElement("li");
-  item.className = kind;
-  const time = document.createElement("time");
-  time.textContent = new Date().toLocaleTimeString([], { hour: "2-digit", minute: "2-digit" });
-  item.append(time, ` ${text}`);
-  const events = $("events");
-  events.prepend(item);
-  while (events.children.length > MAX_EVENTS) events.lastElementChild.remove();
-  document.querySelector("#log .none").hidden = true;
-}
+export const tell = (text, kind = "") => add(text, kind, MAX_EVENTS);
 
 /** Says for a while what somebody has to see now; nothing takes away what is said. */
 export function warn(text) {

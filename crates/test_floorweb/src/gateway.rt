@@ -1,48 +1,36 @@
-//! A gateway in a thread of its own, with the other ends of its standard streams and of its log.
+//! The gateway that is tried, in a thread of its own.
 
 use floor_gateway::run;
 use std::alloc::Global;
-use std::io::{ErrorKind, Read};
-use std::net::{Net, Shutdown, TcpListener, TcpStream};
+use std::net::{Net, TcpListener, TcpStream};
 use std::rt::Files;
 use std::sync::Wait;
 use std::thread;
-use std::thread::{JoinHandle, Threads};
-use std::time::{Clock, Duration};
+use std::thread::Threads;
+use std::time::Clock;
 use test_cases::Fault;
+use test_gateways::{Gateway, Start, two_sides};
 
-/// How long its end is waited for, in seconds.
-const PATIENCE: u64 = 20;
-
-/// A gateway that runs.
-#[derive(Drop)]
-pub struct Gateway {
-    thread: JoinHandle<u8>,
-    console: TcpStream,
-    errors: TcpStream,
-    log: TcpStream,
-}
-
-/// What a gateway is started with.
-#[derive(Drop)]
-struct Start {
-    words: Vec<String>,
-    input: TcpStream,
-    output: TcpStream,
-    errors: TcpStream,
-    log: TcpStream,
-}
-
-/// Two ends of a stream: the test's, which waits for so many seconds at most, and the gateway's.
-fn two_ends<R>(rt: R) -> Result<(TcpStream, TcpStream), Fault>
+/// Starts one by these words, the first of them the program's own name.
+pub fn start<R>(rt: R, words: Vec<String>) -> Result<Gateway, Fault>
 where
-    R: Net<Listener = TcpListener, Stream = TcpStream> + Drop,
+    R: Net<Listener = TcpListener, Stream = TcpStream>
+        + Files
+        + AllocGlobal
+        + Clock
+        + Threads
+        + Wait
+        + Copy
+        + Drop
+        + Send
+        + 'static,
 {
-    let listener = TcpListener::bind(&rt, "127.0.0.1:0")?;
-    let ours = TcpStream::connect(&rt, listener.local_addr()?)?;
-    ours.set_read_timeout(Some(Duration::from_secs(PATIENCE)))?;
-    let (theirs, _) = listener.accept()?;
-    Ok((ours, theirs))
+    let alloc = rt.alloc();
+    let (ends, start) = two_sides(rt, words)?;
+    match thread::spawn(&rt, move || run_to_end(rt, alloc, start)) {
+        Ok(thread) => Ok(Gateway::new(thread, ends)),
+        Err(_) => Err(Fault::Wrong("no thread")),
+    }
 }
 
 fn run_to_end<R>(rt: R, alloc: Global, start: Start) -> u8
@@ -74,139 +62,4 @@ where
         &mut errors,
         log,
     )
-}
-
-impl Gateway {
-    /// Starts one by these words, the first of them the program's own name.
-    pub fn start<R>(rt: R, words: Vec<String>) -> Result<Gateway, Fault>
-    where
-        R: Net<Listener = TcpListener, Stream = TcpStream>
-            + Files
-            + AllocGlobal
-            + Clock
-            + Threads
-            + Wait
-            + Copy
-            + Drop
-            + Send
-            + 'static,
-    {
-        let alloc = rt.alloc();
-        let (console, input) = two_ends(rt)?;
-        let output = input.try_clone()?;
-        let (errors, their_errors) = two_ends(rt)?;
-        let (log, their_log) = two_ends(rt)?;
-        let start = Start {
-            words,
-            input,
-            output,
-            errors: their_errors,
-            log: their_log,
-        };
-        match thread::spawn(&rt, move || run_to_end(rt, alloc, start)) {
-            Ok(thread) => Ok(Gateway {
-                thread,
-                console,
-                errors,
-                log,
-            }),
-            Err(_) => Err(Fault::Wrong("no thread")),
-        }
-    }
-
-    /// The next line that it prints; what there is where it ends before.
-    pub fn line(&self, alloc: Global) -> Result<String, Fault> {
-        next_line(alloc, &self.console)
-    }
-
-    /// The next line of its log, without the time.
-    pub fn log_line(&self, alloc: Global) -> Result<String, Fault> {
-        let line = next_line(alloc, &self.log)?;
-        match line.as_str().split_once(' ') {
-            Some((time, text)) if is_time(time) => Ok(String::from_str(alloc, text)?),
-            _ => Ok(line),
-        }
-    }
-
-    /// Ends its input.
-    pub fn end_input(&self) {
-        // It may be ended already.
-        let _outcome = self.console.shutdown(Shutdown::Write);
-    }
-
-    /// Ends its input, and prints its status, what it has printed besides, and the rest of its log.
-    pub fn end<R>(self, rt: &R, printed: &mut String) -> Result<(), Fault>
-    where
-        R: AllocGlobal + Threads,
-    {
-        let alloc = rt.alloc();
-        self.end_input();
-        let output = rest(alloc, &self.console)?;
-        let Some(output) = output else {
-            printed.push_str("the gateway goes on\n")?;
-            return Ok(());
-        };
-        printed.push_str(output.as_str())?;
-        let errors = rest(alloc, &self.errors)?;
-        loop {
-            let line = self.log_line(alloc)?;
-            if line.is_empty() || line.as_str() == "nothing" {
-                break;
-            }
-            write!(printed, "log {}\n", line.as_str())?;
-        }
-        if let Some(errors) = errors {
-            printed.push_str(errors.as_str())?;
-        }
-        let Gateway { thread, .. } = self;
-        let status = thread.join(rt);
-        write!(printed, "status {status}\n")?;
-        Ok(())
-    }
-}
-
-/// Whether a word is a time, to the millisecond (RFC 3339).
-fn is_time(word: &str) -> bool {
-    word.len() == 24 && word.starts_with("20") && word.ends_with('Z')
-}
-
-/// The next line of a stream, without its line feed; what there is where the stream ends before.
-fn next_line(alloc: Global, mut stream: &TcpStream) -> Result<String, Fault> {
-    let mut text = Vec::new(alloc);
-    for _ in 0..10_000 {
-        let mut byte = [0u8; 1];
-        match stream.read(&mut byte) {
-            Ok(0) => break,
-            Ok(_) if byte[0] == b'\n' => break,
-            Ok(_) => text.push(byte[0])?,
-            Err(error) if error.kind() == ErrorKind::WouldBlock => {
-                text.extend_from_slice(b"nothing")?;
-                break;
-            }
-            Err(_) => break,
-        }
-    }
-    as_text(text)
-}
-
-/// What a stream still has to its end; none where it doesn't end in time.
-fn rest(alloc: Global, mut stream: &TcpStream) -> Result<Option<String>, Fault> {
-    let mut bytes = Vec::new(alloc);
-    let mut piece = [0u8; 1_024];
-    for _ in 0..10_000 {
-        match stream.read(&mut piece) {
-            Ok(0) => break,
-            Ok(count) => bytes.extend_from_slice(&piece[..count])?,
-            Err(error) if error.kind() == ErrorKind::WouldBlock => return Ok(None),
-            Err(_) => break,
-        }
-    }
-    Ok(Some(as_text(bytes)?))
-}
-
-fn as_text(bytes: Vec<u8>) -> Result<String, Fault> {
-    match String::from_utf8(bytes) {
-        Ok(text) => Ok(text),
-        Err(_) => Err(Fault::Wrong("no UTF-8")),
-    }
 }

@@ -1,6 +1,6 @@
 //! What the steps of a case do, and what they print.
 
-use crate::gateway::Gateway;
+use crate::gateway::start;
 use crate::stream::{Heard, Stream};
 use floor_words::{read_hexadecimal, words};
 use std::alloc::Global;
@@ -14,6 +14,7 @@ use std::thread::Threads;
 use std::time::{Clock, Duration, Instant};
 use std::{fs, thread};
 use test_cases::Fault;
+use test_gateways::Gateway;
 
 /// How long a peer is waited for where a case says nothing else, in seconds.
 const PATIENCE: u64 = 10;
@@ -241,7 +242,7 @@ where
         for word in more.as_str().split_whitespace() {
             all.push(String::from_str(alloc, word)?)?;
         }
-        let gateway = Gateway::start(self.rt, all)?;
+        let gateway = start(self.rt, all)?;
         let line = gateway.line(alloc)?;
         if line.is_empty() {
             return gateway.end(&self.rt, &mut self.printed);
