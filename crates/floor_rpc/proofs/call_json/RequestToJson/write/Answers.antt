@@ -1,0 +1,22 @@
+use Rattle.std.proofs.Common.{◌≡◌, ◌∷◌, [], ◌++◌, ◌∙◌, ap, sym}
+use Rattle.std.specs.Prelude.{codes}
+use Rattle.json.specs.Token as token
+use Rattle.json.specs.Tree.{json_tokens}
+use Rattle.floor_rpc.specs.CallsWritten.{request_fields, request_json}
+use Rattle.floor_rpc.specs.Methods.{name_of}
+use Rattle.floor_rpc.proofs.Chain.{on_ok, then_more}
+use Rattle.floor_rpc.proofs.Fields.{members_tokens_of}
+use Rattle.floor_rpc.proofs.call_json.RequestToJson.write.Goals as goal
+
+pub returns : goal.returns
+returns c = record {
+  took =
+      on_ok _ (c.end_object.new.self.tokens ≡ c.args.writer.now.tokens ++ json_tokens (request_json c.args.self.now)) c.end_object.result (λ e. then_more c.args.writer.now.tokens c.begin_object.new.self.tokens c.end_object.new.self.tokens _ _ c.in_ok-begin_object.ensures.ok
+      (then_more c.begin_object.new.self.tokens c.text_member.new.writer.tokens c.end_object.new.self.tokens _ _ c.in_ok-text_member.ensures.took
+      (then_more c.text_member.new.writer.tokens c.optional_member.new.writer.tokens c.end_object.new.self.tokens _ _ c.in_ok-optional_member.ensures.took
+      (then_more c.optional_member.new.writer.tokens c.text_member-2.new.writer.tokens c.end_object.new.self.tokens _ _ (c.in_ok-text_member-2.ensures.took ∙ ap (λ t. c.optional_member.new.writer.tokens ++ (token.key (codes "method") ∷ token.string t ∷ [])) (c.name.ensures.value ∙ ap name_of c.method.ensures.value))
+      (then_more c.text_member-2.new.writer.tokens c.key.new.self.tokens c.end_object.new.self.tokens _ _ c.in_ok-key.ensures.ok
+      (then_more c.key.new.self.tokens c.write_params.new.writer.tokens c.end_object.new.self.tokens _ _ c.in_ok-write_params.ensures.took e)))))
+      ∙ ap (λ ts. c.args.writer.now.tokens ++ (token.begin_object ∷ ts)) (sym (members_tokens_of (request_fields c.args.self.now)))) c.end_object.ensures.ok;
+  before = c.end_object.ensures.room.0 ∙ c.in_ok-write_params.ensures.before ∙ c.in_ok-key.ensures.room.0 ∙ c.in_ok-text_member-2.ensures.before ∙ c.in_ok-optional_member.ensures.before ∙ c.in_ok-text_member.ensures.before ∙ c.in_ok-begin_object.ensures.room.0;
+}
