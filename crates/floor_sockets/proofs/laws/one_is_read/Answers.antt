@@ -1,0 +1,5 @@
+use Rattle.floor_sockets.proofs.Worked as proved
+use Rattle.floor_sockets.proofs.laws.one_is_read.Goals as goal
+
+pub returns : goal.returns
+returns c = proved.one_is_read

@@ -1,0 +1,5 @@
+use Rattle.floor_sockets.proofs.Running as proved
+use Rattle.floor_sockets.proofs.laws.who_is_ended_is_shut.Goals as goal
+
+pub returns : goal.returns
+returns c = proved.who_is_ended

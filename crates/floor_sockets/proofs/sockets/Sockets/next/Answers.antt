@@ -1,0 +1,37 @@
+use Rattle.std.proofs.Common.{ℕ, ◌≤◌, List, inl, refl, sym, subst}
+use Rattle.slab.specs.Slab.{Slab}
+use Rattle.floor_sockets.specs.declared.deadlines.Deadline.{Deadline}
+use Rattle.floor_sockets.specs.declared.life.Life.{Life}
+use Rattle.floor_sockets.specs.steps.Due.{Deadlines}
+use Rattle.floor_sockets.specs.steps.Listed.{IsSound}
+use Rattle.floor_sockets.specs.Sockets.{IsDueOf, Sockets, due_times}
+use Rattle.floor_sockets.proofs.Listing.{due_alive, due_all, due_listed}
+use Rattle.floor_sockets.proofs.Timing.{few_without, set_sound, turn_kept}
+use Rattle.floor_sockets.proofs.sockets.Sockets.next.Goals as goal
+
+pub invariant_of-self : goal.invariant_of-self
+invariant_of-self c = record {
+  listed = due_listed c.self.inside.lives c.due_in.new.lives c.self.inside.line c.self.inside.deadlines.items c.due_in.new.deadlines.items c.self.inside.time c.in-Some.deed c.in-Some.ensures.asked c.self.invariant.listed;
+  alive = due_alive c.self.inside.lives c.due_in.new.lives c.self.inside.deadlines.items c.due_in.new.deadlines.items c.self.inside.time c.in-Some.deed c.in-Some.ensures.asked c.self.invariant.alive;
+  once = c.self.invariant.once;
+  few =
+      subst (λ (ds : List Deadline). (k : ℕ) → due_times ds k ≤ 1) (sym c.in-Some.ensures.asked.rest)
+      (few_without c.self.inside.deadlines.items c.in-Some.ensures.asked.deadline.slot c.self.invariant.few);
+}
+
+pub returns-in-Some-clause-asked : goal.returns-in-Some-clause-asked
+returns-in-Some-clause-asked c =
+    inl
+    (subst
+    (λ (s : Sockets). IsDueOf s (record { lives = c.due_in.new.lives.slots; line = c.self.inside.line; deadlines = c.due_in.new.deadlines.items; time = c.self.inside.time }) c.in-Some.deed)
+    c.self.view_is
+    (due_all c.self.inside.lives c.due_in.new.lives c.self.inside.line c.self.inside.deadlines.items c.due_in.new.deadlines.items c.self.inside.time c.in-Some.deed c.in-Some.ensures.asked))
+
+pub invariant_of-self-2 : goal.invariant_of-self-2
+invariant_of-self-2 c =
+    let left = c.in-None.ensures.left in
+    let sound =
+    subst (λ (z : Slab Life). IsSound z c.self.inside.line c.due_in.new.deadlines.items) (sym left.0)
+    (subst (λ (z : Deadlines). IsSound c.self.inside.lives c.self.inside.line z.items) (sym left.1) c.self.invariant) in
+    set_sound c.due_in.new.lives c.turn_in.new.lives c.self.inside.line c.turn_in.new.line c.due_in.new.deadlines.items c.due_in.new.deadlines.items sound refl c.turn_in.ensures.listed c.turn_in.ensures.once
+    (turn_kept c.turn_in.result c.due_in.new.lives c.turn_in.new.lives c.turn_in.ensures.asked c.turn_in.ensures.none)

@@ -1,0 +1,127 @@
+-- The table of sockets.
+use Rattle.std.specs.Prelude.{◌≡◌, ◌≤◌, ◌<◌, ◌++◌, ◌+◌, ℕ, Bool, true, false, not, min, List, [], ◌∷◌, if◌then◌else◌, Option, Some, None, All, Contains, count_by, filter, nat_eq, option_map, slice_index_or}
+use Rattle.floor_sockets.specs.declared.deadlines.Deadline.{Deadline}
+use Rattle.floor_sockets.specs.declared.life.Asked.{Asked}
+use Rattle.floor_sockets.specs.declared.life.Deed.{Deed}
+use Rattle.floor_sockets.specs.declared.life.Life.{Life}
+use Rattle.floor_sockets.specs.declared.role.Role.{Role}
+use Rattle.floor_sockets.specs.declared.role.Role.TheVariants as role
+use Rattle.floor_sockets.specs.Life.{at_deadline, deed_of, is_accepting, is_awaiting, is_shutting, next_asked, opened, renamed}
+use Rattle.floor_sockets.specs.Rounds.{Rounds, times}
+
+-- what is known of the socket in each slot, if there is one; whose turn it is; by when something is due for whom; and how late it is
+pub record Sockets : Type 0 where
+  pub lives : List (Option Life)
+  pub line : Rounds
+  pub deadlines : List Deadline
+  pub time : ℕ
+
+abbrev pub life_at : Sockets → ℕ → Option Life
+life_at s slot = slice_index_or s.lives slot None
+
+-- Nothing has changed but whose turn it is.
+pub record Left (old new : Sockets) : Type 0 where
+  pub lives : (slot : ℕ) → life_at new slot ≡ life_at old slot
+  pub deadlines : new.deadlines ≡ old.deadlines
+  pub time : new.time ≡ old.time
+
+-- What is known of the socket in the slot has changed so, if there is one; nothing is known otherwise of any other, and the deadlines are these.
+pub record Changed (f : Life → Life) (slot : ℕ) (deadlines : List Deadline) (old new : Sockets) : Type 0 where
+  pub here : life_at new slot ≡ option_map f (life_at old slot)
+  pub others : (k : ℕ) → nat_eq slot k ≡ false → life_at new k ≡ life_at old k
+  pub due : new.deadlines ≡ deadlines
+  pub time : new.time ≡ old.time
+
+-- the deadlines without those of a slot
+abbrev pub without : ℕ → List Deadline → List Deadline
+without slot deadlines = filter (λ d. not (nat_eq d.slot slot)) deadlines
+
+-- a time so much later: the last there is, where there is none
+abbrev pub later : ℕ → ℕ → ℕ
+later time micros = min (time + micros) 18446744073709551615
+
+-- where the test says so this is the slot's deadline, and none before it
+abbrev pub with_due : Bool → ℕ → ℕ → List Deadline → List Deadline
+with_due false slot until deadlines = deadlines
+with_due true slot until deadlines = without slot deadlines ++ record { slot = slot; until = until } ∷ []
+
+-- of a socket that isn't to be shut down yet, of one that isn't being shut, and of a listener of which an accept is awaited
+abbrev pub goes_on : Option Life → Bool
+goes_on None = false
+goes_on (Some l) = not l.is_over
+
+abbrev pub is_there : Option Life → Bool
+is_there None = false
+is_there (Some l) = not (is_shutting l.asked)
+
+abbrev pub accepts : Option Life → Bool
+accepts None = false
+accepts (Some l) = is_accepting l.asked
+
+-- somebody at a door has five seconds
+abbrev pub is_at_door : Role → Bool
+is_at_door role.Listener = false
+is_at_door role.Member = false
+is_at_door role.AtDoor = true
+is_at_door role.MemberByDoor = false
+is_at_door role.Control = false
+is_at_door role.Observer = false
+is_at_door role.Console = false
+is_at_door role.Probe = false
+is_at_door role.Http = false
+
+-- A socket was opened: in a slot that had none.
+pub record Opens (role : Role) (group : ℕ) (old new : Sockets) (slot : ℕ) : Type 0 where
+  pub free : life_at old slot ≡ None
+  pub here : life_at new slot ≡ Some (opened role group)
+  pub others : (k : ℕ) → nat_eq slot k ≡ false → life_at new k ≡ life_at old k
+  pub due : new.deadlines ≡ with_due (is_at_door role) slot (later old.time 5000000) old.deadlines
+  pub time : new.time ≡ old.time
+
+-- The socket is for something else, unless it is to be shut down: who was at a door has no deadline any more.
+abbrev pub renamed_due : ℕ → Option Life → List Deadline → List Deadline
+renamed_due slot None deadlines = deadlines
+renamed_due slot (Some l) deadlines = if l.is_over then deadlines else if is_at_door l.role then without slot deadlines else deadlines
+
+abbrev pub renamed_life : Role → ℕ → Life → Life
+renamed_life role group l = if l.is_over then l else renamed role group l
+
+-- The socket is no more, and its slot is free.
+pub record Closed (slot : ℕ) (old new : Sockets) : Type 0 where
+  pub here : life_at new slot ≡ None
+  pub others : (k : ℕ) → nat_eq slot k ≡ false → life_at new k ≡ life_at old k
+  pub due : new.deadlines ≡ without slot old.deadlines
+  pub time : new.time ≡ old.time
+
+-- A turn: no deadline has come, and of a socket was asked what is to be asked of it next.
+pub record IsTurnOf (old new : Sockets) (deed : Deed) : Type 0 where
+  pub slot : ℕ
+  pub life : Life
+  pub early : All (λ d. old.time < d.until) old.deadlines
+  pub was : life_at old slot ≡ Some life
+  pub asked : deed_of (next_asked life) slot ≡ Some deed
+  pub changed : Changed (λ l. record l { asked = next_asked l }) slot old.deadlines old new
+
+-- A deadline has come: the socket is shut, or the listener accepts again.
+pub record IsDueOf (old new : Sockets) (deed : Deed) : Type 0 where
+  pub deadline : Deadline
+  pub life : Life
+  pub stood : Contains old.deadlines deadline
+  pub come : deadline.until ≤ old.time
+  pub was : life_at old deadline.slot ≡ Some life
+  pub asked : deed_of ((at_deadline life).asked) deadline.slot ≡ Some deed
+  pub changed : Changed at_deadline deadline.slot (without deadline.slot old.deadlines) old new
+
+-- Nothing is to be done: no deadline has come, and of nobody is anything to be asked.
+pub record IsDone (s : Sockets) : Type 0 where
+  pub early : All (λ d. s.time < d.until) s.deadlines
+  pub nobody : (slot : ℕ) (l : Life) → life_at s slot ≡ Some l → is_awaiting l ≡ false
+
+-- how many deadlines a slot has
+abbrev pub due_times : List Deadline → ℕ → ℕ
+due_times deadlines slot = count_by (λ d. nat_eq d.slot slot) deadlines
+
+-- Each slot waits for one turn, and has one deadline, at most, whatever is told and asked of it.
+pub record IsBounded (s : Sockets) : Type 0 where
+  pub turns : (slot : ℕ) → times s.line slot ≤ 1
+  pub deadlines : (slot : ℕ) → due_times s.deadlines slot ≤ 1
