@@ -135,13 +135,15 @@ def notices(programs):
     while time.monotonic() - start < 9:
         datagram = peer.hear(0.2)
         if datagram is not None:
-            came.append((round(time.monotonic() - start, 1), datagram))
+            came.append((time.monotonic() - start, datagram))
     check("the answer to a query of two floors", [came[0][1][0], came[0][1][1], came[0][1][12:16]], [0x50, FLOOR_STATUS, floor(1)])
     sent = came[1:]
     check("the second floor is a notice", [sent[0][1][0], sent[0][1][1], sent[0][1][12:16]], [0x40, FLOOR_STATUS, floor(2)])
     check("its ID is 32,768 more than the session's first", id_of(sent[0][1]), 32769)
     check("it is sent four times, the same", [datagram for _, datagram in sent], [sent[0][1]] * 4)
-    check("and at its times", [round(at - sent[0][0], 1) for at, _ in sent], [0, 0.5, 1.5, 3.5])
+    late = [at - sent[0][0] - due for (at, _), due in zip(sent, (0, 0.5, 1.5, 3.5))]
+    # On a busy machine it is read some tenths of a second later.
+    check("and at its times", [-0.1 < it < 0.4 for it in late], [True] * 4)
     check("the peer is lost", gate.log()[-1], "left conference 1 user 10: Lost")
     check("to floorhub too", gate.hub_says("away InsideMessage"), 1)
     again = Peer(10)
@@ -209,6 +211,21 @@ def notices(programs):
     check("it is sent again", again.hear(3), notice)
     check("behind a T1 that was measured", time.monotonic() - start > 0.7)
     again.acknowledge(notice)
+    # The acknowledgement of a notice that was sent twice measures nothing: nobody knows of which.
+    fresh = Peer(12)
+    fresh.ask(HELLO)
+    fresh.ask(FLOOR_QUERY, floor(3))
+    number = request_of(member.ask(FLOOR_REQUEST, floor(3)))
+    notice = fresh.hear()
+    check("a notice, twice", fresh.hear(), notice)
+    time.sleep(0.3)
+    fresh.acknowledge(notice)
+    member.ask(FLOOR_RELEASE, request_id(number))
+    notice = fresh.hear()
+    start = time.monotonic()
+    check("the next is sent again", fresh.hear(2), notice)
+    check("behind T1 as it was", 0.4 < time.monotonic() - start < 0.9)
+    fresh.acknowledge(notice)
     gate.end()
 
 
@@ -691,12 +708,12 @@ def talk():
             (peer, FLOOR_REQUEST, REQUEST_STATUS), (peer, FLOOR_RELEASE, REQUEST_STATUS), (peer, GOODBYE, GOODBYE_ACK),
             (other, HELLO, HELLO_ACK), (other, GOODBYE, GOODBYE_ACK)]:
         payload = {FLOOR_QUERY: floor(1, 2), FLOOR_REQUEST: floor(1), FLOOR_RELEASE: request_id(number)}.get(primitive, b"")
-        answer = who.ask(primitive, payload, tries=2, wait=0.15)
+        answer = who.ask(primitive, payload, tries=2, wait=0.4)
         if not has_begun_anew and (answer is None or answer[1] == ERROR):
             has_begun_anew = True
-            answer = who.ask(HELLO, tries=3, wait=0.15)
+            answer = who.ask(HELLO, tries=3, wait=0.4)
             wrong += answer is None or answer[1] != HELLO_ACK
-            answer = who.ask(primitive, payload, tries=2, wait=0.15)
+            answer = who.ask(primitive, payload, tries=2, wait=0.4)
         # Whose session was lost may have no request any more.
         wrong += answer is None or answer[1] not in (wanted, ERROR if has_begun_anew and primitive == FLOOR_RELEASE else wanted)
         number = request_of(answer) if answer and answer[1] == REQUEST_STATUS else number
