@@ -103,6 +103,10 @@ fn line(alloc: Global, place: usize, event: &Event) -> Result<String, AllocError
             let chair = number_word(alloc, *chair)?;
             format!(in alloc; "{place} chair {floor} {chair}\n")
         }
+        Event::Say { user, frame } => {
+            let bytes = hex::encode(alloc, frame.bytes())?;
+            format!(in alloc; "{place} say {user} {bytes}\n")
+        }
     }
 }
 

@@ -14,3 +14,12 @@ returns-in_ok-bytes-in-Message c =
     (λ text. string_bytes text ≡ line c.args.place c.args.event.now)
     (λ text h. h ∙ ap written (c.in_ok-bytes-in-Message.ensures ∙ ap encode_lower c.bytes.ensures.value) ∙ sym (ap (line c.args.place) c.in-Message.is))
     (search rules)
+
+pub returns-in_ok-bytes-in-Say : goal.returns-in_ok-bytes-in-Say
+returns-in_ok-bytes-in-Say c =
+    let written : List ℕ → List ℕ = λ bs. decimal c.args.place ++ (codes " say " ++ (decimal c.in-Say.user ++ (codes " " ++ (bs ++ codes "\n")))) in
+    IfOk-weaker c.format-in-Say.result
+    (λ text. string_bytes text ≡ written (string_bytes c.in_ok-bytes-in-Say.bytes))
+    (λ text. string_bytes text ≡ line c.args.place c.args.event.now)
+    (λ text h. h ∙ ap written (c.in_ok-bytes-in-Say.ensures ∙ ap encode_lower c.bytes-2.ensures.value) ∙ sym (ap (line c.args.place) c.in-Say.is))
+    (search rules)
