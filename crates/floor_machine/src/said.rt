@@ -6,7 +6,6 @@ ghost use Rattle.std.specs.Prelude.{◌≡◌, All, IfErr, IfOk, if◌then◌els
 ghost use Rattle.floor_message.specs.Ask.{Answer, HasShortDetails, IsAnswer};
 ghost use Rattle.floor_message.specs.Binding.{binding_of};
 ghost use Rattle.floor_message.specs.Picked.{first};
-ghost use Rattle.floor_message.specs.Primitive.{primitive_of};
 ghost use Rattle.floor_message.specs.Shown.{IsShown};
 ghost use Rattle.floor_message.specs.declared.code.ErrorCode.TheVariants.{UnknownPrimitive};
 ghost use Rattle.floor_machine.specs.Outgoing.{outgoing_bytes};
@@ -17,7 +16,8 @@ ghost use Rattle.floor_machine.specs.steps.Telling.{answered, said_of};
 
 use crate::replied::{Messages, Replied};
 use floor_message::{
-    Ask, AskFault, Binding, ErrorCode, Head, Tell, read_ask, what_is_shown_fits, write_tell_alone,
+    Ask, AskFault, Binding, ErrorCode, Head, Primitive, Tell, read_ask, what_is_shown_fits,
+    write_tell_alone,
 };
 use floor_wire::{Frame, Octets, SharedFrame};
 use std::alloc::{AllocError, Global};
@@ -45,20 +45,32 @@ fn read_said(alloc: Global, frame: &Frame, binding: &Binding) -> Result<Option<A
     ensures details { IfErr result HasShortDetails }
 {
     let answer = read_ask(alloc, frame, binding);
-    if is_said(frame.header().primitive()) {
+    if is_said(Primitive::of_number(frame.header().primitive())) {
         answer
     } else {
         bar(alloc, answer)
     }
 }
 
-/// The primitive with this number is said for a user.
-fn is_said(primitive: u8) -> bool
-    ensures { result ≡ is_some (sayable (primitive_of primitive)) }
+/// The primitive is one that is said for a user.
+fn is_said(primitive: Option<Primitive>) -> bool
+    ensures { result ≡ is_some (sayable primitive) }
 {
     match primitive {
-        1 | 2 | 9 => true,
-        _ => false,
+        None => false,
+        Some(primitive) => match primitive {
+            Primitive::FloorRequest | Primitive::FloorRelease | Primitive::ChairAction => true,
+            Primitive::FloorRequestQuery
+            | Primitive::FloorRequestStatus
+            | Primitive::UserQuery
+            | Primitive::UserStatus
+            | Primitive::FloorQuery
+            | Primitive::FloorStatus
+            | Primitive::ChairActionAck
+            | Primitive::Hello
+            | Primitive::HelloAck
+            | Primitive::Error => false,
+        },
     }
 }
 

@@ -15,7 +15,7 @@ returns-then-is_said-clause-value c =
     let A : Answer → Type 0 = λ a. IsAnswer a c.read_ask-answer.result in
     let number : c.primitive.result ≡ (header_of bytes).primitive = c.primitive.ensures ∙ ap (λ (h : CommonHeader). h.primitive) c.header.ensures in
     let is : is_some (sayable (primitive_of (header_of bytes).primitive)) ≡ true =
-    ap (λ n. is_some (sayable (primitive_of n))) (sym number) ∙ sym c.is_said.ensures ∙ c.if-is_said.true in
+    ap (λ n. is_some (sayable (primitive_of n))) (sym number) ∙ ap (λ p. is_some (sayable p)) (sym c.of_number.ensures) ∙ sym c.is_said.ensures ∙ c.if-is_said.true in
     subst A (sym (said-same bytes b is)) c.read_ask-answer.ensures.value
 
 pub returns-else-is_said-clause-value : goal.returns-else-is_said-clause-value
@@ -25,5 +25,5 @@ returns-else-is_said-clause-value c =
     let A : Answer → Type 0 = λ a. IsAnswer a c.bar.result in
     let number : c.primitive.result ≡ (header_of bytes).primitive = c.primitive.ensures ∙ ap (λ (h : CommonHeader). h.primitive) c.header.ensures in
     let is : is_some (sayable (primitive_of (header_of bytes).primitive)) ≡ false =
-    ap (λ n. is_some (sayable (primitive_of n))) (sym number) ∙ sym c.is_said.ensures ∙ c.if-is_said.false in
+    ap (λ n. is_some (sayable (primitive_of n))) (sym number) ∙ ap (λ p. is_some (sayable p)) (sym c.of_number.ensures) ∙ sym c.is_said.ensures ∙ c.if-is_said.false in
     subst A (sym (said-barred bytes b is)) (c.bar.ensures.value (ask bytes b) c.read_ask-answer.ensures.value)

@@ -18,17 +18,17 @@ pub invariant_of-self-in-Ok-queue : goal.invariant_of-self-in-Ok-queue
 invariant_of-self-in-Ok-queue c =
     let r : spec.Room = record { ledger = c.self.inside.ledger; outboxes = c.self.inside.outboxes.items } in
     let few : length c.queue.new.outboxes.items < vec_capacity c.queue.new.outboxes = omega (arith, c.in-Ok-queue.ensures.spare) in
-    keeps-queued r c.call.new.self c.call.new.self c.args.event c.called.inside.parcels.items c.called.inside.parcels.items [] false c.queue.new.outboxes.items
-    (vec_capacity c.self.inside.outboxes) (vec_capacity c.queue.new.outboxes) c.self.invariant c.in-Ok.ensures.took c.queue.ensures.count (sym (append-nil c.called.inside.parcels.items)) (λ h. refl)
+    keeps-queued r c.call.new.self c.call.new.self c.args.event c.in-Ok.called.parcels.items c.in-Ok.called.parcels.items [] false c.queue.new.outboxes.items
+    (vec_capacity c.self.inside.outboxes) (vec_capacity c.queue.new.outboxes) c.self.invariant c.in-Ok.ensures.took c.queue.ensures.count (sym (append-nil c.in-Ok.called.parcels.items)) (λ h. refl)
     (entry-whole c.self.inside.ledger c.call.new.self c.args.event c.in-Ok.ensures.took.next)
-    (c.in-Ok-queue.ensures.next ∙ ap (λ (os : List Outbox). delivered c.called.inside.parcels.items 1 (c.self.inside.outboxes.items ++ os)) c.outbox_for-outbox.ensures)
+    (c.in-Ok-queue.ensures.next ∙ ap (λ (os : List Outbox). delivered c.in-Ok.called.parcels.items 1 (c.self.inside.outboxes.items ++ os)) c.outbox_for-outbox.ensures)
     (λ h. few)
 
 pub invariant_of-self-in-Err-queue : goal.invariant_of-self-in-Err-queue
 invariant_of-self-in-Err-queue c =
     let r : spec.Room = record { ledger = c.self.inside.ledger; outboxes = c.self.inside.outboxes.items } in
     let part = c.in-Err-queue.ensures.left in
-    keeps-queued r c.call.new.self c.break_off.new.self c.args.event c.called.inside.parcels.items part.put part.rest true c.queue.new.outboxes.items
+    keeps-queued r c.call.new.self c.break_off.new.self c.args.event c.in-Ok.called.parcels.items part.put part.rest true c.queue.new.outboxes.items
     (vec_capacity c.self.inside.outboxes) (vec_capacity c.queue.new.outboxes) c.self.invariant c.in-Ok.ensures.took c.queue.ensures.count part.all (λ h. cc)
     c.break_off.ensures.next
     (part.outboxes ∙ ap (λ (os : List Outbox). delivered part.put 1 (c.self.inside.outboxes.items ++ os)) c.outbox_for-outbox.ensures)
