@@ -1,6 +1,6 @@
 //! One conference with its journal.
 
-ghost use Rattle.std.specs.Prelude.{◌≡◌, ◌++◌, ◌∷◌, [], true, false, IfErr, IfOk, OnErr, OnOk};
+ghost use Rattle.std.specs.Prelude.{◌≡◌, ◌++◌, ◌∷◌, [], true, false, IfErr, IfOk, OnErr, OnOk, length};
 ghost use Rattle.floor_machine.specs.Conference.{AreCut, is_cut, live_numbers};
 ghost use Rattle.floor_machine.specs.Journal.{IsJournal};
 ghost use Rattle.floor_machine.specs.Machine.{infos_changed};
@@ -73,6 +73,13 @@ impl Ledger {
         ensures kept { IsJournal self.now.config self.now.journal }
     {
         self.journal.as_slice()
+    }
+
+    /// How many events stand in the journal. Takes no memory.
+    pub(crate) fn events(&self) -> u32
+        ensures value { result ≡ length self.now.journal }
+    {
+        self.journal.len() as u32
     }
 
     /// Why no event is taken, whichever it is. Takes no memory.

@@ -1,12 +1,13 @@
 //! One conference with its journal and its outboxes.
 
-ghost use Rattle.std.specs.Prelude.{◌≡◌, ◌+◌, [], true, false, IfErr, IfOk, OnErr, OnOk, length, option_map};
+ghost use Rattle.std.specs.Prelude.{◌≡◌, ◌+◌, [], true, false, IfErr, IfOk, OnErr, OnOk, length, max, min, option_map};
 ghost use Rattle.floor_machine.specs.declared.event.Event.TheVariants.{Join, Leave, Message, Took};
 ghost use Rattle.floor_machine.specs.Conference.{AreCut, is_cut};
 ghost use Rattle.floor_machine.specs.Machine.{event_of_act, infos_changed};
 ghost use Rattle.floor_room.specs.Calls.{Applied, Left};
 ghost use Rattle.floor_room.specs.Ledger.{IsRefusedBy, closed, conference_of, refusal};
-ghost use Rattle.floor_room.specs.Room.{IsRoom, broken_room, new_room};
+ghost use Rattle.floor_machine.specs.Journal.{MAX_EVENTS};
+ghost use Rattle.floor_room.specs.Room.{IsRoom, broken_room, is_kept, new_room};
 ghost use Rattle.floor_room.specs.Standing.{backlog_of, config_of, shown_of};
 ghost use Rattle.floor_room.specs.Status.{IsStatus};
 ghost use Rattle.floor_room.specs.Taking.{Gave, held_of};
@@ -19,7 +20,7 @@ use crate::ledger::Ledger;
 use crate::outbox::{NoMember, Outbox, held_of, outbox_for, queue, take};
 use crate::refusal::RoomRefusal;
 use crate::status::Status;
-use floor_machine::{Act, Config, Event, Frame, Parcel, Refusal, SharedInfo};
+use floor_machine::{Act, Config, Event, Frame, MAX_EVENTS, Parcel, Refusal, SharedInfo};
 use std::alloc::{AllocError, Global};
 use std::collections::VecDeque;
 use std::marker::Model;
@@ -33,11 +34,17 @@ use std::marker::Model;
 /// but that `Memory` breaks the room off. Each puts into its last argument, in place of what stood there,
 /// the numbers of the members to whom it queued something and what is shown of the floor requests that it
 /// changed, and none where it refuses. `take` gives what waits, also in a room that takes no event.
+/// Keeping: behind `begin_keeping` nothing is handed out while an event that told something isn't kept;
+/// `keep` says how many are, and `end_keeping` that none has to be.
 /// `break_off` is for a caller that meets want of memory itself.
 #[derive(Debug, Drop)]
 pub struct Room {
     ledger: Ledger,
     outboxes: Vec<Outbox>,
+    // Behind so many events none has told anything.
+    told: u32,
+    // So many events are kept.
+    kept: u32,
 }
 
 impl Model for Room {
@@ -48,10 +55,20 @@ impl Model for Room {
 
     ghost use Rattle.floor_room.specs.steps.Kept.{Keeps};
 
-    ghost view = { λ r. record { ledger = r.ledger; outboxes = r.outboxes.items } };
+    ghost view = { λ r. record {
+      ledger = r.ledger;
+      outboxes = r.outboxes.items;
+      told = r.told;
+      kept = r.kept;
+    } };
 
     ghost invariant = { λ r. Keeps
-        record { ledger = r.ledger; outboxes = r.outboxes.items }
+        record {
+          ledger = r.ledger;
+          outboxes = r.outboxes.items;
+          told = r.told;
+          kept = r.kept;
+        }
         (vec_capacity r.outboxes) };
 }
 
@@ -62,7 +79,12 @@ impl Room {
     {
         let outboxes = Vec::with_capacity(alloc, 1)?;
         let ledger = Ledger::new(alloc, config)?;
-        Ok(Room { ledger, outboxes })
+        Ok(Room {
+            ledger,
+            outboxes,
+            told: 0,
+            kept: MAX_EVENTS as u32,
+        })
     }
 
     /// What happened so far. Takes no memory.
@@ -158,14 +180,23 @@ impl Room {
         let outbox = outbox_for(*self.outboxes.allocator(), &event);
         match self.ledger.add(event, &mut effects.changed) {
             Err(refusal) => Err(refusal),
-            Ok(out) => match queue(&mut self.outboxes, outbox, out, &mut effects.told) {
-                Ok(()) => Ok(()),
-                Err(_) => {
-                    effects.clear();
-                    self.ledger.break_off();
-                    Err(RoomRefusal::Refused(Refusal::Memory))
+            Ok(out) => {
+                let tells = !out.is_empty();
+                match queue(&mut self.outboxes, outbox, out, &mut effects.told) {
+                    Ok(()) => {
+                        if tells {
+                            self.told = self.ledger.events();
+                        }
+                        Ok(())
+                    }
+                    Err(_) => {
+                        effects.clear();
+                        self.told = self.ledger.events();
+                        self.ledger.break_off();
+                        Err(RoomRefusal::Refused(Refusal::Memory))
+                    }
                 }
-            },
+            }
         }
     }
 
@@ -278,12 +309,49 @@ impl Room {
         self.outboxes.len() as u32
     }
 
-    /// Takes the first parcel that waits for a member, also for one that left. Refused by `NoMember`
-    /// where nobody has joined under the number, and by nothing else. Takes no memory.
+    /// Takes the first parcel that waits for a member, also for one that left; none where not all that was
+    /// told is kept. Refused by `NoMember` where nobody has joined under the number, and by nothing else.
+    /// Takes no memory.
     pub fn take(&mut self, n: u32) -> Result<Option<Parcel>, NoMember>
         ensures took { Gave self.old self.new n result }
     {
-        take(&mut self.outboxes, n)
+        if self.is_kept() {
+            return take(&mut self.outboxes, n);
+        }
+        match held_of(self.outboxes.as_slice(), n) {
+            Some(_) => Ok(None),
+            None => Err(NoMember),
+        }
+    }
+
+    /// Whether all that was told is kept, so that it is handed out. Takes no memory.
+    pub fn is_kept(&self) -> bool
+        ensures value { result ≡ is_kept self.now }
+    {
+        self.told <= self.kept
+    }
+
+    /// From now on what an event tells is handed out once the event is kept; those so far are. Takes no memory.
+    pub fn begin_keeping(&mut self)
+        ensures next { self.new ≡ record self.old { kept = length self.old.ledger.journal } }
+    {
+        self.kept = self.ledger.events();
+    }
+
+    /// Takes it that so many of the events are kept, if fewer were before. Takes no memory.
+    pub fn keep(&mut self, events: u32)
+        ensures next { self.new ≡ record self.old {
+          kept = max self.old.kept (min events (length self.old.ledger.journal));
+        } }
+    {
+        self.kept = self.kept.max(events.min(self.ledger.events()));
+    }
+
+    /// What an event tells is handed out at once again: its events are kept no more. Takes no memory.
+    pub fn end_keeping(&mut self)
+        ensures next { self.new ≡ record self.old { kept = MAX_EVENTS } }
+    {
+        self.kept = MAX_EVENTS as u32;
     }
 
     /// Breaks the room off for good: no event is taken any more, and what waits stays. Takes no
