@@ -9,7 +9,7 @@ use Rattle.floor_machine.specs.declared.machine.Refusal.TheVariants.{Broken, End
 use Rattle.floor_machine.specs.Journal.{parcels_of}
 use Rattle.floor_room.specs.declared.refusal.RoomRefusal.{RoomRefusal}
 use Rattle.floor_room.specs.declared.refusal.RoomRefusal.TheVariants.{JournalFull, Refused as ByMachine}
-use Rattle.floor_room.specs.Calls.{Left}
+use Rattle.floor_room.specs.Calls.{Left, told_by}
 use Rattle.floor_machine.specs.Conference.{is_cut, is_live}
 use Rattle.floor_room.specs.Ledger.{IsRefusedBy, closed, conference_of, refusal}
 use Rattle.floor_room.specs.Room.{Room, broken_room}
@@ -46,6 +46,7 @@ attach-left r s user why (inr f) = subst (Left r s (Join user)) (sym f.0) (inr (
   put = parcels_of (conference_of r.ledger) (Join user);
   rest = [];
   all = sym (append-nil (parcels_of (conference_of r.ledger) (Join user)));
+  told = told_by r (parcels_of (conference_of r.ledger) (Join user)) false;
   next = f.1.2 ∙ ap broken_room f.1.1.next;
 }))
 

@@ -18,7 +18,7 @@ use Rattle.floor_wire.specs.Message.{messages}
 use Rattle.floor_machine.specs.Journal.{parcels_of, sent_to}
 use Rattle.floor_room.specs.declared.refusal.RoomRefusal.{RoomRefusal}
 use Rattle.floor_room.specs.declared.refusal.RoomRefusal.TheVariants.{JournalFull, Refused as ByMachine}
-use Rattle.floor_room.specs.Calls.{Applied, Left, with_event}
+use Rattle.floor_room.specs.Calls.{Applied, Left, told_by, with_event}
 use Rattle.floor_room.specs.Ledger.{IsRefusedBy, Ledger, closed, conference_of, first_of, refusal}
 use Rattle.floor_room.specs.Outbox.{Outbox, delivered}
 use Rattle.floor_room.specs.Room.{Room, broken_room, joined}
@@ -75,9 +75,9 @@ room-same shut_by why own r s calm shut told adds e =
 false_true : false ≡ true → ⊥
 false_true e = cc
 
-room-event : (shut_by why : Option HubRefusal) (own : List Event) (r s : Room) (e : Event) (put : List Parcel) (b : Bool) → r.ledger.is_broken ≡ false → (b ≡ true) ↔ (why ≡ by_memory) →
-    why ≢ by_broken → AddsOwn why own r.ledger.journal (r.ledger.journal ++ e ∷ []) → s ≡ with_event r e put b → RoomAfter shut_by why own r s
-room-event shut_by why own r s e put b sound want told adds is =
+room-event : (shut_by why : Option HubRefusal) (own : List Event) (r s : Room) (e : Event) (put : List Parcel) (b : Bool) (told_now : ℕ) → r.ledger.is_broken ≡ false → (b ≡ true) ↔ (why ≡ by_memory) →
+    why ≢ by_broken → AddsOwn why own r.ledger.journal (r.ledger.journal ++ e ∷ []) → s ≡ record (with_event r e put b) { told = told_now } → RoomAfter shut_by why own r s
+room-event shut_by why own r s e put b told_now sound want told adds is =
     let now : s.ledger.is_broken ≡ b = ap (λ (x : Room). x.ledger.is_broken) is in record {
       broken = (λ t. inr (want.0 (sym now ∙ t)), λ h. elim h [ inl t ↦ absurd (true_false (sym t ∙ sound)) | inr w ↦ now ∙ want.1 w ]);
       shut = λ broken. absurd (true_false (sym broken ∙ sound));
@@ -89,7 +89,7 @@ room-event shut_by why own r s e put b sound want told adds is =
 
 pub room-took : (shut_by : Option HubRefusal) (own : List Event) (r s : Room) (e : Event) → own ≡ e ∷ [] → Applied r s e → RoomAfter shut_by None own r s
 room-took shut_by own r s e is t =
-    room-event shut_by None own r s e (parcels_of (conference_of r.ledger) e) false (allowed-open r.ledger e t.allowed).unbroken
+    room-event shut_by None own r s e (parcels_of (conference_of r.ledger) e) false (told_by r (parcels_of (conference_of r.ledger) e) false) (allowed-open r.ledger e t.allowed).unbroken
     (λ f. absurd (false_true f), λ w. absurd (none-some (ByRoom (ByMachine Memory)) w)) (λ w. none-some (ByRoom (ByMachine Broken)) w)
     (ap (λ (es : List Event). r.ledger.journal ++ es) (sym is)) t.next
 
@@ -231,7 +231,7 @@ room-left own r s e (ByMachine NoFloor) is by left = left-same own r s e (ByMach
 room-left own r s e (ByMachine UnknownChair) is by left = left-same own r s e (ByMachine UnknownChair) (λ w. cc) refl by left
 room-left own r s e (ByMachine Memory) is by (inl off) = room-off by_broken own r s (sound-before r e r.ledger.is_broken refl by) off
 room-left own r s e (ByMachine Memory) is by (inr began) =
-    room-event by_broken by_memory own r s e began.put true (sound-before r e r.ledger.is_broken refl by) (λ t. refl, λ w. refl) memory_broken
+    room-event by_broken by_memory own r s e began.put true began.told (sound-before r e r.ledger.is_broken refl by) (λ t. refl, λ w. refl) memory_broken
     (inr (ap (λ (es : List Event). r.ledger.journal ++ es) (sym is))) began.next
 
 -- where the room wasn't broken, what a broken one answers is another matter
@@ -248,7 +248,7 @@ other-shut other shut_by why own r s sound a = record {
 -- the room was joined, and broken off then
 room-unjoined : (r mid s : Room) (e : Event) → Applied r mid e → s ≡ broken_room mid → RoomAfter by_broken by_memory (e ∷ []) r s
 room-unjoined r mid s e t off =
-    room-event by_broken by_memory (e ∷ []) r s e (parcels_of (conference_of r.ledger) e) true (allowed-open r.ledger e t.allowed).unbroken (λ x. refl, λ w. refl) memory_broken (inr refl)
+    room-event by_broken by_memory (e ∷ []) r s e (parcels_of (conference_of r.ledger) e) true (told_by r (parcels_of (conference_of r.ledger) e) false) (allowed-open r.ledger e t.allowed).unbroken (λ x. refl, λ w. refl) memory_broken (inr refl)
     (off ∙ ap broken_room t.next)
 
 pub room-attach-fails : (r s : Room) (user : ℕ) (why : RoomRefusal) → AttachFailsIn r s user why → RoomAfter by_broken (Some (ByRoom why)) (Join user ∷ []) r s

@@ -18,7 +18,7 @@ use Rattle.floor_room.specs.Taking.{Gave, outbox_of}
 use Rattle.floor_hub.specs.declared.refusal.HubRefusal.{HubRefusal}
 use Rattle.floor_hub.specs.declared.refusal.HubRefusal.TheVariants.{NoConference, Forgotten, Running, NoConnection, ByRoom, Memory as NoMemory}
 use Rattle.floor_hub.specs.declared.connection.Connection.{Connection}
-use Rattle.floor_hub.specs.Concerned.{is_cut, waiting}
+use Rattle.floor_hub.specs.Concerned.{handed, is_cut}
 use Rattle.floor_hub.specs.Connections.{Puts, SameConnections, connection_at}
 use Rattle.floor_hub.specs.Hub.{Hub, is_forgotten, room_at}
 
@@ -130,12 +130,12 @@ pub record TakenFrom (c n : ℕ) (parcel : Option Parcel) (old new : Hub) : Type
   pub connections : SameConnections old.connections new.connections
   pub arrivals : new.arrivals ≡ old.arrivals
 
--- what waits first for the member n of this room
+-- what is handed out first to the member n of this room
 abbrev pub first_in : Option Room → ℕ → Option Parcel
 first_in None n = None
-first_in (Some r) n = slice_get (waiting r n) 0
+first_in (Some r) n = slice_get (handed r n) 0
 
--- what waits first for a live connection, and nothing without one
+-- what is handed out first to a live connection, and nothing without one
 abbrev pub first_at : Hub → Option Connection → Option Parcel
 first_at h None = None
 first_at h (Some x) = first_in (room_at h x.conference) x.n

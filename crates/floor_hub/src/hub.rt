@@ -7,7 +7,7 @@ ghost use Rattle.indexmap.specs.IndexSet.{contains};
 ghost use Rattle.floor_machine.specs.declared.event.Event.TheVariants.{Took as Takes};
 ghost use Rattle.floor_room.specs.Room.{IsRoom, Room as Kept};
 ghost use Rattle.floor_hub.specs.Calls.{Fails, FailsGone, FailsSame, Turns, answer_of};
-ghost use Rattle.floor_hub.specs.Concerned.{Concerns, is_cut, waiting};
+ghost use Rattle.floor_hub.specs.Concerned.{Concerns, handed, is_cut};
 ghost use Rattle.floor_hub.specs.Connections.{Puts, SameConnections, StayLive, connection_at};
 ghost use Rattle.floor_hub.specs.Hub.{is_forgotten, room_at};
 ghost use Rattle.floor_hub.specs.Left.{LeftAt, LeftLeaving, LeftServing, LeftTaking};
@@ -401,8 +401,9 @@ impl Hub {
         }
     }
 
-    /// The first parcel that waits for a connection, which goes on to wait: `take` gives it. None where
-    /// nothing waits, and where no live connection has the number. Takes no memory.
+    /// The first parcel that is handed out to a connection, which goes on to wait: `take` gives it. None where
+    /// nothing waits or not all that was told is kept, and where no live connection has the number. Takes no
+    /// memory.
     pub fn first(&self, number: ConnNo) -> Option<&Parcel>
         ensures value { option_copied result
             ≡ first_at self.now (connection_at self.now.connections number) }
@@ -465,7 +466,7 @@ impl Hub {
             → connection_at self.now.connections number ≡ Some x
             → room_at self.now x.conference ≡ Some r
             → OnOk result (buffer.new.items
-            ≡ buffer.old.items ++ first_bytes (waiting r x.n)) }
+            ≡ buffer.old.items ++ first_bytes (handed r x.n)) }
         ensures left { OnErr result (buffer.new.items ≡ buffer.old.items) }
     {
         match self.connections.get(number) {

@@ -39,7 +39,8 @@ pub record Began (old new : Room) (e : Event) : Type 0 where
   pub put : List Parcel
   pub rest : List Parcel
   pub all : parcels_of (conference_of old.ledger) e ≡ put ++ rest
-  pub next : new ≡ with_event old e put true
+  pub told : ℕ
+  pub next : new ≡ record (with_event old e put true) { told = told }
 
 -- what a call that failed left: after Memory a broken room, as it was or with the event begun; else all as it was
 abbrev pub Left : Room → Room → Event → RoomRefusal → Type 0
