@@ -87,8 +87,9 @@ impl Watcher {
         };
         let number = self.machine.joins() as u32 + 1;
         let leaver = leaver(&self.machine, event);
+        let mut parcels = Vec::new(alloc);
         let mut changed = Vec::new(alloc);
-        match self.machine.apply_watched(event, &mut changed) {
+        match self.machine.apply(event, &mut parcels, &mut changed) {
             Ok(()) => {}
             Err(refusal) => {
                 let refusal = RoomRefusal::Refused(refusal);
@@ -127,8 +128,9 @@ impl Watcher {
         }
         members_come_and_stay();
         let alloc = *self.cut.allocator();
-        let mut out = Vec::new(alloc);
-        match self.machine.apply(event, &mut out) {
+        let mut parcels = Vec::new(alloc);
+        let mut changed = Vec::new(alloc);
+        match self.machine.apply(event, &mut parcels, &mut changed) {
             Ok(()) => {}
             Err(refusal) => {
                 let refusal = RoomRefusal::Refused(refusal);

@@ -38,7 +38,7 @@ pub(crate) fn add_floor(
         (AddFloor record { id = id; room = room; chair = if has_chair then Some chair else None })
         hub.new result }
 {
-    let chair = if has_chair { Some(chair) } else { None };
+    let chair = chair_of(has_chair, chair);
     let floor = Floor { id, room, chair };
     outcome_of(hub.admin(conference, Act::AddFloor(floor))).number()
 }
@@ -54,8 +54,15 @@ pub(crate) fn set_chair(
     ensures gives { ActGives hub.old conference
         (SetChair floor (if has_chair then Some chair else None)) hub.new result }
 {
-    let chair = if has_chair { Some(chair) } else { None };
+    let chair = chair_of(has_chair, chair);
     outcome_of(hub.admin(conference, Act::SetChair(floor, chair))).number()
+}
+
+/// A floor's chair, where it has one.
+fn chair_of(has_chair: bool, chair: u16) -> Option<u16>
+    ensures value { result ≡ (if has_chair then Some chair else None) }
+{
+    if has_chair { Some(chair) } else { None }
 }
 
 /// Adds a user.

@@ -43,3 +43,4 @@ pub mod Moving
 pub mod Concerning
 pub mod Attaching
 pub mod Naming
+pub mod Handing

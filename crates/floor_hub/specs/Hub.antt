@@ -2,16 +2,18 @@
 use Rattle.std.specs.Prelude.{ℕ, Bool, List, nat_eq, Option}
 use Rattle.std.specs.List.{list_any}
 use Rattle.std.specs.Map.{lookup}
+use Rattle.floor_message.specs.declared.information.Info.{Info}
 use Rattle.floor_room.specs.Room.{Room}
 use Rattle.floor_hub.specs.Connections.{Connections}
 
 -- the rooms by conference; the live connections by number; how many arrivals there were; the numbers of those that the last call
--- concerned which could concern anybody; and the conferences that were forgotten
+-- concerned which could concern anybody; what is shown of the requests that it changed; and the conferences that were forgotten
 pub record Hub : Type 0 where
   pub rooms : List (ℕ × Room)
   pub connections : Connections
   pub arrivals : ℕ
   pub concerned : List ℕ
+  pub changed : List Info
   pub forgotten : List ℕ
 
 -- the room of a conference

@@ -9,6 +9,7 @@ pub mod Calls
 pub mod Rooms
 pub mod Left
 pub mod Concerned
+pub mod Shown
 pub mod Members
 pub mod Runs
 pub mod Laws

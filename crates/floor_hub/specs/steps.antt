@@ -5,3 +5,4 @@ pub mod Found
 pub mod Serving
 pub mod Running
 pub mod Attached
+pub mod Handed

@@ -12,12 +12,14 @@ ghost use Rattle.floor_hub.specs.Connections.{Puts, SameConnections, StayLive, c
 ghost use Rattle.floor_hub.specs.Hub.{is_forgotten, room_at};
 ghost use Rattle.floor_hub.specs.Left.{LeftAt, LeftLeaving, LeftServing, LeftTaking};
 ghost use Rattle.floor_hub.specs.Rooms.{CutIs, Forgets, IsOver, IsRefusedIn, IsRemembered, Joins, KeptOf, OneRoom, Opens, RoomOf, SameHub, TakenInto, TakenOf, admin_event, attach_event, by_broken, ended_or_none, first_at, leave_event, refusal_in, serve_event, took_event};
+ghost use Rattle.floor_hub.specs.Shown.{Shows};
 ghost use Rattle.floor_hub.specs.StandsFor.{StandsFor};
 ghost use Rattle.floor_hub.specs.World.{World, nothing};
 ghost use Rattle.floor_hub.specs.declared.step.Answer.TheVariants.{Attached, Done};
 ghost use Rattle.floor_hub.specs.declared.step.Step.TheVariants.{Admin, Attach, Leave, Open, Piece, Serve, Took};
 ghost use Rattle.floor_hub.specs.steps.Attached.{AreWithin, ConcernedBy, ConcernedOf, PutsLive, SameLive, Tells, attached_to, joined_as, live_in, without};
 ghost use Rattle.floor_hub.specs.steps.Found.{AtConnection, AtRoom};
+ghost use Rattle.floor_hub.specs.steps.Handed.{HandedBy, HandedOf, Hands};
 ghost use Rattle.floor_hub.specs.steps.Running.{QueuedIn, first_bytes};
 ghost use Rattle.floor_hub.specs.steps.Serving.{AttachIn, LeaveOf, ServeOf, TakeOf, TookOf};
 
@@ -32,7 +34,7 @@ use crate::gathering::{first_in, put_first, queued_to};
 use crate::refusal::HubRefusal;
 use crate::rooms::{admin_at, leave_room, open_at, serve_room, take_room, took_room};
 use crate::step::Served;
-use floor_room::{Act, Config, Parcel, Refusal, Room, RoomRefusal};
+use floor_room::{Act, Config, Effects, Parcel, Refusal, Room, RoomRefusal, SharedInfo};
 use floor_wire::{Framer, Octets};
 use indexmap::{IndexMap, IndexSet};
 use std::alloc::{AllocError, Global};
@@ -47,7 +49,8 @@ use std::marker::Model;
 ///   once they were, and `leave` at the end. Whoever is more than 1,024 parcels behind is cut: it is
 ///   told nothing more, its messages are refused by `Cut`, and `is_cut` tells it.
 /// - `concerned` names, after each call, the connections that have something to take, that it cut, or
-///   whose conference it closed or broke off.
+///   whose conference it closed or broke off; and `changed` lends what is shown of the floor requests
+///   that it changed, for whoever watches the conference.
 ///
 /// A refused call changes nothing. Want of memory does so in `open` and `piece`, too; in `attach`,
 /// `serve`, `took`, `leave` and `admin` it breaks that one conference's room off, and no other. It
@@ -58,8 +61,8 @@ pub struct Hub {
     connections: Connections,
     arrivals: u64,
     concerned: Concerned,
-    // Whom the last event told something, as its room says.
-    told: Vec<u32>,
+    // What the last event did, as its room says.
+    effects: Effects,
     forgotten: IndexSet<u32>,
 }
 
@@ -75,6 +78,7 @@ impl Model for Hub {
       connections = h.connections;
       arrivals = h.arrivals;
       concerned = h.concerned.numbers;
+      changed = h.effects.changed.items;
       forgotten = h.forgotten.keys;
     } };
 
@@ -84,6 +88,7 @@ impl Model for Hub {
           connections = h.connections;
           arrivals = h.arrivals;
           concerned = h.concerned.numbers;
+          changed = h.effects.changed.items;
           forgotten = h.forgotten.keys;
         }
         h.concerned };
@@ -100,7 +105,7 @@ impl Hub {
             connections: Connections::new(alloc),
             arrivals: 0,
             concerned: Concerned::new(alloc),
-            told: Vec::new(alloc),
+            effects: Effects::new(alloc),
             forgotten: IndexSet::new(alloc),
         }
     }
@@ -115,6 +120,7 @@ impl Hub {
         ensures connections { SameConnections self.old.connections self.new.connections }
         ensures left { OnErr result (SameHub self.old self.new) }
         ensures concerned { self.new.concerned ≡ self.old.concerned }
+        ensures changed { self.new.changed ≡ self.old.changed }
         ensures forgotten { self.new.forgotten ≡ self.old.forgotten }
     {
         open_at(alloc, &mut self.rooms, &self.forgotten, config)
@@ -141,6 +147,7 @@ impl Hub {
             × (x.conference ≡ conference)) }
         ensures joined { IfOk result (λ number. Joins conference number self.old self.new) }
         ensures concerned { Concerns self.old self.new }
+        ensures changed { Shows self.old self.new }
         ensures forgotten { self.new.forgotten ≡ self.old.forgotten }
     {
         let number = self.arrivals + 1;
@@ -150,7 +157,7 @@ impl Hub {
             &self.forgotten,
             &mut self.connections,
             &mut self.concerned,
-            &mut self.told,
+            &mut self.effects,
             number,
             conference,
             user,
@@ -174,6 +181,7 @@ impl Hub {
         ensures connections { StayLive self.old.connections self.new.connections }
         ensures left { OnErr result (SameHub self.old self.new) }
         ensures concerned { self.new.concerned ≡ self.old.concerned }
+        ensures changed { self.new.changed ≡ self.old.changed }
         ensures forgotten { self.new.forgotten ≡ self.old.forgotten }
     {
         push_at(&mut self.connections, number, bytes)
@@ -192,13 +200,14 @@ impl Hub {
         ensures left { IfErr result (LeftServing number
             (connection_at self.old.connections number) self.old self.new) }
         ensures concerned { Concerns self.old self.new }
+        ensures changed { Shows self.old self.new }
         ensures forgotten { self.new.forgotten ≡ self.old.forgotten }
     {
         serve_at(
             &mut self.rooms,
             &mut self.connections,
             &mut self.concerned,
-            &mut self.told,
+            &mut self.effects,
             number,
         )
     }
@@ -221,13 +230,14 @@ impl Hub {
         ensures left { IfErr result (LeftTaking k
             (connection_at self.old.connections number) self.old self.new) }
         ensures concerned { Concerns self.old self.new }
+        ensures changed { Shows self.old self.new }
         ensures forgotten { self.new.forgotten ≡ self.old.forgotten }
     {
         took_at(
             &mut self.rooms,
             &self.connections,
             &mut self.concerned,
-            &mut self.told,
+            &mut self.effects,
             number,
             k,
         )
@@ -246,13 +256,14 @@ impl Hub {
         ensures left { IfErr result (LeftLeaving number
             (connection_at self.old.connections number) self.old self.new) }
         ensures concerned { Concerns self.old self.new }
+        ensures changed { Shows self.old self.new }
         ensures forgotten { self.new.forgotten ≡ self.old.forgotten }
     {
         leave_at(
             &mut self.rooms,
             &mut self.connections,
             &mut self.concerned,
-            &mut self.told,
+            &mut self.effects,
             number,
         )
     }
@@ -270,13 +281,14 @@ impl Hub {
         ensures connections { StayLive self.old.connections self.new.connections }
         ensures left { IfErr result (LeftAt (admin_event act) conference self.old self.new) }
         ensures concerned { Concerns self.old self.new }
+        ensures changed { Shows self.old self.new }
         ensures forgotten { self.new.forgotten ≡ self.old.forgotten }
     {
         admin_at(
             &mut self.rooms,
             &self.forgotten,
             &mut self.concerned,
-            &mut self.told,
+            &mut self.effects,
             conference,
             act,
         )
@@ -293,6 +305,7 @@ impl Hub {
         ensures left { OnErr result (self.new ≡ self.old) }
         ensures stands { (w : World) → StandsFor self.old w → StandsFor self.new w }
         ensures concerned { self.new.concerned ≡ self.old.concerned }
+        ensures changed { self.new.changed ≡ self.old.changed }
     {
         match self.why_remembered(conference) {
             Some(refusal) => return Err(refusal),
@@ -349,6 +362,16 @@ impl Hub {
         self.concerned.numbers()
     }
 
+    /// What is shown now of each floor request that the event changed which the last of `attach`, `serve`,
+    /// `took`, `leave` and `admin` added, ascending: of a new one, of one that ended with its status, and of
+    /// one that is shown otherwise than before. None where the call added no event or was refused. Takes
+    /// no memory.
+    pub fn changed(&self) -> &[SharedInfo]
+        ensures value { result.now ≡ self.now.changed }
+    {
+        self.effects.changed.as_slice()
+    }
+
     /// The conference of a live connection, and its member's number n there. Takes no memory.
     pub fn place(&self, number: ConnNo) -> Option<Place>
         ensures found { IfSome result (λ place. (x : Connection)
@@ -402,6 +425,7 @@ impl Hub {
         ensures kept { KeptOf (connection_at self.old.connections number) self.old }
         ensures stands { (w : World) → StandsFor self.old w → StandsFor self.new w }
         ensures concerned { self.new.concerned ≡ self.old.concerned }
+        ensures changed { self.new.changed ≡ self.old.changed }
         ensures forgotten { self.new.forgotten ≡ self.old.forgotten }
     {
         take_at(&mut self.rooms, &self.connections, number)
@@ -418,6 +442,7 @@ impl Hub {
         ensures kept { OnOk result (KeptOf (connection_at self.old.connections number) self.old) }
         ensures stands { (w : World) → StandsFor self.old w → StandsFor self.new w }
         ensures concerned { self.new.concerned ≡ self.old.concerned }
+        ensures changed { self.new.changed ≡ self.old.changed }
         ensures forgotten { self.new.forgotten ≡ self.old.forgotten }
     {
         match self.put_first(number, buffer) {
@@ -480,7 +505,7 @@ fn attach_at(
     forgotten: &IndexSet<u32>,
     connections: &mut Connections,
     concerned: &mut Concerned,
-    told: &mut Vec<u32>,
+    effects: &mut Effects,
     number: ConnNo,
     conference: u32,
     user: u16,
@@ -492,8 +517,10 @@ fn attach_at(
         (ended_or_none (contains nat_eq forgotten.now conference)) (get nat_eq rooms.old) (get nat_eq rooms.new) conference result }
     ensures left { OnErr result (SameConnections connections.old connections.new) }
     ensures concerned { ConcernedBy
-        (attached_to (live_in concerned.old conference) number result) told.new.items
+        (attached_to (live_in concerned.old conference) number result) effects.new.told.items
         (get nat_eq rooms.old) (get nat_eq rooms.new) conference concerned.old concerned.new }
+    ensures changed { HandedBy (get nat_eq rooms.old) (get nat_eq rooms.new) conference
+        effects.new.changed.items }
 {
     match rooms.get_mut(&conference) {
         Some(room) => {
@@ -503,16 +530,17 @@ fn attach_at(
                 room,
                 connections,
                 concerned,
-                told,
+                effects,
                 number,
                 conference,
                 user,
             );
-            concerned.name(conference, room, was_shut, told.as_slice());
+            concerned.name(conference, room, was_shut, effects.told.as_slice());
             done
         }
         None => {
             concerned.nobody();
+            effects.clear();
             Err(ended_or_none(forgotten, conference))
         }
     }
@@ -524,7 +552,7 @@ fn attach_in(
     room: &mut Room,
     connections: &mut Connections,
     concerned: &mut Concerned,
-    told: &mut Vec<u32>,
+    effects: &mut Effects,
     number: ConnNo,
     conference: u32,
     user: u16,
@@ -534,7 +562,8 @@ fn attach_in(
         (length room.old.outboxes) }
     ensures room { AttachIn conference user number connections.old connections.new
         room.old room.new result }
-    ensures told { Tells room.old room.new told.new.items }
+    ensures told { Tells room.old room.new effects.new.told.items }
+    ensures changed { Hands room.old room.new effects.new.changed.items }
     ensures left { OnErr result (SameConnections connections.old connections.new) }
     ensures live { OnOk result (PutsLive concerned.old concerned.new conference
         (live_in concerned.old conference ++ joined_as room.old number ∷ [])) }
@@ -542,7 +571,7 @@ fn attach_in(
 {
     // There are as many outboxes as members.
     let _journal = room.journal();
-    match room.join(user, told) {
+    match room.join(user, effects) {
         Err(why) => Err(HubRefusal::ByRoom(why)),
         Ok(n) => {
             let connection = Connection {
@@ -560,11 +589,13 @@ fn attach_in(
                     Ok(()) => Ok(()),
                     Err(_) => {
                         let _taken = connections.remove(number);
+                        effects.clear();
                         room.break_off();
                         Err(HubRefusal::ByRoom(RoomRefusal::Refused(Refusal::Memory)))
                     }
                 },
                 Err(_) => {
+                    effects.clear();
                     room.break_off();
                     Err(HubRefusal::ByRoom(RoomRefusal::Refused(Refusal::Memory)))
                 }
@@ -598,19 +629,22 @@ fn serve_at(
     rooms: &mut IndexMap<u32, Room>,
     connections: &mut Connections,
     concerned: &mut Concerned,
-    told: &mut Vec<u32>,
+    effects: &mut Effects,
     number: ConnNo,
 ) -> Result<Served, HubRefusal>
     ensures connection { AtConnection ServeOf (get nat_eq rooms.old) (get nat_eq rooms.new)
         connections.old connections.new number result }
-    ensures concerned { ConcernedOf (λ x. live_in concerned.old x.conference) told.new.items
+    ensures concerned { ConcernedOf (λ x. live_in concerned.old x.conference) effects.new.told.items
         (connection_at connections.old number) (get nat_eq rooms.old) (get nat_eq rooms.new)
         concerned.old concerned.new }
+    ensures changed { HandedOf (connection_at connections.old number) (get nat_eq rooms.old)
+        (get nat_eq rooms.new) effects.new.changed.items }
 {
     match connections.get_mut(number) {
-        Some(connection) => serve_room(rooms, concerned, told, connection),
+        Some(connection) => serve_room(rooms, concerned, effects, connection),
         None => {
             concerned.nobody();
+            effects.clear();
             Err(HubRefusal::NoConnection)
         }
     }
@@ -621,20 +655,23 @@ fn took_at(
     rooms: &mut IndexMap<u32, Room>,
     connections: &Connections,
     concerned: &mut Concerned,
-    told: &mut Vec<u32>,
+    effects: &mut Effects,
     number: ConnNo,
     k: u32,
 ) -> Result<(), HubRefusal>
     ensures connection { AtConnection (TookOf k) (get nat_eq rooms.old) (get nat_eq rooms.new)
         connections.now connections.now number result }
-    ensures concerned { ConcernedOf (λ x. live_in concerned.old x.conference) told.new.items
+    ensures concerned { ConcernedOf (λ x. live_in concerned.old x.conference) effects.new.told.items
         (connection_at connections.now number) (get nat_eq rooms.old) (get nat_eq rooms.new)
         concerned.old concerned.new }
+    ensures changed { HandedOf (connection_at connections.now number) (get nat_eq rooms.old)
+        (get nat_eq rooms.new) effects.new.changed.items }
 {
     match connections.get(number) {
-        Some(connection) => took_room(rooms, concerned, told, connection, k),
+        Some(connection) => took_room(rooms, concerned, effects, connection, k),
         None => {
             concerned.nobody();
+            effects.clear();
             Err(HubRefusal::NoConnection)
         }
     }
@@ -662,20 +699,23 @@ fn leave_at(
     rooms: &mut IndexMap<u32, Room>,
     connections: &mut Connections,
     concerned: &mut Concerned,
-    told: &mut Vec<u32>,
+    effects: &mut Effects,
     number: ConnNo,
 ) -> Result<(), HubRefusal>
     ensures connection { AtConnection LeaveOf (get nat_eq rooms.old) (get nat_eq rooms.new)
         connections.old connections.new number result }
     ensures concerned { ConcernedOf
-        (λ x. without number (live_in concerned.old x.conference)) told.new.items
+        (λ x. without number (live_in concerned.old x.conference)) effects.new.told.items
         (connection_at connections.old number) (get nat_eq rooms.old) (get nat_eq rooms.new)
         concerned.old concerned.new }
+    ensures changed { HandedOf (connection_at connections.old number) (get nat_eq rooms.old)
+        (get nat_eq rooms.new) effects.new.changed.items }
 {
     match connections.remove(number) {
-        Some(connection) => leave_room(rooms, concerned, told, number, &connection),
+        Some(connection) => leave_room(rooms, concerned, effects, number, &connection),
         None => {
             concerned.nobody();
+            effects.clear();
             Err(HubRefusal::NoConnection)
         }
     }

@@ -13,6 +13,7 @@ ghost use Rattle.floor_room.specs.declared.refusal.RoomRefusal.{RoomRefusal};
 ghost use Rattle.floor_hub.specs.Rooms.{ended_or_none};
 ghost use Rattle.floor_hub.specs.steps.Attached.{ConcernedBy, Tells, always, live_in, without};
 ghost use Rattle.floor_hub.specs.steps.Found.{AtRoom};
+ghost use Rattle.floor_hub.specs.steps.Handed.{HandedBy, Hands};
 ghost use Rattle.floor_hub.specs.steps.Serving.{EventIn, IsServable, LeaveFailsIn, LeavesIn, ServedIn};
 
 use crate::attached::is_shut;
@@ -21,7 +22,7 @@ use crate::connection::{ConnNo, Connection};
 use crate::forgotten::ended_or_none;
 use crate::refusal::HubRefusal;
 use crate::step::Served;
-use floor_room::{Act, Config, Parcel, Refusal, Room, RoomRefusal};
+use floor_room::{Act, Config, Effects, Parcel, Refusal, Room, RoomRefusal};
 use floor_wire::Framer;
 use indexmap::{IndexMap, IndexSet};
 use std::alloc::Global;
@@ -65,34 +66,39 @@ pub(crate) fn admin_at(
     rooms: &mut IndexMap<u32, Room>,
     forgotten: &IndexSet<u32>,
     concerned: &mut Concerned,
-    told: &mut Vec<u32>,
+    effects: &mut Effects,
     conference: u32,
     act: Act,
 ) -> Result<(), HubRefusal>
     ensures room { AtRoom (EventIn (event_of_act act))
         (ended_or_none (contains nat_eq forgotten.now conference)) (get nat_eq rooms.old) (get nat_eq rooms.new) conference result }
-    ensures concerned { ConcernedBy (always (live_in concerned.old conference)) told.new.items
-        (get nat_eq rooms.old) (get nat_eq rooms.new) conference concerned.old concerned.new }
+    ensures concerned { ConcernedBy (always (live_in concerned.old conference))
+        effects.new.told.items (get nat_eq rooms.old) (get nat_eq rooms.new) conference
+        concerned.old concerned.new }
+    ensures changed { HandedBy (get nat_eq rooms.old) (get nat_eq rooms.new) conference
+        effects.new.changed.items }
 {
     match rooms.get_mut(&conference) {
         Some(room) => {
             let was_shut = is_shut(room);
-            let done = admin_in(room, act, told);
-            concerned.name(conference, room, was_shut, told.as_slice());
+            let done = admin_in(room, act, effects);
+            concerned.name(conference, room, was_shut, effects.told.as_slice());
             done
         }
         None => {
             concerned.nobody();
+            effects.clear();
             Err(ended_or_none(forgotten, conference))
         }
     }
 }
 
-fn admin_in(room: &mut Room, act: Act, told: &mut Vec<u32>) -> Result<(), HubRefusal>
+fn admin_in(room: &mut Room, act: Act, effects: &mut Effects) -> Result<(), HubRefusal>
     ensures event { EventIn (event_of_act act) room.old room.new result }
-    ensures told { Tells room.old room.new told.new.items }
+    ensures told { Tells room.old room.new effects.new.told.items }
+    ensures changed { Hands room.old room.new effects.new.changed.items }
 {
-    match room.admin(act, told) {
+    match room.admin(act, effects) {
         Ok(()) => Ok(()),
         Err(why) => Err(HubRefusal::ByRoom(why)),
     }
@@ -115,12 +121,13 @@ fn serve_in(
     room: &mut Room,
     n: u32,
     held: &mut Framer,
-    told: &mut Vec<u32>,
+    effects: &mut Effects,
 ) -> Result<Served, HubRefusal>
     ensures served { ServedIn room.old room.new n held.old held.new result }
-    ensures told { Tells room.old room.new told.new.items }
+    ensures told { Tells room.old room.new effects.new.told.items }
+    ensures changed { Hands room.old room.new effects.new.changed.items }
 {
-    told.clear();
+    effects.clear();
     let closed = room.closed();
     match shut(closed) {
         None => {}
@@ -143,7 +150,7 @@ fn serve_in(
             Err(HubRefusal::ByRoom(RoomRefusal::Refused(Refusal::Memory)))
         }
         Ok(None) => Ok(Served::Nothing),
-        Ok(Some(frame)) => match room.serve(n, frame, told) {
+        Ok(Some(frame)) => match room.serve(n, frame, effects) {
             Ok(_) => Ok(Served::Message),
             Err(why) => Err(HubRefusal::ByRoom(why)),
         },
@@ -151,16 +158,17 @@ fn serve_in(
 }
 
 /// Tells a room that n has left, unless it takes no event.
-fn leave_in(room: &mut Room, n: u32, told: &mut Vec<u32>) -> Result<(), HubRefusal>
+fn leave_in(room: &mut Room, n: u32, effects: &mut Effects) -> Result<(), HubRefusal>
     ensures done { OnOk result (LeavesIn room.old room.new n) }
     ensures failed { IfErr result (λ r. (why : RoomRefusal) × (r ≡ HubRefusal.ByRoom why)
         × LeaveFailsIn room.old room.new n why) }
-    ensures told { Tells room.old room.new told.new.items }
+    ensures told { Tells room.old room.new effects.new.told.items }
+    ensures changed { Hands room.old room.new effects.new.changed.items }
 {
-    told.clear();
+    effects.clear();
     match room.closed() {
         Some(_) => Ok(()),
-        None => match room.leave(n, told) {
+        None => match room.leave(n, effects) {
             Ok(()) => Ok(()),
             Err(why) => Err(HubRefusal::ByRoom(why)),
         },
@@ -171,7 +179,7 @@ fn leave_in(room: &mut Room, n: u32, told: &mut Vec<u32>) -> Result<(), HubRefus
 pub(crate) fn leave_room(
     rooms: &mut IndexMap<u32, Room>,
     concerned: &mut Concerned,
-    told: &mut Vec<u32>,
+    effects: &mut Effects,
     number: ConnNo,
     connection: &Connection,
 ) -> Result<(), HubRefusal>
@@ -182,20 +190,23 @@ pub(crate) fn leave_room(
         × LeaveFailsIn room new connection.now.n why) }
     ensures concerned { ConcernedBy
         (always (without number (live_in concerned.old connection.now.conference)))
-        told.new.items (get nat_eq rooms.old) (get nat_eq rooms.new) connection.now.conference
-        concerned.old concerned.new }
+        effects.new.told.items (get nat_eq rooms.old) (get nat_eq rooms.new)
+        connection.now.conference concerned.old concerned.new }
+    ensures changed { HandedBy (get nat_eq rooms.old) (get nat_eq rooms.new)
+        connection.now.conference effects.new.changed.items }
 {
     let conference = connection.conference;
     match rooms.get_mut(&conference) {
         Some(room) => {
             concerned.remove(conference, number);
             let was_shut = is_shut(room);
-            let left = leave_in(room, connection.n, told);
-            concerned.name(conference, room, was_shut, told.as_slice());
+            let left = leave_in(room, connection.n, effects);
+            concerned.name(conference, room, was_shut, effects.told.as_slice());
             left
         }
         None => {
             concerned.nobody();
+            effects.clear();
             Ok(())
         }
     }
@@ -205,7 +216,7 @@ pub(crate) fn leave_room(
 pub(crate) fn serve_room(
     rooms: &mut IndexMap<u32, Room>,
     concerned: &mut Concerned,
-    told: &mut Vec<u32>,
+    effects: &mut Effects,
     connection: &mut Connection,
 ) -> Result<Served, HubRefusal>
     ensures room { (room : Kept) → get nat_eq rooms.old connection.old.conference ≡ Some room
@@ -214,19 +225,22 @@ pub(crate) fn serve_room(
     ensures place { (connection.new.conference ≡ connection.old.conference)
         × (connection.new.n ≡ connection.old.n) }
     ensures concerned { ConcernedBy (always (live_in concerned.old connection.old.conference))
-        told.new.items (get nat_eq rooms.old) (get nat_eq rooms.new) connection.old.conference
-        concerned.old concerned.new }
+        effects.new.told.items (get nat_eq rooms.old) (get nat_eq rooms.new)
+        connection.old.conference concerned.old concerned.new }
+    ensures changed { HandedBy (get nat_eq rooms.old) (get nat_eq rooms.new)
+        connection.old.conference effects.new.changed.items }
 {
     let conference = connection.conference;
     match rooms.get_mut(&conference) {
         Some(room) => {
             let was_shut = is_shut(room);
-            let served = serve_in(room, connection.n, &mut connection.held, told);
-            concerned.name(conference, room, was_shut, told.as_slice());
+            let served = serve_in(room, connection.n, &mut connection.held, effects);
+            concerned.name(conference, room, was_shut, effects.told.as_slice());
             served
         }
         None => {
             concerned.nobody();
+            effects.clear();
             Ok(Served::Nothing)
         }
     }
@@ -236,7 +250,7 @@ pub(crate) fn serve_room(
 pub(crate) fn took_room(
     rooms: &mut IndexMap<u32, Room>,
     concerned: &mut Concerned,
-    told: &mut Vec<u32>,
+    effects: &mut Effects,
     connection: &Connection,
     k: u32,
 ) -> Result<(), HubRefusal>
@@ -244,29 +258,33 @@ pub(crate) fn took_room(
         → (new : Kept) × Updates nat_eq rooms.old rooms.new connection.now.conference (Some new)
         × EventIn (Took connection.now.n k) room new result }
     ensures concerned { ConcernedBy (always (live_in concerned.old connection.now.conference))
-        told.new.items (get nat_eq rooms.old) (get nat_eq rooms.new) connection.now.conference
-        concerned.old concerned.new }
+        effects.new.told.items (get nat_eq rooms.old) (get nat_eq rooms.new)
+        connection.now.conference concerned.old concerned.new }
+    ensures changed { HandedBy (get nat_eq rooms.old) (get nat_eq rooms.new)
+        connection.now.conference effects.new.changed.items }
 {
     let conference = connection.conference;
     match rooms.get_mut(&conference) {
         Some(room) => {
             let was_shut = is_shut(room);
-            let taken = took_in(room, connection.n, k, told);
-            concerned.name(conference, room, was_shut, told.as_slice());
+            let taken = took_in(room, connection.n, k, effects);
+            concerned.name(conference, room, was_shut, effects.told.as_slice());
             taken
         }
         None => {
             concerned.nobody();
+            effects.clear();
             Ok(())
         }
     }
 }
 
-fn took_in(room: &mut Room, n: u32, k: u32, told: &mut Vec<u32>) -> Result<(), HubRefusal>
+fn took_in(room: &mut Room, n: u32, k: u32, effects: &mut Effects) -> Result<(), HubRefusal>
     ensures event { EventIn (Took n k) room.old room.new result }
-    ensures told { Tells room.old room.new told.new.items }
+    ensures told { Tells room.old room.new effects.new.told.items }
+    ensures changed { Hands room.old room.new effects.new.changed.items }
 {
-    match room.took(n, k, told) {
+    match room.took(n, k, effects) {
         Ok(()) => Ok(()),
         Err(why) => Err(HubRefusal::ByRoom(why)),
     }

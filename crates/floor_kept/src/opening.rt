@@ -10,7 +10,7 @@ ghost use Rattle.floor_room.specs.Ledger.{IsRefusedBy, refusal};
 use crate::entry::Entry;
 use floor_config::Config;
 use floor_machine::{Act, Event};
-use floor_room::{Room, RoomRefusal};
+use floor_room::{Effects, Room, RoomRefusal};
 use std::alloc::{AllocError, AllocFailed, Global};
 
 /// A conference as its file left it.
@@ -81,12 +81,12 @@ pub fn open_kept(alloc: Global, config: Config, entries: Vec<Entry>) -> Result<O
 {
     let mut room = Room::new(alloc, config)?;
     let mut notes = Vec::new(alloc);
-    let mut told = Vec::new(alloc);
+    let mut effects = Effects::new(alloc);
     let mut number = 0usize;
     for entry in entries {
         number += 1;
         let place = room.journal().len() + 1;
-        match step(&mut room, &mut notes, &mut told, entry) {
+        match step(&mut room, &mut notes, &mut effects, entry) {
             Ok(()) => {}
             Err(StepFault::Memory) => return Err(OpenFault::Memory),
             Err(StepFault::Refused) => {
@@ -102,7 +102,7 @@ pub fn open_kept(alloc: Global, config: Config, entries: Vec<Entry>) -> Result<O
 fn step(
     room: &mut Room,
     notes: &mut Vec<Entry>,
-    told: &mut Vec<u32>,
+    effects: &mut Effects,
     entry: Entry,
 ) -> Result<(), StepFault>
     ensures took { OnOk result
@@ -110,7 +110,7 @@ fn step(
     ensures refused { result ≡ Err StepFault.Refused → IsRefusedEntry room.old entry }
 {
     match entry {
-        Entry::Happened(event) => match run(room, event, told) {
+        Entry::Happened(event) => match run(room, event, effects) {
             Ok(()) => Ok(()),
             Err(refusal) => Err(fault_of(refusal)),
         },
@@ -133,38 +133,38 @@ fn fault_of(refusal: RoomRefusal) -> StepFault
 }
 
 /// Runs one event, and takes what it tells.
-fn run(room: &mut Room, event: Event, told: &mut Vec<u32>) -> Result<(), RoomRefusal>
+fn run(room: &mut Room, event: Event, effects: &mut Effects) -> Result<(), RoomRefusal>
     ensures took { OnOk result (Ran room.old room.new event) }
     ensures refused { IsRefusedBy (refusal room.old.ledger event) result }
 {
-    add(room, event, told)?;
-    for n in told.iter() {
+    add(room, event, effects)?;
+    for n in effects.told.iter() {
         take_all(room, *n);
     }
     Ok(())
 }
 
 /// Adds an event by the call of its kind.
-fn add(room: &mut Room, event: Event, told: &mut Vec<u32>) -> Result<(), RoomRefusal>
+fn add(room: &mut Room, event: Event, effects: &mut Effects) -> Result<(), RoomRefusal>
     ensures took { OnOk result (Applied room.old room.new event) }
     ensures refused { IsRefusedBy (refusal room.old.ledger event) result }
 {
     match event {
         Event::Join { user } => {
-            room.join(user, told)?;
+            room.join(user, effects)?;
             Ok(())
         }
         Event::Message { n, frame } => {
-            room.serve(n, frame, told)?;
+            room.serve(n, frame, effects)?;
             Ok(())
         }
-        Event::Took { n, k } => room.took(n, k, told),
-        Event::Leave { n } => room.leave(n, told),
-        Event::Revoke { request } => room.admin(Act::Revoke(request), told),
-        Event::Close => room.admin(Act::Close, told),
-        Event::AddUser { user } => room.admin(Act::AddUser(user), told),
-        Event::AddFloor { floor } => room.admin(Act::AddFloor(floor), told),
-        Event::SetChair { floor, chair } => room.admin(Act::SetChair(floor, chair), told),
+        Event::Took { n, k } => room.took(n, k, effects),
+        Event::Leave { n } => room.leave(n, effects),
+        Event::Revoke { request } => room.admin(Act::Revoke(request), effects),
+        Event::Close => room.admin(Act::Close, effects),
+        Event::AddUser { user } => room.admin(Act::AddUser(user), effects),
+        Event::AddFloor { floor } => room.admin(Act::AddFloor(floor), effects),
+        Event::SetChair { floor, chair } => room.admin(Act::SetChair(floor, chair), effects),
     }
 }
 

@@ -248,6 +248,14 @@ impl Loop {
         self.hub.is_cut(number)
     }
 
+    /// What is shown now of each floor request that the last event changed, as the hub lends it: of a new
+    /// one, of one that ended with its status, and of one that is shown otherwise than before.
+    pub fn changed(&self) -> &[SharedInfo]
+        ensures value { result.now ≡ self.now.hub.changed }
+    {
+        self.hub.changed()
+    }
+
     /// The conference of a connection, and its member's number n there, as the hub tells it.
     pub fn place(&self, number: ConnNo) -> Option<Place>
         ensures found { IfSome result (λ place. (x : Connection)
@@ -366,6 +374,8 @@ impl Loop {
         ensures acknowledged { drop count (rest_at self.old number) ≡ []
             → parcels_at self.old number ≢ 0
             → Acknowledges number (parcels_at self.old number) self.old.hub self.new.hub }
+        ensures filled { drop count (rest_at self.old number) ≡ []
+            → parcels_at self.old number ≢ 0 → IsFilled self.new number }
         ensures spares { Spares self.old self.new }
     {
         self.attended.pass(now);

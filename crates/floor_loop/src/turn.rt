@@ -219,10 +219,14 @@ pub(crate) fn acknowledge(hub: &mut Hub, attended: &mut Attended, number: ConnNo
     ensures acknowledged { Acknowledges number parcels hub.old hub.new }
     ensures spares { IsLoop (loop_of hub.old attended.old)
         → Spares (loop_of hub.old attended.old) (loop_of hub.new attended.new) }
+    ensures filled { IsFilled (loop_of hub.new attended.new) number }
 {
     let _acknowledged = hub.took(number, parcels);
     wake(hub, attended);
-    fill(hub, attended, number);
+    match hub.first(number) {
+        Some(_) => fill(hub, attended, number),
+        None => {}
+    }
 }
 
 /// A connection is to be shut down.

@@ -3,6 +3,7 @@ use Rattle.std.proofs.Common.{◌≡◌, true, false, List, [], ◌++◌, map, O
 use Rattle.std.specs.Prelude.{All, filter, option_map}
 use Rattle.floor_queue.specs.Queue.{after_settle, numbers_of}
 use Rattle.floor_message.specs.Shown.{IsShownInfo}
+use Rattle.floor_message.specs.declared.information.Info.{Info}
 use Rattle.floor_machine.specs.declared.conference.State.{State}
 use Rattle.floor_machine.specs.declared.course.Course.{Course}
 use Rattle.floor_machine.specs.declared.decision.Change.{Change as Decided}
@@ -13,6 +14,7 @@ use Rattle.floor_machine.specs.declared.replied.Replied.{Replied}
 use Rattle.floor_machine.specs.declared.tell.renewing.Changes.{Changes}
 use Rattle.floor_machine.specs.Conference.{Conference, is_numbered_from}
 use Rattle.floor_machine.specs.Change.{change, settled}
+use Rattle.floor_machine.specs.Machine.{infos_changed}
 use Rattle.floor_machine.specs.Parcel.{Parcel}
 use Rattle.floor_machine.specs.steps.Counting.{counted_all, due_parcels, told_of_all}
 use Rattle.floor_machine.specs.steps.Deciding.{ComesTo, change_by, is_closing}
@@ -20,13 +22,14 @@ use Rattle.floor_machine.specs.steps.Fitting.{AreFit, AreFloorsShown, AreUpdates
 use Rattle.floor_machine.specs.steps.Frame.{IsServed, IsUnderWay}
 use Rattle.floor_machine.specs.steps.Marks.{mark_of}
 use Rattle.floor_machine.specs.steps.Serving.{IsAtRest, IsChanged, IsMade, conference_of, is_rising, replied_by, with_requests}
-use Rattle.floor_machine.specs.steps.Telling.{floors_changed, is_watched_by, parcels_to_all}
+use Rattle.floor_machine.specs.steps.Telling.{floors_changed, infos_told, is_watched_by, parcels_to_all, updates}
 use Rattle.floor_machine.proofs.Bounds.{served-shown}
 use Rattle.floor_machine.proofs.Comes.{answered-comes, change-comes, telling-comes, untaking-comes}
 use Rattle.floor_machine.proofs.Counted.{counted-all, told-all}
 use Rattle.floor_machine.proofs.Courses.{course-changed, course-marked}
+use Rattle.floor_machine.proofs.Handed.{handed-told}
 use Rattle.floor_machine.proofs.Kept.{IsCalledFor}
-use Rattle.floor_machine.proofs.Served.{ended-shown, numbers-shown, parcels-served, settled-state}
+use Rattle.floor_machine.proofs.Served.{ended-shown, numbers-shown, parcels-served, settled-state, updates-message}
 use Rattle.floor_machine.proofs.Settled.{IsSettledTo, floors-shown, parcels-settled}
 
 -- a change whose marks have noted what it changed
@@ -82,10 +85,25 @@ course-called S before after sender d course changes o numbered way to updates i
           (subst AreUpdatesShown to.updates updates) (floors-shown before after course changes to floors);
     }
 
--- what is called for is told and counted
-pub served : (s : Conference) (e : Event) (sender : Option Sender) (d : Decision) (t u : Conference) (ps before after : List Parcel) → ComesTo s e sender d → is_numbered_from 1 s.members ≡ true →
-    IsCalledFor s e t ps → after ≡ before ++ told_of_all ps t.members → u ≡ counted_all ps t → IsServed s e u before after
-served s e sender d t u ps before after h numbered called told counted =
+-- the statuses of what gives a course show what the event changed
+pub course-handed : (S before after : State) (sender : Option Sender) (d : Decision) (course : Course) (changes : Changes) → IsUnderWay S d.change before course → IsSettledTo before after course changes →
+    (e : Event) → ComesTo (conference_of S) e sender d → infos_told changes.updates ≡ infos_changed (conference_of S) e
+course-handed S before after sender d course changes way to e h =
+    let s : Conference = conference_of S in
+    let same : change s e ≡ change_by s d.change = change-comes s e sender d h in
+    let t : Conference = with_requests (conference_of before) (after_settle before.requests) in
+    let next : t ≡ settled s e = settled-state s e (change_by s d.change) before course (after_settle before.requests) same way.made refl in
+    let ended = ended-shown s e (change_by s d.change) (conference_of before) course same way.made in
+    let numbers = numbers-shown s e (change_by s d.change) (conference_of before) course same way.made in
+    handed-told s e changes.updates
+    (to.updates
+    ∙ ap (λ (x : Conference). updates x.config x.ongoing course.ended.items course.before.items course.numbers.items) next
+    ∙ updates-message s e course ended numbers way.made.rising way.before)
+
+-- what is called for is told and counted, and what changed is handed out
+pub served : (s : Conference) (e : Event) (sender : Option Sender) (d : Decision) (t u : Conference) (ps before after : List Parcel) (changed : List Info) → ComesTo s e sender d → is_numbered_from 1 s.members ≡ true →
+    IsCalledFor s e t ps → changed ≡ infos_changed s e → after ≡ before ++ told_of_all ps t.members → u ≡ counted_all ps t → IsServed s e u before after changed
+served s e sender d t u ps before after changed h numbered called handed told counted =
     let untaking = untaking-comes s e sender d h in
     record {
       next = counted ∙ ap (λ (qs : List Parcel). counted_all qs t) called.parcels ∙ ap (counted_all (due_parcels s e)) called.next ∙ counted-all s e untaking numbered;
@@ -95,4 +113,5 @@ served s e sender d t u ps before after h numbered called told counted =
           ∙ ap (λ (x : Conference). before ++ told_of_all (due_parcels s e) x.members) called.next
           ∙ ap (λ (qs : List Parcel). before ++ qs) (told-all s e untaking numbered);
       shown = called.shown;
+      changed = handed;
     }

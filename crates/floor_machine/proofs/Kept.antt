@@ -19,6 +19,7 @@ use Rattle.floor_machine.specs.Conference.{Conference, is_numbered_from}
 use Rattle.floor_machine.specs.Shown.{Entry, info}
 use Rattle.floor_machine.specs.Change.{Change, change, no_change, settled, shown}
 use Rattle.floor_machine.specs.Journal.{parcel}
+use Rattle.floor_machine.specs.Machine.{infos_changed}
 use Rattle.floor_machine.specs.Outgoing.{Outgoing}
 use Rattle.floor_machine.specs.Parcel.{Parcel}
 use Rattle.floor_machine.specs.Reply.{infos}
@@ -34,6 +35,7 @@ use Rattle.floor_machine.proofs.Bounds.{close-shown, due-shown}
 use Rattle.floor_machine.proofs.Changing.{rising-numbers}
 use Rattle.floor_machine.proofs.Comes.{answered-comes, change-comes, telling-or-close, unclosing-comes}
 use Rattle.floor_machine.proofs.Entries.{ended_of-entries, numbers_in-entries}
+use Rattle.floor_machine.proofs.Handed.{handed-close, none-handed}
 use Rattle.floor_machine.proofs.Quiet.{IsStill, due_of-close, floors-kept, parcels-kept, requests-kept, settled-still, shown-kept}
 use Rattle.floor_machine.proofs.Sent.{numbered-settled}
 use Rattle.floor_machine.proofs.Served.{settled-conference}
@@ -86,6 +88,25 @@ none-due (m ∷ ms) told none =
 due_parcels-close : (s : Conference) → due_parcels s Close ≡ []
 unfolding due_parcels
 due_parcels-close s = none-due (settled s Close).members (due s Close) (due_of-close s)
+
+-- what gives no course leaves each request as it is shown
+pub quiet-handed : (S T : State) (sender : Option Sender) (d : Decision) → is_ascending S.requests.ongoing ≡ true → IsQuiet S d.change T →
+    (e : Event) → ComesTo (conference_of S) e sender d → infos_changed (conference_of S) e ≡ []
+quiet-handed S T sender d ascending q =
+    telling-or-close (λ e. ComesTo (conference_of S) e sender d → infos_changed (conference_of S) e ≡ []) tells closes
+  where
+    s : Conference
+    s = conference_of S
+
+    tells : (e : Event) → is_telling e ≡ true → ComesTo s e sender d → infos_changed s e ≡ []
+    tells e telling h =
+        let c : Change = change_by s d.change in
+        let same : change s e ≡ c = change-comes s e sender d h in
+        let k : IsKept s c (conference_of T) = q.kept (unclosing-comes s e sender d h telling) in
+        none-handed s e (requests-kept s e (still-kept s e c (conference_of T) same k) ascending)
+
+    closes : ComesTo s Close sender d → infos_changed s Close ≡ []
+    closes h = handed-close s
 
 -- what gives no course is told its sender alone
 pub quiet-called : (S T : State) (sender : Option Sender) (d : Decision) (o : Option Replied) → is_ascending S.requests.ongoing ≡ true → is_numbered_from 1 S.members ≡ true →

@@ -59,5 +59,4 @@ pub mod Users
 pub mod Acts
 pub mod Grows
 pub mod Growing
-pub mod ShownOtherwise
-pub mod GoneOver
+pub mod Handed

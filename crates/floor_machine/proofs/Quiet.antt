@@ -200,6 +200,10 @@ kept-join : (s : Conference) (user : ℕ) → (change s (Join user)).entries ≡
 unfolding change
 kept-join s user = refl
 
+-- a member who joins changes no request
+pub requests-join : (s : Conference) (user : ℕ) → settle s.config.floors s.ongoing ≡ s.ongoing → is_ascending s.ongoing ≡ true → changed_requests s (Join user) ≡ []
+requests-join s user is_settled = requests-kept s (Join user) (still s (Join user) refl (kept-join s user) is_settled)
+
 -- nothing is due to anybody where a member joins
 pub due_of-join : (s : Conference) (user : ℕ) → settle s.config.floors s.ongoing ≡ s.ongoing → is_ascending s.ongoing ≡ true → (n : ℕ) → due s (Join user) n ≡ []
 due_of-join s user is_settled = due-unsent s (Join user) refl (λ k. refl) (still s (Join user) refl (kept-join s user) is_settled)
@@ -207,6 +211,10 @@ due_of-join s user is_settled = due-unsent s (Join user) refl (λ k. refl) (stil
 kept-took : (s : Conference) (n k : ℕ) → (change s (Took n k)).entries ≡ map entry_of s.ongoing
 unfolding change
 kept-took s n k = refl
+
+-- who acknowledges changes none
+pub requests-took : (s : Conference) (n k : ℕ) → settle s.config.floors s.ongoing ≡ s.ongoing → is_ascending s.ongoing ≡ true → changed_requests s (Took n k) ≡ []
+requests-took s n k is_settled = requests-kept s (Took n k) (still s (Took n k) refl (kept-took s n k) is_settled)
 
 -- nor where some of the messages to one are acknowledged
 pub due_of-took : (s : Conference) (n k : ℕ) → settle s.config.floors s.ongoing ≡ s.ongoing → is_ascending s.ongoing ≡ true → (i : ℕ) → due s (Took n k) i ≡ []

@@ -1,7 +1,8 @@
 -- A call that is refused leaves all as it was, and one that is taken has served its event.
-use Rattle.std.proofs.Common.{◌≡◌, Bool, true, false, List, Option, Some, None, Ok, Err, refl, sym, ap, subst, ◌∙◌}
+use Rattle.std.proofs.Common.{◌≡◌, Bool, true, false, List, [], Option, Some, None, Ok, Err, refl, sym, ap, subst, ◌∙◌}
 use Rattle.std.specs.Prelude.{IsSome, is_some}
 use Rattle.floor_message.specs.Laws.{WhatIsShownFits}
+use Rattle.floor_message.specs.declared.information.Info.{Info}
 use Rattle.floor_queue.specs.declared.request.Request.{Request}
 use Rattle.floor_queue.specs.Queue.{request_at}
 use Rattle.floor_machine.specs.declared.decision.Decision.{Decision}
@@ -20,8 +21,8 @@ use Rattle.floor_machine.proofs.Bounds.{shown_fits}
 use Rattle.floor_machine.proofs.Lawful.{broken_refuses, lawful_event, never_memory, unlawful_event}
 
 -- refused before it begins
-pub tried-refused : (m : Machine) (e : Event) (ps : List Parcel) (why : Refusal) → Some why ≡ event_refusal m e → IsTried m e m ps ps (Err why)
-tried-refused m e ps why h =
+pub tried-refused : (m : Machine) (e : Event) (ps : List Parcel) (changed : List Info) (why : Refusal) → changed ≡ [] → Some why ≡ event_refusal m e → IsTried m e m ps ps changed (Err why)
+tried-refused m e ps changed why none h =
     let R : Option Refusal → Type 0 = λ o. IsRefusedBy {T = Unit {0}} o (Err why) in
     record {
       took = tt;
@@ -32,27 +33,33 @@ tried-refused m e ps why h =
         broken = λ is. absurd (never_memory m e (ap (λ (r : Refusal). Some r) (sym is) ∙ h));
         unlawful = λ other memory. unlawful_event m e why h other;
       };
+      changed = tt;
+      unchanged = none;
     }
 
 -- broken off for want of memory
-pub tried-broken : (m : Machine) (e : Event) (new : Machine) (before after : List Parcel) → None ≡ event_refusal m e → new.is_broken ≡ true → after ≡ before → IsTried m e new before after (Err Memory)
-tried-broken m e new before after h broken out =
+pub tried-broken : (m : Machine) (e : Event) (new : Machine) (before after : List Parcel) (changed : List Info) → None ≡ event_refusal m e → new.is_broken ≡ true → after ≡ before → changed ≡ [] → IsTried m e new before after changed (Err Memory)
+tried-broken m e new before after changed h broken out none =
     let R : Option Refusal → Type 0 = λ o. IsRefusedBy {T = Unit {0}} o (Err Memory) in
     record {
       took = tt;
       refused = subst R h tt;
       left = record { out = out; unchanged = λ other. absurd (other refl); broken = λ is. broken; unlawful = λ other memory. absurd (memory refl) };
+      changed = tt;
+      unchanged = none;
     }
 
 -- taken
-pub tried-served : (m : Machine) (e : Event) (t : Conference) (before after : List Parcel) → WhatIsShownFits → IsWhole e → None ≡ event_refusal m e → IsServed m.conference e t before after →
-    IsTried m e (whole t) before after (Ok tt)
-tried-served m e t before after law framed h served =
+pub tried-served : (m : Machine) (e : Event) (t : Conference) (before after : List Parcel) (changed : List Info) → WhatIsShownFits → IsWhole e → None ≡ event_refusal m e →
+    IsServed m.conference e t before after changed → IsTried m e (whole t) before after changed (Ok tt)
+tried-served m e t before after changed law framed h served =
     let R : Option Refusal → Type 0 = λ o. IsRefusedBy {T = Unit {0}} o (Ok tt) in
     record {
       took = record { lawful = lawful_event m e framed h; next = ap whole served.next; out = served.out; fits = shown_fits m.conference e law served.shown };
       refused = subst R h tt;
       left = tt;
+      changed = served.changed;
+      unchanged = tt;
     }
 
 -- a machine that refuses nothing isn't broken

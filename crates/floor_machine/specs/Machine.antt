@@ -131,13 +131,6 @@ pub record Applied (old : Machine) (e : Event) (new : Machine) (before after : L
 abbrev pub infos_changed : Conference → Event → List Info
 infos_changed s e = map (λ c. c.info) (changed_requests s e)
 
--- What a call that took an event and handed out what it changed did: the event was lawful, the conference is the next one, and what is
--- shown of the requests that it changed stands behind what stood there.
-pub record Watched (old : Machine) (e : Event) (new : Machine) (before after : List Info) : Type 0 where
-  pub lawful : IsLawful old.conference e
-  pub next : new ≡ whole (next old.conference e)
-  pub changed : after ≡ before ++ infos_changed old.conference e
-
 -- What a call that refused an event left: no parcel more, and the machine as it was, or a broken one where memory was refused. Why
 -- it refused, but for a broken machine and for memory, is that the event isn't lawful.
 pub record Left (old : Machine) (e : Event) (new : Machine) (before after : List Parcel) (why : Refusal) : Type 0 where

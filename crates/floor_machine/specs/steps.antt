@@ -8,5 +8,4 @@ pub mod Renewing
 pub mod Serving
 pub mod Counting
 pub mod Outcomes
-pub mod Seen
 pub mod Frame

@@ -2,16 +2,17 @@
 //! who joins by it and whose message it is, and a machine takes it by the call of its kind.
 
 ghost use Rattle.std.specs.Option.{option_copied};
-ghost use Rattle.std.specs.Prelude.{◌≡◌, ◌<◌, IfErr, IfOk, OnOk, length};
+ghost use Rattle.std.specs.Prelude.{◌≡◌, ◌<◌, [], IfErr, IfOk, OnErr, OnOk, length};
 ghost use Rattle.floor_machine.specs.Events as events;
 ghost use Rattle.floor_machine.specs.Laws.{IsWhole};
-ghost use Rattle.floor_machine.specs.Machine.{Applied, IsRefusedBy, Left, event_of_act, event_refusal};
+ghost use Rattle.floor_machine.specs.Machine.{Applied, IsRefusedBy, Left, event_of_act, event_refusal, infos_changed};
 
 use crate::act::Act;
 use crate::added::AddedUser;
 use crate::machine::{Machine, Refusal};
 use crate::parcel::Parcel;
 use floor_config::Floor;
+use floor_message::SharedInfo;
 use floor_wire::{Copies, Frame};
 use std::alloc::{AllocError, Global};
 
@@ -174,29 +175,39 @@ impl Event {
 }
 
 impl Machine {
-    /// Takes an event, and appends what it tells the members to `out`, by ascending member. After a
-    /// refusal nothing has changed, but that `Memory` leaves the machine broken.
-    pub fn apply(&mut self, event: &Event, out: &mut Vec<Parcel>) -> Result<(), Refusal>
+    /// Takes an event, appends what it tells the members to `out`, by ascending member, and puts what is
+    /// shown of the floor requests that it changed into `changed`. After a refusal nothing has changed, but
+    /// that `Memory` leaves the machine broken.
+    pub fn apply(
+        &mut self,
+        event: &Event,
+        out: &mut Vec<Parcel>,
+        changed: &mut Vec<SharedInfo>,
+    ) -> Result<(), Refusal>
         requires { length self.old.conference.members < 4294967295 }
         ensures took { OnOk result
             (Applied self.old event.now self.new out.old.items out.new.items) }
+        ensures changed { OnOk result
+            (changed.new.items ≡ infos_changed self.old.conference event.now) }
+        ensures unchanged { OnErr result (changed.new.items ≡ []) }
         ensures refused { IsRefusedBy (event_refusal self.old event.now) result }
         ensures left { IfErr result
             (Left self.old event.now self.new out.old.items out.new.items) }
     {
+        changed.clear();
         match event {
             Event::Join { user } => {
                 self.join(*user)?;
                 Ok(())
             }
-            Event::Message { n, frame } => self.message(*n, frame, out),
+            Event::Message { n, frame } => self.message(*n, frame, out, changed),
             Event::Took { n, k } => self.took(*n, *k),
-            Event::Leave { n } => self.leave(*n, out),
-            Event::Revoke { request } => self.revoke(*request, out),
-            Event::Close => self.close(out),
-            Event::AddUser { user } => self.add_user(user, out),
-            Event::AddFloor { floor } => self.add_floor(*floor, out),
-            Event::SetChair { floor, chair } => self.set_chair(*floor, *chair, out),
+            Event::Leave { n } => self.leave(*n, out, changed),
+            Event::Revoke { request } => self.revoke(*request, out, changed),
+            Event::Close => self.close(out, changed),
+            Event::AddUser { user } => self.add_user(user, out, changed),
+            Event::AddFloor { floor } => self.add_floor(*floor, out, changed),
+            Event::SetChair { floor, chair } => self.set_chair(*floor, *chair, out, changed),
         }
     }
 }

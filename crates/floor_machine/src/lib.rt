@@ -23,7 +23,6 @@ mod parcel;
 mod replied;
 mod reply;
 mod running;
-mod seen;
 mod serve;
 mod tell;
 

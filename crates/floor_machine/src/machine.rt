@@ -1,19 +1,18 @@
 //! The floor machine of one conference (RFC 8855, sections 8 to 13).
 
-ghost use Rattle.std.specs.Prelude.{◌≡◌, ◌+◌, ◌<◌, ◌≤◌, [], None, IfOk, IfErr, OnOk, false, length, count_by, true};
+ghost use Rattle.std.specs.Prelude.{◌≡◌, ◌+◌, ◌<◌, ◌≤◌, [], None, IfOk, IfErr, OnErr, OnOk, false, length, count_by, true};
 ghost use Rattle.floor_machine.specs.Conference.{AreCut, backlog, is_cut, live_numbers, opening, user_of};
 ghost use Rattle.floor_machine.specs.Laws.{IsWhole};
 ghost use Rattle.floor_machine.specs.declared.event.Event.{Event};
 ghost use Rattle.floor_machine.specs.declared.event.Event.TheVariants.{Join, Leave, Message, Took};
 ghost use Rattle.floor_machine.specs.declared.machine.Refusal.TheVariants.{Memory};
-ghost use Rattle.floor_machine.specs.Machine.{Applied, IsRefusedBy, Left, event_refusal, is_backlog, join_refusal, leave_refusal, member_refusal, message_refusal, refusal_of, took_refusal, unless_refused, whole};
+ghost use Rattle.floor_machine.specs.Machine.{Applied, IsRefusedBy, Left, event_refusal, infos_changed, is_backlog, join_refusal, leave_refusal, member_refusal, message_refusal, refusal_of, took_refusal, unless_refused, whole};
 ghost use Rattle.floor_machine.specs.Reply.{infos};
 ghost use Rattle.floor_machine.specs.steps.Deciding.{ComesTo, MayChange};
 ghost use Rattle.floor_machine.specs.steps.Fitting.{DetailsFit};
 ghost use Rattle.floor_machine.specs.steps.Frame.{IsTried};
 
 mod administrator;
-mod watched;
 
 use crate::conference::State;
 use crate::decision::{Change, Decision, Sender};
@@ -101,9 +100,14 @@ impl From<AllocError> for Refusal {
 /// The floor machine of one conference: whole messages of its members in, parcels to them out.
 ///
 /// Readers, which take no memory: `config`, `joins`, `live_members`, `live_numbers`, `cut_numbers`,
-/// `ongoing_requests`, `shown`, `is_open`, `is_broken`, `is_cut`, `user_of`, `backlog`. Changes: `join`, `message`, `took`, `leave` and `admin`, each an event;
-/// `apply` takes any event by the one of its kind, and `run` many. A refused call changes nothing, but that `Memory`
-/// leaves the machine broken, and from then on it answers `Broken`.
+/// `ongoing_requests`, `shown`, `is_open`, `is_broken`, `is_cut`, `user_of`, `backlog`. Changes: `join`,
+/// `message`, `took`, `leave` and `admin`, each an event; `apply` takes any event by the one of its kind,
+/// and `run` many. A refused call changes nothing, but that `Memory` leaves the machine broken, and from
+/// then on it answers `Broken`.
+///
+/// `message`, `leave`, `admin` and `apply` put into their last argument, in place of what stood there, what
+/// is shown now of each floor request that the event changed, ascending: of a new one, of one that ended
+/// with its status, and of one that is shown otherwise than before. After a refusal that is none.
 #[derive(Debug, Drop)]
 pub struct Machine {
     state: State,
@@ -305,13 +309,15 @@ impl Machine {
     }
 
     /// Takes a connection of the user as a member, and gives its number: 1 for the first that ever
-    /// joined. Nobody is told. Refused are, in this order, `Broken`, `Ended`, `NoUser` and `Full`; after
-    /// a refusal nothing has changed, but that `Memory`, which comes last, leaves the machine broken.
+    /// joined. Nobody is told, and each floor request is shown as before. Refused are, in this order,
+    /// `Broken`, `Ended`, `NoUser` and `Full`; after a refusal nothing has changed, but that `Memory`, which
+    /// comes last, leaves the machine broken.
     #[tactic(auto, using(crate::proofs::Bounds::shown_fits))]
     pub fn join(&mut self, user: u16) -> Result<u32, Refusal>
         requires { length self.old.conference.members < 4294967295 }
         ensures number { IfOk result (λ n. n ≡ length self.old.conference.members + 1) }
         ensures took { OnOk result (Applied self.old (Join user) self.new [] []) }
+        ensures still { OnOk result (infos_changed self.old.conference (Join user) ≡ []) }
         ensures refused { IsRefusedBy (join_refusal self.old user) result }
         ensures left { IfErr result (Left self.old (Join user) self.new [] []) }
     {
@@ -327,45 +333,64 @@ impl Machine {
         Ok(n)
     }
 
-    /// Takes the message of a member, and appends what it tells the members to `out`, by ascending
-    /// member. Whoever would come to be more than 1,024 messages behind is told nothing of it, not even
-    /// the answer to its own message, and is cut from then on. Refused are, in this order, `Broken`,
-    /// `Ended`, `NoMember` and `Cut`; after a refusal nothing has changed, but that `Memory` leaves the
-    /// machine broken.
-    pub fn message(&mut self, n: u32, frame: &Frame, out: &mut Vec<Parcel>) -> Result<(), Refusal>
+    /// Takes the message of a member, appends what it tells the members to `out`, by ascending member,
+    /// and puts what is shown of the floor requests that it changed into `changed`. Whoever would come to
+    /// be more than 1,024 messages behind is told nothing of it, not even the answer to its own message,
+    /// and is cut from then on. Refused are, in this order, `Broken`, `Ended`, `NoMember` and `Cut`; after
+    /// a refusal nothing has changed, but that `Memory` leaves the machine broken.
+    pub fn message(
+        &mut self,
+        n: u32,
+        frame: &Frame,
+        out: &mut Vec<Parcel>,
+        changed: &mut Vec<SharedInfo>,
+    ) -> Result<(), Refusal>
         ensures took { OnOk result
             (Applied self.old (Message n frame.now) self.new out.old.items out.new.items) }
+        ensures changed { OnOk result
+            (changed.new.items ≡ infos_changed self.old.conference (Message n frame.now)) }
+        ensures unchanged { OnErr result (changed.new.items ≡ []) }
         ensures refused { IsRefusedBy (message_refusal self.old n) result }
         ensures left { IfErr result
             (Left self.old (Message n frame.now) self.new out.old.items out.new.items) }
     {
+        changed.clear();
         match self.message_refusal(n) {
             Some(refusal) => Err(refusal),
-            None => self.take_message(n, frame, out),
+            None => self.take_message(n, frame, out, changed),
         }
     }
 
     /// Takes the message of a member that may send one.
-    fn take_message(&mut self, n: u32, frame: &Frame, out: &mut Vec<Parcel>) -> Result<(), Refusal>
-        requires { None ≡ message_refusal self.old n }
+    fn take_message(
+        &mut self,
+        n: u32,
+        frame: &Frame,
+        out: &mut Vec<Parcel>,
+        changed: &mut Vec<SharedInfo>,
+    ) -> Result<(), Refusal>
+        requires free { None ≡ message_refusal self.old n }
+        requires empty { changed.old.items ≡ [] }
         ensures tried { IsTried self.old (Message n frame.now) self.new out.old.items
-            out.new.items result }
+            out.new.items changed.new.items result }
     {
         // A frame is one message, which makes the event a lawful one.
         let _bytes = frame.bytes();
         let sender = self.state.sender(n, frame);
         match self.state.decide(self.allocator(), &sender, frame) {
-            Ok(decision) => self.take(Some(sender), decision, out),
+            Ok(decision) => self.take(Some(sender), decision, out, changed),
             Err(refused) => Err(self.break_off(refused)),
         }
     }
 
     /// Takes it that so many of the messages that were told to a member were brought to their end, so
-    /// that its backlog is so many less. Nobody is told. Refused are, in this order, `Broken`, `Ended`,
-    /// `NoMember` and `BadCount`; after a refusal nothing has changed. Takes no memory.
+    /// that its backlog is so many less. Nobody is told, and each floor request is shown as before.
+    /// Refused are, in this order, `Broken`, `Ended`, `NoMember` and `BadCount`; after a refusal nothing
+    /// has changed. Takes no memory.
     #[tactic(auto, using(crate::proofs::Bounds::shown_fits))]
     pub fn took(&mut self, n: u32, k: u32) -> Result<(), Refusal>
         ensures took { OnOk result (Applied self.old (Took n k) self.new [] []) }
+        ensures still { OnOk result (infos_changed self.old.conference (Took n k) ≡ []) }
         ensures refused { result ≡ unless_refused (took_refusal self.old n k) }
         ensures left { IfErr result (Left self.old (Took n k) self.new [] []) }
     {
@@ -378,20 +403,30 @@ impl Machine {
         Ok(())
     }
 
-    /// Takes it that a member has left, and appends what that tells the others to `out`, by
-    /// ascending member. Where it was the last connection of its user, the floor requests for that
-    /// user end. Refused are, in this order, `Broken`, `Ended` and `NoMember`; after a refusal nothing
-    /// has changed, but that `Memory`, which comes last, leaves the machine broken.
-    pub fn leave(&mut self, n: u32, out: &mut Vec<Parcel>) -> Result<(), Refusal>
+    /// Takes it that a member has left, appends what that tells the others to `out`, by ascending
+    /// member, and puts what is shown of the floor requests that it changed into `changed`. Where it was
+    /// the last connection of its user, the floor requests for that user end. Refused are, in this order,
+    /// `Broken`, `Ended` and `NoMember`; after a refusal nothing has changed, but that `Memory`, which
+    /// comes last, leaves the machine broken.
+    pub fn leave(
+        &mut self,
+        n: u32,
+        out: &mut Vec<Parcel>,
+        changed: &mut Vec<SharedInfo>,
+    ) -> Result<(), Refusal>
         ensures took { OnOk result
             (Applied self.old (Leave n) self.new out.old.items out.new.items) }
+        ensures changed { OnOk result
+            (changed.new.items ≡ infos_changed self.old.conference (Leave n)) }
+        ensures unchanged { OnErr result (changed.new.items ≡ []) }
         ensures refused { IsRefusedBy (leave_refusal self.old n) result }
         ensures left { IfErr result
             (Left self.old (Leave n) self.new out.old.items out.new.items) }
     {
+        changed.clear();
         match self.member_refusal(n, None) {
             Some(refusal) => Err(refusal),
-            None => self.take(None, Decision::to(Change::Leave(n)), out),
+            None => self.take(None, Decision::to(Change::Leave(n)), out, changed),
         }
     }
 
@@ -410,25 +445,34 @@ impl Machine {
     }
 
     /// Does what a lawful event comes to, which this member sent, where it is a message. Want of memory
-    /// leaves the machine broken.
+    /// leaves the machine broken, and hands nothing out.
     fn take(
         &mut self,
         sender: Option<Sender>,
         decision: Decision,
         out: &mut Vec<Parcel>,
+        changed: &mut Vec<SharedInfo>,
     ) -> Result<(), Refusal>
         requires whole { self.old.is_broken ≡ false }
+        requires empty { changed.old.items ≡ [] }
         requires may { MayChange self.old.conference decision.change }
         requires details { DetailsFit decision.reply }
         ensures tried { (e : Event) → ComesTo self.old.conference e sender decision → IsWhole e
             → None ≡ event_refusal self.old e
-            → IsTried self.old e self.new out.old.items out.new.items result }
+            → IsTried self.old e self.new out.old.items out.new.items changed.new.items result }
     {
         what_is_shown_fits();
         // Whatever breaks the event off leaves it so.
         self.is_broken = true;
-        self.state.serve(sender, decision, out)?;
-        self.is_broken = false;
-        Ok(())
+        match self.state.serve(sender, decision, out, changed) {
+            Ok(()) => {
+                self.is_broken = false;
+                Ok(())
+            }
+            Err(refused) => {
+                changed.clear();
+                Err(Refusal::from(refused))
+            }
+        }
     }
 }

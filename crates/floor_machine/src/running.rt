@@ -27,8 +27,9 @@ impl Machine {
         ensures left { IfErr result
             (LeftAt self.old events.now self.new out.old.items out.new.items) }
     {
+        let mut changed = Vec::new(*out.allocator());
         for (done, event) in events.iter().enumerate() {
-            match self.apply(event, out) {
+            match self.apply(event, out, &mut changed) {
                 Ok(()) => {}
                 Err(refusal) => return Err(Stopped { done, refusal }),
             }

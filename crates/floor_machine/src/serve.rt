@@ -22,29 +22,32 @@ use crate::marks::mark_granted;
 use crate::outcome::Outcome;
 use crate::parcel::Parcel;
 use crate::replied::Replied;
-use crate::tell::changed::Updates;
+use crate::tell::changed::{Updates, put_shown};
 use crate::tell::due::Due;
 use crate::tell::notices::floor_notices;
 use crate::tell::renewing::{Changes, renew};
 use crate::tell::watching::watched_floors;
+use floor_message::SharedInfo;
 use std::alloc::{AllocError, Global};
 use std::mem;
 
 impl State {
-    /// Does what an event comes to, answers its sender, where it is a message, and tells each member. After
-    /// an error `out` is as it was.
+    /// Does what an event comes to, answers its sender, where it is a message, tells each member, and
+    /// hands out what is shown of the requests that it changed. After an error `out` is as it was.
     pub(crate) fn serve(
         &mut self,
         sender: Option<Sender>,
         decision: Decision,
         out: &mut Vec<Parcel>,
+        changed: &mut Vec<SharedInfo>,
     ) -> Result<(), AllocError>
+        requires empty { changed.old.items ≡ [] }
         requires may { MayChange (conference_of self.old) decision.change }
         requires details { DetailsFit decision.reply }
         requires rest { IsAtRest self.old }
         ensures served { (e : Event) → ComesTo (conference_of self.old) e sender decision
             → OnOk result (IsServed (conference_of self.old) e (conference_of self.new)
-            out.old.items out.new.items) }
+            out.old.items out.new.items changed.new.items) }
         ensures rest { OnOk result (IsAtRest self.new) }
         ensures left { OnErr result (out.new.items ≡ out.old.items) }
     {
@@ -54,6 +57,7 @@ impl State {
         match self.change(alloc, decision.change)? {
             Some(mut course) => {
                 let changes = self.settle(alloc, &mut course)?;
+                put_shown(changes.updates.as_slice(), changed)?;
                 let outcome = Outcome {
                     state: self,
                     ended: &course.ended,

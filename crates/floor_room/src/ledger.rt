@@ -1,8 +1,9 @@
 //! One conference with its journal.
 
-ghost use Rattle.std.specs.Prelude.{◌≡◌, [], true, false, IfErr, IfOk};
+ghost use Rattle.std.specs.Prelude.{◌≡◌, ◌++◌, ◌∷◌, [], true, false, IfErr, IfOk, OnErr, OnOk};
 ghost use Rattle.floor_machine.specs.Conference.{AreCut, is_cut, live_numbers};
 ghost use Rattle.floor_machine.specs.Journal.{IsJournal};
+ghost use Rattle.floor_machine.specs.Machine.{infos_changed};
 ghost use Rattle.floor_room.specs.Ledger.{Added, IsRefusedBy, Unadded, broken_off, closed, conference_of, new_ledger, refusal};
 ghost use Rattle.floor_room.specs.Standing.{backlog_of, config_of, shown_of};
 ghost use Rattle.floor_room.specs.Status.{IsStatus};
@@ -174,23 +175,32 @@ impl Ledger {
         self.machine.cut_numbers()
     }
 
-    /// Adds an event, where nothing refuses it, and gives the parcels that it calls for. A message
-    /// is kept as a copy of exactly its length. Refused are, in this order, `Broken`, `Ended`,
-    /// `JournalFull`, and then as the machine refuses an event of its kind. After `Memory`, which comes
-    /// last, the ledger is broken off and its journal is as it was; after every other refusal nothing
-    /// has changed.
-    pub fn add(&mut self, event: Event) -> Result<Vec<Parcel>, RoomRefusal>
+    /// Adds an event, where nothing refuses it, gives the parcels that it calls for, and puts what is
+    /// shown of the floor requests that it changed into `changed`, in place of what stood there: nothing
+    /// where it is refused. A message is kept as a copy of exactly its length. Refused are, in this
+    /// order, `Broken`, `Ended`, `JournalFull`, and then as the machine refuses an event of its kind.
+    /// After `Memory`, which comes last, the ledger is broken off and its journal is as it was; after
+    /// every other refusal nothing has changed.
+    pub fn add(
+        &mut self,
+        event: Event,
+        changed: &mut Vec<SharedInfo>,
+    ) -> Result<Vec<Parcel>, RoomRefusal>
         ensures took { IfOk result (λ out. Added self.old self.new event out.items) }
+        ensures changed { OnOk result
+            (changed.new.items ≡ infos_changed (conference_of self.old) event) }
+        ensures unchanged { OnErr result (changed.new.items ≡ []) }
         ensures refused { IsRefusedBy (refusal self.old event) result }
         ensures left { IfErr result (Unadded self.old self.new) }
     {
+        changed.clear();
         match self.closed() {
             Some(refusal) => return Err(refusal),
             None => {}
         }
         let alloc = *self.journal.allocator();
         let mut out = Vec::new(alloc);
-        match self.machine.apply(&event, &mut out) {
+        match self.machine.apply(&event, &mut out, changed) {
             Ok(()) => {}
             Err(Refusal::Memory) => {
                 self.is_broken = true;
@@ -200,11 +210,16 @@ impl Ledger {
         }
         // Whatever breaks the event off leaves it so.
         self.is_broken = true;
-        let kept = event.exact(&mut self.copies)?;
-        self.journal.reserve(1)?;
-        self.journal.push_reserved(kept);
-        self.is_broken = false;
-        Ok(out)
+        match put(&mut self.journal, &mut self.copies, event) {
+            Ok(()) => {
+                self.is_broken = false;
+                Ok(out)
+            }
+            Err(refused) => {
+                changed.clear();
+                Err(RoomRefusal::from(refused))
+            }
+        }
     }
 
     /// Breaks the conference off for good: no event is taken any more. Takes no memory.
@@ -213,4 +228,16 @@ impl Ledger {
     {
         self.is_broken = true; // for good
     }
+}
+
+/// Puts an event behind those of a journal, a message of it as a copy of exactly its length. After an
+/// error the journal is as it was.
+fn put(journal: &mut Vec<Event>, copies: &mut Copies, event: Event) -> Result<(), AllocError>
+    ensures next { OnOk result (journal.new.items ≡ journal.old.items ++ event ∷ []) }
+    ensures left { OnErr result (journal.new.items ≡ journal.old.items) }
+{
+    let kept = event.exact(copies)?;
+    journal.reserve(1)?;
+    journal.push_reserved(kept);
+    Ok(())
 }

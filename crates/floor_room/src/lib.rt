@@ -5,6 +5,7 @@
 //! nothing.
 #![tactic(auto)]
 
+mod effects;
 mod journal;
 mod ledger;
 mod outbox;
@@ -13,6 +14,7 @@ mod replaying;
 mod room;
 mod status;
 
+pub use effects::Effects;
 pub use floor_machine::{
     Act, AddedUser, Config, Event, Floor, Frame, Info, Parcel, Refusal, SharedInfo, User,
 };

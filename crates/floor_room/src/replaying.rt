@@ -8,7 +8,7 @@ ghost use Rattle.floor_machine.specs.Next.{next};
 ghost use Rattle.floor_room.specs.Replay.{IsFault, bytes_of};
 
 use crate::journal::Place;
-use floor_machine::{Config, Event, MAX_EVENTS, Machine, Parcel, Refusal};
+use floor_machine::{Config, Event, MAX_EVENTS, Machine, Parcel, Refusal, SharedInfo};
 use std::alloc::{AllocError, Global};
 
 /// Why events aren't run.
@@ -67,11 +67,12 @@ pub fn replay(
     let copy = config.copy(alloc)?;
     let mut machine = Machine::new(alloc, copy)?;
     let mut bytes = Vec::new(alloc);
+    let mut changed = Vec::new(alloc);
     for (done, event) in events.iter().enumerate() {
         if done >= MAX_EVENTS {
             return Err(ReplayFault::NotAJournal((done + 1) as u32));
         }
-        match step(&mut machine, event, n, &mut bytes) {
+        match step(&mut machine, event, n, &mut bytes, &mut changed) {
             Ok(()) => {}
             Err(StepFault::Memory) => return Err(ReplayFault::Memory),
             Err(StepFault::Unlawful) => return Err(ReplayFault::NotAJournal((done + 1) as u32)),
@@ -80,8 +81,15 @@ pub fn replay(
     Ok(bytes)
 }
 
-/// Runs one event, and puts the bytes of the parcels to n.
-fn step(machine: &mut Machine, event: &Event, n: u32, bytes: &mut Vec<u8>) -> Result<(), StepFault>
+/// Runs one event, and puts the bytes of the parcels to n. What it changed is left in a buffer that serves
+/// all events.
+fn step(
+    machine: &mut Machine,
+    event: &Event,
+    n: u32,
+    bytes: &mut Vec<u8>,
+    changed: &mut Vec<SharedInfo>,
+) -> Result<(), StepFault>
     requires few { length machine.old.conference.members < 4294967295 }
     requires whole { machine.old ≡ whole machine.old.conference }
     ensures lawful { OnOk result (IsLawful machine.old.conference event.now) }
@@ -94,7 +102,7 @@ fn step(machine: &mut Machine, event: &Event, n: u32, bytes: &mut Vec<u8>) -> Re
     // A message of it is whole.
     let _message = event.message();
     let mut out = Vec::new(*bytes.allocator());
-    match machine.apply(event, &mut out) {
+    match machine.apply(event, &mut out, changed) {
         Ok(()) => {}
         Err(Refusal::Memory) => return Err(StepFault::Memory),
         Err(_) => return Err(StepFault::Unlawful),

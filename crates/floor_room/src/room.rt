@@ -3,7 +3,7 @@
 ghost use Rattle.std.specs.Prelude.{◌≡◌, ◌+◌, [], true, false, IfErr, IfOk, OnErr, OnOk, length, option_map};
 ghost use Rattle.floor_machine.specs.declared.event.Event.TheVariants.{Join, Leave, Message, Took};
 ghost use Rattle.floor_machine.specs.Conference.{AreCut, is_cut};
-ghost use Rattle.floor_machine.specs.Machine.{event_of_act};
+ghost use Rattle.floor_machine.specs.Machine.{event_of_act, infos_changed};
 ghost use Rattle.floor_room.specs.Calls.{Applied, Left};
 ghost use Rattle.floor_room.specs.Ledger.{IsRefusedBy, closed, conference_of, refusal};
 ghost use Rattle.floor_room.specs.Room.{IsRoom, broken_room, new_room};
@@ -13,6 +13,7 @@ ghost use Rattle.floor_room.specs.Taking.{Gave, held_of};
 ghost use Rattle.floor_room.specs.Told.{AreTold};
 ghost use Rattle.std.specs.Option.{option_copied};
 
+use crate::effects::Effects;
 use crate::journal::Place;
 use crate::ledger::Ledger;
 use crate::outbox::{NoMember, Outbox, held_of, outbox_for, queue, take};
@@ -30,9 +31,9 @@ use std::marker::Model;
 /// `cut_numbers`.
 /// Events: `join`, `serve`, `took`, `leave` and `admin`, each of which changes nothing where it refuses,
 /// but that `Memory` breaks the room off. Each puts into its last argument, in place of what stood there,
-/// the numbers of the members to whom it queued something, and none where it refuses. `take` gives what
-/// waits, also in a room that takes no event. `break_off` is for a caller that meets want of memory
-/// itself.
+/// the numbers of the members to whom it queued something and what is shown of the floor requests that it
+/// changed, and none where it refuses. `take` gives what waits, also in a room that takes no event.
+/// `break_off` is for a caller that meets want of memory itself.
 #[derive(Debug, Drop)]
 pub struct Room {
     ledger: Ledger,
@@ -140,23 +141,27 @@ impl Room {
         held_of(self.outboxes.as_slice(), n)
     }
 
-    /// Adds an event, where nothing refuses it, queues what it tells, and says whom.
-    fn add(&mut self, event: Event, told: &mut Vec<u32>) -> Result<(), RoomRefusal>
+    /// Adds an event, where nothing refuses it, queues what it tells, and says whom it told and what it
+    /// changed.
+    fn add(&mut self, event: Event, effects: &mut Effects) -> Result<(), RoomRefusal>
         ensures took { OnOk result (Applied self.old self.new event) }
         ensures told { OnOk result
-            (AreTold self.old.outboxes self.new.outboxes told.new.items) }
-        ensures untold { OnErr result (told.new.items ≡ []) }
+            (AreTold self.old.outboxes self.new.outboxes effects.new.told.items) }
+        ensures changed { OnOk result (effects.new.changed.items
+            ≡ infos_changed (conference_of self.old.ledger) event) }
+        ensures untold { OnErr result (effects.new.told.items ≡ []) }
+        ensures unchanged { OnErr result (effects.new.changed.items ≡ []) }
         ensures refused { IsRefusedBy (refusal self.old.ledger event) result }
         ensures left { IfErr result (Left self.old self.new event) }
     {
-        told.clear();
+        effects.clear();
         let outbox = outbox_for(*self.outboxes.allocator(), &event);
-        match self.ledger.add(event) {
+        match self.ledger.add(event, &mut effects.changed) {
             Err(refusal) => Err(refusal),
-            Ok(out) => match queue(&mut self.outboxes, outbox, out, told) {
+            Ok(out) => match queue(&mut self.outboxes, outbox, out, &mut effects.told) {
                 Ok(()) => Ok(()),
                 Err(_) => {
-                    told.clear();
+                    effects.clear();
                     self.ledger.break_off();
                     Err(RoomRefusal::Refused(Refusal::Memory))
                 }
@@ -167,20 +172,23 @@ impl Room {
     /// Takes a connection of the user as a member, and gives its number: 1 for the first that ever
     /// joined. Refused are, in this order, `Broken`, `Ended`, `JournalFull`, `NoUser` and `Full`, and
     /// nothing has changed; after a `Memory` the room is broken off.
-    pub fn join(&mut self, user: u16, told: &mut Vec<u32>) -> Result<u32, RoomRefusal>
+    pub fn join(&mut self, user: u16, effects: &mut Effects) -> Result<u32, RoomRefusal>
         ensures number { IfOk result (λ n. n
             ≡ length (conference_of self.old.ledger).members + 1) }
         ensures outbox { IfOk result (λ n. n ≡ length self.new.outboxes) }
         ensures took { OnOk result (Applied self.old self.new (Join user)) }
         ensures told { OnOk result
-            (AreTold self.old.outboxes self.new.outboxes told.new.items) }
-        ensures untold { OnErr result (told.new.items ≡ []) }
+            (AreTold self.old.outboxes self.new.outboxes effects.new.told.items) }
+        ensures changed { OnOk result (effects.new.changed.items
+            ≡ infos_changed (conference_of self.old.ledger) (Join user)) }
+        ensures untold { OnErr result (effects.new.told.items ≡ []) }
+        ensures unchanged { OnErr result (effects.new.changed.items ≡ []) }
         ensures refused { IsRefusedBy (refusal self.old.ledger (Join user)) result }
         ensures left { IfErr result (Left self.old self.new (Join user)) }
     {
         // The outboxes are as many as the members.
         let _journal = self.journal();
-        self.add(Event::Join { user }, told)?;
+        self.add(Event::Join { user }, effects)?;
         Ok(self.members())
     }
 
@@ -188,16 +196,24 @@ impl Room {
     /// grows by what the message tells them. Refused are, in this order, `Broken`, `Ended`,
     /// `JournalFull`, `NoMember` and `Cut`, and nothing has changed; after a `Memory` the room is broken
     /// off.
-    pub fn serve(&mut self, n: u32, frame: Frame, told: &mut Vec<u32>) -> Result<Place, RoomRefusal>
+    pub fn serve(
+        &mut self,
+        n: u32,
+        frame: Frame,
+        effects: &mut Effects,
+    ) -> Result<Place, RoomRefusal>
         ensures place { IfOk result (λ place. place ≡ length self.new.ledger.journal) }
         ensures took { OnOk result (Applied self.old self.new (Message n frame)) }
         ensures told { OnOk result
-            (AreTold self.old.outboxes self.new.outboxes told.new.items) }
-        ensures untold { OnErr result (told.new.items ≡ []) }
+            (AreTold self.old.outboxes self.new.outboxes effects.new.told.items) }
+        ensures changed { OnOk result (effects.new.changed.items
+            ≡ infos_changed (conference_of self.old.ledger) (Message n frame)) }
+        ensures untold { OnErr result (effects.new.told.items ≡ []) }
+        ensures unchanged { OnErr result (effects.new.changed.items ≡ []) }
         ensures refused { IsRefusedBy (refusal self.old.ledger (Message n frame)) result }
         ensures left { IfErr result (Left self.old self.new (Message n frame)) }
     {
-        self.add(Event::Message { n, frame }, told)?;
+        self.add(Event::Message { n, frame }, effects)?;
         Ok(self.status().events)
     }
 
@@ -206,44 +222,53 @@ impl Room {
     /// backlog alone. Nobody is told. Refused are, in this order, `Broken`, `Ended`, `JournalFull`,
     /// `NoMember`, and `BadCount` where that is none or more than the backlog, and nothing has changed;
     /// after a `Memory` the room is broken off.
-    pub fn took(&mut self, n: u32, k: u32, told: &mut Vec<u32>) -> Result<(), RoomRefusal>
+    pub fn took(&mut self, n: u32, k: u32, effects: &mut Effects) -> Result<(), RoomRefusal>
         ensures took { OnOk result (Applied self.old self.new (Took n k)) }
         ensures told { OnOk result
-            (AreTold self.old.outboxes self.new.outboxes told.new.items) }
-        ensures untold { OnErr result (told.new.items ≡ []) }
+            (AreTold self.old.outboxes self.new.outboxes effects.new.told.items) }
+        ensures changed { OnOk result (effects.new.changed.items
+            ≡ infos_changed (conference_of self.old.ledger) (Took n k)) }
+        ensures untold { OnErr result (effects.new.told.items ≡ []) }
+        ensures unchanged { OnErr result (effects.new.changed.items ≡ []) }
         ensures refused { IsRefusedBy (refusal self.old.ledger (Took n k)) result }
         ensures left { IfErr result (Left self.old self.new (Took n k)) }
     {
-        self.add(Event::Took { n, k }, told)
+        self.add(Event::Took { n, k }, effects)
     }
 
     /// Takes it that a member has left. What waits for it stays until it is taken. Refused are, in this
     /// order, `Broken`, `Ended`, `JournalFull` and `NoMember`, and nothing has changed; after a `Memory`
     /// the room is broken off.
-    pub fn leave(&mut self, n: u32, told: &mut Vec<u32>) -> Result<(), RoomRefusal>
+    pub fn leave(&mut self, n: u32, effects: &mut Effects) -> Result<(), RoomRefusal>
         ensures took { OnOk result (Applied self.old self.new (Leave n)) }
         ensures told { OnOk result
-            (AreTold self.old.outboxes self.new.outboxes told.new.items) }
-        ensures untold { OnErr result (told.new.items ≡ []) }
+            (AreTold self.old.outboxes self.new.outboxes effects.new.told.items) }
+        ensures changed { OnOk result (effects.new.changed.items
+            ≡ infos_changed (conference_of self.old.ledger) (Leave n)) }
+        ensures untold { OnErr result (effects.new.told.items ≡ []) }
+        ensures unchanged { OnErr result (effects.new.changed.items ≡ []) }
         ensures refused { IsRefusedBy (refusal self.old.ledger (Leave n)) result }
         ensures left { IfErr result (Left self.old self.new (Leave n)) }
     {
-        self.add(Event::Leave { n }, told)
+        self.add(Event::Leave { n }, effects)
     }
 
     /// Does what the administrator does. What waits for the members stays, also after a Close. Refused
     /// are, in this order, `Broken`, `Ended`, `JournalFull`, then for a Revoke `NoRequest`, for a new user
     /// `OutOfRange`, `DoubleUser`, for a new floor `OutOfRange`, `DoubleFloor`, `UnknownChair`, for a chair
     /// `NoFloor`, `UnknownChair`, and nothing has changed; after a `Memory` the room is broken off.
-    pub fn admin(&mut self, act: Act, told: &mut Vec<u32>) -> Result<(), RoomRefusal>
+    pub fn admin(&mut self, act: Act, effects: &mut Effects) -> Result<(), RoomRefusal>
         ensures took { OnOk result (Applied self.old self.new (event_of_act act)) }
         ensures told { OnOk result
-            (AreTold self.old.outboxes self.new.outboxes told.new.items) }
-        ensures untold { OnErr result (told.new.items ≡ []) }
+            (AreTold self.old.outboxes self.new.outboxes effects.new.told.items) }
+        ensures changed { OnOk result (effects.new.changed.items
+            ≡ infos_changed (conference_of self.old.ledger) (event_of_act act)) }
+        ensures untold { OnErr result (effects.new.told.items ≡ []) }
+        ensures unchanged { OnErr result (effects.new.changed.items ≡ []) }
         ensures refused { IsRefusedBy (refusal self.old.ledger (event_of_act act)) result }
         ensures left { IfErr result (Left self.old self.new (event_of_act act)) }
     {
-        self.add(Event::of(act), told)
+        self.add(Event::of(act), effects)
     }
 
     /// How many members ever joined. Takes no memory.

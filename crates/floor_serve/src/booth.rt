@@ -17,7 +17,9 @@ use crate::seat::Sent;
 use crate::senders::{close, close_all, deliver};
 use crate::wakers::Wakers;
 use floor_outbox::{Outbox, Parcel, Sender, Taker, pair, rejoin};
-use floor_room::{Act, Config, Event, Frame, Ledger, Phase, Place, Refusal, RoomRefusal, Status};
+use floor_room::{
+    Act, Config, Event, Frame, Ledger, Phase, Place, Refusal, RoomRefusal, SharedInfo, Status,
+};
 use std::alloc::{AllocError, Global};
 use std::marker::Model;
 use std::sync::Wait;
@@ -34,6 +36,8 @@ pub struct Booth {
     ledger: Ledger,
     senders: Vec<Option<Sender>>,
     wakers: Wakers,
+    // What the last event changed: nobody watches here.
+    changed: Vec<SharedInfo>,
 }
 
 impl Model for Booth {
@@ -60,6 +64,7 @@ impl Booth {
             ledger,
             senders: Vec::new(alloc),
             wakers: Wakers::new(alloc),
+            changed: Vec::new(alloc),
         })
     }
 
@@ -141,7 +146,7 @@ impl Booth {
         ensures refused { IsRefusedBy (refusal self.old.ledger event) result }
         ensures left { IfErr result (Left self.old self.new event) }
     {
-        let out = add(&mut self.ledger, &self.senders, event)?;
+        let out = add(&mut self.ledger, &self.senders, &mut self.changed, event)?;
         feed(
             rt,
             &mut self.ledger,
@@ -167,7 +172,12 @@ impl Booth {
         let _journal = self.journal();
         let (sender, taker) = pair(*self.senders.allocator())?;
         self.senders.reserve(1)?;
-        let out = add(&mut self.ledger, &self.senders, Event::Join { user })?;
+        let out = add(
+            &mut self.ledger,
+            &self.senders,
+            &mut self.changed,
+            Event::Join { user },
+        )?;
         self.senders.push_reserved(Some(sender));
         feed(
             rt,
@@ -339,13 +349,14 @@ fn let_go(senders: &mut Vec<Option<Sender>>, n: u32)
 fn add(
     ledger: &mut Ledger,
     senders: &[Option<Sender>],
+    changed: &mut Vec<SharedInfo>,
     event: Event,
 ) -> Result<Vec<Parcel>, RoomRefusal>
     ensures took { IfOk result (λ out. Added ledger.old ledger.new event out.items) }
     ensures refused { IsRefusedBy (refusal ledger.old event) result }
     ensures left { IfErr result (Unadded ledger.old ledger.new) }
 {
-    let added = ledger.add(event);
+    let added = ledger.add(event, changed);
     match &added {
         Err(RoomRefusal::Refused(Refusal::Memory)) => close_all(senders),
         Ok(_) | Err(_) => {}

@@ -5,7 +5,7 @@ use crate::telling::tell_of;
 use floor_client::{Ask, AskRefusal, Client, Numbers, Tell, ask_fits};
 use floor_config::{Config, Floor};
 use floor_machine::{Event, Parcel};
-use floor_room::{Ledger, Phase, Refusal, RoomRefusal};
+use floor_room::{Ledger, Phase, Refusal, RoomRefusal, SharedInfo};
 use std::alloc::{AllocError, Global};
 use std::fmt::Write;
 
@@ -24,6 +24,8 @@ pub struct Rerun {
     alloc: Global,
     conference: u32,
     ledger: Ledger,
+    /// What the last event changed, which nobody asks for.
+    changed: Vec<SharedInfo>,
     /// A user of the conference, if it has one.
     user: Option<u16>,
     floors: Vec<Floor>,
@@ -45,6 +47,7 @@ impl Rerun {
             alloc,
             conference,
             ledger,
+            changed: Vec::new(alloc),
             user,
             floors,
             members: Vec::new(alloc),
@@ -57,10 +60,15 @@ impl Rerun {
         self.place
     }
 
+    /// Adds an event to the ledger.
+    fn add(&mut self, event: Event) -> Result<Vec<Parcel>, RoomRefusal> {
+        self.ledger.add(event, &mut self.changed)
+    }
+
     /// Runs the next event, and gives what it tells.
     pub fn run(&mut self, event: Event) -> Result<Vec<Parcel>, RoomRefusal> {
         self.note(&event)?;
-        let parcels = self.ledger.add(event)?;
+        let parcels = self.add(event)?;
         self.place = self.place.saturating_add(1);
         for parcel in parcels.iter() {
             if let Some(member) = self.member(parcel.n()) {
@@ -181,7 +189,7 @@ impl Rerun {
                 return Err(RoomRefusal::Refused(Refusal::Memory));
             }
         };
-        self.ledger.add(Event::Message { n, frame })
+        self.add(Event::Message { n, frame })
     }
 
     /// The Floor IDs.
@@ -198,7 +206,7 @@ impl Rerun {
         let Some(user) = self.user else {
             return Ok(None);
         };
-        match self.ledger.add(Event::Join { user }) {
+        match self.add(Event::Join { user }) {
             Ok(_) => {
                 let n = self.members.len().saturating_add(1);
                 return Ok(Some((u32::try_from(n).unwrap_or(u32::MAX), user)));
@@ -210,7 +218,7 @@ impl Rerun {
             return Err(RoomRefusal::Refused(Refusal::Full));
         };
         if member.behind > 0 {
-            self.ledger.add(Event::Took {
+            self.add(Event::Took {
                 n,
                 k: member.behind,
             })?;

@@ -6,11 +6,12 @@ use crate::cases::{assert_told, barred, differing};
 use crate::framed::message;
 use crate::hexadecimal::{frame, spelled};
 use floor_room::{
-    Act, Config, Event, Frame, Ledger, Parcel, ReplayFault, Room, RoomRefusal, add_lines,
-    journal_text, replay,
+    Act, Config, Effects, Event, Frame, Ledger, Parcel, ReplayFault, Room, RoomRefusal, SharedInfo,
+    add_lines, journal_text, replay,
 };
 use floor_words::{read_u16, read_u32};
 use std::alloc::{AllocError, Global};
+use std::fmt::Write;
 
 /// Each line of a script, and behind a `>` what it answers.
 /// Users 10 and 11 ask for floor 1, and 10 gives it back; what user 11 is sent is 80 bytes.
@@ -143,14 +144,17 @@ fn answer(alloc: Global, room: &mut Room, line: &str) -> Result<String, AllocErr
 fn change(alloc: Global, room: &mut Room, word: &str, rest: &str) -> Result<String, AllocError> {
     let short = read_u16(rest).unwrap_or(0);
     match word {
-        "join" => numbered(alloc, room.join(short, &mut Vec::new(alloc))),
+        "join" => numbered(alloc, room.join(short, &mut Effects::new(alloc))),
         "joins" => join_often(alloc, room, number(rest)),
         "serve" => serve(alloc, room, rest),
         "hellos" => hellos(alloc, room, number(rest)),
         "took" => took(alloc, room, rest),
-        "leave" => done(alloc, room.leave(number(rest), &mut Vec::new(alloc))),
-        "revoke" => done(alloc, room.admin(Act::Revoke(short), &mut Vec::new(alloc))),
-        "close" => done(alloc, room.admin(Act::Close, &mut Vec::new(alloc))),
+        "leave" => done(alloc, room.leave(number(rest), &mut Effects::new(alloc))),
+        "revoke" => done(
+            alloc,
+            room.admin(Act::Revoke(short), &mut Effects::new(alloc)),
+        ),
+        "close" => done(alloc, room.admin(Act::Close, &mut Effects::new(alloc))),
         "take" => take(alloc, room, number(rest)),
         _ => {
             room.break_off();
@@ -181,13 +185,19 @@ fn serve(alloc: Global, room: &mut Room, words: &str) -> Result<String, AllocErr
     let (n, message) = words.split_once(' ').unwrap_or((words, ""));
     match frame(alloc, message)? {
         None => String::from_str(alloc, "no message"),
-        Some(frame) => numbered(alloc, room.serve(number(n), frame, &mut Vec::new(alloc))),
+        Some(frame) => numbered(
+            alloc,
+            room.serve(number(n), frame, &mut Effects::new(alloc)),
+        ),
     }
 }
 
 fn took(alloc: Global, room: &mut Room, words: &str) -> Result<String, AllocError> {
     let (n, k) = words.split_once(' ').unwrap_or((words, ""));
-    done(alloc, room.took(number(n), number(k), &mut Vec::new(alloc)))
+    done(
+        alloc,
+        room.took(number(n), number(k), &mut Effects::new(alloc)),
+    )
 }
 
 fn take(alloc: Global, room: &mut Room, n: u32) -> Result<String, AllocError> {
@@ -261,7 +271,7 @@ fn hellos(alloc: Global, room: &mut Room, times: u32) -> Result<String, AllocErr
     let mut served = 0u32;
     for _ in 0..times {
         if let Some(frame) = hello(alloc)? {
-            if room.serve(1, frame, &mut Vec::new(alloc)).is_ok() {
+            if room.serve(1, frame, &mut Effects::new(alloc)).is_ok() {
                 served = served.wrapping_add(1);
             }
         }
@@ -273,7 +283,7 @@ fn hellos(alloc: Global, room: &mut Room, times: u32) -> Result<String, AllocErr
 fn join_often(alloc: Global, room: &mut Room, joins: u32) -> Result<String, AllocError> {
     let mut answered = String::new(alloc);
     for _ in 0..joins {
-        answered = numbered(alloc, room.join(12, &mut Vec::new(alloc)))?;
+        answered = numbered(alloc, room.join(12, &mut Effects::new(alloc)))?;
     }
     Ok(answered)
 }
@@ -366,7 +376,7 @@ fn a_ledger_gives_the_parcels_of_its_event(rt: HostRuntime) {
 
 fn told_behind_a_join(alloc: Global) -> Result<String, AllocError> {
     let mut ledger = Ledger::new(alloc, Config::demonstration(alloc)?)?;
-    let _joined = ledger.add(Event::Join { user: 10 });
+    let _joined = ledger.add(Event::Join { user: 10 }, &mut Vec::new(alloc));
     told(alloc, &mut ledger)
 }
 
@@ -375,7 +385,7 @@ fn told(alloc: Global, ledger: &mut Ledger) -> Result<String, AllocError> {
     let Some(frame) = hello(alloc)? else {
         return String::from_str(alloc, "no message");
     };
-    match ledger.add(Event::Message { n: 1, frame }) {
+    match ledger.add(Event::Message { n: 1, frame }, &mut Vec::new(alloc)) {
         Ok(out) => format!(in alloc; "told {}", out.len()),
         Err(refusal) => String::from_str(alloc, refusal.name()),
     }
@@ -405,14 +415,14 @@ fn messages_of_every_length_are_kept_as_they_came(rt: HostRuntime) {
 
 fn told_of_lengths(alloc: Global) -> Result<String, AllocError> {
     let mut room = Room::new(alloc, Config::demonstration(alloc)?)?;
-    let _joined = room.join(10, &mut Vec::new(alloc));
+    let _joined = room.join(10, &mut Effects::new(alloc));
     serve_lengths(alloc, &mut room)
 }
 
 fn serve_lengths(alloc: Global, room: &mut Room) -> Result<String, AllocError> {
     for units in 0..200u8 {
         if let Some(frame) = Frame::of(alloc, &longer_hello(alloc, units)?)? {
-            let _served = room.serve(1, frame, &mut Vec::new(alloc));
+            let _served = room.serve(1, frame, &mut Effects::new(alloc));
         }
     }
     count_kept(alloc, room.journal())
@@ -431,18 +441,20 @@ fn count_kept(alloc: Global, events: &[Event]) -> Result<String, AllocError> {
 }
 
 #[test]
-fn a_room_says_whom_an_event_told(rt: HostRuntime) {
-    assert_told(&rt, told_by_events(rt.alloc()), "1; 2; 1 2; ; ; 1 2; ");
+fn a_room_says_whom_an_event_told_and_what_it_changed(rt: HostRuntime) {
+    let wanted = "told 1, shown 1 Granted; told 2; told 1 2, shown 1 Released; nothing; nothing; \
+        told 1 2, shown 2 Granted; nothing; shown 2 Released";
+    assert_told(&rt, done_by_events(rt.alloc()), wanted);
 }
 
-/// Whom some events of a room told: user 10 asks for floor 1, user 11 watches it and then asks, for what it
-/// and user 10 are told, acknowledges, sends as nobody, and the first request is revoked; and the last is
-/// no event.
-fn told_by_events(alloc: Global) -> Result<String, AllocError> {
+/// Whom some events of a room told, and which requests are shown otherwise by them: user 10 asks for floor
+/// 1, user 11 watches it, user 10 gives it back, user 11 acknowledges, nobody does, user 10 asks again, a
+/// request is revoked that isn't there, and once all others have left the last connection of user 10 leaves.
+fn done_by_events(alloc: Global) -> Result<String, AllocError> {
     let mut room = Room::new(alloc, Config::demonstration(alloc)?)?;
-    let mut told = Vec::new(alloc);
-    let _first = room.join(10, &mut told);
-    let _second = room.join(11, &mut told);
+    let mut effects = Effects::new(alloc);
+    let _first = room.join(10, &mut effects);
+    let _second = room.join(11, &mut effects);
     let mut text = String::new(alloc);
     for (n, words) in [
         (1, "20010001000000010002000a04040001"),
@@ -450,31 +462,53 @@ fn told_by_events(alloc: Global) -> Result<String, AllocError> {
         (1, "20020001000000010003000a06040001"),
     ] {
         if let Some(frame) = frame(alloc, words)? {
-            let _place = room.serve(n, frame, &mut told);
+            let _place = room.serve(n, frame, &mut effects);
         }
-        add_numbers(&mut text, alloc, &told)?;
+        add_effects(&mut text, &effects)?;
     }
-    let _taken = room.took(2, 1, &mut told);
-    add_numbers(&mut text, alloc, &told)?;
-    let _refused = room.took(3, 1, &mut told);
-    add_numbers(&mut text, alloc, &told)?;
+    let _taken = room.took(2, 1, &mut effects);
+    add_effects(&mut text, &effects)?;
+    let _refused = room.took(3, 1, &mut effects);
+    add_effects(&mut text, &effects)?;
     if let Some(frame) = frame(alloc, "20010001000000010004000a04040001")? {
-        let _place = room.serve(1, frame, &mut told);
+        let _place = room.serve(1, frame, &mut effects);
     }
-    add_numbers(&mut text, alloc, &told)?;
-    let _refused = room.admin(Act::Revoke(9), &mut told);
-    add_numbers(&mut text, alloc, &told)?;
+    add_effects(&mut text, &effects)?;
+    let _refused = room.admin(Act::Revoke(9), &mut effects);
+    add_effects(&mut text, &effects)?;
+    let _another = room.join(10, &mut effects);
+    let _left = room.leave(1, &mut effects);
+    let _left = room.leave(2, &mut effects);
+    let _left = room.leave(3, &mut effects);
+    add_effects(&mut text, &effects)?;
     Ok(text)
 }
 
-fn add_numbers(text: &mut String, alloc: Global, told: &[u32]) -> Result<(), AllocError> {
+fn add_effects(text: &mut String, effects: &Effects) -> Result<(), AllocError> {
     if !text.is_empty() {
         text.push_str("; ")?;
     }
-    for (at, n) in told.iter().enumerate() {
-        let space = if at == 0 { "" } else { " " };
-        let word = format!(in alloc; "{space}{n}")?;
-        text.push_str(word.as_str())?;
+    if effects.told.is_empty() && effects.changed.is_empty() {
+        return text.push_str("nothing");
+    }
+    for (at, n) in effects.told.iter().enumerate() {
+        let before = if at == 0 { "told" } else { "" };
+        write!(text, "{before} {n}")?;
+    }
+    let space = if effects.told.is_empty() { "" } else { ", " };
+    for shared in &effects.changed {
+        add_shown(text, space, shared)?;
     }
     Ok(())
+}
+
+/// Adds the number and the status of a request that is shown.
+fn add_shown(text: &mut String, space: &str, shared: &SharedInfo) -> Result<(), AllocError> {
+    let info = shared.as_info();
+    let status = match info.overall {
+        Some((3, _)) => "Granted",
+        Some((6, _)) => "Released",
+        _ => "another status",
+    };
+    write!(text, "{space}shown {} {status}", info.request)
 }

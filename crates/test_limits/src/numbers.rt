@@ -104,8 +104,8 @@ fn error_of(user: u8, code: u8) -> [u8; 16] {
 impl Trial {
     fn new(alloc: Global) -> Option<Trial> {
         let mut ledger = opened(alloc)?;
-        join(&mut ledger, 10);
-        join(&mut ledger, 11);
+        join(alloc, &mut ledger, 10);
+        join(alloc, &mut ledger, 11);
         Some(Trial {
             alloc,
             ledger,
@@ -172,7 +172,7 @@ impl Trial {
         } else {
             self.wrong = self.wrong.wrapping_add(1);
         }
-        acknowledge(&mut self.ledger, n);
+        acknowledge(self.alloc, &mut self.ledger, n);
     }
 
     fn print<W: Write>(&self, what: &str, output: &mut W) -> Result<(), Ended> {
@@ -197,8 +197,8 @@ fn configuration(alloc: Global) -> Option<Config> {
     }
 }
 
-fn join(ledger: &mut Ledger, user: u16) {
-    let _told = ledger.add(Event::Join { user });
+fn join(alloc: Global, ledger: &mut Ledger, user: u16) {
+    let _told = ledger.add(Event::Join { user }, &mut Vec::new(alloc));
 }
 
 /// Whether the message of a member is answered by these bytes, and by nothing else.
@@ -206,7 +206,7 @@ fn is_answered(alloc: Global, ledger: &mut Ledger, n: u32, message: &[u8], answe
     let Some(frame) = frame(alloc, message) else {
         return false;
     };
-    match ledger.add(Event::Message { n, frame }) {
+    match ledger.add(Event::Message { n, frame }, &mut Vec::new(alloc)) {
         Ok(told) => match told.as_slice() {
             [parcel] => is_spelled(parcel, answer),
             _ => false,
@@ -222,6 +222,6 @@ fn is_spelled(parcel: &Parcel, answer: &[u8]) -> bool {
 }
 
 /// Takes it that a member has taken its answer, so that it is never far behind.
-fn acknowledge(ledger: &mut Ledger, n: u32) {
-    let _taken = ledger.add(Event::Took { n, k: 1 });
+fn acknowledge(alloc: Global, ledger: &mut Ledger, n: u32) {
+    let _taken = ledger.add(Event::Took { n, k: 1 }, &mut Vec::new(alloc));
 }

@@ -7,7 +7,7 @@ use crate::keeper::Keeper;
 use crate::keeping::{Keeping, Syncing};
 use crate::kept::{Kept, KeptFault, NoteFault};
 use floor_config::{Config, Text};
-use floor_room::{Act, Room};
+use floor_room::{Act, Effects, Room};
 use floor_wire::Octets;
 use std::alloc::{AllocError, Global};
 use std::cell::Cell;
@@ -125,10 +125,10 @@ fn nowhere(alloc: Global, syncing: Syncing, or_stop: bool) -> Result<Folder, All
 
 /// A conference in which users 10 and 11 have joined.
 fn meeting(alloc: Global) -> Result<Room, Fail> {
-    let mut told = Vec::new(alloc);
+    let mut effects = Effects::new(alloc);
     let mut room = Room::new(alloc, Config::demonstration(alloc)?)?;
-    room.join(10, &mut told)?;
-    room.join(11, &mut told)?;
+    room.join(10, &mut effects)?;
+    room.join(11, &mut effects)?;
     Ok(room)
 }
 

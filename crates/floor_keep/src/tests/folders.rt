@@ -11,7 +11,7 @@ use crate::keeper::Keeper;
 use crate::keeping::{Keeping, Syncing};
 use crate::listing::list_folder;
 use floor_kept::heads_of;
-use floor_room::{Act, Room};
+use floor_room::{Act, Effects, Room};
 use std::alloc::{AllocError, Global};
 use std::fs;
 use std::fs::{File, OpenOptions};
@@ -161,16 +161,16 @@ fn a_conference_goes_on_where_it_was_left(rt: HostRuntime) -> Result<(), Fail> {
     let path = "kept-on";
     let (_lock, folder) = new_folder(&rt, alloc, path)?;
     let mut keeper = Keeper::new(folder.copy()?);
-    let mut told = Vec::new(alloc);
+    let mut effects = Effects::new(alloc);
     for begun in begin_all(&rt, alloc, &folder, &mut keeper)? {
         let Begun {
             conference,
             mut room,
         } = begun;
         if conference == 7 {
-            room.join(10, &mut told)?;
+            room.join(10, &mut effects)?;
             keeper.append(&rt, 7, room.journal()).map_err(|_| "unkept")?;
-            room.join(11, &mut told)?;
+            room.join(11, &mut effects)?;
             keeper.note_port(7, 11, 7012)?;
             keeper.append(&rt, 7, room.journal()).map_err(|_| "unkept")?;
         }
@@ -202,9 +202,9 @@ fn a_conference_goes_on_where_it_was_left(rt: HostRuntime) -> Result<(), Fail> {
     let file = open_file(&rt, alloc, &folder, 7)?;
     let mut kept = take_up(alloc, &folder, file, &found.standing)?;
     let mut room = Room::new(alloc, found.config)?;
-    room.join(10, &mut told)?;
-    room.join(11, &mut told)?;
-    room.leave(2, &mut told)?;
+    room.join(10, &mut effects)?;
+    room.join(11, &mut effects)?;
+    room.leave(2, &mut effects)?;
     kept.append(Syncing::Never, room.journal())
         .map_err(|_| "unkept")?;
     let text = text_in(&rt, alloc, "kept-on/7.journal")?;
@@ -238,13 +238,13 @@ fn a_conference_that_is_closed_has_another_name(rt: HostRuntime) -> Result<(), F
     let path = "kept-closed";
     let (_lock, folder) = new_folder(&rt, alloc, path)?;
     let mut keeper = Keeper::new(folder.copy()?);
-    let mut told = Vec::new(alloc);
+    let mut effects = Effects::new(alloc);
     for begun in begin_all(&rt, alloc, &folder, &mut keeper)? {
         let Begun {
             conference,
             mut room,
         } = begun;
-        room.admin(Act::Close, &mut told)?;
+        room.admin(Act::Close, &mut effects)?;
         if conference == 7 {
             keeper.close(&rt, 7, room.journal()).map_err(|_| "unkept")?;
             assert!(rt; !keeper.is_kept(7));
@@ -270,7 +270,7 @@ fn a_name_that_is_taken_gets_a_number(rt: HostRuntime) -> Result<(), Fail> {
     let alloc = rt.alloc();
     let path = "kept-twice";
     let (_lock, folder) = new_folder(&rt, alloc, path)?;
-    let mut told = Vec::new(alloc);
+    let mut effects = Effects::new(alloc);
     // More often than there are seconds meanwhile.
     for _ in 0..4 {
         let mut keeper = Keeper::new(folder.copy()?);
@@ -279,7 +279,7 @@ fn a_name_that_is_taken_gets_a_number(rt: HostRuntime) -> Result<(), Fail> {
                 conference,
                 mut room,
             } = begun;
-            room.admin(Act::Close, &mut told)?;
+            room.admin(Act::Close, &mut effects)?;
             keeper
                 .close(&rt, conference, room.journal())
                 .map_err(|_| "unkept")?;

@@ -5,7 +5,7 @@ use crate::entry::Entry;
 use crate::writing::{WriteFault, Writer};
 use floor_config::{Config, Text};
 use floor_machine::Event;
-use floor_room::{Act, Room};
+use floor_room::{Act, Effects, Room};
 use std::io;
 use std::io::{ErrorKind, Write};
 use std::process::Abort;
@@ -52,11 +52,11 @@ fn kept<R: Abort + AllocGlobal>(rt: &R, room: usize) -> Result<(Disk, Option<Wri
         bytes: Vec::new(alloc),
         room,
     };
-    let mut told = Vec::new(alloc);
+    let mut effects = Effects::new(alloc);
     let mut conference = Room::new(alloc, Config::demonstration(alloc)?)?;
     let mut writer = Writer::new(0);
-    conference.join(10, &mut told)?;
-    conference.leave(1, &mut told)?;
+    conference.join(10, &mut effects)?;
+    conference.leave(1, &mut effects)?;
     let first = writer.append(alloc, &mut disk, conference.journal(), &[]);
     let mut octets = Vec::new(alloc);
     octets.push(0u8)?;
@@ -65,8 +65,8 @@ fn kept<R: Abort + AllocGlobal>(rt: &R, room: usize) -> Result<(Disk, Option<Wri
         value: Some(crate::Octets::from_vec(octets)),
     };
     let second = writer.note(alloc, &mut disk, &word);
-    conference.join(10, &mut told)?;
-    conference.admin(Act::Close, &mut told)?;
+    conference.join(10, &mut effects)?;
+    conference.admin(Act::Close, &mut effects)?;
     let third = if writer.done() <= conference.journal().len() {
         writer.append(alloc, &mut disk, conference.journal(), &[])
     } else {

@@ -1,7 +1,8 @@
 -- The one way of an event: what a decision has made of a conference before it is settled, and what the event has done in the end.
-use Rattle.std.specs.Prelude.{◌≡◌, ◌++◌, true, false, List, All, Option, Some, None, Result, IfErr, OnOk, map}
+use Rattle.std.specs.Prelude.{◌≡◌, ◌++◌, true, false, List, [], All, Option, Some, None, Result, IfErr, OnErr, OnOk, map}
 use Rattle.floor_queue.specs.Order.{settle}
 use Rattle.floor_message.specs.Shown.{IsShownInfo}
+use Rattle.floor_message.specs.declared.information.Info.{Info}
 use Rattle.floor_machine.specs.declared.conference.State.{State}
 use Rattle.floor_machine.specs.declared.course.Course.{Course}
 use Rattle.floor_machine.specs.declared.decision.Change.{Change as Decided}
@@ -11,7 +12,7 @@ use Rattle.floor_machine.specs.Change.{Change, settled}
 use Rattle.floor_machine.specs.Conference.{Conference}
 use Rattle.floor_machine.specs.Journal.{parcels_of}
 use Rattle.floor_machine.specs.declared.machine.Refusal.{Refusal}
-use Rattle.floor_machine.specs.Machine.{Applied, IsRefusedBy, Left, Machine, event_refusal}
+use Rattle.floor_machine.specs.Machine.{Applied, IsRefusedBy, Left, Machine, event_refusal, infos_changed}
 use Rattle.floor_machine.specs.Next.{next}
 use Rattle.floor_machine.specs.Parcel.{Parcel}
 use Rattle.floor_machine.specs.Reply.{infos}
@@ -50,15 +51,18 @@ abbrev pub IsTaken : State → Decided → State → Option Course → Type 0
 IsTaken s c t (Some course) = IsUnderWay s c t course
 IsTaken s c t None = IsQuiet s c t
 
--- What an event has done in the end: t is the next conference, and what it tells stands behind what was there before, and shows no more than
--- a conference has.
-pub record IsServed (s : Conference) (e : Event) (t : Conference) (before after : List Parcel) : Type 0 where
+-- What an event has done in the end: t is the next conference, what it tells stands behind what was there before, and shows no more than
+-- a conference has, and what is shown of the requests that it changed is handed out.
+pub record IsServed (s : Conference) (e : Event) (t : Conference) (before after : List Parcel) (handed : List Info) : Type 0 where
   pub next : t ≡ next s e
   pub out : after ≡ before ++ parcels_of s e
   pub shown : IsToldShown s e
+  pub changed : handed ≡ infos_changed s e
 
--- what a call made of an event: the machine took it, or refused it, and why
-pub record IsTried (old : Machine) (e : Event) (new : Machine) (before after : List Parcel) (result : Result (Unit {0}) Refusal) : Type 0 where
+-- What a call made of an event: the machine took it, and has handed out what it changed, or refused it, and why.
+pub record IsTried (old : Machine) (e : Event) (new : Machine) (before after : List Parcel) (handed : List Info) (result : Result (Unit {0}) Refusal) : Type 0 where
   pub took : OnOk result (Applied old e new before after)
   pub refused : IsRefusedBy (event_refusal old e) result
   pub left : IfErr result (Left old e new before after)
+  pub changed : OnOk result (handed ≡ infos_changed old.conference e)
+  pub unchanged : OnErr result (handed ≡ [])

@@ -108,6 +108,15 @@ update_of shown =
       tell = FloorRequestStatus shown.info;
     }
 
+-- what a message shows of a request, if it is the status of one
+abbrev pub shown_by : Tell → List Info
+shown_by (FloorRequestStatus i) = i ∷ []
+shown_by _ = []
+
+-- what these statuses show of their requests
+abbrev pub infos_told : List Update → List Info
+infos_told updates = flat_map (λ u. shown_by u.tell) updates
+
 -- the request is one that the user made, or one for the user
 abbrev pub is_of : ℕ → Update → Bool
 is_of user update = update.requester == user || update.beneficiary == user

@@ -5,6 +5,7 @@ ghost use Rattle.std.specs.Prelude.{◌≡◌, ◌++◌, ◌+◌, ◌<◌, ◌==
 ghost use Rattle.floor_queue.specs.Queue.{IsQueue};
 ghost use Rattle.floor_machine.specs.Change as change;
 ghost use Rattle.floor_machine.specs.Journal.{parcels_of};
+ghost use Rattle.floor_machine.specs.Machine.{infos_changed};
 ghost use Rattle.floor_machine.specs.Next.{next};
 ghost use Rattle.floor_machine.specs.declared.event.Event.TheVariants.{Join, Leave, Took};
 ghost use Rattle.floor_machine.specs.declared.decision.Change.TheVariants as Decided;
@@ -31,6 +32,8 @@ impl State {
             → OnOk result (parcels_of (conference_of self.old) (Join user) ≡ []) }
         ensures shown { IsAtRest self.old
             → OnOk result (IsToldShown (conference_of self.old) (Join user)) }
+        ensures still { IsAtRest self.old
+            → infos_changed (conference_of self.old) (Join user) ≡ [] }
         ensures rest { IsAtRest self.old → IsAtRest self.new }
     {
         // The ongoing requests ascend, so that each is shown as before, and nobody is told of it.
@@ -46,6 +49,7 @@ impl State {
         ensures next { conference_of self.new ≡ next (conference_of self.old) (Took n k) }
         ensures told { parcels_of (conference_of self.old) (Took n k) ≡ [] }
         ensures shown { IsToldShown (conference_of self.old) (Took n k) }
+        ensures still { infos_changed (conference_of self.old) (Took n k) ≡ [] }
         ensures rest { IsAtRest self.new }
     {
         // The ongoing requests ascend, so that each is shown as before, and nobody is told of it.

@@ -86,7 +86,7 @@ fn octets_of(alloc: Global, text: &Option<Text>) -> Result<Option<Octets>, Alloc
 }
 
 /// A copy of the octets, where there are any.
-pub(crate) fn copied(alloc: Global, octets: &Option<Octets>) -> Result<Option<Octets>, AllocError>
+fn copied(alloc: Global, octets: &Option<Octets>) -> Result<Option<Octets>, AllocError>
     ensures { IfOk result (λ copy. copy ≡ octets.now) }
 {
     match octets {

@@ -1,10 +1,10 @@
 //! What the administrator of a conference does: each act has its refusal, and the decision that it comes
 //! to.
 
-ghost use Rattle.std.specs.Prelude.{◌≡◌, IfErr, OnOk};
+ghost use Rattle.std.specs.Prelude.{◌≡◌, [], IfErr, OnErr, OnOk};
 ghost use Rattle.floor_machine.specs.declared.act.Act.TheVariants as Act;
 ghost use Rattle.floor_machine.specs.declared.event.Event.TheVariants.{AddFloor, AddUser, Close, Revoke, SetChair};
-ghost use Rattle.floor_machine.specs.Machine.{Applied, IsRefusedBy, Left, act_refusal, event_of_act, fault_refusal, refusal_of_fault};
+ghost use Rattle.floor_machine.specs.Machine.{Applied, IsRefusedBy, Left, act_refusal, event_of_act, fault_refusal, infos_changed, refusal_of_fault};
 ghost use Rattle.floor_machine.specs.steps.Frame.{IsTried};
 
 use crate::act::Act;
@@ -13,52 +13,75 @@ use crate::decision::{Change, Decision, EndedBy};
 use crate::machine::{Machine, Refusal};
 use crate::parcel::Parcel;
 use floor_config::{ConfigFault, Floor, User};
+use floor_message::SharedInfo;
 
 impl Machine {
-    /// Does what the administrator does, and appends what that tells the members to `out`, by
-    /// ascending member: a Close, a new user and a new floor tell nobody anything. Refused are, in this
+    /// Does what the administrator does, appends what that tells the members to `out`, by ascending
+    /// member, and puts what is shown of the floor requests that it changed into `changed`: a Close, a
+    /// new user and a new floor tell nobody anything, and put nothing. Refused are, in this
     /// order, `Broken`, `Ended`, then for a Revoke `NoRequest`, for a new user `OutOfRange`,
     /// `DoubleUser`, for a new floor `OutOfRange`, `DoubleFloor`, `UnknownChair`, for a chair `NoFloor`,
     /// `UnknownChair`; `Memory` comes last. After a refusal nothing has changed, but that `Memory`
     /// leaves the machine broken.
-    pub fn admin(&mut self, act: Act, out: &mut Vec<Parcel>) -> Result<(), Refusal>
+    pub fn admin(
+        &mut self,
+        act: Act,
+        out: &mut Vec<Parcel>,
+        changed: &mut Vec<SharedInfo>,
+    ) -> Result<(), Refusal>
         ensures took { OnOk result
             (Applied self.old (event_of_act act) self.new out.old.items out.new.items) }
+        ensures changed { OnOk result
+            (changed.new.items ≡ infos_changed self.old.conference (event_of_act act)) }
+        ensures unchanged { OnErr result (changed.new.items ≡ []) }
         ensures refused { IsRefusedBy (act_refusal self.old act) result }
         ensures left { IfErr result
             (Left self.old (event_of_act act) self.new out.old.items out.new.items) }
     {
+        changed.clear();
         match act {
-            Act::Revoke(request) => self.revoke(request, out),
-            Act::Close => self.close(out),
-            Act::AddUser(user) => self.add_user(&user, out),
-            Act::AddFloor(floor) => self.add_floor(floor, out),
-            Act::SetChair(floor, chair) => self.set_chair(floor, chair, out),
+            Act::Revoke(request) => self.revoke(request, out, changed),
+            Act::Close => self.close(out, changed),
+            Act::AddUser(user) => self.add_user(&user, out, changed),
+            Act::AddFloor(floor) => self.add_floor(floor, out, changed),
+            Act::SetChair(floor, chair) => self.set_chair(floor, chair, out, changed),
         }
     }
 
     /// Takes away the floors of the ongoing request with this number, or denies it where it doesn't hold
     /// them.
-    pub(crate) fn revoke(&mut self, request: u16, out: &mut Vec<Parcel>) -> Result<(), Refusal>
+    pub(crate) fn revoke(
+        &mut self,
+        request: u16,
+        out: &mut Vec<Parcel>,
+        changed: &mut Vec<SharedInfo>,
+    ) -> Result<(), Refusal>
+        requires { changed.old.items ≡ [] }
         ensures tried { IsTried self.old (Revoke request) self.new out.old.items out.new.items
-            result }
+            changed.new.items result }
     {
         match self.request_refusal(request) {
             Some(refusal) => Err(refusal),
             None => {
                 let change = Change::End(request, EndedBy::Chair, None);
-                self.take(None, Decision::to(change), out)
+                self.take(None, Decision::to(change), out, changed)
             }
         }
     }
 
     /// Ends the conference.
-    pub(crate) fn close(&mut self, out: &mut Vec<Parcel>) -> Result<(), Refusal>
-        ensures tried { IsTried self.old Close self.new out.old.items out.new.items result }
+    pub(crate) fn close(
+        &mut self,
+        out: &mut Vec<Parcel>,
+        changed: &mut Vec<SharedInfo>,
+    ) -> Result<(), Refusal>
+        requires { changed.old.items ≡ [] }
+        ensures tried { IsTried self.old Close self.new out.old.items out.new.items
+            changed.new.items result }
     {
         match self.refusal_of(None) {
             Some(refusal) => Err(refusal),
-            None => self.take(None, Decision::to(Change::Close), out),
+            None => self.take(None, Decision::to(Change::Close), out, changed),
         }
     }
 
@@ -67,27 +90,35 @@ impl Machine {
         &mut self,
         user: &AddedUser,
         out: &mut Vec<Parcel>,
+        changed: &mut Vec<SharedInfo>,
     ) -> Result<(), Refusal>
+        requires { changed.old.items ≡ [] }
         ensures tried { IsTried self.old (AddUser user.now) self.new out.old.items out.new.items
-            result }
+            changed.new.items result }
     {
         match self.user_refusal(user.as_user()) {
             Some(refusal) => Err(refusal),
             None => match user.copy(self.allocator()) {
-                Ok(user) => self.take(None, Decision::to(Change::AddUser(user)), out),
+                Ok(user) => self.take(None, Decision::to(Change::AddUser(user)), out, changed),
                 Err(refused) => Err(self.break_off(refused)),
             },
         }
     }
 
     /// Adds a floor.
-    pub(crate) fn add_floor(&mut self, floor: Floor, out: &mut Vec<Parcel>) -> Result<(), Refusal>
+    pub(crate) fn add_floor(
+        &mut self,
+        floor: Floor,
+        out: &mut Vec<Parcel>,
+        changed: &mut Vec<SharedInfo>,
+    ) -> Result<(), Refusal>
+        requires { changed.old.items ≡ [] }
         ensures tried { IsTried self.old (AddFloor floor) self.new out.old.items out.new.items
-            result }
+            changed.new.items result }
     {
         match self.floor_refusal(&floor) {
             Some(refusal) => Err(refusal),
-            None => self.take(None, Decision::to(Change::AddFloor(floor)), out),
+            None => self.take(None, Decision::to(Change::AddFloor(floor)), out, changed),
         }
     }
 
@@ -97,13 +128,20 @@ impl Machine {
         floor: u16,
         chair: Option<u16>,
         out: &mut Vec<Parcel>,
+        changed: &mut Vec<SharedInfo>,
     ) -> Result<(), Refusal>
+        requires { changed.old.items ≡ [] }
         ensures tried { IsTried self.old (SetChair floor chair) self.new out.old.items
-            out.new.items result }
+            out.new.items changed.new.items result }
     {
         match self.chair_refusal(floor, chair) {
             Some(refusal) => Err(refusal),
-            None => self.take(None, Decision::to(Change::SetChair(floor, chair)), out),
+            None => self.take(
+                None,
+                Decision::to(Change::SetChair(floor, chair)),
+                out,
+                changed,
+            ),
         }
     }
 

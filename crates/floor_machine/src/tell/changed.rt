@@ -47,6 +47,13 @@ impl SharedStatus {
         self.info.as_info().request == request
     }
 
+    /// What is shown of the request, for another owner. Takes no memory.
+    fn share_info(&self) -> Result<SharedInfo, AllocError>
+        ensures { IfOk result (λ info. telling.shown_by self.now ≡ info ∷ []) }
+    {
+        self.info.share()
+    }
+
     /// Another owner of the same. Takes no memory.
     pub(crate) fn share(&self) -> Result<SharedStatus, AllocError>
         ensures { IfOk result (λ status. status ≡ self.now) }
@@ -149,6 +156,18 @@ impl Updates {
     {
         self.items.as_slice()
     }
+}
+
+/// Hands out what is shown of each of these requests, behind what stands there.
+pub(crate) fn put_shown(updates: &[Update], changed: &mut Vec<SharedInfo>) -> Result<(), AllocError>
+    ensures { OnOk result (changed.new.items
+        ≡ changed.old.items ++ telling.infos_told updates.now) }
+{
+    for update in updates {
+        let info = update.tell.share_info()?;
+        changed.push(info)?;
+    }
+    Ok(())
 }
 
 /// The status of the request with this number, where it is among these.

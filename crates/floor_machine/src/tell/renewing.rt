@@ -71,7 +71,7 @@ fn request_at(requests: &[Request], place: usize, number: u16) -> Option<&Reques
 }
 
 /// Whether all that is shown of a request is as before.
-pub(crate) fn is_shown_alike(before: &Info, now: &Info) -> bool
+fn is_shown_alike(before: &Info, now: &Info) -> bool
     ensures { result ≡ same_info before.now now.now }
 {
     before.is_same(now)

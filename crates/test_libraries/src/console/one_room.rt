@@ -6,7 +6,7 @@ use floor_config::Config;
 use floor_console::{
     Board, BoardRefusal, Floor, Status, StopRefusal, Stopped, Text, User, run_line,
 };
-use floor_room::{Act, AddedUser, Room, journal_text};
+use floor_room::{Act, AddedUser, Effects, Room, journal_text};
 use std::alloc::{AllocError, Global};
 
 /// The conference 1, which is all that there is.
@@ -97,7 +97,7 @@ impl OneRoom {
         if conference != 1 {
             return Err(BoardRefusal::NoConference);
         }
-        match self.room.admin(act, &mut Vec::new(self.alloc)) {
+        match self.room.admin(act, &mut Effects::new(self.alloc)) {
             Ok(()) => Ok(()),
             Err(refusal) => Err(BoardRefusal::ByRoom(refusal)),
         }
@@ -112,8 +112,8 @@ fn board(alloc: Global) -> Result<OneRoom, AllocError> {
 }
 
 fn serve_three(alloc: Global, room: &mut Room) -> Result<(), AllocError> {
-    let _first = room.join(10, &mut Vec::new(alloc));
-    let _second = room.join(11, &mut Vec::new(alloc));
+    let _first = room.join(10, &mut Effects::new(alloc));
+    let _second = room.join(11, &mut Effects::new(alloc));
     serve(alloc, room, 1, "20010001 00000001 0002000a 04040001")?;
     serve(alloc, room, 2, "20010001 00000001 0001000b 04040001")?;
     serve(alloc, room, 1, "20020001 00000001 0003000a 06040001")
@@ -121,7 +121,7 @@ fn serve_three(alloc: Global, room: &mut Room) -> Result<(), AllocError> {
 
 fn serve(alloc: Global, room: &mut Room, n: u32, message: &str) -> Result<(), AllocError> {
     if let Some(frame) = frame(alloc, message)? {
-        let _place = room.serve(n, frame, &mut Vec::new(alloc));
+        let _place = room.serve(n, frame, &mut Effects::new(alloc));
     }
     Ok(())
 }

@@ -63,7 +63,7 @@ fn told(
     let bytes = message(alloc, primitive, 1, attributes)?;
     if let Some(frame) = Frame::of(alloc, &bytes)? {
         // A message that is refused tells nothing.
-        let _taken = machine.message(1, &frame, &mut out);
+        let _taken = machine.message(1, &frame, &mut out, &mut Vec::new(alloc));
     }
     Ok(out)
 }
@@ -114,7 +114,8 @@ fn told_by(alloc: Global, machine: &mut Machine, case: &str) -> Result<String, A
 
 #[test]
 fn a_leave_ends_256_requests_and_tells_a_member_288_messages(rt: HostRuntime) {
-    let wanted = "256 asked, 256 ongoing, left true, 0 ongoing, 1 live, 288 told, all to 1 true";
+    let wanted =
+        "256 asked, 256 ongoing, left true, 256 changed, 0 ongoing, 1 live, 288 told, all to 1 true";
     assert_told(&rt, told_of_crowd(rt.alloc()), wanted);
 }
 
@@ -144,11 +145,13 @@ fn crowded(alloc: Global, machine: &mut Machine) -> Result<String, AllocError> {
     Ok(text)
 }
 
-/// Appends what the leave of member 2 tells: a status of each request and of each floor, all to the
-/// member that asked and watches. Who left is told nothing.
+/// Appends what the leave of member 2 changes, and what it tells: a status of each request and of each
+/// floor, all to the member that asked and watches. Who left is told nothing.
 fn push_leave(alloc: Global, text: &mut String, machine: &mut Machine) -> Result<(), AllocError> {
     let mut out = Vec::new(alloc);
-    write!(text, ", left {}", machine.leave(2, &mut out).is_ok())?;
+    let mut changed = Vec::new(alloc);
+    let left = machine.leave(2, &mut out, &mut changed).is_ok();
+    write!(text, ", left {left}, {} changed", changed.len())?;
     write!(text, ", {} ongoing", machine.ongoing_requests())?;
     write!(text, ", {} live", machine.live_members())?;
     let to_one = out.iter().all(|parcel| parcel.n() == 1);
@@ -193,7 +196,7 @@ fn hello(alloc: Global, machine: &mut Machine) -> Result<&'static str, AllocErro
     let mut out = Vec::new(alloc);
     let bytes = message(alloc, 11, 1, &[])?;
     match Frame::of(alloc, &bytes)? {
-        Some(frame) => Ok(name_of(machine.message(1, &frame, &mut out))),
+        Some(frame) => Ok(name_of(machine.message(1, &frame, &mut out, &mut Vec::new(alloc)))),
         None => Ok("no message"),
     }
 }

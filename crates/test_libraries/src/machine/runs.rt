@@ -113,7 +113,10 @@ fn is_taken(
     out: &mut Vec<Parcel>,
 ) -> Result<bool, AllocError> {
     match message(alloc, line)? {
-        Some(Event::Message { n, frame }) => Ok(machine.message(n, &frame, out).is_ok()),
+        Some(Event::Message { n, frame }) => {
+            let taken = machine.message(n, &frame, out, &mut Vec::new(alloc));
+            Ok(taken.is_ok())
+        }
         _ => Ok(false),
     }
 }

@@ -3,7 +3,7 @@
 use super::{answer, done, number, replayed_from, text_of};
 use crate::cases::{assert_told, differing};
 use floor_config::Text;
-use floor_room::{Act, AddedUser, Config, Event, Floor, Room, User};
+use floor_room::{Act, AddedUser, Config, Effects, Event, Floor, Room, User};
 use floor_words::read_u16;
 use std::alloc::{AllocError, Global};
 
@@ -288,13 +288,13 @@ fn changed(
             alloc,
             room.admin(
                 Act::AddUser(AddedUser::new(alloc, user(alloc, rest)?)?),
-                &mut Vec::new(alloc),
+                &mut Effects::new(alloc),
             ),
         ),
         "floor" => match floor(rest) {
             Some(floor) => done(
                 alloc,
-                room.admin(Act::AddFloor(floor), &mut Vec::new(alloc)),
+                room.admin(Act::AddFloor(floor), &mut Effects::new(alloc)),
             ),
             None => String::from_str(alloc, "no floor"),
         },
@@ -304,7 +304,7 @@ fn changed(
                 alloc,
                 room.admin(
                     Act::SetChair(short(floor), read_u16(chair)),
-                    &mut Vec::new(alloc),
+                    &mut Effects::new(alloc),
                 ),
             )
         }

@@ -4,6 +4,7 @@ use Rattle.std.proofs.lemmas.Option.{none-some}
 use Rattle.indexmap.specs.IndexMap.{get}
 use Rattle.floor_hub.specs.declared.connection.Connection.{Connection}
 use Rattle.floor_hub.specs.steps.Attached.{ConcernedOf, live_in}
+use Rattle.floor_hub.specs.steps.Handed.{HandedOf}
 use Rattle.floor_hub.specs.steps.Serving.{ServedIn}
 use Rattle.floor_hub.proofs.hub.serve_at.Goals as goal
 
@@ -33,6 +34,8 @@ returns-in-Some c =
               ),
             );
       };
-      concerned = subst (λ (z : Option Connection). ConcernedOf (λ x. live_in c.args.concerned.now x.conference) c.serve_room.new.told.items z (get nat_eq c.args.rooms.now) (get nat_eq c.serve_room.new.rooms) c.args.concerned.now c.serve_room.new.concerned)
+      concerned = subst (λ (z : Option Connection). ConcernedOf (λ x. live_in c.args.concerned.now x.conference) c.serve_room.new.effects.told.items z (get nat_eq c.args.rooms.now) (get nat_eq c.serve_room.new.rooms) c.args.concerned.now c.serve_room.new.concerned)
           c.in-Some.ensures.found c.serve_room.ensures.concerned;
+      changed = subst (λ (z : Option Connection). HandedOf z (get nat_eq c.args.rooms.now) (get nat_eq c.serve_room.new.rooms) c.serve_room.new.effects.changed.items)
+          c.in-Some.ensures.found c.serve_room.ensures.changed;
     }

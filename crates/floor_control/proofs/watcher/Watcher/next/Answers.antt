@@ -1,6 +1,5 @@
-use Rattle.std.proofs.Common.{◌≡◌, ℕ, ◌+◌, ◌++◌, ◌∙◌, [], List, ap, false, subst}
+use Rattle.std.proofs.Common.{◌≡◌, ℕ, ◌+◌, ◌++◌, ◌∙◌, List, ap, false, subst}
 use Rattle.std.specs.String.{string_bytes}
-use Rattle.floor_message.specs.declared.information.Info.{Info}
 use Rattle.floor_machine.specs.declared.event.Event.{Event}
 use Rattle.floor_machine.specs.Change.{IsLawful}
 use Rattle.floor_machine.specs.Conference.{Conference}
@@ -24,14 +23,14 @@ returns-clause-took c =
     let w : spec.Watcher = c.args.self.now in
     let m : Machine = c.self.inside.machine in
     let s : Conference = m.conference in
-    let now : Machine = c.apply_watched.new.self in
+    let now : Machine = c.apply.new.self in
     let e : Event = c.args.event.now in
     let p : ℕ = c.self.inside.place in
     let unbroken : c.self.inside.is_broken ≡ false = ap (λ (x : spec.Watcher). x.is_broken) c.self.view_is ∙ (opened w c.in-None.ensures).unbroken in
     let text : List ℕ = string_bytes c.args.out.now in
     let after : now.conference ≡ next s e = ap (λ (x : Machine). x.conference) c.in-Ok.ensures.took.next in
     let changed : c.deref-3.result.now ≡ infos_changed s e =
-    c.deref-3.ensures.value ∙ c.in-Ok.ensures.took.changed ∙ ap (λ (is : List Info). is ++ infos_changed s e) c.new-changed.ensures.items in
+    c.deref-3.ensures.value ∙ c.in-Ok.ensures.changed in
     record {
       lawful = subst (λ (x : spec.Watcher). IsLawful x.conference e) c.self.view_is c.in-Ok.ensures.took.lawful;
       next =

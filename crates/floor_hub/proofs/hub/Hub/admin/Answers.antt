@@ -1,3 +1,5 @@
+use Rattle.floor_hub.specs.Shown.{Shows}
+use Rattle.floor_hub.proofs.Handing.{shows-at}
 use Rattle.floor_hub.proofs.Acting.{acted, admin_acted, quiet-act}
 use Rattle.floor_hub.proofs.Left.{free, left-at}
 use Rattle.floor_hub.proofs.RoomSteps.{event-room}
@@ -33,10 +35,10 @@ use Rattle.floor_hub.proofs.Moving.{event-went}
 use Rattle.floor_hub.specs.Concerned.{Concerns}
 
 abbrev old : goal.After-admin_at → Hub
-old c = record { rooms = c.self.inside.rooms.entries; connections = c.self.inside.connections; arrivals = c.self.inside.arrivals; concerned = c.self.inside.concerned.numbers; forgotten = c.self.inside.forgotten.keys }
+old c = record { rooms = c.self.inside.rooms.entries; connections = c.self.inside.connections; arrivals = c.self.inside.arrivals; concerned = c.self.inside.concerned.numbers; changed = c.self.inside.effects.changed.items; forgotten = c.self.inside.forgotten.keys }
 
 abbrev new : goal.After-admin_at → Hub
-new c = record { rooms = c.admin_at.new.rooms.entries; connections = c.self.inside.connections; arrivals = c.self.inside.arrivals; concerned = c.admin_at.new.concerned.numbers; forgotten = c.self.inside.forgotten.keys }
+new c = record { rooms = c.admin_at.new.rooms.entries; connections = c.self.inside.connections; arrivals = c.self.inside.arrivals; concerned = c.admin_at.new.concerned.numbers; changed = c.admin_at.new.effects.changed.items; forgotten = c.self.inside.forgotten.keys }
 
 room : (c : goal.After-admin_at) → OneRoom by_broken (refusal_in c.admin_at.result) (admin_event c.args.act) c.args.conference (old c) (new c)
 room c =
@@ -66,13 +68,17 @@ still_stood c =
 
 named : (c : goal.After-admin_at) → Named c.admin_at.new.concerned (old c) (new c)
 named c =
-    named-at by_broken (refusal_in c.admin_at.result) (admin_event c.args.act) c.args.conference c.admin_at.new.told.items c.self.inside.concerned c.admin_at.new.concerned (old c) (new c) (room c)
+    named-at by_broken (refusal_in c.admin_at.result) (admin_event c.args.act) c.args.conference c.admin_at.new.effects.told.items c.self.inside.concerned c.admin_at.new.concerned (old c) (new c) (room c)
     c.admin_at.ensures.concerned refl (λ k. place-same (connection_at (old c).connections k) (connection_at (new c).connections k) refl)
     (moves-by c.args.conference (old c) (new c) (λ r is. let t = c.admin_at.ensures.room.there r is in (t.0, t.1, event-went (event_of_act c.args.act) r t.0 c.admin_at.result t.3)))
     (still_stood c) c.self.invariant.attached c.self.invariant.known
 
 pub invariant_of-self : goal.invariant_of-self
 invariant_of-self c = record { stood = still_stood c; attached = (named c).attached; known = (named c).known }
+
+pub returns-clause-changed : goal.returns-clause-changed
+returns-clause-changed c =
+    subst (λ h. Shows h (new c)) c.self.view_is (shows-at by_broken (refusal_in c.admin_at.result) (admin_event c.args.act) c.args.conference (old c) (new c) (room c) c.admin_at.ensures.changed)
 
 pub returns-clause-concerned : goal.returns-clause-concerned
 returns-clause-concerned c = subst (λ h. Concerns h (new c)) c.self.view_is (named c).concerns

@@ -1,3 +1,5 @@
+use Rattle.floor_hub.specs.Shown.{Shows}
+use Rattle.floor_hub.proofs.Handing.{shows-at}
 use Rattle.std.proofs.Common.{◌≡◌, ◌≢◌, ℕ, Bool, true, false, ◌+◌, ◌≤◌, [], Some, None, arith, length, refl, sym, subst}
 use Rattle.std.specs.Prelude.{Ok, Err, Option, Result}
 use Rattle.floor_hub.specs.declared.refusal.HubRefusal.{HubRefusal}
@@ -37,17 +39,17 @@ overflow_add-number c =
 
 pub attach_at-joined-requires : goal.attach_at-joined-requires
 attach_at-joined-requires c =
-    let h : Hub = record { rooms = c.self.inside.rooms.entries; connections = c.self.inside.connections; arrivals = c.self.inside.arrivals; concerned = c.self.inside.concerned.numbers; forgotten = c.self.inside.forgotten.keys } in
+    let h : Hub = record { rooms = c.self.inside.rooms.entries; connections = c.self.inside.connections; arrivals = c.self.inside.arrivals; concerned = c.self.inside.concerned.numbers; changed = c.self.inside.effects.changed.items; forgotten = c.self.inside.forgotten.keys } in
     record {
       fresh = next-is-free h c.self.invariant.stood.0 c.self.invariant.stood.1;
       within = λ r is. within h c.self.invariant.stood.0 (live_in c.self.inside.concerned) c.self.invariant.stood.1 c.self.invariant.stood.2 c.self.invariant.attached c.args.conference r is;
     }
 
 abbrev old_ok : goal.After-self-1 → Hub
-old_ok c = record { rooms = c.self.inside.rooms.entries; connections = c.self.inside.connections; arrivals = c.self.inside.arrivals; concerned = c.self.inside.concerned.numbers; forgotten = c.self.inside.forgotten.keys }
+old_ok c = record { rooms = c.self.inside.rooms.entries; connections = c.self.inside.connections; arrivals = c.self.inside.arrivals; concerned = c.self.inside.concerned.numbers; changed = c.self.inside.effects.changed.items; forgotten = c.self.inside.forgotten.keys }
 
 abbrev new_ok : goal.After-self-1 → Hub
-new_ok c = record { rooms = c.attach_at-joined.new.rooms.entries; connections = c.attach_at-joined.new.connections; arrivals = c.self.inside.arrivals + 1; concerned = c.attach_at-joined.new.concerned.numbers; forgotten = c.self.inside.forgotten.keys }
+new_ok c = record { rooms = c.attach_at-joined.new.rooms.entries; connections = c.attach_at-joined.new.connections; arrivals = c.self.inside.arrivals + 1; concerned = c.attach_at-joined.new.concerned.numbers; changed = c.attach_at-joined.new.effects.changed.items; forgotten = c.self.inside.forgotten.keys }
 
 room_ok : (c : goal.After-self-1) → OneRoom by_broken None (attach_event c.args.user) c.args.conference (old_ok c) (new_ok c)
 room_ok c =
@@ -105,13 +107,17 @@ there c none = ok_err (is_forgotten (old_ok c) c.args.conference) (c.in-Ok.ensur
 
 named_ok : (c : goal.After-self-1) → Named c.attach_at-joined.new.concerned (old_ok c) (new_ok c)
 named_ok c =
-    named-attached by_broken (attach_event c.args.user) c.self.invariant.stood.0 c.args.conference c.attach_at-joined.new.told.items c.self.inside.concerned c.attach_at-joined.new.concerned (old_ok c) (new_ok c) c.self.invariant.stood.1 (room_ok c)
+    named-attached by_broken (attach_event c.args.user) c.self.invariant.stood.0 c.args.conference c.attach_at-joined.new.effects.told.items c.self.inside.concerned c.attach_at-joined.new.concerned (old_ok c) (new_ok c) c.self.invariant.stood.1 (room_ok c)
     c.in-Ok.ensures.concerned refl (λ r is. (c.in-Ok.ensures.room.there r is).3.0.1) (there c)
     (moves-by c.args.conference (old_ok c) (new_ok c) (λ r is. let t = c.in-Ok.ensures.room.there r is in (t.0, t.1, joined-went r t.0 c.args.user t.3.0.0)))
     (still_stood_ok c) c.self.invariant.attached c.self.invariant.known
 
 pub invariant_of-self : goal.invariant_of-self
 invariant_of-self c = record { stood = still_stood_ok c; attached = (named_ok c).attached; known = (named_ok c).known }
+
+pub returns-in-Ok-clause-changed : goal.returns-in-Ok-clause-changed
+returns-in-Ok-clause-changed c =
+    subst (λ h. Shows h (new_ok c)) c.self.view_is (shows-at by_broken None (attach_event c.args.user) c.args.conference (old_ok c) (new_ok c) (room_ok c) c.in-Ok.ensures.changed)
 
 pub returns-in-Ok-clause-concerned : goal.returns-in-Ok-clause-concerned
 returns-in-Ok-clause-concerned c = subst (λ h. Concerns h (new_ok c)) c.self.view_is (named_ok c).concerns
@@ -153,10 +159,10 @@ pub returns-in-Ok-clause-found : goal.returns-in-Ok-clause-found
 returns-in-Ok-clause-found c = made c (room_at (old_ok c) c.args.conference) refl
 
 abbrev old_err : goal.In-Err → Hub
-old_err c = record { rooms = c.self.inside.rooms.entries; connections = c.self.inside.connections; arrivals = c.self.inside.arrivals; concerned = c.self.inside.concerned.numbers; forgotten = c.self.inside.forgotten.keys }
+old_err c = record { rooms = c.self.inside.rooms.entries; connections = c.self.inside.connections; arrivals = c.self.inside.arrivals; concerned = c.self.inside.concerned.numbers; changed = c.self.inside.effects.changed.items; forgotten = c.self.inside.forgotten.keys }
 
 abbrev new_err : goal.In-Err → Hub
-new_err c = record { rooms = c.attach_at-joined.new.rooms.entries; connections = c.attach_at-joined.new.connections; arrivals = c.self.inside.arrivals; concerned = c.attach_at-joined.new.concerned.numbers; forgotten = c.self.inside.forgotten.keys }
+new_err c = record { rooms = c.attach_at-joined.new.rooms.entries; connections = c.attach_at-joined.new.connections; arrivals = c.self.inside.arrivals; concerned = c.attach_at-joined.new.concerned.numbers; changed = c.attach_at-joined.new.effects.changed.items; forgotten = c.self.inside.forgotten.keys }
 
 room_err : (c : goal.In-Err) → OneRoom by_broken (Some c.in-Err.refusal) (attach_event c.args.user) c.args.conference (old_err c) (new_err c)
 room_err c =
@@ -187,13 +193,17 @@ still_stood_err c =
 
 named_err : (c : goal.In-Err) → Named c.attach_at-joined.new.concerned (old_err c) (new_err c)
 named_err c =
-    named-at by_broken (Some c.in-Err.refusal) (attach_event c.args.user) c.args.conference c.attach_at-joined.new.told.items c.self.inside.concerned c.attach_at-joined.new.concerned (old_err c) (new_err c) (room_err c)
+    named-at by_broken (Some c.in-Err.refusal) (attach_event c.args.user) c.args.conference c.attach_at-joined.new.effects.told.items c.self.inside.concerned c.attach_at-joined.new.concerned (old_err c) (new_err c) (room_err c)
     c.in-Err.ensures.concerned refl (λ k. place-same (connection_at (old_err c).connections k) (connection_at (new_err c).connections k) (c.in-Err.ensures.left k))
     (moves-by c.args.conference (old_err c) (new_err c) (λ r is. let t = c.in-Err.ensures.room.there r is in (t.0, t.1, attach-went r t.0 c.args.user t.3.1.0 t.3.1.2)))
     (still_stood_err c) c.self.invariant.attached c.self.invariant.known
 
 pub invariant_of-self-in-Err : goal.invariant_of-self-in-Err
 invariant_of-self-in-Err c = record { stood = still_stood_err c; attached = (named_err c).attached; known = (named_err c).known }
+
+pub returns-in-Err-clause-changed : goal.returns-in-Err-clause-changed
+returns-in-Err-clause-changed c =
+    subst (λ h. Shows h (new_err c)) c.self.view_is (shows-at by_broken (Some c.in-Err.refusal) (attach_event c.args.user) c.args.conference (old_err c) (new_err c) (room_err c) c.in-Err.ensures.changed)
 
 pub returns-in-Err-clause-concerned : goal.returns-in-Err-clause-concerned
 returns-in-Err-clause-concerned c = subst (λ h. Concerns h (new_err c)) c.self.view_is (named_err c).concerns

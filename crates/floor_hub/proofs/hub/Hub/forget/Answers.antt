@@ -9,14 +9,14 @@ use Rattle.floor_hub.proofs.hub.Hub.forget.Goals as goal
 
 pub forget-requires : goal.forget-requires
 forget-requires c =
-    let old : Hub = record { rooms = c.self.inside.rooms.entries; connections = c.self.inside.connections; arrivals = c.self.inside.arrivals; concerned = c.self.inside.concerned.numbers; forgotten = c.self.inside.forgotten.keys } in
+    let old : Hub = record { rooms = c.self.inside.rooms.entries; connections = c.self.inside.connections; arrivals = c.self.inside.arrivals; concerned = c.self.inside.concerned.numbers; changed = c.self.inside.effects.changed.items; forgotten = c.self.inside.forgotten.keys } in
     nobody-listed old c.self.inside.concerned c.args.conference c.self.invariant.attached (subst (IsOver c.args.conference) (sym c.self.view_is) c.in-None.ensures.none).nobody
 
 abbrev old : goal.Joined-room → Hub
-old c = record { rooms = c.self.inside.rooms.entries; connections = c.self.inside.connections; arrivals = c.self.inside.arrivals; concerned = c.self.inside.concerned.numbers; forgotten = c.self.inside.forgotten.keys }
+old c = record { rooms = c.self.inside.rooms.entries; connections = c.self.inside.connections; arrivals = c.self.inside.arrivals; concerned = c.self.inside.concerned.numbers; changed = c.self.inside.effects.changed.items; forgotten = c.self.inside.forgotten.keys }
 
 abbrev new : goal.Joined-room → Hub
-new c = record { rooms = c.swap_remove-room.new.self.entries; connections = c.self.inside.connections; arrivals = c.self.inside.arrivals; concerned = c.forget.new.self.numbers; forgotten = c.insert.new.self.keys }
+new c = record { rooms = c.swap_remove-room.new.self.entries; connections = c.self.inside.connections; arrivals = c.self.inside.arrivals; concerned = c.forget.new.self.numbers; changed = c.self.inside.effects.changed.items; forgotten = c.insert.new.self.keys }
 
 forgot : (c : goal.Joined-room) → Forgets c.args.conference (old c) (new c)
 forgot c = record {

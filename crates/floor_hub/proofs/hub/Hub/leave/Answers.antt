@@ -1,3 +1,5 @@
+use Rattle.floor_hub.specs.Shown.{Shows}
+use Rattle.floor_hub.proofs.Handing.{shows-of}
 use Rattle.floor_hub.proofs.Departing.{leave_result}
 use Rattle.floor_hub.proofs.Left.{left-leave}
 use Rattle.floor_hub.proofs.RoomSteps.{leave-room}
@@ -30,10 +32,10 @@ use Rattle.floor_hub.proofs.Moving.{leave-went}
 use Rattle.floor_hub.specs.Concerned.{Concerns}
 
 abbrev old : goal.After-leave_at → Hub
-old c = record { rooms = c.self.inside.rooms.entries; connections = c.self.inside.connections; arrivals = c.self.inside.arrivals; concerned = c.self.inside.concerned.numbers; forgotten = c.self.inside.forgotten.keys }
+old c = record { rooms = c.self.inside.rooms.entries; connections = c.self.inside.connections; arrivals = c.self.inside.arrivals; concerned = c.self.inside.concerned.numbers; changed = c.self.inside.effects.changed.items; forgotten = c.self.inside.forgotten.keys }
 
 abbrev new : goal.After-leave_at → Hub
-new c = record { rooms = c.leave_at.new.rooms.entries; connections = c.leave_at.new.connections; arrivals = c.self.inside.arrivals; concerned = c.leave_at.new.concerned.numbers; forgotten = c.self.inside.forgotten.keys }
+new c = record { rooms = c.leave_at.new.rooms.entries; connections = c.leave_at.new.connections; arrivals = c.self.inside.arrivals; concerned = c.leave_at.new.concerned.numbers; changed = c.leave_at.new.effects.changed.items; forgotten = c.self.inside.forgotten.keys }
 
 abbrev Want : Answer → HubRefusal → Type 0
 Want answer r = (r ≡ ByRoom (ByMachine Memory)) × (¬ IsIdle answer)
@@ -82,13 +84,17 @@ still_stood c =
 
 named : (c : goal.After-leave_at) → Named c.leave_at.new.concerned (old c) (new c)
 named c =
-    named-left None (refusal_in c.leave_at.result) leave_event c.args.number c.leave_at.new.told.items c.self.inside.concerned c.leave_at.new.concerned (old c) (new c) (connection_at (old c).connections c.args.number) refl (room c)
+    named-left None (refusal_in c.leave_at.result) leave_event c.args.number c.leave_at.new.effects.told.items c.self.inside.concerned c.leave_at.new.concerned (old c) (new c) (connection_at (old c).connections c.args.number) refl (room c)
     c.leave_at.ensures.concerned refl (λ absent. (c.leave_at.ensures.connection.absent absent).2) (gone c)
     (λ x is. moves-by x.conference (old c) (new c) (λ r room. let t = there c x is r room in (t.0, t.1, leave-went r t.0 x.n c.leave_at.result t.3 t.4)))
     (still_stood c) c.self.invariant.stood.2 c.self.invariant.attached c.self.invariant.known
 
 pub invariant_of-self : goal.invariant_of-self
 invariant_of-self c = record { stood = still_stood c; attached = (named c).attached; known = (named c).known }
+
+pub returns-clause-changed : goal.returns-clause-changed
+returns-clause-changed c =
+    subst (λ h. Shows h (new c)) c.self.view_is (shows-of None (refusal_in c.leave_at.result) leave_event (old c) (new c) (connection_at (old c).connections c.args.number) (room c) c.leave_at.ensures.changed)
 
 pub returns-clause-concerned : goal.returns-clause-concerned
 returns-clause-concerned c = subst (λ h. Concerns h (new c)) c.self.view_is (named c).concerns

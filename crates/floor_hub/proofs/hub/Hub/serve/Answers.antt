@@ -1,3 +1,5 @@
+use Rattle.floor_hub.specs.Shown.{Shows}
+use Rattle.floor_hub.proofs.Handing.{shows-of}
 use Rattle.floor_hub.proofs.Attending.{serve_result}
 use Rattle.floor_hub.proofs.Left.{left-serve}
 use Rattle.floor_hub.proofs.RoomSteps.{serve-room}
@@ -23,10 +25,10 @@ use Rattle.floor_hub.proofs.Moving.{served-went}
 use Rattle.floor_hub.specs.Concerned.{Concerns}
 
 abbrev old : goal.After-serve_at → Hub
-old c = record { rooms = c.self.inside.rooms.entries; connections = c.self.inside.connections; arrivals = c.self.inside.arrivals; concerned = c.self.inside.concerned.numbers; forgotten = c.self.inside.forgotten.keys }
+old c = record { rooms = c.self.inside.rooms.entries; connections = c.self.inside.connections; arrivals = c.self.inside.arrivals; concerned = c.self.inside.concerned.numbers; changed = c.self.inside.effects.changed.items; forgotten = c.self.inside.forgotten.keys }
 
 abbrev new : goal.After-serve_at → Hub
-new c = record { rooms = c.serve_at.new.rooms.entries; connections = c.serve_at.new.connections; arrivals = c.self.inside.arrivals; concerned = c.serve_at.new.concerned.numbers; forgotten = c.self.inside.forgotten.keys }
+new c = record { rooms = c.serve_at.new.rooms.entries; connections = c.serve_at.new.connections; arrivals = c.self.inside.arrivals; concerned = c.serve_at.new.concerned.numbers; changed = c.serve_at.new.effects.changed.items; forgotten = c.self.inside.forgotten.keys }
 
 -- what stands under the number afterwards
 served : (c : goal.After-serve_at) (x : Connection) (y : Option Connection) (rest : List ℕ) → Puts (old c).connections (new c).connections c.args.number y →
@@ -76,13 +78,17 @@ places c = places-of (old c).connections (new c).connections c.args.number (conn
 
 named : (c : goal.After-serve_at) → Named c.serve_at.new.concerned (old c) (new c)
 named c =
-    named-of-one by_broken (refusal_in c.serve_at.result) serve_event c.serve_at.new.told.items c.self.inside.concerned c.serve_at.new.concerned (old c) (new c) (connection_at (old c).connections c.args.number) (room c)
+    named-of-one by_broken (refusal_in c.serve_at.result) serve_event c.serve_at.new.effects.told.items c.self.inside.concerned c.serve_at.new.concerned (old c) (new c) (connection_at (old c).connections c.args.number) (room c)
     c.serve_at.ensures.concerned refl (places c)
     (λ x there. moves-by x.conference (old c) (new c) (λ r room. let t = c.serve_at.ensures.connection.there x there r room in (t.0, t.2, served-went r t.0 x.n x.held t.5.0 c.serve_at.result t.5.2)))
     (still_stood c) c.self.invariant.attached c.self.invariant.known
 
 pub invariant_of-self : goal.invariant_of-self
 invariant_of-self c = record { stood = still_stood c; attached = (named c).attached; known = (named c).known }
+
+pub returns-clause-changed : goal.returns-clause-changed
+returns-clause-changed c =
+    subst (λ h. Shows h (new c)) c.self.view_is (shows-of by_broken (refusal_in c.serve_at.result) serve_event (old c) (new c) (connection_at (old c).connections c.args.number) (room c) c.serve_at.ensures.changed)
 
 pub returns-clause-concerned : goal.returns-clause-concerned
 returns-clause-concerned c = subst (λ h. Concerns h (new c)) c.self.view_is (named c).concerns

@@ -1,3 +1,5 @@
+use Rattle.floor_hub.specs.Shown.{Shows}
+use Rattle.floor_hub.proofs.Handing.{shows-of}
 use Rattle.floor_hub.proofs.Acknowledging.{took_result}
 use Rattle.floor_hub.proofs.Left.{free, left-took}
 use Rattle.floor_hub.proofs.RoomSteps.{took-room}
@@ -33,10 +35,10 @@ use Rattle.floor_hub.proofs.Moving.{event-went}
 use Rattle.floor_hub.specs.Concerned.{Concerns}
 
 abbrev old : goal.After-took_at → Hub
-old c = record { rooms = c.self.inside.rooms.entries; connections = c.self.inside.connections; arrivals = c.self.inside.arrivals; concerned = c.self.inside.concerned.numbers; forgotten = c.self.inside.forgotten.keys }
+old c = record { rooms = c.self.inside.rooms.entries; connections = c.self.inside.connections; arrivals = c.self.inside.arrivals; concerned = c.self.inside.concerned.numbers; changed = c.self.inside.effects.changed.items; forgotten = c.self.inside.forgotten.keys }
 
 abbrev new : goal.After-took_at → Hub
-new c = record { rooms = c.took_at.new.rooms.entries; connections = c.self.inside.connections; arrivals = c.self.inside.arrivals; concerned = c.took_at.new.concerned.numbers; forgotten = c.self.inside.forgotten.keys }
+new c = record { rooms = c.took_at.new.rooms.entries; connections = c.self.inside.connections; arrivals = c.self.inside.arrivals; concerned = c.took_at.new.concerned.numbers; changed = c.took_at.new.effects.changed.items; forgotten = c.self.inside.forgotten.keys }
 
 there : (c : goal.After-took_at) (x : Connection) → connection_at (old c).connections c.args.number ≡ Some x → (r : Room) → room_at (old c) x.conference ≡ Some r →
     (s : Room) × (room_at (new c) x.conference ≡ Some s) × ((d : ℕ) → nat_eq x.conference d ≡ false → room_at (new c) d ≡ room_at (old c) d) × EventIn (Takes x.n c.args.k) r s c.took_at.result
@@ -69,13 +71,17 @@ still_stood c =
 
 named : (c : goal.After-took_at) → Named c.took_at.new.concerned (old c) (new c)
 named c =
-    named-of-one by_broken (refusal_in c.took_at.result) (took_event c.args.k) c.took_at.new.told.items c.self.inside.concerned c.took_at.new.concerned (old c) (new c) (connection_at (old c).connections c.args.number) (room c)
+    named-of-one by_broken (refusal_in c.took_at.result) (took_event c.args.k) c.took_at.new.effects.told.items c.self.inside.concerned c.took_at.new.concerned (old c) (new c) (connection_at (old c).connections c.args.number) (room c)
     c.took_at.ensures.concerned refl (λ k. place-same (connection_at (old c).connections k) (connection_at (new c).connections k) refl)
     (λ x is. moves-by x.conference (old c) (new c) (λ r room. let t = there c x is r room in (t.0, t.1, event-went (Takes x.n c.args.k) r t.0 c.took_at.result t.3)))
     (still_stood c) c.self.invariant.attached c.self.invariant.known
 
 pub invariant_of-self : goal.invariant_of-self
 invariant_of-self c = record { stood = still_stood c; attached = (named c).attached; known = (named c).known }
+
+pub returns-clause-changed : goal.returns-clause-changed
+returns-clause-changed c =
+    subst (λ h. Shows h (new c)) c.self.view_is (shows-of by_broken (refusal_in c.took_at.result) (took_event c.args.k) (old c) (new c) (connection_at (old c).connections c.args.number) (room c) c.took_at.ensures.changed)
 
 pub returns-clause-concerned : goal.returns-clause-concerned
 returns-clause-concerned c = subst (λ h. Concerns h (new c)) c.self.view_is (named c).concerns

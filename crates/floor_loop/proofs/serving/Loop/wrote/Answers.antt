@@ -66,6 +66,9 @@ returns-in-Some-clause-spares c =
     subst (λ (l : Loop). Spares l (new c)) c.self.view_is
     (spares-behind (old c) (mid c) (new c) (λ k. refl) (ends-found (wrote_of c.args.count) c.args.number c.self.inside.attended c.advance.new.self (advanced c) (λ o. refl)) (c.acknowledge.ensures.spares (did c).loop))
 
+pub returns-in-Some-clause-filled : goal.returns-in-Some-clause-filled
+returns-in-Some-clause-filled c = λ left some. c.acknowledge.ensures.filled
+
 -- without parcels to acknowledge
 
 same : (c : goal.In-None) → Wrote (loop_of c.self.inside.hub c.self.inside.attended) (loop_of c.self.inside.hub c.advance.new.self) c.args.number c.args.count
@@ -84,12 +87,18 @@ returns-in-None-clause-took c =
 pub returns-in-None-clause-others : goal.returns-in-None-clause-others
 returns-in-None-clause-others c = λ k ne. subst (λ (l : Loop). Took l (loop_of c.self.inside.hub c.advance.new.self) k [] 0) c.self.view_is ((same c).others k ne)
 
-pub returns-in-None-clause-acknowledged : goal.returns-in-None-clause-acknowledged
-returns-in-None-clause-acknowledged c = λ left some.
-    absurd (some (subst (λ (l : Loop). parcels_at l c.args.number ≡ 0) c.self.view_is
+no-parcels : (c : goal.In-None) → drop c.args.count (rest_at c.args.self.now c.args.number) ≡ [] → parcels_at c.args.self.now c.args.number ≡ 0
+no-parcels c = λ left.
+    subst (λ (l : Loop). parcels_at l c.args.number ≡ 0) c.self.view_is
     (none-whole (outgoing_in c.self.inside.attended c.args.number) c.args.count
     (ap (λ (a : Attended). option_and_then (λ (o : Outgoing). whole_of (drop c.args.count o.rest) o.parcels) (outgoing_in a c.args.number)) (sym c.pass.ensures.next) ∙ sym c.advance.ensures.value ∙ c.in-None.is)
-    (ap (λ (l : Loop). drop c.args.count (rest_at l c.args.number)) c.self.view_is ∙ left))))
+    (ap (λ (l : Loop). drop c.args.count (rest_at l c.args.number)) c.self.view_is ∙ left))
+
+pub returns-in-None-clause-acknowledged : goal.returns-in-None-clause-acknowledged
+returns-in-None-clause-acknowledged c = λ left some. absurd (some (no-parcels c left))
+
+pub returns-in-None-clause-filled : goal.returns-in-None-clause-filled
+returns-in-None-clause-filled c = λ left some. absurd (some (no-parcels c left))
 
 pub returns-in-None-clause-spares : goal.returns-in-None-clause-spares
 returns-in-None-clause-spares c =

@@ -10,6 +10,7 @@ use Rattle.floor_machine.specs.steps.Serving.{conference_of}
 use Rattle.floor_machine.proofs.Asked.{on_ok, on_ok_all}
 use Rattle.floor_machine.proofs.Joining.{settled-join}
 use Rattle.floor_machine.proofs.Counted.{next-quiet, parcels_of-quiet}
+use Rattle.floor_machine.proofs.Handed.{handed-join}
 use Rattle.floor_machine.proofs.Quiet.{due_of-join}
 use Rattle.floor_machine.specs.Conference.{joining}
 use Rattle.floor_machine.specs.declared.event.Event.TheVariants.{Join}
@@ -29,6 +30,12 @@ returns-clause-told c rest =
     let s = conference_of c.args.self.now in
     let P : List Floor → Type 0 = λ fs. settle fs s.ongoing ≡ s.ongoing in
     on_ok_all c.join.result (parcels_of-quiet s (Join c.args.user) (due_of-join s c.args.user (subst P c.args.self.now.same_floors rest.settled) c.ongoing-ongoing.ensures.kept.ascending))
+
+pub returns-clause-still : goal.returns-clause-still
+returns-clause-still c rest =
+    let s = conference_of c.args.self.now in
+    let P : List Floor → Type 0 = λ fs. settle fs s.ongoing ≡ s.ongoing in
+    handed-join s c.args.user (subst P c.args.self.now.same_floors rest.settled) c.ongoing-ongoing.ensures.kept.ascending
 
 pub returns-clause-shown : goal.returns-clause-shown
 returns-clause-shown c rest =

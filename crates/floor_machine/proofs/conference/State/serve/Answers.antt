@@ -1,4 +1,4 @@
-use Rattle.std.proofs.Common.{◌≡◌, List, Option, sym, ap, subst, ◌∙◌}
+use Rattle.std.proofs.Common.{◌≡◌, ◌++◌, List, Option, sym, ap, subst, ◌∙◌}
 use Rattle.std.specs.Prelude.{option_map}
 use Rattle.floor_queue.specs.declared.request.Request.{Request}
 use Rattle.floor_queue.specs.Queue.{after_settle}
@@ -9,14 +9,16 @@ use Rattle.floor_machine.specs.declared.decision.Decision.{Decision}
 use Rattle.floor_machine.specs.declared.replied.Replied.{Replied}
 use Rattle.floor_machine.specs.declared.tell.changed.Update.{Update}
 use Rattle.floor_machine.specs.declared.tell.renewing.Changes.{Changes}
+use Rattle.floor_message.specs.declared.information.Info.{Info}
 use Rattle.floor_machine.specs.Conference.{Conference}
+use Rattle.floor_machine.specs.Machine.{infos_changed}
 use Rattle.floor_machine.specs.steps.Fitting.{AreFit}
 use Rattle.floor_machine.specs.steps.Frame.{IsQuiet, IsTaken, IsUnderWay}
 use Rattle.floor_machine.specs.steps.Serving.{conference_of, replied_by}
-use Rattle.floor_machine.specs.steps.Telling.{AreTold}
+use Rattle.floor_machine.specs.steps.Telling.{AreTold, infos_told}
 use Rattle.floor_machine.proofs.Asked.{on_ok_both, on_ok_three}
-use Rattle.floor_machine.proofs.Framed.{course-called, served}
-use Rattle.floor_machine.proofs.Kept.{quiet-called}
+use Rattle.floor_machine.proofs.Framed.{course-called, course-handed, served}
+use Rattle.floor_machine.proofs.Kept.{quiet-called, quiet-handed}
 use Rattle.floor_machine.proofs.Settled.{IsSettledTo}
 use Rattle.floor_machine.proofs.Updated.{updates-told}
 use Rattle.floor_machine.proofs.conference.State.serve.Goals as goal
@@ -59,9 +61,14 @@ returns-in_ok-reply-in-Some-clause-served c = λ e comes.
     let reply : Option Replied = c.in_ok-reply-in-Some.reply in
     let answer : reply ≡ option_map (replied_by (conference_of after) course.ended.items d.reply) c.args.sender =
     c.in_ok-reply-in-Some.ensures.value ∙ ap (λ (ds : List Ended). option_map (replied_by (conference_of after) ds d.reply) c.args.sender) ended in
+    let handed : c.put_shown.new.changed.items ≡ infos_changed (conference_of S) e =
+    c.in_ok-put_shown-in-Some.ensures
+    ∙ ap (λ (is : List Info). is ++ infos_told c.as_slice.result.now) c.requires.empty
+    ∙ ap infos_told c.as_slice.ensures.value
+    ∙ course-handed S before after c.args.sender d course changes way to e comes in
     on_ok_three c.tell.result (λ told counted floors.
-    served (conference_of S) e c.args.sender d (conference_of after) (conference_of c.tell.new.self) _ c.args.out.now.items c.tell.new.out.items comes c.allocator-alloc.ensures.kept
-    (course-called S before after c.args.sender d course changes reply c.allocator-alloc.ensures.kept way to done.shown answer c.in_ok-reply-in-Some.ensures.shown floors e comes) told counted)
+    served (conference_of S) e c.args.sender d (conference_of after) (conference_of c.tell.new.self) _ c.args.out.now.items c.tell.new.out.items c.put_shown.new.changed.items comes c.allocator-alloc.ensures.kept
+    (course-called S before after c.args.sender d course changes reply c.allocator-alloc.ensures.kept way to done.shown answer c.in_ok-reply-in-Some.ensures.shown floors e comes) handed told counted)
     c.tell.ensures.told c.tell.ensures.counted c.tell.ensures.floors_shown
 
 pub returns-in_ok-reply-in-None-clause-served : goal.returns-in_ok-reply-in-None-clause-served
@@ -73,6 +80,7 @@ returns-in_ok-reply-in-None-clause-served c = λ e comes.
     let quiet : IsQuiet S d.change after = subst T c.in-None.is c.in_ok-course.ensures.taken in
     let reply : Option Replied = c.in_ok-reply-in-None.reply in
     on_ok_both c.tell_reply.result (λ told counted.
-    served (conference_of S) e c.args.sender d (conference_of after) (conference_of c.tell_reply.new.self) _ c.args.out.now.items c.tell_reply.new.out.items comes c.allocator-alloc.ensures.kept
-    (quiet-called S after c.args.sender d reply c.ongoing-ongoing.ensures.kept.ascending c.allocator-alloc.ensures.kept quiet c.in_ok-reply-in-None.ensures.value c.in_ok-reply-in-None.ensures.shown e comes) told counted)
+    served (conference_of S) e c.args.sender d (conference_of after) (conference_of c.tell_reply.new.self) _ c.args.out.now.items c.tell_reply.new.out.items c.args.changed.now.items comes c.allocator-alloc.ensures.kept
+    (quiet-called S after c.args.sender d reply c.ongoing-ongoing.ensures.kept.ascending c.allocator-alloc.ensures.kept quiet c.in_ok-reply-in-None.ensures.value c.in_ok-reply-in-None.ensures.shown e comes)
+    (c.requires.empty ∙ sym (quiet-handed S after c.args.sender d c.ongoing-ongoing.ensures.kept.ascending quiet e comes)) told counted)
     c.tell_reply.ensures.told c.tell_reply.ensures.counted

@@ -9,6 +9,7 @@ use Rattle.floor_machine.specs.Outgoing.{Outgoing}
 use Rattle.floor_machine.specs.steps.Fitting.{AreMessagesShown}
 use Rattle.floor_machine.specs.steps.Serving.{conference_of}
 use Rattle.floor_machine.proofs.Counted.{next-quiet, parcels_of-quiet}
+use Rattle.floor_machine.proofs.Handed.{handed-took}
 use Rattle.floor_machine.proofs.Quiet.{due_of-took, settled-took}
 use Rattle.floor_machine.proofs.conference.State.took.Goals as goal
 
@@ -27,6 +28,12 @@ returns-clause-told c =
     let P : List Floor → Type 0 = λ fs. settle fs s.ongoing ≡ s.ongoing in
     let is_settled : settle s.config.floors s.ongoing ≡ s.ongoing = subst P c.args.self.now.same_floors c.requires.rest.settled in
     parcels_of-quiet s (Took c.args.n c.args.k) (due_of-took s c.args.n c.args.k is_settled c.ongoing-ongoing.ensures.kept.ascending)
+
+pub returns-clause-still : goal.returns-clause-still
+returns-clause-still c =
+    let s = conference_of c.args.self.now in
+    let P : List Floor → Type 0 = λ fs. settle fs s.ongoing ≡ s.ongoing in
+    handed-took s c.args.n c.args.k (subst P c.args.self.now.same_floors c.requires.rest.settled) c.ongoing-ongoing.ensures.kept.ascending
 
 pub returns-clause-shown : goal.returns-clause-shown
 returns-clause-shown c = λ n.

@@ -13,7 +13,7 @@ take-requires-clause-may c =
     may_unsent m.conference (AddFloor c.args.floor) c.to.result (lawful_event m (AddFloor c.args.floor) tt c.in-None.ensures) (refl, c.to.ensures)
 
 pub returns-in-Some : goal.returns-in-Some
-returns-in-Some c = record { tried = tried-refused c.args.self.now (AddFloor c.args.floor) c.args.out.now.items c.in-Some.refusal c.in-Some.ensures }
+returns-in-Some c = record { tried = tried-refused c.args.self.now (AddFloor c.args.floor) c.args.out.now.items c.args.changed.now.items c.in-Some.refusal c.requires c.in-Some.ensures }
 
 pub returns-in-None : goal.returns-in-None
 returns-in-None c = record { tried = c.take.ensures.tried (AddFloor c.args.floor) (refl, c.to.ensures) tt c.in-None.ensures }

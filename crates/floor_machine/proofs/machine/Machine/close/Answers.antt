@@ -13,7 +13,7 @@ take-requires-clause-may c =
     may_unsent m.conference Close c.to.result (lawful_event m Close tt c.in-None.ensures) (refl, c.to.ensures)
 
 pub returns-in-Some : goal.returns-in-Some
-returns-in-Some c = record { tried = tried-refused c.args.self.now Close c.args.out.now.items c.in-Some.refusal c.in-Some.ensures }
+returns-in-Some c = record { tried = tried-refused c.args.self.now Close c.args.out.now.items c.args.changed.now.items c.in-Some.refusal c.requires c.in-Some.ensures }
 
 pub returns-in-None : goal.returns-in-None
 returns-in-None c = record { tried = c.take.ensures.tried Close (refl, c.to.ensures) tt c.in-None.ensures }

@@ -13,7 +13,7 @@ take-requires-clause-may c =
     may_unsent m.conference (Revoke c.args.request) c.to.result (lawful_event m (Revoke c.args.request) tt c.in-None.ensures) (refl, c.to.ensures)
 
 pub returns-in-Some : goal.returns-in-Some
-returns-in-Some c = record { tried = tried-refused c.args.self.now (Revoke c.args.request) c.args.out.now.items c.in-Some.refusal c.in-Some.ensures }
+returns-in-Some c = record { tried = tried-refused c.args.self.now (Revoke c.args.request) c.args.out.now.items c.args.changed.now.items c.in-Some.refusal c.requires c.in-Some.ensures }
 
 pub returns-in-None : goal.returns-in-None
 returns-in-None c = record { tried = c.take.ensures.tried (Revoke c.args.request) (refl, c.to.ensures) tt c.in-None.ensures }

@@ -13,7 +13,7 @@ take-requires-clause-may c =
     may_unsent m.conference (SetChair c.args.floor c.args.chair) c.to.result (lawful_event m (SetChair c.args.floor c.args.chair) tt c.in-None.ensures) (refl, c.to.ensures)
 
 pub returns-in-Some : goal.returns-in-Some
-returns-in-Some c = record { tried = tried-refused c.args.self.now (SetChair c.args.floor c.args.chair) c.args.out.now.items c.in-Some.refusal c.in-Some.ensures }
+returns-in-Some c = record { tried = tried-refused c.args.self.now (SetChair c.args.floor c.args.chair) c.args.out.now.items c.args.changed.now.items c.in-Some.refusal c.requires c.in-Some.ensures }
 
 pub returns-in-None : goal.returns-in-None
 returns-in-None c = record { tried = c.take.ensures.tried (SetChair c.args.floor c.args.chair) (refl, c.to.ensures) tt c.in-None.ensures }

@@ -16,7 +16,7 @@ use Rattle.floor_machine.proofs.Tried.{tried-broken, whole_of-free}
 use Rattle.floor_machine.proofs.machine.Machine.take_message.Goals as goal
 
 pub take-requires-clause-whole : goal.take-requires-clause-whole
-take-requires-clause-whole c = whole_of-free c.args.self.now (Message c.args.n c.args.frame.now) c.requires
+take-requires-clause-whole c = whole_of-free c.args.self.now (Message c.args.n c.args.frame.now) c.requires.free
 
 pub returns-in-Ok : goal.returns-in-Ok
 returns-in-Ok c =
@@ -33,11 +33,11 @@ returns-in-Ok c =
     let F : Conference → Type 0 = λ x. Some w ≡ Some record { n = n; user = user_of x n; head = response_head bytes } in
     let D : Conference → Type 0 = λ x. IsDecided x n bytes j in
     let comes : ComesTo c.args.self.now.conference (Message n bytes) (Some w) j = (subst F is (ap (λ (x : Sender). Some x) c.sender-sender.ensures), subst D is decided) in
-    record { tried = c.take.ensures.tried (Message n bytes) comes c.bytes-bytes.ensures.kept c.requires }
+    record { tried = c.take.ensures.tried (Message n bytes) comes c.bytes-bytes.ensures.kept c.requires.free }
 
 pub returns-in-Err : goal.returns-in-Err
 returns-in-Err c =
     let m = c.args.self.now in
     let out = c.args.out.now.items in
-    let T : Refusal → Type 0 = λ why. IsTried m (Message c.args.n c.args.frame.now) c.break_off.new.self out out (Err why) in
-    record { tried = subst T (sym c.break_off.ensures.value) (tried-broken m (Message c.args.n c.args.frame.now) c.break_off.new.self out out c.requires c.break_off.ensures.broken refl) }
+    let T : Refusal → Type 0 = λ why. IsTried m (Message c.args.n c.args.frame.now) c.break_off.new.self out out c.args.changed.now.items (Err why) in
+    record { tried = subst T (sym c.break_off.ensures.value) (tried-broken m (Message c.args.n c.args.frame.now) c.break_off.new.self out out c.args.changed.now.items c.requires.free c.break_off.ensures.broken refl c.requires.empty) }

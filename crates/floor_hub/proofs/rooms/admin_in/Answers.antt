@@ -1,0 +1,9 @@
+use Rattle.floor_machine.specs.Machine.{event_of_act}
+use Rattle.floor_hub.proofs.Handing.{hands-applied, hands-left}
+use Rattle.floor_hub.proofs.rooms.admin_in.Goals as goal
+
+pub returns-in-Ok-clause-changed : goal.returns-in-Ok-clause-changed
+returns-in-Ok-clause-changed c = hands-applied c.args.room.now c.admin.new.self (event_of_act c.args.act) c.admin.new.effects.changed.items c.in-Ok.ensures.took c.in-Ok.ensures.changed
+
+pub returns-in-Err-clause-changed : goal.returns-in-Err-clause-changed
+returns-in-Err-clause-changed c = hands-left c.args.room.now c.admin.new.self (event_of_act c.args.act) c.in-Err.why c.admin.new.effects.changed.items c.in-Err.ensures.left c.in-Err.ensures.unchanged
