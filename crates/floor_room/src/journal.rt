@@ -7,6 +7,7 @@ ghost use Rattle.floor_room.specs.Text.{end_line, journal_text, line, lines, num
 use floor_config::Text;
 use floor_machine::{Event, User};
 use std::alloc::{AllocError, Global};
+use std::fmt::Write;
 
 /// The place of an event in the journal, from 1.
 pub type Place = u32;
@@ -70,51 +71,49 @@ pub fn add_end(alloc: Global, text: &mut String, count: usize) -> Result<(), All
     text.push_str(end.as_str())
 }
 
-/// Adds to a text the line of the event at this place.
+/// Adds to a text the line of the event at this place. With want of memory the text may have a part of it.
 fn add_line(alloc: Global, text: &mut String, place: usize, event: &Event) -> Result<(), AllocError>
     ensures { OnOk result (string_bytes text.new ≡ string_bytes text.old ++ line place event.now) }
 {
-    let line = line(alloc, place, event)?;
-    text.push_str(line.as_str())
-}
-
-/// The line of the event at this place.
-fn line(alloc: Global, place: usize, event: &Event) -> Result<String, AllocError>
-    ensures { IfOk result (λ text. string_bytes text ≡ line place event.now) }
-{
     match event {
-        Event::Join { user } => format!(in alloc; "{place} join {user}\n"),
+        Event::Join { user } => write!(text, "{place} join {user}\n"),
         Event::Message { n, frame } => {
             let bytes = hex::encode(alloc, frame.bytes())?;
-            format!(in alloc; "{place} message {n} {bytes}\n")
+            write!(text, "{place} message {n} {bytes}\n")
         }
-        Event::Took { n, k } => format!(in alloc; "{place} took {n} {k}\n"),
-        Event::Leave { n } => format!(in alloc; "{place} leave {n}\n"),
-        Event::Revoke { request } => format!(in alloc; "{place} revoke {request}\n"),
-        Event::Close => format!(in alloc; "{place} close\n"),
-        Event::AddUser { user } => user_line(alloc, place, user.as_user()),
+        Event::Took { n, k } => write!(text, "{place} took {n} {k}\n"),
+        Event::Leave { n } => write!(text, "{place} leave {n}\n"),
+        Event::Revoke { request } => write!(text, "{place} revoke {request}\n"),
+        Event::Close => write!(text, "{place} close\n"),
+        Event::AddUser { user } => add_user_line(alloc, text, place, user.as_user()),
         Event::AddFloor { floor } => {
             let id = floor.id;
             let room = floor.room;
             let chair = number_word(alloc, floor.chair)?;
-            format!(in alloc; "{place} floor {id} {room} {chair}\n")
+            write!(text, "{place} floor {id} {room} {chair}\n")
         }
         Event::SetChair { floor, chair } => {
             let chair = number_word(alloc, *chair)?;
-            format!(in alloc; "{place} chair {floor} {chair}\n")
+            write!(text, "{place} chair {floor} {chair}\n")
         }
     }
 }
 
-/// The line of a user that was added at this place.
-fn user_line(alloc: Global, place: usize, user: &User) -> Result<String, AllocError>
-    ensures { IfOk result (λ text. string_bytes text ≡ line place (AddUser user.now)) }
+/// Adds to a text the line of a user that was added at this place.
+fn add_user_line(
+    alloc: Global,
+    text: &mut String,
+    place: usize,
+    user: &User,
+) -> Result<(), AllocError>
+    ensures { OnOk result (string_bytes text.new
+        ≡ string_bytes text.old ++ line place (AddUser user.now)) }
 {
     let id = user.id;
     let proxy = if user.proxy { "1" } else { "0" };
     let name = text_word(alloc, &user.name)?;
     let uri = text_word(alloc, &user.uri)?;
-    format!(in alloc; "{place} user {id} {proxy} {name} {uri}\n")
+    write!(text, "{place} user {id} {proxy} {name} {uri}\n")
 }
 
 /// A text in hexadecimal, lower case, and `-` for an absent or empty one.
