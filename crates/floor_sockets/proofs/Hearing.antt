@@ -1,17 +1,17 @@
 -- What stays as it is of a socket of which the poll gave word, over calls.
-use Rattle.std.proofs.Common.{◌≡◌, ◌≢◌, ℕ, ◌<◌, ◌≤◌, Bool, true, false, cond, List, [], ◌∷◌, refl, sym, ap, ◌∙◌, arith, subst, inl, inr, nat_eq}
-use Rattle.std.specs.Prelude.{◌⊎◌, ◌&&◌, ◌||◌, Option, Some, None, nat_le, nat_lt, not, option_map}
+use Rattle.std.proofs.Common.{◌≡◌, ℕ, Bool, true, false, cond, List, [], ◌∷◌, refl, sym, ap, ◌∙◌, arith, subst, inl, inr, nat_eq}
+use Rattle.std.specs.Prelude.{◌&&◌, ◌||◌, Option, Some, None, nat_le, nat_lt, not, option_map}
 use Rattle.std.proofs.lemmas.Bool.Decides.{nat_tests}
 use Rattle.floor_sockets.specs.declared.life.Asked.{Asked}
 use Rattle.floor_sockets.specs.declared.life.Asked.TheVariants as asked
 use Rattle.floor_sockets.specs.declared.life.Life.{Life}
 use Rattle.floor_sockets.specs.declared.role.Role.{Role}
 use Rattle.floor_sockets.specs.declared.role.Role.TheVariants as role
-use Rattle.floor_sockets.specs.Life.{at_accept, at_deadline, came, held, is_awaiting, is_something, lent, next_asked, next_behind, none_came, one_came, over, put_off, reading, renamed, served, taken, unblocked, worded}
+use Rattle.floor_sockets.specs.Life.{at_deadline, came, held, is_awaiting, is_something, lent, next_behind, none_came, one_came, over, put_off, reading, renamed, served, taken, unblocked, worded}
 use Rattle.floor_sockets.specs.Sockets.{IsDone, Sockets, life_at, renamed_life}
 use Rattle.floor_sockets.specs.Runs.{Accepted, BecomeRole, Call, Calls, Came, Does, End, Fail, Hold, Lend, Next, NothingCame, Open, Readable, Refused, Served, Shut, Time, Took, Unaccepted, Writable}
 use Rattle.floor_sockets.specs.Laws.{have_last, is_last}
-use Rattle.floor_sockets.proofs.Running.{Has, changed_has, keep_accept, keep_due, keep_read, keep_renamed, keep_serve, keep_shut, keep_write, left_has, neither, opens_has, shut_has, shuts, some_one, turn_has}
+use Rattle.floor_sockets.proofs.Running.{Has, changed_has, keep_accept, keep_due, keep_read, keep_renamed, keep_serve, keep_shut, keep_write, left_has, neither, opens_has, rests_has, shut_has, shuts, some_one, turn_has}
 use Rattle.floor_sockets.proofs.Turning.{not_both}
 
 -- something may be read, and where the poll told that the stream ends this is kept
@@ -87,7 +87,7 @@ told_step slot ends (Next (Some done)) old new (inl due) unlike h =
     changed_has (IsTold ends) at_deadline due.deadline.slot slot _ old new due.changed
     (λ u l i. keep_due (IsTold ends) l (record { readable = i.readable; ending = i.ending }) (λ f. record { readable = i.readable; ending = i.ending })) h
 told_step slot ends (Next (Some done)) old new (inr turn) unlike h = turn_has (IsTold ends) slot old new done turn (λ l i. record { readable = i.readable; ending = i.ending }) h
-told_step slot ends (Next None) old new does unlike h = left_has (IsTold ends) slot old new does.1 h
+told_step slot ends (Next None) old new does unlike h = rests_has (IsTold ends) slot old new does.1 h
 told_step slot ends Refused old new does unlike h = left_has (IsTold ends) slot old new does h
 
 told_still : (slot : ℕ) (ends : Bool) (calls : List Call) (first last : Sockets) → Has (IsTold ends) slot first → Calls calls first last → have_last slot ends calls ≡ false → Has (IsTold ends) slot last

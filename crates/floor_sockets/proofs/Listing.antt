@@ -1,6 +1,6 @@
 -- Who waits for a turn, as sockets change.
-use Rattle.std.proofs.Common.{◌≡◌, ◌≢◌, ℕ, zero, suc, Bool, true, false, cond, List, [], ◌∷◌, length, Option, Some, None, refl, sym, ap, ◌∙◌, arith, subst, inl, inr, nat_eq}
-use Rattle.std.specs.Prelude.{◌⊎◌, All, is_some, not, filter, option_map}
+use Rattle.std.proofs.Common.{◌≡◌, ◌≢◌, ℕ, Bool, true, false, cond, List, [], ◌∷◌, ◌++◌, Option, Some, None, refl, sym, ap, ◌∙◌, arith, subst, inl, inr, nat_eq}
+use Rattle.std.specs.Prelude.{◌⊎◌, ◌<◌, All, IfNone, IfSome, is_some, not, filter, option_map}
 use Rattle.std.proofs.lemmas.Bool.Decides.{eqb_tells}
 use Rattle.std.proofs.lemmas.List.Elements.{All-cons, All-head, All-nil, All-tail, All-weaker}
 use Rattle.slab.specs.Slab.{Slab, get}
@@ -12,9 +12,9 @@ use Rattle.floor_sockets.specs.declared.life.Life.{Life}
 use Rattle.floor_sockets.specs.declared.role.Role.{Role}
 use Rattle.floor_sockets.specs.declared.role.Role.TheVariants as role
 use Rattle.floor_sockets.specs.Life.{at_deadline, deed_of, due_of, is_awaiting, is_something, next_asked, next_behind, shutting, to_ask}
-use Rattle.floor_sockets.specs.Rounds.{Rounds, times}
-use Rattle.floor_sockets.specs.Sockets.{IsDueOf}
-use Rattle.floor_sockets.specs.steps.Listed.{Asks, HasLife, IsDueIn, IsListed, with_asked}
+use Rattle.floor_sockets.specs.Rounds.{IsPut, IsTurn, Rounds, SameQueues, times}
+use Rattle.floor_sockets.specs.Sockets.{IsDueOf, IsIdle, IsLined, IsTurnOf, Passes, Rests}
+use Rattle.floor_sockets.specs.steps.Listed.{Asks, HasLife, IsDueIn, IsListed, TurnsIn, with_asked}
 use Rattle.floor_sockets.proofs.Turning.{eq_yes, not_both}
 
 some_out : (x y : Life) → Some x ≡ Some y → x ≡ y
@@ -22,6 +22,23 @@ some_out x y e = cc
 
 none_some : {A : Type 0} (x : Life) (z : Option Life) → z ≡ None → z ≡ Some x → A
 none_some x z e f = absurd cc
+
+pub same_queues : (line : Rounds) → SameQueues line line
+same_queues line = record { groups = refl; queues = λ g. refl }
+
+-- who is put behind its group, where something is to be asked of it
+pub lined : (life : Life) (slot : ℕ) (old new : Rounds) → (is_awaiting life ≡ true → times old slot ≡ 0 → IsPut old new life.group slot) → (times old slot ≡ 1 → SameQueues old new)
+    → (is_awaiting life ≡ false → SameQueues old new) → IsLined (Some life) slot old new
+lined life slot old new put waits idle = record {
+  put = λ l e a none. subst (λ (z : Life). is_awaiting z ≡ true → IsPut old new z.group slot) (some_out life l e) (λ b. put b none) a;
+  waits = waits;
+  idle = λ i. idle (i life refl);
+}
+
+-- one more turn went by
+pub passes_more : (lives : ℕ → Option Life) (slots : List ℕ) (slot : ℕ) (old between new : Rounds) → Passes lives slots old between → IsTurn between new slot → IsIdle (lives slot) → Passes lives (slots ++ slot ∷ []) old new
+passes_more lives [] slot old between new passes turn idle = (new, subst (λ (z : Rounds). IsTurn z new slot) passes turn, idle, refl)
+passes_more lives (k ∷ slots) slot old between new passes turn idle = (passes.0, passes.1, passes.2, passes_more lives slots slot passes.0 between new passes.3 turn idle)
 
 -- one socket is known otherwise, and stands in the line where it is waited for
 pub set_listed : (old new : Slab Life) (line after : Rounds) (slot : ℕ) (life : Life)
@@ -145,6 +162,9 @@ due_listed old new line due left time deed d listed k l is waits = by (eqb_tells
 pub due_alive : (old new : Slab Life) (due left : List Deadline) (time : ℕ) (deed : Deed) → IsDueIn old new due left time deed → All (HasLife old) due → All (HasLife new) left
 due_alive old new due left time deed d alive = subst (λ (ds : List Deadline). All (HasLife new) ds) (sym d.rest) (alive_without old new d.deadline.slot due d.others alive)
 
+due_idle : (l : Life) (slot : ℕ) (deed : Deed) → deed_of ((at_deadline l).asked) slot ≡ Some deed → is_awaiting (at_deadline l) ≡ false
+due_idle l slot deed e = asked_idle ((at_deadline l).asked) slot deed (to_ask (at_deadline l)) e
+
 -- the same of the whole table
 pub due_all : (old new : Slab Life) (line : Rounds) (due left : List Deadline) (time : ℕ) (deed : Deed) → IsDueIn old new due left time deed
     → IsDueOf (record { lives = old.slots; line = line; deadlines = due; time = time }) (record { lives = new.slots; line = line; deadlines = left; time = time }) deed
@@ -158,9 +178,50 @@ due_all old new line due left time deed d = record {
   changed = record {
     here = d.here ∙ sym (ap (λ (z : Option Life). option_map at_deadline z) d.was);
     others = d.others;
+    line =
+        subst (λ (z : Option Life). IsLined (option_map at_deadline z) d.deadline.slot line line) (sym d.was)
+        (lined (at_deadline d.life) d.deadline.slot line line (λ e. not_both (sym e ∙ due_idle d.life d.deadline.slot deed d.by_deed)) (λ e. same_queues line) (λ e. same_queues line));
     due = d.rest;
     time = refl;
   };
+}
+
+-- a turn, of the whole table, where no deadline has come
+pub turn_all : (r : Option Deed) (old between new : Slab Life) (before after : Rounds) (due left : List Deadline) (time : ℕ) → between ≡ old → left ≡ due → All (λ d. time < d.until) due → IfSome r (TurnsIn between new before after)
+    → IfSome r (λ deed.
+    IsDueOf (record { lives = old.slots; line = before; deadlines = due; time = time }) (record { lives = new.slots; line = after; deadlines = left; time = time }) deed
+    ⊎ IsTurnOf (record { lives = old.slots; line = before; deadlines = due; time = time }) (record { lives = new.slots; line = after; deadlines = left; time = time }) deed)
+turn_all None old between new before after due left time same none early turns = tt
+turn_all (Some deed) old between new before after due left time same none early turns =
+    let t = subst (λ (z : Slab Life). TurnsIn z new before after deed) same turns in
+    inr (record {
+      early = early;
+      passed = t.passed;
+      line = t.line;
+      passes = t.passes;
+      slot = t.slot;
+      turn = t.turn;
+      life = t.asks.life;
+      was = t.asks.was;
+      asked = t.asks.by_deed;
+      here = t.asks.here;
+      others = t.asks.others;
+      due = none;
+      time = refl;
+    })
+
+-- and where nobody has one
+pub turn_none : (r : Option Deed) (old between new : Slab Life) (before after : Rounds) (due left : List Deadline) (time : ℕ) → between ≡ old → left ≡ due → IfNone r ((k : ℕ) → get new k ≡ get between k)
+    → IfNone r ((passed : List ℕ) × Passes (get between) passed before after) → IfNone r ((k : ℕ) → times after k ≡ 0)
+    → IfNone r (Rests (record { lives = old.slots; line = before; deadlines = due; time = time }) (record { lives = new.slots; line = after; deadlines = left; time = time }))
+turn_none (Some deed) old between new before after due left time same none lives passes nobody = tt
+turn_none None old between new before after due left time same none lives passes nobody = record {
+  passed = passes.0;
+  passes = subst (λ (z : Slab Life). Passes (get z) passes.0 before after) same passes.1;
+  nobody = nobody;
+  lives = λ k. lives k ∙ ap (λ (z : Slab Life). get z k) same;
+  due = none;
+  time = refl;
 }
 
 -- whoever had a socket has one still, where one is known otherwise

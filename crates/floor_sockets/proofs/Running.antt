@@ -1,6 +1,6 @@
 -- What stays as it is of a socket, and of its deadline, over calls.
-use Rattle.std.proofs.Common.{◌≡◌, ◌≢◌, ℕ, zero, suc, ◌+◌, ◌<◌, ◌≤◌, Bool, true, false, cond, List, [], ◌∷◌, ◌++◌, length, refl, sym, ap, ◌∙◌, arith, subst, inl, inr, nat_eq}
-use Rattle.std.specs.Prelude.{◌⊎◌, ◌&&◌, ◌||◌, All, Contains, Option, Some, None, max, nat_le, nat_lt, not, option_map}
+use Rattle.std.proofs.Common.{◌≡◌, ◌≢◌, ℕ, ◌<◌, ◌≤◌, Bool, true, false, cond, List, [], ◌∷◌, refl, sym, ap, ◌∙◌, arith, subst, inl, inr, nat_eq}
+use Rattle.std.specs.Prelude.{◌⊎◌, ◌&&◌, ◌||◌, Contains, Option, Some, None, max, nat_le, nat_lt, not, option_map}
 use Rattle.std.proofs.lemmas.Bool.Decides.{eqb_tells}
 use Rattle.std.proofs.lemmas.List.Elements.{All-contains, Contains-push}
 use Rattle.floor_sockets.specs.declared.deadlines.Deadline.{Deadline}
@@ -11,8 +11,8 @@ use Rattle.floor_sockets.specs.declared.life.Deed.TheVariants as deed
 use Rattle.floor_sockets.specs.declared.life.Life.{Life}
 use Rattle.floor_sockets.specs.declared.role.Role.{Role}
 use Rattle.floor_sockets.specs.declared.role.Role.TheVariants as role
-use Rattle.floor_sockets.specs.Life.{at_accept, at_deadline, at_read, at_serve, at_shut, at_write, came, deed_of, due_of, held, is_accepting, is_awaiting, is_shutting, is_something, lent, next_asked, next_behind, none_came, one_came, over, put_off, reading, renamed, served, shutting, taken, to_ask, unblocked, worded}
-use Rattle.floor_sockets.specs.Sockets.{Changed, Closed, IsDone, IsDueOf, IsTurnOf, Left, Opens, Sockets, accepts, goes_on, is_at_door, is_there, later, life_at, renamed_due, renamed_life, with_due, without}
+use Rattle.floor_sockets.specs.Life.{at_accept, at_deadline, at_read, at_serve, at_shut, at_write, came, deed_of, due_of, held, is_accepting, is_shutting, lent, next_asked, next_behind, none_came, one_came, over, put_off, reading, renamed, served, shutting, taken, unblocked, worded}
+use Rattle.floor_sockets.specs.Sockets.{Changed, Closed, IsTurnOf, Left, Opens, Rests, Sockets, accepts, goes_on, is_at_door, is_there, later, life_at, renamed_due, renamed_life, with_due, without}
 use Rattle.floor_sockets.specs.Runs.{Accepted, BecomeRole, Call, Calls, Came, Does, End, Fail, Hold, Lend, Next, NothingCame, Open, Readable, Refused, Served, Shut, Shuts, Time, Took, Unaccepted, Writable}
 use Rattle.floor_sockets.specs.Laws.{IsEarly, given, have_shut, is_shut}
 use Rattle.floor_sockets.proofs.Timing.{stays_with, stays_without}
@@ -32,6 +32,9 @@ no_life o l e f = absurd (none_some l (sym e ∙ f))
 
 pub left_has : (P : Life → Type 0) (slot : ℕ) (old new : Sockets) → Left old new → Has P slot old → Has P slot new
 left_has P slot old new left h = record { life = h.life; there = left.lives slot ∙ h.there; holds = h.holds }
+
+pub rests_has : (P : Life → Type 0) (slot : ℕ) (old new : Sockets) → Rests old new → Has P slot old → Has P slot new
+rests_has P slot old new rests h = record { life = h.life; there = rests.lives slot ∙ h.there; holds = h.holds }
 
 pub changed_has : (P : Life → Type 0) (f : Life → Life) (k slot : ℕ) (ds : List Deadline) (old new : Sockets) → Changed f k ds old new → (nat_eq k slot ≡ true → (l : Life) → P l → P (f l)) → Has P slot old → Has P slot new
 changed_has P f k slot ds old new ch keeps h = by (eqb_tells k slot)
@@ -78,15 +81,21 @@ pub shut_has : (P : Life → Type 0) (slot k : ℕ) (old new : Sockets) → Shut
 shut_has P slot k old new (stays left) h = left_has P slot old new left h
 shut_has P slot k old new (closes closed ne n) h = record { life = h.life; there = closed.others slot n ∙ h.there; holds = h.holds }
 
-pub turn_has : (P : Life → Type 0) (slot : ℕ) (old new : Sockets) (deed : Deed) → IsTurnOf old new deed → ((l : Life) → P l → P (record l { asked = next_asked l })) → Has P slot old → Has P slot new
-turn_has P slot old new deed t keeps h = changed_has P (λ (l : Life). record l { asked = next_asked l }) t.slot slot old.deadlines old new t.changed (λ e. keeps) h
-
 -- the life that a slot has is one
 pub some_one : (o : Option Life) (l m : Life) → o ≡ Some l → o ≡ Some m → l ≡ m
 some_one o l m e f = some_is l m (sym e ∙ f)
   where
     some_is : (x y : Life) → Some x ≡ Some y → x ≡ y
     some_is x y e = cc
+
+pub turn_has : (P : Life → Type 0) (slot : ℕ) (old new : Sockets) (deed : Deed) → IsTurnOf old new deed → ((l : Life) → P l → P (record l { asked = next_asked l })) → Has P slot old → Has P slot new
+turn_has P slot old new deed t keeps h = by (eqb_tells t.slot slot)
+  where
+    by : (((nat_eq t.slot slot ≡ true) × (t.slot ≡ slot)) ⊎ ((nat_eq t.slot slot ≡ false) × (t.slot ≢ slot))) → Has P slot new
+    by (inl u) =
+        let same = some_one (life_at old slot) h.life t.life h.there (ap (λ (z : ℕ). life_at old z) (sym u.1) ∙ t.was) in
+        record { life = record t.life { asked = next_asked t.life }; there = ap (λ (z : ℕ). life_at new z) (sym u.1) ∙ t.here; holds = keeps t.life (subst P same h.holds) }
+    by (inr u) = record { life = h.life; there = t.others slot u.0 ∙ h.there; holds = h.holds }
 
 -- over: nothing is asked of it but to write -----------------------------------------------------------
 
@@ -254,7 +263,7 @@ over_step slot (Next (Some done)) old new (inl due) unlike h = by (eqb_tells due
         not_both (sym (over_due due.life due.deadline.slot slot done u.1 (ap (λ (z : Life). z.is_over) same ∙ h.holds.over) due.asked) ∙ unlike)
     by (inr u) = record { life = h.life; there = due.changed.others slot u.0 ∙ h.there; holds = h.holds }
 over_step slot (Next (Some done)) old new (inr turn) unlike h = turn_has IsOver slot old new done turn (λ l i. over_asked l i) h
-over_step slot (Next None) old new does unlike h = left_has IsOver slot old new does.1 h
+over_step slot (Next None) old new does unlike h = rests_has IsOver slot old new does.1 h
 over_step slot Refused old new does unlike h = left_has IsOver slot old new does h
 
 -- its deadline stands -----------------------------------------------------------------------------------
@@ -276,6 +285,9 @@ waits_on slot until old new ds due time kept w = record {
 
 pub left_waits : (slot until : ℕ) (old new : Sockets) → Left old new → Waits slot until old → Waits slot until new
 left_waits slot until old new left w = waits_on slot until old new old.deadlines left.deadlines left.time (λ d its h. h) w
+
+pub rests_waits : (slot until : ℕ) (old new : Sockets) → Rests old new → Waits slot until old → Waits slot until new
+rests_waits slot until old new rests w = waits_on slot until old new old.deadlines rests.due rests.time (λ d its h. h) w
 
 pub changed_waits : (slot until k : ℕ) (f : Life → Life) (old new : Sockets) → Changed f k old.deadlines old new → Waits slot until old → Waits slot until new
 changed_waits slot until k f old new ch w = waits_on slot until old new old.deadlines ch.due ch.time (λ d its h. h) w
@@ -377,8 +389,8 @@ waits_step slot until (Next (Some done)) old new (inl due) unlike h w = by (eqb_
     by (inr u) =
         waits_on slot until old new (without due.deadline.slot old.deadlines) due.changed.due due.changed.time
         (λ d its s. stays_without old.deadlines d due.deadline.slot (λ e. u.1 (sym e ∙ its)) s) w
-waits_step slot until (Next (Some done)) old new (inr turn) unlike h w = waits_on slot until old new old.deadlines turn.changed.due turn.changed.time (λ d its s. s) w
-waits_step slot until (Next None) old new does unlike h w = left_waits slot until old new does.1 w
+waits_step slot until (Next (Some done)) old new (inr turn) unlike h w = waits_on slot until old new old.deadlines turn.due turn.time (λ d its s. s) w
+waits_step slot until (Next None) old new does unlike h w = rests_waits slot until old new does.1 w
 waits_step slot until Refused old new does unlike h w = left_waits slot until old new does w
 
 -- over calls --------------------------------------------------------------------------------------------

@@ -1,6 +1,6 @@
 -- What stays as it is of somebody at a door who says nothing, over calls.
-use Rattle.std.proofs.Common.{◌≡◌, ◌≢◌, ℕ, ◌<◌, ◌≤◌, Bool, true, false, cond, List, [], ◌∷◌, ◌++◌, refl, sym, ap, ◌∙◌, arith, subst, inl, inr, nat_eq}
-use Rattle.std.specs.Prelude.{◌⊎◌, ◌&&◌, ◌||◌, Contains, Option, Some, None, max, nat_le, nat_lt, not, option_map}
+use Rattle.std.proofs.Common.{◌≡◌, ◌≢◌, ℕ, ◌≤◌, Bool, true, false, cond, List, [], ◌∷◌, refl, sym, ap, ◌∙◌, arith, subst, inl, inr, nat_eq}
+use Rattle.std.specs.Prelude.{◌⊎◌, ◌&&◌, ◌||◌, Contains, Option, Some, None, max, nat_le, nat_lt, not}
 use Rattle.std.proofs.lemmas.Bool.Decides.{eqb_tells}
 use Rattle.std.proofs.lemmas.List.Elements.{Contains-push}
 use Rattle.floor_sockets.specs.declared.deadlines.Deadline.{Deadline}
@@ -11,11 +11,11 @@ use Rattle.floor_sockets.specs.declared.life.Deed.TheVariants as deed
 use Rattle.floor_sockets.specs.declared.life.Life.{Life}
 use Rattle.floor_sockets.specs.declared.role.Role.{Role}
 use Rattle.floor_sockets.specs.declared.role.Role.TheVariants as role
-use Rattle.floor_sockets.specs.Life.{at_accept, at_deadline, came, deed_of, due_of, held, is_accepting, is_shutting, lent, next_asked, next_behind, none_came, one_came, opened, over, put_off, reading, served, shutting, taken, unblocked, worded}
-use Rattle.floor_sockets.specs.Sockets.{IsDueOf, IsTurnOf, Sockets, accepts, is_at_door, later, life_at, renamed_due, renamed_life, with_due, without}
+use Rattle.floor_sockets.specs.Life.{at_accept, at_deadline, came, deed_of, due_of, held, is_accepting, is_shutting, lent, next_asked, next_behind, none_came, one_came, opened, over, put_off, reading, served, taken, unblocked, worded}
+use Rattle.floor_sockets.specs.Sockets.{Sockets, accepts, is_at_door, later, life_at, renamed_due, renamed_life, with_due, without}
 use Rattle.floor_sockets.specs.Runs.{Accepted, BecomeRole, Call, Calls, Came, Does, End, Fail, Hold, Lend, Next, NothingCame, Open, Readable, Refused, Served, Shut, Time, Took, Unaccepted, Writable}
 use Rattle.floor_sockets.specs.Laws.{IsEarly, has_left, have_left, is_shut}
-use Rattle.floor_sockets.proofs.Running.{Has, Shutting, Waits, at_same, changed_has, changed_waits, closes, come_at_last, keep_accept, keep_read, keep_serve, keep_write, left_has, left_waits, neither, opens_has, opens_other, other_waits, own_waits, renamed_stays, shut_has, shuts, some_one, stays, turn_has, waits_on}
+use Rattle.floor_sockets.proofs.Running.{Has, Shutting, Waits, at_same, changed_has, changed_waits, closes, come_at_last, keep_accept, keep_read, keep_serve, keep_write, left_has, left_waits, neither, opens_has, opens_other, other_waits, own_waits, renamed_stays, rests_has, rests_waits, shut_has, shuts, some_one, stays, turn_has, waits_on}
 use Rattle.floor_sockets.proofs.Timing.{stays_with, stays_without}
 use Rattle.floor_sockets.proofs.Turning.{eq_yes, not_both}
 
@@ -147,7 +147,7 @@ silent_step slot (Next (Some done)) old new (inl due) unlike h = by (eqb_tells d
         not_both (sym (silent_due due.life due.deadline.slot slot done u.1 (ap (λ (z : Life). is_at_door z.role) same ∙ h.holds.role) due.asked) ∙ unlike)
     by (inr u) = record { life = h.life; there = due.changed.others slot u.0 ∙ h.there; holds = h.holds }
 silent_step slot (Next (Some done)) old new (inr turn) unlike h = turn_has IsSilent slot old new done turn (λ l i. silent_asked l i) h
-silent_step slot (Next None) old new does unlike h = left_has IsSilent slot old new does.1 h
+silent_step slot (Next None) old new does unlike h = rests_has IsSilent slot old new does.1 h
 silent_step slot Refused old new does unlike h = left_has IsSilent slot old new does h
 
 -- and its deadline stands
@@ -199,8 +199,8 @@ silent_waits slot until (Next (Some done)) old new (inl due) unlike h w = by (eq
     by (inr u) =
         waits_on slot until old new (without due.deadline.slot old.deadlines) due.changed.due due.changed.time
         (λ d its s. stays_without old.deadlines d due.deadline.slot (λ e. u.1 (sym e ∙ its)) s) w
-silent_waits slot until (Next (Some done)) old new (inr turn) unlike h w = waits_on slot until old new old.deadlines turn.changed.due turn.changed.time (λ d its s. s) w
-silent_waits slot until (Next None) old new does unlike h w = left_waits slot until old new does.1 w
+silent_waits slot until (Next (Some done)) old new (inr turn) unlike h w = waits_on slot until old new old.deadlines turn.due turn.time (λ d its s. s) w
+silent_waits slot until (Next None) old new does unlike h w = rests_waits slot until old new does.1 w
 silent_waits slot until Refused old new does unlike h w = left_waits slot until old new does w
 
 record StillSilent (slot until : ℕ) (s : Sockets) : Type 0 where

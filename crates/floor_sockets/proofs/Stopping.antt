@@ -1,8 +1,7 @@
 -- A run in which somebody was ended comes to its Shut.
-use Rattle.std.proofs.Common.{◌≡◌, ◌≢◌, ℕ, zero, suc, ◌+◌, ◌<◌, ◌≤◌, Bool, true, false, List, [], ◌∷◌, length, get_or, refl, sym, ap, ◌∙◌, arith, subst, inl, inr, nat_eq}
+use Rattle.std.proofs.Common.{◌≡◌, ◌≢◌, ℕ, zero, suc, ◌<◌, ◌≤◌, Bool, true, false, List, [], ◌∷◌, length, get_or, refl, sym, ap, ◌∙◌, arith, subst, inl, inr, nat_eq}
 use Rattle.std.specs.Prelude.{◌⊎◌, ◌||◌, Contains, Option, Some, None, max, not, option_map}
 use Rattle.std.proofs.lemmas.Bool.Decides.{eqb_tells}
-use Rattle.std.proofs.lemmas.List.Sums.{length-filter}
 use Rattle.floor_sockets.specs.declared.deadlines.Deadline.{Deadline}
 use Rattle.floor_sockets.specs.declared.life.Asked.{Asked}
 use Rattle.floor_sockets.specs.declared.life.Asked.TheVariants as asked
@@ -10,11 +9,12 @@ use Rattle.floor_sockets.specs.declared.life.Deed.{Deed}
 use Rattle.floor_sockets.specs.declared.life.Deed.TheVariants as deed
 use Rattle.floor_sockets.specs.declared.life.Life.{Life}
 use Rattle.floor_sockets.specs.Life.{at_deadline, deed_of, is_shutting, none_came}
-use Rattle.floor_sockets.specs.Sockets.{Changed, Closed, IsDone, IsDueOf, IsTurnOf, Left, Sockets, goes_on, is_there, later, life_at, without}
-use Rattle.floor_sockets.specs.Runs.{Call, Calls, Does, End, Next, NothingCame, Refused, Shut, Shuts, Time}
+use Rattle.floor_sockets.specs.Sockets.{Changed, IsDueOf, IsTurnOf, Left, Sockets, goes_on, is_there, later, life_at, without}
+use Rattle.floor_sockets.specs.Runs.{Does, End, Next, NothingCame, Refused, Shut, Shuts, Time}
 use Rattle.floor_sockets.specs.Laws.{IsEarly, WhoIsEndedIsShut, given, have_shut, is_shut}
 use Rattle.floor_sockets.specs.steps.Ending.{IsAnswered, IsEnding}
-use Rattle.floor_sockets.proofs.Turning.{eq_yes, not_both}
+use Rattle.floor_sockets.proofs.Listing.{same_queues}
+use Rattle.floor_sockets.proofs.Turning.{not_both}
 
 -- of a list without those of a slot no more is left
 without-shorter : (ds : List Deadline) (slot : ℕ) → length (without slot ds) ≤ length ds
@@ -87,7 +87,7 @@ pub answered_other : (done : Deed) (slot : ℕ) (s : Sockets) → is_shut slot (
 answered_other done slot s other = record {
   its = sym other;
   call = Refused;
-  does = record { lives = λ k. refl; deadlines = refl; time = refl };
+  does = record { lives = λ k. refl; line = same_queues s.line; deadlines = refl; time = refl };
   gave_none = refl;
   time = refl;
   fewer = omega arith;

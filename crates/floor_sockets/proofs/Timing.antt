@@ -1,6 +1,6 @@
 -- Deadlines, as they are put and are no more.
 use Rattle.std.proofs.Common.{◌≡◌, ◌≢◌, ℕ, zero, suc, ◌+◌, ◌<◌, ◌≤◌, Bool, true, false, cond, List, [], ◌∷◌, ◌++◌, length, get_or, Option, Some, None, refl, sym, ap, ◌∙◌, arith, subst, inl, inr, nat_eq}
-use Rattle.std.specs.Prelude.{◌⊎◌, All, Contains, IfNone, IfSome, count_by, filter, is_some, not}
+use Rattle.std.specs.Prelude.{◌⊎◌, All, Contains, IfNone, IfSome, is_some}
 use Rattle.std.proofs.lemmas.Bool.Decides.{eqb_tells}
 use Rattle.std.proofs.lemmas.List.Elements.{All-push, Contains-append_left}
 use Rattle.std.proofs.lemmas.List.Sums.{sum_by-cons, sum_by_push}
@@ -12,9 +12,9 @@ use Rattle.floor_sockets.specs.declared.role.Role.{Role}
 use Rattle.floor_sockets.specs.Life.{is_awaiting, opened}
 use Rattle.floor_sockets.specs.Rounds.{Rounds, times}
 use Rattle.floor_sockets.specs.Sockets.{due_times, with_due, without}
-use Rattle.floor_sockets.specs.steps.Listed.{Asks, HasLife, IsListed, IsOnce, IsSound}
+use Rattle.floor_sockets.specs.steps.Listed.{HasLife, IsListed, IsOnce, IsSound, TurnsIn}
 use Rattle.floor_sockets.proofs.Listing.{alive_kept, alive_without}
-use Rattle.floor_sockets.proofs.Turning.{eq_no, eq_yes, none_of, not_both, one_of}
+use Rattle.floor_sockets.proofs.Turning.{none_of, not_both, one_of}
 
 due-cons : (d : Deadline) (ds : List Deadline) (k : ℕ) → due_times (d ∷ ds) k ≡ cond (nat_eq d.slot k) 1 0 + due_times ds k
 due-cons d ds k = sum_by-cons (λ (e : Deadline). cond (nat_eq e.slot k) 1 0) d ds
@@ -135,10 +135,10 @@ put_sound lives line b slot until ds es sound next there = record {
 }
 
 -- whoever had a socket has one still, where one was asked, or none
-pub turn_kept : (r : Option Deed) (old new : Slab Life) → IfSome r (λ deed. (slot : ℕ) × Asks old new slot deed) → IfNone r ((k : ℕ) → get new k ≡ get old k) → (k : ℕ) → is_some (get old k) ≡ true → is_some (get new k) ≡ true
-turn_kept None old new some none k was = ap (λ (z : Option Life). is_some z) (none k) ∙ was
-turn_kept (Some deed) old new some none k was = by (eqb_tells some.0 k)
+pub turn_kept : (r : Option Deed) (old new : Slab Life) (before after : Rounds) → IfSome r (TurnsIn old new before after) → IfNone r ((k : ℕ) → get new k ≡ get old k) → (k : ℕ) → is_some (get old k) ≡ true → is_some (get new k) ≡ true
+turn_kept None old new before after some none k was = ap (λ (z : Option Life). is_some z) (none k) ∙ was
+turn_kept (Some deed) old new before after some none k was = by (eqb_tells some.slot k)
   where
-    by : (((nat_eq some.0 k ≡ true) × (some.0 ≡ k)) ⊎ ((nat_eq some.0 k ≡ false) × (some.0 ≢ k))) → is_some (get new k) ≡ true
-    by (inl v) = subst (λ (z : ℕ). is_some (get new z) ≡ true) v.1 (ap (λ (z : Option Life). is_some z) some.1.here)
-    by (inr v) = ap (λ (z : Option Life). is_some z) (some.1.others k v.0) ∙ was
+    by : (((nat_eq some.slot k ≡ true) × (some.slot ≡ k)) ⊎ ((nat_eq some.slot k ≡ false) × (some.slot ≢ k))) → is_some (get new k) ≡ true
+    by (inl v) = subst (λ (z : ℕ). is_some (get new z) ≡ true) v.1 (ap (λ (z : Option Life). is_some z) some.asks.here)
+    by (inr v) = ap (λ (z : Option Life). is_some z) (some.asks.others k v.0) ∙ was

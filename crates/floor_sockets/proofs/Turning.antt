@@ -1,9 +1,9 @@
 -- Turns, as slots come to wait and have theirs.
-use Rattle.std.proofs.Common.{◌≡◌, ◌≢◌, ℕ, zero, suc, ◌+◌, ◌<◌, ◌≤◌, Bool, true, false, cond, List, [], ◌∷◌, ◌++◌, length, get_or, refl, sym, ap, ◌∙◌, arith, subst, inl, inr, nat_eq, get_or-set_other}
-use Rattle.std.specs.Prelude.{◌⊎◌, count_by, not, sum_by}
+use Rattle.std.proofs.Common.{◌≡◌, ◌≢◌, ℕ, zero, suc, ◌+◌, ◌<◌, Bool, true, false, cond, List, [], ◌∷◌, ◌++◌, length, get_or, refl, sym, ap, ◌∙◌, arith, subst, inl, inr, nat_eq, get_or-set_other}
+use Rattle.std.specs.Prelude.{◌⊎◌, count_by, not}
 use Rattle.std.proofs.Math.ListN.{set}
 use Rattle.std.proofs.lemmas.Bool.Decides.{eqb_tells}
-use Rattle.std.proofs.lemmas.List.{get_or-set_same, length-append, get_or_past}
+use Rattle.std.proofs.lemmas.List.{get_or-set_same, length-append}
 use Rattle.std.proofs.lemmas.List.Sums.{sum_by-cons, sum_by-set, sum_by_push}
 use Rattle.floor_sockets.specs.Rounds.{IsTurn, Rounds, SameQueues, queue_in, times, times_in, total_in, turn_of, new_turn}
 use Rattle.floor_sockets.specs.steps.Rounds.{IsInTurn, stands_in}

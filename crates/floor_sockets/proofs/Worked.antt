@@ -1,20 +1,27 @@
 -- The runs of a table with one socket, computed.
-use Rattle.std.proofs.Common.{◌≡◌, ℕ, zero, suc, ◌<◌, Bool, true, false, List, [], ◌∷◌, length, refl, sym, ap, ◌∙◌, arith, inl, inr, nat_eq}
-use Rattle.std.specs.Prelude.{All, Option, Some, None}
+use Rattle.std.proofs.Common.{◌≡◌, ℕ, zero, suc, ◌<◌, false, List, [], ◌∷◌, refl, sym, ap, ◌∙◌, arith, inl, inr, nat_eq}
+use Rattle.std.specs.Prelude.{Option, Some, None}
 use Rattle.std.proofs.lemmas.List.Elements.{All-cons, All-nil}
 use Rattle.floor_sockets.specs.declared.deadlines.Deadline.{Deadline}
 use Rattle.floor_sockets.specs.declared.life.Asked.TheVariants as asked
-use Rattle.floor_sockets.specs.declared.life.Deed.TheVariants as deed
 use Rattle.floor_sockets.specs.declared.life.Life.{Life}
 use Rattle.floor_sockets.specs.Life.{at_deadline, came, is_awaiting, over, worded}
-use Rattle.floor_sockets.specs.Sockets.{IsDone, Sockets, life_at}
-use Rattle.floor_sockets.specs.Examples.{OneIsRead, OneIsShut, member, with_one}
+use Rattle.floor_sockets.specs.Rounds.{Rounds, queue}
+use Rattle.floor_sockets.specs.Sockets.{life_at}
+use Rattle.floor_sockets.specs.Examples.{OneIsRead, OneIsShut, member, nobody, the_one, with_one}
+use Rattle.floor_sockets.proofs.Listing.{lined, same_queues}
 use Rattle.floor_sockets.proofs.Turning.{not_both}
 
 -- no other slot has a socket
-others : (l m : Life) (ds es : List Deadline) (t u k : ℕ) → nat_eq 0 k ≡ false → life_at (with_one m es u) k ≡ life_at (with_one l ds t) k
-others l m ds es t u zero e = not_both e
-others l m ds es t u (suc k) e = refl
+others : (l m : Life) (line after : Rounds) (ds es : List Deadline) (t u k : ℕ) → nat_eq 0 k ≡ false → life_at (with_one m after es u) k ≡ life_at (with_one l line ds t) k
+others l m line after ds es t u zero e = not_both e
+others l m line after ds es t u (suc k) e = refl
+
+-- nobody waits in another group
+other_queues : (g : ℕ) → nat_eq 0 g ≡ false → queue the_one g ≡ queue nobody g
+other_queues zero e = not_both e
+other_queues (suc zero) e = refl
+other_queues (suc (suc g)) e = refl
 
 some_is : (x y : Life) → Some x ≡ Some y → x ≡ y
 some_is x y e = cc
@@ -23,17 +30,23 @@ none_some : {A : Type 0} (k : ℕ) (l : Life) → ◌≡◌ {A = Option Life} No
 none_some k l e = absurd cc
 
 -- of nobody is anything to be asked, where nothing is of the one
-nobody : (l : Life) (ds : List Deadline) (t : ℕ) → is_awaiting l ≡ false → (slot : ℕ) (m : Life) → life_at (with_one l ds t) slot ≡ Some m → is_awaiting m ≡ false
-nobody l ds t idle zero m e = ap is_awaiting (sym (some_is l m e)) ∙ idle
-nobody l ds t idle (suc zero) m e = none_some 0 m e
-nobody l ds t idle (suc (suc k)) m e = none_some k m e
+all_idle : (l : Life) (line : Rounds) (ds : List Deadline) (t : ℕ) → is_awaiting l ≡ false → (slot : ℕ) (m : Life) → life_at (with_one l line ds t) slot ≡ Some m → is_awaiting m ≡ false
+all_idle l line ds t idle zero m e = ap is_awaiting (sym (some_is l m e)) ∙ idle
+all_idle l line ds t idle (suc zero) m e = none_some 0 m e
+all_idle l line ds t idle (suc (suc k)) m e = none_some k m e
 
 pub one_is_shut : OneIsShut
 one_is_shut = record {
-  ended = record { here = refl; others = others member (over member) [] (record { slot = 0; until = 11000000 } ∷ []) 1000000 1000000; due = refl; time = refl };
+  ended = record {
+    here = refl;
+    others = others member (over member) nobody nobody [] (record { slot = 0; until = 11000000 } ∷ []) 1000000 1000000;
+    line = lined (over member) 0 nobody nobody (λ e. not_both (sym e)) (λ e. same_queues nobody) (λ e. same_queues nobody);
+    due = refl;
+    time = refl;
+  };
   run = (
-    with_one (over member) (record { slot = 0; until = 11000000 } ∷ []) 11000000,
-    (with_one (over member) (record { slot = 0; until = 11000000 } ∷ []) 1000000, refl, refl),
+    with_one (over member) nobody (record { slot = 0; until = 11000000 } ∷ []) 11000000,
+    (with_one (over member) nobody (record { slot = 0; until = 11000000 } ∷ []) 1000000, refl, refl),
     inl (record {
       deadline = record { slot = 0; until = 11000000 };
       life = over member;
@@ -41,39 +54,66 @@ one_is_shut = record {
       come = omega arith;
       was = refl;
       asked = refl;
-      changed = record { here = refl; others = others (over member) (at_deadline (over member)) (record { slot = 0; until = 11000000 } ∷ []) [] 11000000 11000000; due = refl; time = refl };
+      changed = record {
+        here = refl;
+        others = others (over member) (at_deadline (over member)) nobody nobody (record { slot = 0; until = 11000000 } ∷ []) [] 11000000 11000000;
+        line = lined (at_deadline (over member)) 0 nobody nobody (λ e. not_both (sym e)) (λ e. same_queues nobody) (λ e. same_queues nobody);
+        due = refl;
+        time = refl;
+      };
     }),
   );
   early = All-nil (λ (d : Deadline). 11000000 < d.until);
   shut = refl;
   waits = record {
     early = All-cons (λ (d : Deadline). 10999999 < d.until) (record { slot = 0; until = 11000000 }) [] (omega arith) (All-nil (λ (d : Deadline). 10999999 < d.until));
-    nobody = nobody (over member) (record { slot = 0; until = 11000000 } ∷ []) 10999999 refl;
+    nobody = all_idle (over member) nobody (record { slot = 0; until = 11000000 } ∷ []) 10999999 refl;
   };
 }
 
 pub one_is_read : OneIsRead
 one_is_read = record {
-  told = record { here = refl; others = others member (worded false member) [] [] 0 0; due = refl; time = refl };
+  told = record {
+    here = refl;
+    others = others member (worded false member) nobody the_one [] [] 0 0;
+    line =
+        lined (worded false member) 0 nobody the_one (λ e none. record { here = refl; others = other_queues; behind = refl }) (λ e. absurd (omega (arith, e))) (λ e. not_both e);
+    due = refl;
+    time = refl;
+  };
   run = (
-    with_one (record (worded false member) { asked = asked.Read }) [] 0,
+    with_one (record (worded false member) { asked = asked.Read }) nobody [] 0,
     (
-      with_one (worded false member) [] 0,
+      with_one (worded false member) the_one [] 0,
       refl,
       inr (record {
-        slot = 0;
-        life = worded false member;
         early = All-nil (λ (d : Deadline). 0 < d.until);
+        passed = [];
+        line = the_one;
+        passes = refl;
+        slot = 0;
+        turn = record { group = 0; behind = []; first = refl; served = refl; others = λ g e. sym (other_queues g e); again = refl };
+        life = worded false member;
         was = refl;
         asked = refl;
-        changed = record { here = refl; others = others (worded false member) (record (worded false member) { asked = asked.Read }) [] [] 0 0; due = refl; time = refl };
+        here = refl;
+        others = others (worded false member) (record (worded false member) { asked = asked.Read }) the_one nobody [] [] 0 0;
+        due = refl;
+        time = refl;
       }),
     ),
-    record { here = refl; others = others (record (worded false member) { asked = asked.Read }) (came 100 false (record (worded false member) { asked = asked.Read })) [] [] 0 0; due = refl; time = refl },
+    record {
+      here = refl;
+      others = others (record (worded false member) { asked = asked.Read }) (came 100 false (record (worded false member) { asked = asked.Read })) nobody nobody [] [] 0 0;
+      line =
+          lined (came 100 false (record (worded false member) { asked = asked.Read })) 0 nobody nobody (λ e. not_both (sym e)) (λ e. same_queues nobody) (λ e. same_queues nobody);
+      due = refl;
+      time = refl;
+    },
   );
   done = record {
     early = All-nil (λ (d : Deadline). 0 < d.until);
-    nobody = nobody (came 100 false (record (worded false member) { asked = asked.Read })) [] 0 refl;
+    nobody = all_idle (came 100 false (record (worded false member) { asked = asked.Read })) nobody [] 0 refl;
   };
   last = refl;
   of_the_end = refl;

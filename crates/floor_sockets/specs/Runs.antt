@@ -4,7 +4,7 @@ use Rattle.floor_sockets.specs.declared.life.Deed.{Deed}
 use Rattle.floor_sockets.specs.declared.life.Life.{Life}
 use Rattle.floor_sockets.specs.declared.role.Role.{Role}
 use Rattle.floor_sockets.specs.Life.{came, held, is_shutting, lent, none_came, one_came, over, put_off, served, taken, unblocked, worded}
-use Rattle.floor_sockets.specs.Sockets.{Changed, Closed, IsDone, IsDueOf, IsTurnOf, Left, Opens, Sockets, accepts, goes_on, is_there, later, life_at, renamed_due, renamed_life, with_due}
+use Rattle.floor_sockets.specs.Sockets.{Changed, Closed, IsDone, IsDueOf, IsTurnOf, Left, Opens, Rests, Sockets, accepts, goes_on, is_there, later, life_at, renamed_due, renamed_life, with_due}
 
 -- a call that may change the table, and what `open` and `next` gave; `Refused` is any to which memory was refused
 pub data Call : Type 0 where
@@ -52,7 +52,7 @@ Does (End slot) old new = Changed over slot (with_due (goes_on (life_at old slot
 Does (Fail slot) old new = Changed over slot (with_due (is_there (life_at old slot)) slot old.time old.deadlines) old new
 Does (Shut slot) old new = Shuts slot old new
 Does (Next (Some deed)) old new = IsDueOf old new deed ⊎ IsTurnOf old new deed
-Does (Next None) old new = IsDone old × Left old new
+Does (Next None) old new = IsDone old × Rests old new
 Does Refused old new = Left old new
 
 -- these calls, the last of them in front, led from the first table to the last

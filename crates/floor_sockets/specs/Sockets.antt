@@ -1,13 +1,12 @@
 -- The table of sockets.
 use Rattle.std.specs.Prelude.{◌≡◌, ◌≤◌, ◌<◌, ◌++◌, ◌+◌, ℕ, Bool, true, false, not, min, List, [], ◌∷◌, if◌then◌else◌, Option, Some, None, All, Contains, count_by, filter, nat_eq, option_map, slice_index_or}
 use Rattle.floor_sockets.specs.declared.deadlines.Deadline.{Deadline}
-use Rattle.floor_sockets.specs.declared.life.Asked.{Asked}
 use Rattle.floor_sockets.specs.declared.life.Deed.{Deed}
 use Rattle.floor_sockets.specs.declared.life.Life.{Life}
 use Rattle.floor_sockets.specs.declared.role.Role.{Role}
 use Rattle.floor_sockets.specs.declared.role.Role.TheVariants as role
 use Rattle.floor_sockets.specs.Life.{at_deadline, deed_of, is_accepting, is_awaiting, is_shutting, next_asked, opened, renamed}
-use Rattle.floor_sockets.specs.Rounds.{Rounds, times}
+use Rattle.floor_sockets.specs.Rounds.{IsPut, IsTurn, Rounds, SameQueues, times}
 
 -- what is known of the socket in each slot, if there is one; whose turn it is; by when something is due for whom; and how late it is
 pub record Sockets : Type 0 where
@@ -19,16 +18,28 @@ pub record Sockets : Type 0 where
 abbrev pub life_at : Sockets → ℕ → Option Life
 life_at s slot = slice_index_or s.lives slot None
 
--- Nothing has changed but whose turn it is.
+-- Nothing has changed.
 pub record Left (old new : Sockets) : Type 0 where
   pub lives : (slot : ℕ) → life_at new slot ≡ life_at old slot
+  pub line : SameQueues old.line new.line
   pub deadlines : new.deadlines ≡ old.deadlines
   pub time : new.time ≡ old.time
+
+-- nothing is to be asked, or there is no socket
+abbrev pub IsIdle : Option Life → Type 0
+IsIdle life = (l : Life) → life ≡ Some l → is_awaiting l ≡ false
+
+-- Whose turn it is, once this is known of the socket in a slot: whoever something is to be asked of waits behind its group, unless it waits; else the same wait.
+pub record IsLined (life : Option Life) (slot : ℕ) (old new : Rounds) : Type 0 where
+  pub put : (l : Life) → life ≡ Some l → is_awaiting l ≡ true → times old slot ≡ 0 → IsPut old new l.group slot
+  pub waits : times old slot ≡ 1 → SameQueues old new
+  pub idle : IsIdle life → SameQueues old new
 
 -- What is known of the socket in the slot has changed so, if there is one; nothing is known otherwise of any other, and the deadlines are these.
 pub record Changed (f : Life → Life) (slot : ℕ) (deadlines : List Deadline) (old new : Sockets) : Type 0 where
   pub here : life_at new slot ≡ option_map f (life_at old slot)
   pub others : (k : ℕ) → nat_eq slot k ≡ false → life_at new k ≡ life_at old k
+  pub line : IsLined (option_map f (life_at old slot)) slot old.line new.line
   pub due : new.deadlines ≡ deadlines
   pub time : new.time ≡ old.time
 
@@ -75,6 +86,7 @@ pub record Opens (role : Role) (group : ℕ) (old new : Sockets) (slot : ℕ) : 
   pub free : life_at old slot ≡ None
   pub here : life_at new slot ≡ Some (opened role group)
   pub others : (k : ℕ) → nat_eq slot k ≡ false → life_at new k ≡ life_at old k
+  pub line : new.line ≡ old.line
   pub due : new.deadlines ≡ with_due (is_at_door role) slot (later old.time 5000000) old.deadlines
   pub time : new.time ≡ old.time
 
@@ -90,17 +102,30 @@ renamed_life role group l = if l.is_over then l else renamed role group l
 pub record Closed (slot : ℕ) (old new : Sockets) : Type 0 where
   pub here : life_at new slot ≡ None
   pub others : (k : ℕ) → nat_eq slot k ≡ false → life_at new k ≡ life_at old k
+  pub line : new.line ≡ old.line
   pub due : new.deadlines ≡ without slot old.deadlines
   pub time : new.time ≡ old.time
 
--- A turn: no deadline has come, and of a socket was asked what is to be asked of it next.
+-- Turns went by: each of these slots had one, in this order, and of none was anything to be asked.
+abbrev pub Passes : (ℕ → Option Life) → List ℕ → (old new : Rounds) → Type 0
+Passes lives [] old new = new ≡ old
+Passes lives (slot ∷ slots) old new = (between : Rounds) × IsTurn old between slot × IsIdle (lives slot) × Passes lives slots between new
+
+-- A turn: no deadline has come, and of the first of whom anything is to be asked, in the order of the turns, was asked what is to be asked of it next.
 pub record IsTurnOf (old new : Sockets) (deed : Deed) : Type 0 where
-  pub slot : ℕ
-  pub life : Life
   pub early : All (λ d. old.time < d.until) old.deadlines
+  pub passed : List ℕ
+  pub line : Rounds
+  pub passes : Passes (life_at old) passed old.line line
+  pub slot : ℕ
+  pub turn : IsTurn line new.line slot
+  pub life : Life
   pub was : life_at old slot ≡ Some life
   pub asked : deed_of (next_asked life) slot ≡ Some deed
-  pub changed : Changed (λ l. record l { asked = next_asked l }) slot old.deadlines old new
+  pub here : life_at new slot ≡ Some (record life { asked = next_asked life })
+  pub others : (k : ℕ) → nat_eq slot k ≡ false → life_at new k ≡ life_at old k
+  pub due : new.deadlines ≡ old.deadlines
+  pub time : new.time ≡ old.time
 
 -- A deadline has come: the socket is shut, or the listener accepts again.
 pub record IsDueOf (old new : Sockets) (deed : Deed) : Type 0 where
@@ -116,6 +141,15 @@ pub record IsDueOf (old new : Sockets) (deed : Deed) : Type 0 where
 pub record IsDone (s : Sockets) : Type 0 where
   pub early : All (λ d. s.time < d.until) s.deadlines
   pub nobody : (slot : ℕ) (l : Life) → life_at s slot ≡ Some l → is_awaiting l ≡ false
+
+-- All turns went by, and nothing else has changed: nobody waits any more.
+pub record Rests (old new : Sockets) : Type 0 where
+  pub passed : List ℕ
+  pub passes : Passes (life_at old) passed old.line new.line
+  pub nobody : (slot : ℕ) → times new.line slot ≡ 0
+  pub lives : (slot : ℕ) → life_at new slot ≡ life_at old slot
+  pub due : new.deadlines ≡ old.deadlines
+  pub time : new.time ≡ old.time
 
 -- how many deadlines a slot has
 abbrev pub due_times : List Deadline → ℕ → ℕ

@@ -2,7 +2,7 @@
 
 ghost use Rattle.std.specs.Prelude.{◌≡◌, ◌≤◌, ◌<◌, ◌⊎◌, ℕ, All, Contains, IfNone, IfOk, IfSome, None, OnErr, OnOk, false, max, option_map, true, []};
 ghost use Rattle.floor_sockets.specs.Life.{came, held, is_shutting, lent, none_came, one_came, over, put_off, served, taken, unblocked, worded};
-ghost use Rattle.floor_sockets.specs.Sockets.{Changed, Closed, IsBounded, IsDone, IsDueOf, IsTurnOf, Left, Opens, accepts, goes_on, is_there, later, life_at, renamed_due, renamed_life, with_due};
+ghost use Rattle.floor_sockets.specs.Sockets.{Changed, Closed, IsBounded, IsDone, IsDueOf, IsTurnOf, Left, Opens, Rests, accepts, goes_on, is_there, later, life_at, renamed_due, renamed_life, with_due};
 ghost use Rattle.floor_sockets.specs.declared.deadlines.Deadline.{Deadline as Due};
 ghost use Rattle.floor_sockets.specs.declared.life.Life.{Life as Known};
 
@@ -323,12 +323,13 @@ impl Sockets {
         }
     }
 
-    /// What is to be done next: whoever's time has come first, then whose turn it is.
+    /// What is to be done next: whoever's time has come first, then whose turn it is. Turns go round the groups, and in
+    /// each round one socket of each has one. Where nothing is given nobody waits.
     pub fn next(&mut self) -> Option<Deed>
         ensures asked { IfSome result (λ deed. IsDueOf self.old self.new deed
             ⊎ IsTurnOf self.old self.new deed) }
         ensures done { IfNone result (IsDone self.old) }
-        ensures left { IfNone result (Left self.old self.new) }
+        ensures left { IfNone result (Rests self.old self.new) }
     {
         match due_in(&mut self.lives, &mut self.deadlines, self.time) {
             Some(deed) => return Some(deed),

@@ -1,11 +1,12 @@
 //! One turn: what is asked of whom.
 
-ghost use Rattle.std.specs.Prelude.{◌≡◌, ◌<◌, ℕ, All, IfNone, IfSome, None, OnErr, OnOk, Some, false, nat_eq, true};
+ghost use Rattle.std.specs.Prelude.{◌≡◌, ◌<◌, ℕ, All, IfNone, IfSome, List, None, OnErr, OnOk, Some, false, nat_eq, true};
 ghost use Rattle.slab.specs.Slab.{get};
 ghost use Rattle.floor_sockets.specs.Life.{is_awaiting};
-ghost use Rattle.floor_sockets.specs.Rounds.{times};
+ghost use Rattle.floor_sockets.specs.Rounds.{SameQueues, times};
+ghost use Rattle.floor_sockets.specs.Sockets.{IsLined, Passes};
 ghost use Rattle.floor_sockets.specs.declared.life.Life.{Life as Known};
-ghost use Rattle.floor_sockets.specs.steps.Listed.{Asks, HasLife, IsDueIn, IsListed, IsOnce};
+ghost use Rattle.floor_sockets.specs.steps.Listed.{Asks, HasLife, IsDueIn, IsListed, IsOnce, TurnsIn};
 
 use crate::deadlines::Deadlines;
 use crate::life::{Deed, Life, deed_of};
@@ -36,6 +37,8 @@ pub(crate) fn set_in(
     ensures none { get lives.old slot ≡ None → get lives.new slot ≡ None }
     ensures others { (k : ℕ) → nat_eq slot k ≡ false → get lives.new k ≡ get lives.old k }
     ensures left { OnErr result ((k : ℕ) → get lives.new k ≡ get lives.old k) }
+    ensures line { OnOk result (IsLined (Some life) slot line.old line.new) }
+    ensures same { OnErr result (SameQueues line.old line.new) }
     ensures listed { IsListed lives.old line.old → IsListed lives.new line.new }
     ensures once { IsOnce line.old → IsOnce line.new }
 {
@@ -49,6 +52,8 @@ fn stand_in(line: &mut Rounds, slot: usize, life: Life) -> Result<(), AllocError
     ensures stands { OnOk result (is_awaiting life ≡ true → times line.new slot ≡ 1) }
     ensures others { (k : ℕ) → nat_eq slot k ≡ false → times line.new k ≡ times line.old k }
     ensures left { OnErr result ((k : ℕ) → times line.new k ≡ times line.old k) }
+    ensures line { OnOk result (IsLined (Some life) slot line.old line.new) }
+    ensures same { OnErr result (SameQueues line.old line.new) }
     ensures once { IsOnce line.old → IsOnce line.new }
 {
     if life.is_awaiting() {
@@ -76,8 +81,11 @@ pub(crate) fn ask_in(lives: &mut Slab<Life>, slot: usize) -> Option<Deed>
 pub(crate) fn turn_in(lives: &mut Slab<Life>, line: &mut Rounds) -> Option<Deed>
     ensures listed { IsListed lives.old line.old → IsListed lives.new line.new }
     ensures once { IsOnce line.old → IsOnce line.new }
-    ensures asked { IfSome result (λ deed. (slot : ℕ) × Asks lives.old lives.new slot deed) }
+    ensures asked { IfSome result (TurnsIn lives.old lives.new line.old line.new) }
     ensures none { IfNone result ((k : ℕ) → get lives.new k ≡ get lives.old k) }
+    ensures passes { IfNone result ((passed : List ℕ)
+        × Passes (get lives.old) passed line.old line.new) }
+    ensures nobody { IfNone result ((k : ℕ) → times line.new k ≡ 0) }
     ensures nothing { IfNone result (IsListed lives.old line.old → (k : ℕ) (l : Known)
         → get lives.old k ≡ Some l → is_awaiting l ≡ false) }
 {

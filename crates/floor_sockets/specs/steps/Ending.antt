@@ -1,5 +1,5 @@
 -- A run in which somebody was ended, for the proofs of the law's application.
-use Rattle.std.specs.Prelude.{◌≡◌, ◌≤◌, ℕ, Bool, true, false, List, Option, Some, None, length}
+use Rattle.std.specs.Prelude.{◌≡◌, ◌≤◌, ℕ, Bool, true, false, List, Some, None, length}
 use Rattle.floor_sockets.specs.declared.life.Deed.{Deed}
 use Rattle.floor_sockets.specs.declared.life.Life.{Life}
 use Rattle.floor_sockets.specs.Life.{is_shutting}

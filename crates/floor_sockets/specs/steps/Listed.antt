@@ -6,8 +6,8 @@ use Rattle.floor_sockets.specs.declared.life.Asked.{Asked}
 use Rattle.floor_sockets.specs.declared.life.Deed.{Deed}
 use Rattle.floor_sockets.specs.declared.life.Life.{Life}
 use Rattle.floor_sockets.specs.Life.{at_deadline, deed_of, is_awaiting, next_asked}
-use Rattle.floor_sockets.specs.Rounds.{Rounds, times}
-use Rattle.floor_sockets.specs.Sockets.{due_times}
+use Rattle.floor_sockets.specs.Rounds.{IsTurn, Rounds, times}
+use Rattle.floor_sockets.specs.Sockets.{Passes, due_times}
 
 -- each of whom something is to be asked stands in the line
 abbrev pub IsListed : Slab Life → Rounds → Type 0
@@ -27,6 +27,15 @@ pub record Asks (old new : Slab Life) (slot : ℕ) (deed : Deed) : Type 0 where
   pub by_deed : deed_of (next_asked life) slot ≡ Some deed
   pub here : get new slot ≡ Some (with_asked (next_asked life) life)
   pub others : (k : ℕ) → nat_eq slot k ≡ false → get new k ≡ get old k
+
+-- The first in the line of whom anything is to be asked was asked.
+pub record TurnsIn (old new : Slab Life) (before after : Rounds) (deed : Deed) : Type 0 where
+  pub passed : List ℕ
+  pub line : Rounds
+  pub passes : Passes (get old) passed before line
+  pub slot : ℕ
+  pub turn : IsTurn line after slot
+  pub asks : Asks old new slot deed
 
 -- the slot of a deadline has a socket
 abbrev pub HasLife : Slab Life → Deadline → Type 0

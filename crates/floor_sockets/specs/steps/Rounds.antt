@@ -1,5 +1,5 @@
 -- How the marks of slots, and the turns of groups, agree with who waits.
-use Rattle.std.specs.Prelude.{◌≡◌, ℕ, Bool, true, false, List, if◌then◌else◌, length, nat_eq, slice_index_or, count_by}
+use Rattle.std.specs.Prelude.{◌≡◌, ℕ, Bool, false, List, if◌then◌else◌, length, nat_eq, slice_index_or, count_by}
 use Rattle.floor_sockets.specs.Rounds.{queue_in, times_in}
 
 -- whether a slot has its mark

@@ -1,4 +1,4 @@
-use Rattle.std.proofs.Common.{◌≡◌, rules, nat_eq}
+use Rattle.std.proofs.Common.{rules, nat_eq}
 use Rattle.std.specs.Prelude.{not}
 use Rattle.std.proofs.lemmas.Fn.{filter_same}
 use Rattle.floor_sockets.specs.declared.deadlines.Deadline.{Deadline}

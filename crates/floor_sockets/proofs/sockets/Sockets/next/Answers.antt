@@ -1,11 +1,12 @@
-use Rattle.std.proofs.Common.{ℕ, ◌≤◌, List, inl, refl, sym, subst}
+use Rattle.std.proofs.Common.{ℕ, ◌≤◌, List, ap, inl, refl, sym, subst}
+use Rattle.std.specs.Prelude.{◌⊎◌, IfNone, IfSome}
 use Rattle.slab.specs.Slab.{Slab}
 use Rattle.floor_sockets.specs.declared.deadlines.Deadline.{Deadline}
 use Rattle.floor_sockets.specs.declared.life.Life.{Life}
 use Rattle.floor_sockets.specs.steps.Due.{Deadlines}
 use Rattle.floor_sockets.specs.steps.Listed.{IsSound}
-use Rattle.floor_sockets.specs.Sockets.{IsDueOf, Sockets, due_times}
-use Rattle.floor_sockets.proofs.Listing.{due_alive, due_all, due_listed}
+use Rattle.floor_sockets.specs.Sockets.{IsDueOf, IsTurnOf, Rests, Sockets, due_times}
+use Rattle.floor_sockets.proofs.Listing.{due_alive, due_all, due_listed, turn_all, turn_none}
 use Rattle.floor_sockets.proofs.Timing.{few_without, set_sound, turn_kept}
 use Rattle.floor_sockets.proofs.sockets.Sockets.next.Goals as goal
 
@@ -34,4 +35,20 @@ invariant_of-self-2 c =
     subst (λ (z : Slab Life). IsSound z c.self.inside.line c.due_in.new.deadlines.items) (sym left.0)
     (subst (λ (z : Deadlines). IsSound c.self.inside.lives c.self.inside.line z.items) (sym left.1) c.self.invariant) in
     set_sound c.due_in.new.lives c.turn_in.new.lives c.self.inside.line c.turn_in.new.line c.due_in.new.deadlines.items c.due_in.new.deadlines.items sound refl c.turn_in.ensures.listed c.turn_in.ensures.once
-    (turn_kept c.turn_in.result c.due_in.new.lives c.turn_in.new.lives c.turn_in.ensures.asked c.turn_in.ensures.none)
+    (turn_kept c.turn_in.result c.due_in.new.lives c.turn_in.new.lives c.self.inside.line c.turn_in.new.line c.turn_in.ensures.asked c.turn_in.ensures.none)
+
+pub returns-clause-asked : goal.returns-clause-asked
+returns-clause-asked c =
+    let left = c.in-None.ensures.left in
+    let new : Sockets = record { lives = c.turn_in.new.lives.slots; line = c.turn_in.new.line; deadlines = c.due_in.new.deadlines.items; time = c.self.inside.time } in
+    subst (λ (s : Sockets). IfSome c.turn_in.result (λ deed. IsDueOf s new deed ⊎ IsTurnOf s new deed)) c.self.view_is
+    (turn_all c.turn_in.result c.self.inside.lives c.due_in.new.lives c.turn_in.new.lives c.self.inside.line c.turn_in.new.line c.self.inside.deadlines.items c.due_in.new.deadlines.items c.self.inside.time
+    left.0 (ap (λ (z : Deadlines). z.items) left.1) c.in-None.ensures.early c.turn_in.ensures.asked)
+
+pub returns-clause-left : goal.returns-clause-left
+returns-clause-left c =
+    let left = c.in-None.ensures.left in
+    let new : Sockets = record { lives = c.turn_in.new.lives.slots; line = c.turn_in.new.line; deadlines = c.due_in.new.deadlines.items; time = c.self.inside.time } in
+    subst (λ (s : Sockets). IfNone c.turn_in.result (Rests s new)) c.self.view_is
+    (turn_none c.turn_in.result c.self.inside.lives c.due_in.new.lives c.turn_in.new.lives c.self.inside.line c.turn_in.new.line c.self.inside.deadlines.items c.due_in.new.deadlines.items c.self.inside.time
+    left.0 (ap (λ (z : Deadlines). z.items) left.1) c.turn_in.ensures.none c.turn_in.ensures.passes c.turn_in.ensures.nobody)

@@ -3,7 +3,6 @@ use Rattle.std.specs.Prelude.{Option, Some, is_some}
 use Rattle.slab.specs.Slab.{Slab, Updates, get}
 use Rattle.floor_sockets.specs.declared.life.Life.{Life}
 use Rattle.floor_sockets.specs.Life.{opened}
-use Rattle.floor_sockets.specs.steps.Listed.{IsSound}
 use Rattle.floor_sockets.proofs.Listing.{left_listed}
 use Rattle.floor_sockets.proofs.Timing.{opened_kept, opened_listed, opened_there, put_sound, set_sound}
 use Rattle.floor_sockets.proofs.sockets.Sockets.open.Goals as goal
