@@ -1,7 +1,7 @@
 -- What was carried stays so, whatever comes.
-use Rattle.std.proofs.Common.{◌≡◌, ℕ, zero, suc, ◌+◌, ◌≤◌, ◌==◌, Bool, true, false, List, [], ◌∷◌, ◌++◌, length, take, drop, Option, Some, None, inl, inr, nat_eq, nat_lt, refl, sym, ap, subst, ◌∙◌, append-nil, if◌then◌else◌, arith}
+use Rattle.std.proofs.Common.{◌≡◌, ℕ, ◌+◌, ◌≤◌, ◌==◌, Bool, true, false, List, [], ◌∷◌, ◌++◌, length, Option, Some, None, inl, inr, nat_eq, nat_lt, refl, sym, ap, subst, ◌∙◌, append-nil, if◌then◌else◌, arith}
 use Rattle.std.specs.Prelude.{Result, Ok, Err, IfOk}
-use Rattle.std.specs.List.{AllByRecursion, flat_map, insert, list_any}
+use Rattle.std.specs.List.{AllByRecursion, flat_map, list_any}
 use Rattle.std.specs.Cmp.Lexicographic.{pointwise, same_text}
 use Rattle.std.proofs.lemmas.Grind.{flat_map-append}
 use Rattle.floor_datagram.specs.Datagrams.{id_of, primitive_of, kind_of}
@@ -18,29 +18,9 @@ use Rattle.floor_datagram.specs.declared.numbering.Age.TheVariants.{Copy, Older,
 use Rattle.floor_datagram.specs.declared.fragments.Fragment.{Fragment}
 use Rattle.floor_datagram.specs.declared.fragments.Fragment.TheVariants as Fragment_is
 use Rattle.floor_datagram.specs.declared.fragments.Range.{Range}
+use Rattle.floor_datagram.proofs.Each.{each-append, each-insert, each-map}
 
--- ---- lists
-
-pub each-map : {X : Type 0} (P Q : X → Type 0) (f : (x : X) → P x → Q x) (xs : List X) → AllByRecursion P xs → AllByRecursion Q xs
-each-map P Q f [] p = tt
-each-map P Q f (x ∷ xs) p = (f x p.0, each-map P Q f xs p.1)
-
-pub each-append : {X : Type 0} (P : X → Type 0) (xs ys : List X) → AllByRecursion P xs → AllByRecursion P ys → AllByRecursion P (xs ++ ys)
-each-append P [] ys p q = q
-each-append P (x ∷ xs) ys p q = (p.0, each-append P xs ys p.1 q)
-
-pub each-take : {X : Type 0} (P : X → Type 0) (n : ℕ) (xs : List X) → AllByRecursion P xs → AllByRecursion P (take n xs)
-each-take P zero xs p = tt
-each-take P (suc n) [] p = tt
-each-take P (suc n) (x ∷ xs) p = (p.0, each-take P n xs p.1)
-
-pub each-drop : {X : Type 0} (P : X → Type 0) (n : ℕ) (xs : List X) → AllByRecursion P xs → AllByRecursion P (drop n xs)
-each-drop P zero xs p = p
-each-drop P (suc n) [] p = tt
-each-drop P (suc n) (x ∷ xs) p = each-drop P n xs p.1
-
-each-insert : {X : Type 0} (P : X → Type 0) (xs : List X) (n : ℕ) (y : X) → AllByRecursion P xs → P y → AllByRecursion P (insert xs n y)
-each-insert P xs n y p q = each-append P (take n xs) (y ∷ drop n xs) (each-take P n xs p) (q, each-drop P n xs p)
+-- ---- what came
 
 pub among-more : (came more : List (List ℕ)) (d : List ℕ) → IsAmong came d → IsAmong (came ++ more) d
 among-more [] more d a = absurd a

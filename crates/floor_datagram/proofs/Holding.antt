@@ -1,7 +1,7 @@
 -- What a session holds stays bounded, whatever comes.
-use Rattle.std.proofs.Common.{◌≡◌, ◌⊎◌, inl, inr, ℕ, zero, suc, ◌+◌, ◌-◌, ◌≤◌, ◌==◌, Bool, true, false, cond, not, ◌&&◌, List, [], ◌∷◌, ◌++◌, length, drop, Option, Some, None, is_some, nat_le, nat_lt, refl, sym, ap, subst, ◌∙◌, append_assoc, if◌then◌else◌, arith, length-append}
-use Rattle.std.specs.Prelude.{slice_get, All}
-use Rattle.std.specs.List.{AllByRecursion, position_from, remove}
+use Rattle.std.proofs.Common.{◌≡◌, ◌⊎◌, inl, inr, ℕ, ◌+◌, ◌-◌, ◌≤◌, ◌==◌, Bool, true, false, cond, not, ◌&&◌, List, [], ◌∷◌, ◌++◌, length, drop, Option, Some, None, is_some, nat_le, nat_lt, refl, sym, ap, subst, ◌∙◌, append_assoc, if◌then◌else◌, arith, length-append}
+use Rattle.std.specs.Prelude.{All}
+use Rattle.std.specs.List.{position_from, remove}
 use Rattle.std.proofs.lemmas.List.{length-take}
 use Rattle.std.proofs.lemmas.List.Elements.{All-head, All-tail}
 use Rattle.std.proofs.lemmas.List.Edits.{remove-append_right}
@@ -34,8 +34,9 @@ use Rattle.floor_datagram.specs.declared.heard.Heard.{Heard}
 use Rattle.floor_datagram.specs.declared.heard.Heard.TheVariants as Was
 use Rattle.floor_datagram.specs.declared.end.End.{End}
 use Rattle.floor_datagram.specs.declared.end.End.TheVariants as Why
+use Rattle.floor_datagram.proofs.Each.{each-append, each-at, each-put, each-removed}
 use Rattle.floor_datagram.proofs.Fitting.{Fits, fits-nothing, fits-more, fits-len, placed-fits, held_of-fits, without-fits}
-use Rattle.floor_datagram.proofs.Telling.{placed as put_in, put-placed, distinct-placed, same-turned, first_of-same}
+use Rattle.floor_datagram.proofs.Telling.{put-placed, distinct-placed, same-turned, first_of-same}
 
 -- ---- requests and their answers
 
@@ -188,46 +189,28 @@ distinct-snoc m (w ∷ ws) d none =
     let n = none-front m w ws none in
     (none-snoc w m ws d.0 (same-turned w m n.0), distinct-snoc m ws d.1 n.1)
 
-each-dropped : (m : List ℕ) (ws : List (List ℕ)) → AllByRecursion IsMessage ws → AllByRecursion IsMessage (dropped m ws)
-each-dropped m [] h = tt
-each-dropped m (w ∷ ws) h = by (is_same_subject m w) (each-dropped m ws h.1)
-  where
-    by : (b : Bool) → AllByRecursion IsMessage (dropped m ws) → AllByRecursion IsMessage (if b then ws else w ∷ dropped m ws)
-    by true rest = h.1
-    by false rest = (h.0, rest)
-
-each-snoc : (m : List ℕ) (ws : List (List ℕ)) → AllByRecursion IsMessage ws → IsMessage m → AllByRecursion IsMessage (ws ++ m ∷ [])
-each-snoc m [] h is = (is, tt)
-each-snoc m (w ∷ ws) h is = (h.0, each-snoc m ws h.1 is)
-
-each-put : (m : List ℕ) (ws : List (List ℕ)) → AllByRecursion IsMessage ws → IsMessage m → AllByRecursion IsMessage (put_in m ws)
-each-put m [] h is = (is, tt)
-each-put m (w ∷ ws) h is = by (is_same_subject m w) (each-put m ws h.1 is)
-  where
-    by : (b : Bool) → AllByRecursion IsMessage (put_in m ws) → AllByRecursion IsMessage (if b then m ∷ ws else w ∷ put_in m ws)
-    by true rest = (is, h.1)
-    by false rest = (h.0, rest)
-
 put-apart : (m : List ℕ) (ws : List (List ℕ)) → AreApart ws → IsMessage m → AreApart (put m ws)
-put-apart m ws a is =
-    let P : List (List ℕ) → Type 0 = λ l. AreApart l in
-    subst P (sym (put-placed m ws)) (record { distinct = distinct-placed m ws a.distinct; messages = each-put m ws a.messages is })
+put-apart m ws a is = record {
+  distinct = (let P : List (List ℕ) → Type 0 = λ l. IsDistinct l in subst P (sym (put-placed m ws)) (distinct-placed m ws a.distinct));
+  messages = each-put IsMessage (place_in m ws) m ws a.messages is;
+}
 
 no-apart : AreApart []
 no-apart = record { distinct = tt; messages = tt }
 
 removed-apart : (m : List ℕ) (ws : List (List ℕ)) → AreApart ws → AreApart (removed (place_in m ws) ws)
-removed-apart m ws a =
-    let P : List (List ℕ) → Type 0 = λ l. AreApart l in
-    subst P (sym (removed-dropped m ws)) (record { distinct = distinct-dropped m ws a.distinct; messages = each-dropped m ws a.messages })
+removed-apart m ws a = record {
+  distinct = (let P : List (List ℕ) → Type 0 = λ l. IsDistinct l in subst P (sym (removed-dropped m ws)) (distinct-dropped m ws a.distinct));
+  messages = each-removed IsMessage (place_in m ws) ws a.messages;
+}
 
 moved-apart : (m : List ℕ) (ws : List (List ℕ)) → AreApart ws → IsMessage m → AreApart (removed (place_in m ws) ws ++ m ∷ [])
-moved-apart m ws a is =
-    let P : List (List ℕ) → Type 0 = λ l. AreApart (l ++ m ∷ []) in
-    subst P (sym (removed-dropped m ws)) (record {
-      distinct = distinct-snoc m (dropped m ws) (distinct-dropped m ws a.distinct) (dropped-none m ws a.distinct);
-      messages = each-snoc m (dropped m ws) (each-dropped m ws a.messages) is;
-    })
+moved-apart m ws a is = record {
+  distinct =
+      (let P : List (List ℕ) → Type 0 = λ l. IsDistinct (l ++ m ∷ []) in
+      subst P (sym (removed-dropped m ws)) (distinct-snoc m (dropped m ws) (distinct-dropped m ws a.distinct) (dropped-none m ws a.distinct)));
+  messages = each-append IsMessage (removed (place_in m ws) ws) (m ∷ []) (each-removed IsMessage (place_in m ws) ws a.messages) (is, tt);
+}
 
 choose-apart : (b : Bool) (x y : List (List ℕ)) → AreApart x → AreApart y → AreApart (if b then x else y)
 choose-apart true x y p q = p
@@ -401,20 +384,12 @@ expired-held came s now h = by (expires (held_since s.requests.held) now (t2_of 
     by true = record { requests = record { fits = fits-nothing came; answer = h.requests.answer }; notices = h.notices; own = h.own; stream = h.stream }
     by false = h
 
-among : (ms : List (List ℕ)) (i : ℕ) (m : List ℕ) → slice_get ms i ≡ Some m → AllByRecursion IsMessage ms → IsMessage m
-among [] i m is h = absurd (cc is)
-among (x ∷ ms) zero m is h = subst (λ (l : List ℕ). IsMessage l) (same x m is) h.0
-  where
-    same : (a b : List ℕ) → ◌≡◌ {A = Option (List ℕ)} (Some a) (Some b) → a ≡ b
-    same a b e = cc
-among (x ∷ ms) (suc i) m is h = among ms i m is h.1
-
 probes-held : (came : List (List ℕ)) (o : Option (List ℕ)) (s : Session) (now : ℕ) → last_of s.own ≡ o → Held came s → Held came (probes o s now).after
 probes-held came None s now is h = h
 probes-held came (Some m) s now is h =
     choose-held came (nat_le s.terms.probe (now - s.heard)) _ (nothing s)
     (notes-held came s (begun s.notices s.requests.last s.terms.limit now m).after
-    (begun-held s.terms s.notices s.requests.last now m (inl (among s.own (length s.own - 1) m is h.own.messages)) h.notices.waiting) h)
+    (begun-held s.terms s.notices s.requests.last now m (inl (each-at IsMessage s.own (length s.own - 1) m is h.own.messages)) h.notices.waiting) h)
     h
 
 waits-for-held : (came : List (List ℕ)) (s : Session) (now : ℕ) → Held came s → Held came (waits_for s now).after

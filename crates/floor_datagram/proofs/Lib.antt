@@ -1,5 +1,6 @@
 pub mod Joining
 pub mod Pieces
+pub mod Each
 pub mod Carrying
 pub mod Telling
 pub mod Reading
@@ -10,5 +11,5 @@ pub mod Fitting
 pub mod Holding
 pub mod Passing
 pub mod Losing
-pub mod Sending
 pub mod Dividing
+pub mod Sending

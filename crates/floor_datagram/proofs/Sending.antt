@@ -1,6 +1,5 @@
 -- What the peer is sent over a whole run.
-use Rattle.std.proofs.Common.{◌≡◌, ◌⊎◌, inl, inr, ℕ, zero, suc, ◌+◌, ◌-◌, ◌==◌, Bool, true, false, not, ◌&&◌, List, [], ◌∷◌, ◌++◌, length, Option, Some, None, is_some, nat_le, nat_lt, refl, sym, ap, subst, ◌∙◌, append-nil, append_assoc, if◌then◌else◌}
-use Rattle.std.specs.Prelude.{slice_get, slice_set}
+use Rattle.std.proofs.Common.{◌≡◌, ◌⊎◌, inl, inr, ℕ, ◌+◌, ◌-◌, ◌==◌, Bool, true, false, not, ◌&&◌, List, [], ◌∷◌, ◌++◌, length, Option, Some, None, is_some, nat_le, nat_lt, refl, sym, ap, subst, ◌∙◌, append-nil, append_assoc, if◌then◌else◌}
 use Rattle.std.specs.List.{AllByRecursion}
 use Rattle.std.proofs.lemmas.Grind.{flat_map-append}
 use Rattle.std.proofs.lemmas.List.Elements.{filter-append}
@@ -12,15 +11,14 @@ use Rattle.floor_datagram.specs.Fragments.{Fragments, placed, without, offset_of
 use Rattle.floor_datagram.specs.Requests as asks
 use Rattle.floor_datagram.specs.Requests.{Requests, silent, replied, passed_on, parted, taken, asked, judged, put_together, aged, parts, does, effect, answered, answer_of, is_last, forgotten, max_waiting}
 use Rattle.floor_datagram.specs.Notices as notes
-use Rattle.floor_datagram.specs.Notices.{Notices, Out, is_same_subject, put, put_at, waits, told, crossed, pumped, pumped_with, begun, closed_with, is_out_as, acknowledged, again_with, given_up, pace_with, fresh_id, is_due, tries_of, has_subject, is_out}
-use Rattle.floor_datagram.specs.Own.{has_status, is_own, is_ongoing, own_after, place_in, removed}
+use Rattle.floor_datagram.specs.Notices.{Notices, Out, put, waits, told, crossed, pumped, pumped_with, begun, closed_with, is_out_as, acknowledged, again_with, given_up, pace_with, fresh_id, is_due, tries_of, has_subject, is_out}
 use Rattle.floor_datagram.specs.Pace.{t2_of, Pace}
 use Rattle.floor_datagram.specs.HelloAck.{extended}
 use Rattle.floor_datagram.specs.Taken.{IsAmong}
 use Rattle.floor_datagram.specs.Session as session
 use Rattle.floor_datagram.specs.Session.{Session, Effect, Terms, nothing, begins, finished, hears, noted, tells, message, messages_take, server, parts as parts_with, loses, shuts_out, unless_ended, refused, refusal_of, server_ends, expires, expired, last_of, probes, waits_for, is_late, goodbye}
 use Rattle.floor_datagram.specs.Run.{Input, datagram, piece, ends, shut, lost, late, step, run}
-use Rattle.floor_datagram.specs.Sending.{whole_by, whole, Said, answer, notice, own, datagrams_of, Sent, first, again, datagrams, answers_in, is_answer, answers, WasSent, IsOwnAnswer, IsCalledFor, IsSentSo, AreSentSo, Sends}
+use Rattle.floor_datagram.specs.Sending.{said, Said, answer, notice, own, datagrams_of, Sent, first, again, datagrams, answers_in, is_answer, answers, WasSent, IsOwnAnswer, IsCalledFor, IsSentSo, AreSentSo, Sends}
 use Rattle.floor_datagram.specs.declared.kind.Kind.{Kind}
 use Rattle.floor_datagram.specs.declared.kind.Kind.TheVariants as Kinds
 use Rattle.floor_datagram.specs.declared.numbering.Age.{Age}
@@ -31,7 +29,9 @@ use Rattle.floor_datagram.specs.declared.heard.Heard.{Heard}
 use Rattle.floor_datagram.specs.declared.heard.Heard.TheVariants as Was
 use Rattle.floor_datagram.specs.declared.end.End.{End}
 use Rattle.floor_datagram.specs.declared.end.End.TheVariants as Why
-use Rattle.floor_datagram.proofs.Carrying.{each-map, each-append, each-take, each-drop, among-more, among-last}
+use Rattle.floor_datagram.proofs.Carrying.{among-more, among-last}
+use Rattle.floor_datagram.proofs.Dividing.{terms-stay, whole, whole_by, whole-is}
+use Rattle.floor_datagram.proofs.Each.{each-at, each-map, each-own, each-put}
 
 -- ---- what was sent stays so, behind more
 
@@ -159,30 +159,6 @@ adds-pumped terms ms sent n last now None [] is out waiting = adds-nothing terms
 adds-pumped terms ms sent n last now None (w ∷ ws) is out waiting =
     let front : AllByRecursion (IsAmong ms) (w ∷ ws) = subst (λ (l : List (List ℕ)). AllByRecursion (IsAmong ms) l) is waiting in
     adds-begun terms ms sent (record n { waiting = ws }) last now w (inl front.0) front.1
-
-each-set : (P : List ℕ → Type 0) (ws : List (List ℕ)) (i : ℕ) (m : List ℕ) → AllByRecursion P ws → P m → AllByRecursion P (slice_set ws i m)
-each-set P [] i m h p = tt
-each-set P (w ∷ ws) zero m h p = (p, h.1)
-each-set P (w ∷ ws) (suc i) m h p = (h.0, each-set P ws i m h.1 p)
-
-each-put : (P : List ℕ → Type 0) (o : Option ℕ) (m : List ℕ) (ws : List (List ℕ)) → AllByRecursion P ws → P m → AllByRecursion P (put_at o m ws)
-each-put P None m ws h p = each-append P ws (m ∷ []) h (p, tt)
-each-put P (Some place) m ws h p = each-set P ws place m h p
-
-each-removed : (P : List ℕ → Type 0) (o : Option ℕ) (ws : List (List ℕ)) → AllByRecursion P ws → AllByRecursion P (removed o ws)
-each-removed P None ws h = h
-each-removed P (Some place) ws h = each-append P _ _ (each-take P place ws h) (each-drop P (suc place) ws h)
-
-choose-each : (P : List ℕ → Type 0) (b : Bool) (x y : List (List ℕ)) → AllByRecursion P x → AllByRecursion P y → AllByRecursion P (if b then x else y)
-choose-each P true x y p q = p
-choose-each P false x y p q = q
-
-each-own : (P : List ℕ → Type 0) (last : Option ℕ) (primitive : ℕ) (ws : List (List ℕ)) (m : List ℕ) → AllByRecursion P ws → P m → AllByRecursion P (own_after last primitive ws m)
-each-own P last primitive ws m h p =
-    let less = each-removed P (place_in m ws) ws h in
-    choose-each P (not (has_status m)) ws _ h
-    (choose-each P (not (is_own last primitive ws m)) ws _ h
-    (choose-each P (is_ongoing m) (removed (place_in m ws) ws ++ m ∷ []) (removed (place_in m ws) ws) (each-append P (removed (place_in m ws) ws) (m ∷ []) less (p, tt)) less))
 
 adds-closed : (terms : Terms) (ms : List (List ℕ)) (sent : List Sent) (n : Notices) (last : Option ℕ) (now : ℕ) (pace : Pace) (c : Bool) → OutWas terms sent n.out
     → AllByRecursion (IsAmong ms) n.waiting
@@ -452,20 +428,12 @@ expired-log ms down s now l = by (expires (held_since s.requests.held) now (t2_o
     by true = record { sent = l.sent; base = l.base; out = l.out; kept = l.kept; waiting = l.waiting; own_are = l.own_are }
     by false = l
 
-among-at : (ms ws : List (List ℕ)) (i : ℕ) (m : List ℕ) → slice_get ws i ≡ Some m → AllByRecursion (IsAmong ms) ws → IsAmong ms m
-among-at ms [] i m is h = absurd (cc is)
-among-at ms (x ∷ ws) zero m is h = subst (λ (l : List ℕ). IsAmong ms l) (inside x m is) h.0
-  where
-    inside : (a b : List ℕ) → ◌≡◌ {A = Option (List ℕ)} (Some a) (Some b) → a ≡ b
-    inside a b e = cc
-among-at ms (x ∷ ws) (suc i) m is h = among-at ms ws i m is h.1
-
 probes-log : (ms down : List (List ℕ)) (o : Option (List ℕ)) (s : Session) (now : ℕ) → last_of s.own ≡ o → Log ms down s → Goes ms down (probes o s now)
 probes-log ms down None s now is l = quiet ms down s [] l
 probes-log ms down (Some m) s now is l =
     choose-log ms down (nat_le s.terms.probe (now - s.heard)) _ (nothing s)
     (log-notices ms down s (begun s.notices s.requests.last s.terms.limit now m) l
-    (adds-begun s.terms ms l.sent s.notices s.requests.last now m (inl (among-at ms s.own (length s.own - 1) m is l.own_are)) l.waiting))
+    (adds-begun s.terms ms l.sent s.notices s.requests.last now m (inl (each-at (IsAmong ms) s.own (length s.own - 1) m is l.own_are)) l.waiting))
     (quiet ms down s [] l)
 
 again-log : (ms down : List (List ℕ)) (s : Session) (now : ℕ) → Log ms down s → Log ms (down ++ (notes.again s.notices now).down) (record s { notices = (notes.again s.notices now).after })
@@ -523,68 +491,11 @@ begins-log terms first_id now = record {
   own_are = tt;
 }
 
--- ---- its terms stay
-
-choose-terms : (terms : Terms) (b : Bool) (e f : Effect) → e.after.terms ≡ terms → f.after.terms ≡ terms → (if b then e else f).after.terms ≡ terms
-choose-terms terms true e f p q = p
-choose-terms terms false e f p q = q
-
-hears-terms : (heard : Heard) (now : ℕ) (s : Session) → (hears heard now s).after.terms ≡ s.terms
-hears-terms Was.Nothing now s = refl
-hears-terms (Was.Acknowledgement id) now s = refl
-hears-terms (Was.Request primitive) now s = refl
-hears-terms Was.Goodbye now s = refl
-
-message-terms : (s : Session) (now : ℕ) (m : List ℕ) (b : Bool) → (if b then tells (noted s m) now m else session.answers (noted s m) m).after.terms ≡ s.terms
-message-terms s now m true = refl
-message-terms s now m false = refl
-
-messages-terms : (s : Session) (now : ℕ) (ws : List (List ℕ)) → (messages_take s now ws).after.terms ≡ s.terms
-messages-terms s now [] = refl
-messages-terms s now (m ∷ ws) = messages-terms (message s now m).after now ws ∙ message-terms s now m (id_of m == 0)
-
-refused-terms : (now : ℕ) (s : Session) (last : Option ℕ) → (refused last now s).after.terms ≡ s.terms
-refused-terms now s None = refl
-refused-terms now s (Some id) = refl
-
-expired-terms : (s : Session) (now : ℕ) → (expired s now).terms ≡ s.terms
-expired-terms s now = by (expires (held_since s.requests.held) now (t2_of s.notices.pace.t1))
-  where
-    by : (b : Bool) → let t : Session = if b then record s { requests = forgotten s.requests } else s in t.terms ≡ s.terms
-    by true = refl
-    by false = refl
-
-probes-terms : (o : Option (List ℕ)) (s : Session) (now : ℕ) → (probes o s now).after.terms ≡ s.terms
-probes-terms None s now = refl
-probes-terms (Some m) s now = choose-terms s.terms (nat_le s.terms.probe (now - s.heard)) _ (nothing s) refl refl
-
-late-terms : (s : Session) (now : ℕ) → (is_late s now).after.terms ≡ s.terms
-late-terms s now =
-    choose-terms s.terms (is_out s.notices.out) (waits_for s now) (probes (last_of s.own) s now)
-    (choose-terms s.terms (notes.is_lost s.notices.out now) (if is_some s.end then nothing (record s { notices = given_up s.notices }) else loses Why.Lost now s) _
-    (choose-terms s.terms (is_some s.end) (nothing (record s { notices = given_up s.notices })) (loses Why.Lost now s) refl refl) refl)
-    (probes-terms (last_of s.own) s now)
-
-step-terms : (s : Session) (i : Input) → (step s i).after.terms ≡ s.terms
-step-terms s (datagram waiting now d) = let e = effect s.requests waiting now d in hears-terms e.heard now (record s { requests = e.after; heard = now })
-step-terms s (piece now p) =
-    choose-terms s.terms (is_some s.end) (nothing s) (messages_take (record s { stream = rest (s.stream ++ p) }) now (messages (s.stream ++ p))) refl
-    (messages-terms (record s { stream = rest (s.stream ++ p) }) now (messages (s.stream ++ p)))
-step-terms s (ends now) =
-    choose-terms s.terms (is_some s.end) (nothing s) (server_ends now s) refl
-    (choose-terms s.terms s.answered (parts_with Why.ServerGone now s) (refused s.requests.last now s) refl (refused-terms now s s.requests.last))
-step-terms s (shut end now) = choose-terms s.terms (is_some s.end) (nothing s) (shuts_out end now s) refl refl
-step-terms s (lost end now) = choose-terms s.terms (is_some s.end) (nothing s) (loses end now s) refl refl
-step-terms s (late now) = late-terms (expired s now) now ∙ expired-terms s now
-
-run-terms : (s : Session) (is : List Input) → (run s is).after.terms ≡ s.terms
-run-terms s [] = refl
-run-terms s (i ∷ is) = run-terms (step s i).after is ∙ step-terms s i
-
 -- of any run
-pub sends : (terms : Terms) (first_id now : ℕ) (is : List Input) → Sends terms (whole (begins terms first_id now) is) (run (begins terms first_id now) is).down
+pub sends : (terms : Terms) (first_id now : ℕ) (is : List Input) → Sends terms (messages (said (begins terms first_id now) is)) (run (begins terms first_id now) is).down
 sends terms first_id now is =
     let s = begins terms first_id now in
     let l : Log (whole s is) (run s is).down (run s is).after = run-log [] [] s is (begins-log terms first_id now) in
-    let b : Base terms (whole s is) (run s is).down l.sent = subst (λ (t : Terms). Base t (whole s is) (run s is).down l.sent) (run-terms s is) l.base in
-    record { sent = l.sent; down_is = b.down_is; answered = b.answered_is; so = b.so }
+    let b : Base terms (whole s is) (run s is).down l.sent = subst (λ (t : Terms). Base t (whole s is) (run s is).down l.sent) (terms-stay terms first_id now is) l.base in
+    subst (λ (ms : List (List ℕ)). Sends terms ms (run s is).down) (whole-is terms first_id now is)
+    (record { sent = l.sent; down_is = b.down_is; answered = b.answered_is; so = b.so })

@@ -1,7 +1,6 @@
 -- What the peer is sent over a whole run (RFC 8855, sections 6.2, 8.2 and 8.3).
 use Rattle.std.specs.Prelude.{◌≡◌, ◌⊎◌, ℕ, ◌==◌, Bool, false, not, List, [], ◌∷◌, ◌++◌, is_some, filter, if◌then◌else◌}
 use Rattle.std.specs.List.{flat_map}
-use Rattle.floor_wire.specs.Message.{messages}
 use Rattle.floor_datagram.specs.Datagrams.{id_of}
 use Rattle.floor_datagram.specs.Written.{raised, pieces, goodbye_ack, error, refusal}
 use Rattle.floor_datagram.specs.Requests.{answer_of}
@@ -9,20 +8,6 @@ use Rattle.floor_datagram.specs.HelloAck.{extended}
 use Rattle.floor_datagram.specs.Taken.{IsAmong}
 use Rattle.floor_datagram.specs.Session.{Session, Terms, goodbye}
 use Rattle.floor_datagram.specs.Run.{Input, datagram, piece, ends, shut, lost, late, step}
-
--- the messages of the server's that are whole with an input, while the session goes on
-abbrev pub whole_by : Session → Input → List (List ℕ)
-whole_by s (datagram waiting now d) = []
-whole_by s (piece now p) = if is_some s.end then [] else messages (s.stream ++ p)
-whole_by s (ends now) = []
-whole_by s (shut end now) = []
-whole_by s (lost end now) = []
-whole_by s (late now) = []
-
--- those of a run
-abbrev pub whole : Session → List Input → List (List ℕ)
-whole s [] = []
-whole s (i ∷ is) = whole_by s i ++ whole (step s i).after is
 
 -- the bytes of the server's that come with an input, while the session goes on
 abbrev pub said_by : Session → Input → List ℕ

@@ -11,7 +11,7 @@ ghost use Rattle.floor_datagram.specs.NoticeIds.{IsLastId, Own};
 ghost use Rattle.floor_datagram.specs.Numbering.{age_of};
 ghost use Rattle.floor_datagram.specs.Order.{come, Comes, Follow};
 ghost use Rattle.floor_datagram.specs.Run.{Input, run, step, came, AreWhole, Serves};
-ghost use Rattle.floor_datagram.specs.Sending.{Sends, said, whole};
+ghost use Rattle.floor_datagram.specs.Sending.{Sends, said};
 ghost use Rattle.floor_wire.specs.Message.{messages};
 ghost use Rattle.floor_datagram.specs.Session.{Session, Terms, begins, datagram};
 ghost use Rattle.floor_datagram.specs.declared.fragments.Range.{Range};
@@ -98,10 +98,7 @@ pub fn a_peer_is_lost_that_does_not_acknowledge()
 /// before once more. It is sent nothing else (RFC 8855, sections 6.2, 8.2 and 8.3). The server's messages are
 /// those of all that it said while the session went on, however that was cut.
 pub fn nothing_else_is_sent()
-    ensures sends { (terms : Terms) (first now : ℕ) (inputs : List Input)
-        → Sends terms (whole (begins terms first now) inputs)
+    ensures { (terms : Terms) (first now : ℕ) (inputs : List Input)
+        → Sends terms (messages (said (begins terms first now) inputs))
         (run (begins terms first now) inputs).down }
-    ensures whole { (terms : Terms) (first now : ℕ) (inputs : List Input)
-        → whole (begins terms first now) inputs
-        ≡ messages (said (begins terms first now) inputs) }
 {}
