@@ -26,9 +26,15 @@ const running = [];
 
 /** Starts a program, and waits until it prints `ready`. */
 export async function start(path, ...words) {
-  const program = spawn(path, words, { stdio: ["pipe", "pipe", "inherit"] });
+  const program = spawn(path, words, { stdio: ["pipe", "pipe", "pipe"] });
   running.push(program);
   program.printed = "";
+  /** What it wrote on standard error. */
+  program.complained = "";
+  program.stderr.on("data", (text) => {
+    program.complained += text;
+    if (!words.includes("--log")) process.stderr.write(text);
+  });
   program.stdout.on("data", (text) => (program.printed += text));
   for (let turn = 0; turn < 400 && !program.printed.includes("ready\n"); turn++) await sleep(50);
   if (!program.printed.includes("ready\n")) throw new Error(`${path} doesn't print ready`);
@@ -113,6 +119,13 @@ export async function say(path, line, answer) {
 }
 
 
+const ifNavigated = (error) => {
+  if (!/navigated|Execution context|Cannot find context/.test(error.message)) throw error;
+};
+
+/** The roles of what is used. */
+const USED = new Set(["button", "checkbox", "combobox", "DisclosureTriangle", "dialog", "heading", "image", "link", "listbox", "menuitem", "searchbox", "spinbutton", "textbox"]);
+
 /** A tab of the browser, driven over its debugging socket. */
 export class Tab {
   /** All tabs, and what the browser complained of in any. */
@@ -187,7 +200,8 @@ export class Tab {
 
   async until(expression, what = expression, wait = 8_000) {
     for (const end = Date.now() + wait * PATIENCE; Date.now() < end; await sleep(50)) {
-      if (await this.value(expression)) return void count.steps++;
+      // A page that is being loaded anew is asked again.
+      if (await this.value(expression).catch(ifNavigated)) return void count.steps++;
     }
     throw new Error(`${this.name}: never ${what}\n${await this.value("document.body?.innerText")}\n${Tab.complaints.join("\n")}`);
   }
@@ -247,9 +261,29 @@ export class Tab {
 
   /** Whether what the page shows can be perceived and used: what is wrong, a line each (WCAG 2.2, levels A and AA). */
   async audit(where) {
-    const wrong = await this.value(`(${audit})()`);
+    const wrong = [...(await this.value(`(${audit})()`)), ...(await this.nameless())];
     if (wrong.length) throw new Error(`${this.name}, ${where}: ${wrong.join("\n")}`);
     count.steps++;
+  }
+
+  /** What is used and has no name in the accessibility tree, as what speaks for those who don't see hears it. */
+  async nameless() {
+    const { nodes } = await this.send("Accessibility.getFullAXTree");
+    const used = nodes.filter(({ ignored, role }) => !ignored && USED.has(role?.value));
+    return used.filter(({ name }) => !name?.value?.trim()).map(({ role, nodeId }) => `no name in the accessibility tree: ${role.value} ${nodeId}`);
+  }
+
+  /** The same at 1,280, 390 and 320 pixels, at 200 and 400 per cent of a window of 1,280 by 1,024, light and dark. */
+  async everywhere(where) {
+    const before = await this.value("[innerWidth, innerHeight]");
+    for (const scheme of ["dark", "light"]) {
+      await this.send("Emulation.setEmulatedMedia", { features: [{ name: "prefers-color-scheme", value: scheme }] });
+      for (const [width, height] of [[1_280, 1_024], [390, 844], [320, 640], [640, 512], [320, 256]]) {
+        await this.size(width, height, width < 640);
+        await this.audit(`${where}, ${width} by ${height}, ${scheme}`);
+      }
+    }
+    await this.size(...before, before[0] < 1_000);
   }
 
   async key(key, code = key.toUpperCase().charCodeAt(0)) {
@@ -383,6 +417,7 @@ export async function run(walk) {
     console.log(`${count.steps} steps as they should be`);
   } catch (error) {
     console.log(`FAILED after ${count.steps} steps: ${error.stack}`);
+    for (const { complained } of running) if (complained) console.log(complained);
     for (const tab of Tab.all) await tab.picture(`failed-${tab.name}`, false).catch(() => {});
     status = 1;
   } finally {

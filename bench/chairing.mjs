@@ -160,7 +160,7 @@ async function lead() {
   await dee.order(".floor:first-child .queue .who", ["Ben", "Cid", "Eve"]);
   await dee.order(".floor:first-child .queue .pending:not([hidden])", ["asks the chair"]);
   await ann.order(".floor:first-child .queue .who", ["Ben", "Cid", "Eve"]);
-  await dee.audit("a chair's queue");
+  await dee.everywhere("a chair's queue");
   await dee.picture("queue", false);
 
   // Moved to the front, one after another: the last one is first.
@@ -262,12 +262,12 @@ async function others([, , cid, dee, eve]) {
   const [laila, turned] = await open(ARABIC, TURNED);
   await dee.value("document.querySelector('#people').open = true");
   await dee.until("document.querySelector('#people .count').textContent === '5 of 46 here'", "5 of 46 here");
-  await dee.value(`(() => { const field = document.querySelector("#people input"); field.value = ${JSON.stringify(ARABIC)}; field.dispatchEvent(new Event("input")); })()`);
+  await dee.value(`(() => { const field = document.querySelector("#people [name=search]"); field.value = ${JSON.stringify(ARABIC)}; field.dispatchEvent(new Event("input")); })()`);
   await dee.order("#people .who", [ARABIC]);
-  await dee.value(`(() => { const field = document.querySelector("#people input"); field.value = ""; field.dispatchEvent(new Event("input")); })()`);
+  await dee.value(`(() => { const field = document.querySelector("#people [name=search]"); field.value = ""; field.dispatchEvent(new Event("input")); })()`);
   await dee.until("document.querySelectorAll('#people .person').length === 46", "all people");
   await dee.lists(".person .spoken", "1 time, " + (await dee.value("[...document.querySelectorAll('.person')].find((one) => one.textContent.includes('Cid')).querySelector('.spoken').textContent")).split(", ")[1]);
-  await dee.audit("people");
+  await dee.everywhere("people");
   await dee.picture("people", false);
   await turned.close();
   await dee.until("document.querySelector('#people .count').textContent === '4 of 46 here'", "4 of 46 here, once the window is closed");
@@ -291,6 +291,7 @@ async function others([, , cid, dee, eve]) {
   const operator = await Tab.open("operator", "the-token-of-the-operator", "/operator");
   await operator.size(1_280, 900, false);
   await operator.shows("1 conference, ", 20_000);
+  await operator.until("document.querySelector('#table tbody .title')", "a row");
   await operator.value("document.querySelector('#table tbody .title').click()");
   await operator.lists(".conference .who", `${TURNED} (${idOf(TURNED)})`);
   await operator.until(`(() => {
@@ -313,12 +314,20 @@ async function keepMinutes([ann, , , dee]) {
   await dee.value("document.querySelector('#minutes').open = true");
   const wanted = [/Microphone: Ann had the floor/, /Microphone: Eve denied: No time left/, /Microphone: Cid had the floor \(\d+:\d\d\)/];
   const look = async () => {
-    const lines = await dee.value("[...document.querySelectorAll('#minutes li')].map((one) => one.textContent)");
+    const lines = await dee.value("[...document.querySelectorAll('#minutes li')].map((one) => one.textContent.replace(/[\\u2066-\\u2069]/g, ''))");
     for (const pattern of wanted) if (!lines.some((line) => pattern.test(line))) throw new Error(`no ${pattern} in\n${lines.join("\n")}`);
     count.steps++;
     return lines.length;
   };
   const lines = await look();
+  // A name that turns what follows turns nothing but itself.
+  await dee.until(`(() => {
+    const node = [...document.querySelectorAll("#minutes li")].find((one) => one.textContent.includes("bcd"))?.firstChild;
+    const at = (text) => { const range = document.createRange(); const index = node.data.indexOf(text); range.setStart(node, index); range.setEnd(node, index + text.length); return range.getBoundingClientRect(); };
+    return node && at("bcd").left < at("denied").left;
+  })()`, "a name in the minutes that turns only itself");
+  await dee.everywhere("minutes");
+  await dee.value("document.querySelector('#minutes').scrollIntoView()");
   await dee.picture("minutes", false);
   await reload(dee);
   await dee.value("document.querySelector('#minutes').open = true");
@@ -388,7 +397,7 @@ async function crowd() {
   await dee.audit("41 hands on a phone");
   await dee.picture("crowd", false);
   await dee.size(1_280, 900, false);
-  await dee.audit("41 hands on a desktop");
+  await dee.everywhere("41 hands");
   await dee.picture("crowd-desktop", false);
 
   // A chair leads: the first has the floor for a moment, now and then one is put in front, denied or lets it go.

@@ -374,8 +374,10 @@ async function meetByControl() {
   await operator.shows("Done: Take Microphone back from Ann (10).");
   await press("Show Eve (14) out");
   await agree();
-  await eve.shows("Not connected");
+  await eve.shows("You were shown out of the meeting");
   await operator.shows("Eve (14) has gone");
+  await press("Let Eve (14) in again");
+  await agree();
   await eve.shows("Connected", 20_000);
 
   // floorhub goes and comes back: nothing is taken as ended meanwhile.
@@ -409,12 +411,9 @@ async function meetByControl() {
 
 /** How the page looks and is used: narrow, enlarged, in the dark, without motion, by keys. */
 async function looks([ann, ben, cid, dee]) {
-  for (const scheme of ["dark", "light"]) {
-    for (const tab of [ann, dee]) {
-      await tab.send("Emulation.setEmulatedMedia", { features: [{ name: "prefers-color-scheme", value: scheme }] });
-      await tab.value("document.querySelectorAll('details').forEach((one) => (one.open = true)); 0");
-      await tab.audit(scheme);
-    }
+  for (const tab of [ann, dee]) {
+    await tab.value("document.querySelectorAll('details').forEach((one) => (one.open = true)); 0");
+    await tab.everywhere("all that is there");
   }
   await ben.size(320, 640);
   await ben.audit("320 pixels");

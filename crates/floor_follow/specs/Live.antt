@@ -184,11 +184,11 @@ event text = and_then (cut text) (λ c. event_of c.0 c.1)
 abbrev pub notice_of : List ℕ → List ℕ → Result Change FollowFault
 notice_of kind rest =
     if bytes_eq kind (codes "away") then member rest true
-    else if bytes_eq kind (codes "back") then member rest false
+    else if bytes_eq kind (codes "back") then left rest
     else if bytes_eq kind (codes "broken") then alone rest Broken
     else if bytes_eq kind (codes "unkept") then alone rest Nothing
     else Err UnknownLine
 
--- what a line changes that tells no event
+-- what a line changes that tells no event: whose user is back by another member is there no more
 abbrev pub notice : List ℕ → Result Change FollowFault
 notice text = and_then (cut text) (λ c. notice_of c.0 c.1)

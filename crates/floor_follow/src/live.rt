@@ -41,7 +41,8 @@ pub(crate) fn notice(alloc: Global, text: Rest) -> Result<Change, FollowFault>
     let (kind, rest) = text.word()?;
     match kind.as_str() {
         "away" => member(alloc, rest, true),
-        "back" => member(alloc, rest, false),
+        // Its user is back by another member, which was told to have joined.
+        "back" => left(alloc, rest),
         "broken" => alone(rest, Change::Broken),
         "unkept" => alone(rest, Change::Nothing),
         _ => Err(FollowFault::UnknownLine),

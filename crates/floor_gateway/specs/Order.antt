@@ -3,6 +3,7 @@ use Rattle.std.specs.Prelude.{ℕ, ◌^◌, Option, None, List, [], ◌∷◌, �
 use Rattle.std.specs.Str.{bytes_eq}
 use Rattle.std.specs.Fmt.{decimal}
 use Rattle.floor_words.specs.Words.{number, words}
+use Rattle.floor_web.specs.Orders.{show_out_line, let_in_line}
 
 -- `close <conference>`
 abbrev pub close_line : List ℕ → Option (List ℕ)
@@ -14,11 +15,14 @@ revoke_line conference request =
     option_and_then (λ c. option_map (λ r. codes "revoke " ++ (decimal c ++ (codes " " ++ (decimal r ++ codes "\n")))) (number (2 ^ 16) request))
     (number (2 ^ 32) conference)
 
--- `leave <conference> <n>`
-abbrev pub leave_line : List ℕ → List ℕ → Option (List ℕ)
-leave_line conference n =
-    option_and_then (λ c. option_map (λ m. codes "leave " ++ (decimal c ++ (codes " " ++ (decimal m ++ codes "\n")))) (number (2 ^ 32) n))
-    (number (2 ^ 32) conference)
+-- `out <conference> <user>`, which shows the user out, and `in <conference> <user>`, which lets the user in again
+abbrev pub out_line : List ℕ → List ℕ → Option (List ℕ)
+out_line conference user =
+    option_and_then (λ c. option_map (λ u. show_out_line c u) (number (2 ^ 16) user)) (number (2 ^ 32) conference)
+
+abbrev pub in_line : List ℕ → List ℕ → Option (List ℕ)
+in_line conference user =
+    option_and_then (λ c. option_map (λ u. let_in_line c u) (number (2 ^ 16) user)) (number (2 ^ 32) conference)
 
 abbrev pub two_words : (name conference : List ℕ) → Option (List ℕ)
 two_words name conference = if bytes_eq name (codes "close") then close_line conference else None
@@ -26,7 +30,8 @@ two_words name conference = if bytes_eq name (codes "close") then close_line con
 abbrev pub three_words : (name conference other : List ℕ) → Option (List ℕ)
 three_words name conference other =
     if bytes_eq name (codes "revoke") then revoke_line conference other
-    else if bytes_eq name (codes "leave") then leave_line conference other
+    else if bytes_eq name (codes "out") then out_line conference other
+    else if bytes_eq name (codes "in") then in_line conference other
     else None
 
 -- the line of an order's words; none where they are no order

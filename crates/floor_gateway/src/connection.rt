@@ -1,18 +1,18 @@
 //! One connection: a request, and what follows it.
 
 use crate::entry::{Entry, Place};
-use crate::gateway::{Gateway, Role, Seat};
+use crate::gateway::{Gateway, Role, Seat, Whom};
 use crate::head::{HeadEnd, read_head};
 use crate::listener::{Changed, Listener};
 use crate::network::network_of;
-use crate::order;
+use crate::ordering::{Answer, obey_operator, obey_user};
 use crate::pair::{Pair, linger};
 use crate::server::{Reached, prepare, reach};
 use crate::unserved::Unserved;
 use floor_listen::Granted;
 use floor_web::{
-    Asked, End, Holder, Kind, NoPlace, Reading, Refusal, Relay, Source, is_strong_token,
-    meeting_of, read_request, refuse, serve, stream, welcome,
+    Admission, Asked, End, Giver, Holder, Kind, NoPlace, Reading, Refusal, Relay, Source,
+    is_strong_token, meeting_of, read_request, refuse, serve, stream, welcome,
 };
 use std::alloc::Global;
 use std::io::Write;
@@ -260,12 +260,17 @@ where
             token,
             is_head,
         } => tell(rt, alloc, gateway, stream, client, source, token, is_head),
-        Asked::Order { token, order } => {
-            obey(&rt, alloc, gateway, &stream, client, token, order)
-        }
+        Asked::Order {
+            giver,
+            token,
+            order,
+        } => obey(&rt, alloc, gateway, &stream, client, giver, token, order),
         Asked::Bfcp { token, accept } => match seat_of(&rt, gateway, token) {
             Some(seat) if seat.is_ended => {
                 lack_server(&rt, alloc, gateway, &seat, &stream, &accept)
+            }
+            Some(seat) if seat.admission != Admission::Admitted => {
+                answer_refusal(&rt, alloc, gateway, &stream, Refusal::Forbidden, false)
             }
             Some(seat) => {
                 let holder = holder_of(&seat, client);
@@ -299,28 +304,36 @@ fn refusal_of(why: NoPlace) -> Refusal {
     }
 }
 
-/// Whom a token stands for. One that nobody has is looked up for a while, where others come by the control
-/// socket: of so many at once as may be, and of no token that can't be one.
+/// The user whom a token stands for.
 fn seat_of<R: Clock + Wait>(rt: &R, gateway: &Gateway, token: &[u8]) -> Option<Seat> {
-    let seat = gateway.seat(rt, token);
-    if seat.is_some() || gateway.control.is_none() || !is_strong_token(token) {
-        return seat;
+    match whom_of(rt, gateway, token)? {
+        Whom::User(seat) => Some(seat),
+        Whom::Guest(_) => None,
     }
-    let look_up = gateway.begin_look_up(rt)?.taken();
-    let seat = look_up_again(rt, gateway, token);
-    gateway.end_look_up(rt, look_up);
-    seat
 }
 
-fn look_up_again<R: Clock + Wait>(rt: &R, gateway: &Gateway, token: &[u8]) -> Option<Seat> {
+/// Whom a token stands for. One that nobody has is looked up for a while, where others come by the control
+/// socket: of so many at once as may be, and of no token that can't be one.
+fn whom_of<R: Clock + Wait>(rt: &R, gateway: &Gateway, token: &[u8]) -> Option<Whom> {
+    let whom = gateway.whom(rt, token);
+    if whom.is_some() || gateway.control.is_none() || !is_strong_token(token) {
+        return whom;
+    }
+    let look_up = gateway.begin_look_up(rt)?.taken();
+    let whom = look_up_again(rt, gateway, token);
+    gateway.end_look_up(rt, look_up);
+    whom
+}
+
+fn look_up_again<R: Clock + Wait>(rt: &R, gateway: &Gateway, token: &[u8]) -> Option<Whom> {
     for _ in 1..LOOKS {
         if gateway.is_ending() {
             return None;
         }
         thread::sleep(rt, Duration::from_millis(LOOK_MILLIS));
-        let seat = gateway.seat(rt, token);
-        if seat.is_some() {
-            return seat;
+        let whom = gateway.whom(rt, token);
+        if whom.is_some() {
+            return whom;
         }
     }
     None
@@ -391,7 +404,7 @@ where
     }
 }
 
-/// What the page of the token's user is told of its meeting: by what is known at the control socket, and else
+/// What the page of whoever has the token is told of the meeting: by what is known at the control socket, and else
 /// by the file.
 fn meeting_text<R: Clock + Wait>(
     rt: &R,
@@ -399,8 +412,10 @@ fn meeting_text<R: Clock + Wait>(
     gateway: &Gateway,
     token: &[u8],
 ) -> Result<Option<String>, Unserved> {
-    let Some(seat) = seat_of(rt, gateway, token) else {
-        return Ok(None);
+    let seat = match whom_of(rt, gateway, token) {
+        Some(Whom::User(seat)) => seat,
+        Some(Whom::Guest(conference)) => return Ok(gateway.welcome(rt, conference)?),
+        None => return Ok(None),
     };
     {
         let picture = gateway.picture.lock(rt);
@@ -450,53 +465,39 @@ fn go_on_telling<R: Clock + Wait>(
     Ok(())
 }
 
-/// Has done what the operator's page orders, and answers what the server does.
+/// Has done what a page orders, and answers what came of it.
 fn obey<R>(
     rt: &R,
     alloc: Global,
     gateway: &Gateway,
     stream: &TcpStream,
     client: Client,
+    giver: Giver,
     token: &[u8],
     order: &[u8],
 ) -> Result<(), Unserved>
 where
     R: Net<Listener = TcpListener, Stream = TcpStream> + Clock + Wait,
 {
-    let Some(path) = &gateway.control else {
-        return answer_refusal(rt, alloc, gateway, stream, Refusal::NotFound, false);
-    };
-    match gateway.role(token) {
-        Some(Role::Operates) => {}
-        Some(Role::Observes) => {
-            return answer_refusal(rt, alloc, gateway, stream, Refusal::Forbidden, false);
+    let answer = match giver {
+        Giver::Operator => {
+            if gateway.role(token) == Some(Role::Operates) {
+                gateway.end_request(rt, client.request);
+            }
+            obey_operator(rt, alloc, gateway, token, order)?
         }
-        None => return answer_refusal(rt, alloc, gateway, stream, Refusal::NotFound, false),
-    }
-    let order = std::str::from_utf8(order).unwrap_or("");
-    let Some(line) = order::line_of(alloc, order)? else {
-        return answer_refusal(rt, alloc, gateway, stream, Refusal::BadRequest, false);
+        Giver::User => {
+            let whom = whom_of(rt, gateway, token);
+            obey_user(rt, alloc, gateway, whom, order)?
+        }
     };
-    let Some(granted) = gateway.enter_operator(rt) else {
-        return answer_refusal(rt, alloc, gateway, stream, Refusal::Unavailable, false);
-    };
-    let place = granted.taken();
-    gateway.end_request(rt, client.request);
-    let answered = order::asked(rt, alloc, path.as_str(), line.as_str());
-    gateway.leave_operator(rt, place);
-    let answer = match &answered {
-        Ok(Some(text)) => text.as_str().trim(),
-        Ok(None) | Err(_) => "no answer",
-    };
-    let line = line.as_str().trim();
-    gateway.tell(rt, &Entry::Ordered { line, answer });
-    match answered? {
-        Some(text) => {
+    match answer {
+        Answer::Says(text) => {
             let answer = serve(alloc, Kind::Text, text.as_bytes(), false)?;
             send_last(rt, stream, answer.as_slice());
             Ok(())
         }
-        None => answer_refusal(rt, alloc, gateway, stream, Refusal::BadGateway, false),
+        Answer::Refused(refusal) => answer_refusal(rt, alloc, gateway, stream, refusal, false),
     }
 }
 

@@ -2,8 +2,10 @@
 //!
 //! What is known is kept while the socket is lost, and a picture of another run is shown once it is whole.
 
-use crate::gateway::Gateway;
+use crate::entry::{Entry, Place};
+use crate::gateway::{Gateway, Leaving};
 use crate::listener::{Changed, tell_all};
+use crate::order;
 use floor_follow::{FollowFault, Follower, Lines, NextLine, Question, Told, read_line};
 use std::alloc::{AllocError, Global};
 use std::io::{ErrorKind, Read, Write};
@@ -37,7 +39,7 @@ where
         }
         if let Ok(stream) = UnixStream::connect(&rt, path) {
             // Whatever ends it, it is followed anew.
-            let _outcome = follow_one(rt, alloc, gateway, stream);
+            let _outcome = follow_one(rt, alloc, gateway, path, stream);
             gateway.lose();
             tell_all(&rt, gateway, &Changed::all(alloc));
         }
@@ -63,10 +65,11 @@ fn follow_one<R>(
     rt: R,
     alloc: Global,
     gateway: &Gateway,
+    path: &str,
     stream: UnixStream,
 ) -> Result<(), FollowFault>
 where
-    R: Clock + Wait + Copy,
+    R: Net<Listener = TcpListener, Stream = TcpStream> + Clock + Wait + Copy,
 {
     let _outcome = stream.set_read_timeout(Some(Duration::from_millis(LOOK_MILLIS)));
     let _outcome = stream.set_write_timeout(Some(Duration::from_secs(WRITE_SECONDS)));
@@ -88,7 +91,7 @@ where
         if !following.read(&rt, alloc, gateway)? {
             return Ok(());
         }
-        following.show(&rt, alloc, gateway);
+        following.show(&rt, alloc, gateway, path);
         let Ok(spent) = round.elapsed(&rt) else {
             return Ok(());
         };
@@ -201,8 +204,12 @@ impl Following {
         }
     }
 
-    /// Shows the picture once it is whole, and tells what may have changed of one that is shown.
-    fn show<R: Clock + Wait>(&mut self, rt: &R, alloc: Global, gateway: &Gateway) {
+    /// Shows the picture once it is whole, tells what may have changed of one that is shown, and puts out whoever
+    /// was shown out.
+    fn show<R>(&mut self, rt: &R, alloc: Global, gateway: &Gateway, path: &str)
+    where
+        R: Net<Listener = TcpListener, Stream = TcpStream> + Clock + Wait,
+    {
         let is_whole = match &self.fresh {
             Some(follower) => follower.is_whole(),
             None => false,
@@ -215,6 +222,7 @@ impl Following {
         }
         if self.fresh.is_none() && !self.changed.is_empty() {
             tell_all(rt, gateway, &self.changed);
+            put_out(rt, alloc, gateway, path, &self.changed);
             self.changed = Changed::none(alloc);
         }
     }
@@ -224,6 +232,30 @@ impl Following {
         match &mut self.fresh {
             Some(follower) => follower.begin_round(),
             None => gateway.begin_round(rt),
+        }
+    }
+}
+
+/// Has the server end the connections of users who were shown out. Who isn't reached by it, for want of memory or
+/// of the server, is by the next round: the word for it stands.
+fn put_out<R>(rt: &R, alloc: Global, gateway: &Gateway, path: &str, changed: &Changed)
+where
+    R: Net<Listener = TcpListener, Stream = TcpStream> + Clock + Wait,
+{
+    let Ok(all) = gateway.leaving(rt, changed) else {
+        return;
+    };
+    for one in all {
+        let Leaving {
+            conference,
+            user,
+            n,
+        } = one;
+        if let Ok(line) = format!(in alloc; "leave {conference} {n}\n") {
+            if let Ok(Some(answer)) = order::asked(rt, alloc, path, line.as_str()) {
+                let place = Place { conference, user };
+                gateway.tell(rt, &Entry::PutOut(place, answer.as_str().trim()));
+            }
         }
     }
 }

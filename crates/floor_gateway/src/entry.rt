@@ -17,10 +17,29 @@ pub enum Entry<'a> {
     NoServer(Place),
     /// A request was refused.
     Refused(Refusal),
-    /// The operator's page has ordered this line of the control socket, which was answered so.
-    Ordered { line: &'a str, answer: &'a str },
+    /// Somebody has ordered this, which was answered so.
+    Ordered {
+        who: Orderer,
+        what: &'a str,
+        answer: &'a str,
+    },
+    /// A connection of a user's who was shown out was ended at the server, which answered so.
+    PutOut(Place, &'a str),
     /// A connection isn't answered.
     Unserved(Unserved),
+}
+
+/// Who orders something.
+#[derive(Clone, Copy, Debug)]
+pub enum Orderer {
+    /// Whoever has the operator's token.
+    Operator,
+    /// Whoever has the observer's, and may order nothing.
+    Observer,
+    /// A user of a conference.
+    User(Place),
+    /// Whoever has the link for guests of this conference.
+    Guest(u32),
 }
 
 /// Who takes part: a user of a conference.
@@ -56,8 +75,22 @@ impl Entry<'_> {
                 let (conference, user) = (place.conference, place.user);
                 format!(in alloc; "no server for conference {conference} user {user}")
             }
-            Entry::Ordered { line, answer } => {
-                format!(in alloc; "operator ordered {line}: {answer}")
+            Entry::Ordered { who, what, answer } => match who {
+                Orderer::Operator => format!(in alloc; "operator ordered {what}: {answer}"),
+                Orderer::Observer => format!(in alloc; "observer ordered {what}: {answer}"),
+                Orderer::User(place) => {
+                    let (conference, user) = (place.conference, place.user);
+                    format!(in alloc;
+                        "conference {conference} user {user} ordered {what}: {answer}"
+                    )
+                }
+                Orderer::Guest(conference) => {
+                    format!(in alloc; "conference {conference} guest ordered {what}: {answer}")
+                }
+            },
+            Entry::PutOut(place, answer) => {
+                let (conference, user) = (place.conference, place.user);
+                format!(in alloc; "put out conference {conference} user {user}: {answer}")
             }
             Entry::Refused(refusal) => format!(in alloc; "refused {}", refusal.status()),
             Entry::Unserved(unserved) => format!(in alloc; "unserved {}", unserved.name()),

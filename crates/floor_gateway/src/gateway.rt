@@ -6,12 +6,13 @@ use crate::listener::{Changed, Listener};
 use crate::pair::Pair;
 use crate::under_way::{MAX_UNDER_WAY, UnderWay};
 use crate::words::Words;
-use floor_follow::{Fact, FollowFault, Follower, Phase, Question, Told};
+use floor_follow::{Conference, Fact, FollowFault, Follower, Phase, Question, Told};
 use floor_listen::{Capacity, Granted, Taken};
 use floor_log::Log;
 use floor_web::{
-    File, Holder, NoPlace, Origins, Pages, Participants, ParticipantsFault, Places, Titles, bearer,
-    is_strong_token, kind_of, read_participants, read_titles,
+    Admission, File, Holder, NoPlace, Order, OrderFault, Origins, Pages, Participants,
+    ParticipantsFault, Places, Titles, admission_of, bearer, guest_of, is_invitation,
+    is_strong_token, join, kind_of, put_out, read_participants, read_titles, refusal_of,
 };
 use slab::Slab;
 use std::alloc::{AllocError, AllocFailed, Global};
@@ -26,6 +27,9 @@ use std::time::Clock;
 
 /// How many connections the operator's pages may have at once, and orders be done: they have places of their own.
 const OPERATORS: usize = 16;
+
+/// How many orders of users may be done at once.
+const ORDERS: usize = 16;
 
 /// How many tokens that nobody has are looked up at once, until they may be known.
 const LOOK_UPS: usize = 64;
@@ -62,6 +66,8 @@ pub struct Gateway {
     places: Mutex<Places>,
     /// Those of the operator.
     operators: Mutex<Capacity>,
+    /// Orders of users that are being done.
+    orders: Mutex<Capacity>,
     look_ups: Mutex<Capacity>,
     is_ending: AtomicBool,
     pairs: Mutex<Slab<Arc<Pair, Global>>>,
@@ -76,6 +82,24 @@ pub struct Seat {
     pub port: Option<u16>,
     /// Whether the conference is known to run no more.
     pub is_ended: bool,
+    /// Whether the user is let in.
+    pub admission: Admission,
+}
+
+/// Whom a token stands for, be it a user's or that of a link for guests.
+#[derive(Clone, Copy, Debug)]
+pub enum Whom {
+    User(Seat),
+    /// Whoever has the link may join this conference.
+    Guest(u32),
+}
+
+/// A connection to the server that is to be ended, since its user was shown out.
+#[derive(Clone, Copy, Debug)]
+pub struct Leaving {
+    pub conference: u32,
+    pub user: u16,
+    pub n: u32,
 }
 
 /// What somebody may do at the operator's page.
@@ -154,6 +178,7 @@ impl Gateway {
             under_way: Mutex::new(UnderWay::new(alloc)),
             places: Mutex::new(Places::new(alloc, usize::from(connections))),
             operators: Mutex::new(Capacity::new(OPERATORS)),
+            orders: Mutex::new(Capacity::new(ORDERS)),
             look_ups: Mutex::new(Capacity::new(LOOK_UPS)),
             is_ending: AtomicBool::new(false),
             pairs: Mutex::new(Slab::new(alloc)),
@@ -219,6 +244,16 @@ impl Gateway {
     /// Gives it back.
     pub fn leave_operator<R: Wait>(&self, rt: &R, place: Taken) {
         self.operators.lock(rt).give_back(place);
+    }
+
+    /// Lets an order of a user's be done, if one more may be.
+    pub fn enter_order<R: Wait>(&self, rt: &R) -> Option<Granted> {
+        self.orders.lock(rt).take()
+    }
+
+    /// It is done.
+    pub fn leave_order<R: Wait>(&self, rt: &R, place: Taken) {
+        self.orders.lock(rt).give_back(place);
     }
 
     /// Lets a token be looked up that nobody has yet, if one more may be.
@@ -362,8 +397,92 @@ impl Gateway {
                 user,
                 port,
                 is_ended: false,
+                admission: Admission::Admitted,
             }),
         }
+    }
+
+    /// Whom a token stands for: a user, else whoever may join by it.
+    pub fn whom<R: Wait>(&self, rt: &R, token: &[u8]) -> Option<Whom> {
+        if let Some(seat) = self.seat(rt, token) {
+            return Some(Whom::User(seat));
+        }
+        let picture = self.picture.lock(rt);
+        let Some(follower) = &*picture else {
+            return None;
+        };
+        for conference in follower.conferences() {
+            if is_invitation(conference, token) {
+                return Some(Whom::Guest(conference.number));
+            }
+        }
+        None
+    }
+
+    /// What the page of whoever may join a conference is told; `None` where nothing is known of it.
+    pub fn welcome<R: Wait>(&self, rt: &R, number: u32) -> Result<Option<String>, AllocError> {
+        let picture = self.picture.lock(rt);
+        let Some(follower) = &*picture else {
+            return Ok(None);
+        };
+        match follower.conference(number) {
+            Some(conference) => Ok(Some(guest_of(self.alloc, conference, &self.titles)?)),
+            None => Ok(None),
+        }
+    }
+
+    /// Whether a token stands for anybody.
+    pub fn is_taken<R: Wait>(&self, rt: &R, token: &[u8]) -> bool {
+        self.role(token).is_some() || self.whom(rt, token).is_some()
+    }
+
+    /// Why a user's order isn't followed, by what is known of the conference.
+    pub fn refusal<R: Wait>(&self, rt: &R, seat: &Seat, order: Order<'_>) -> Option<OrderFault> {
+        // What is known may be of a server that is there no more.
+        if self.is_lost() {
+            return Some(OrderFault::NoAnswer);
+        }
+        match &*self.picture.lock(rt) {
+            Some(follower) => match follower.conference(seat.conference) {
+                Some(conference) => refusal_of(conference, seat.user, order),
+                None => Some(OrderFault::NotChair),
+            },
+            None => Some(OrderFault::NotChair),
+        }
+    }
+
+    /// The User ID by which somebody with this token is added first to a conference, or why nobody is.
+    pub fn first_guest<R: Wait>(
+        &self,
+        rt: &R,
+        number: u32,
+        token: &[u8],
+    ) -> Result<u16, OrderFault> {
+        if self.is_lost() {
+            return Err(OrderFault::NoAnswer);
+        }
+        match &*self.picture.lock(rt) {
+            Some(follower) => match follower.conference(number) {
+                Some(conference) => join(conference, token),
+                None => Err(OrderFault::Locked),
+            },
+            None => Err(OrderFault::Locked),
+        }
+    }
+
+    /// The connections of users who were shown out, of conferences that may have changed.
+    pub fn leaving<R: Wait>(&self, rt: &R, changed: &Changed) -> Result<Vec<Leaving>, AllocError> {
+        let mut all = Vec::new(self.alloc);
+        let picture = self.picture.lock(rt);
+        let Some(follower) = &*picture else {
+            return Ok(all);
+        };
+        for conference in follower.conferences() {
+            if changed.has(conference.number) {
+                add_leaving(&mut all, conference)?;
+            }
+        }
+        Ok(all)
     }
 
     /// A user's seat by what is known of the conference. While the control socket is lost none is known to
@@ -374,6 +493,7 @@ impl Gateway {
             user,
             port,
             is_ended: !self.is_lost(),
+            admission: Admission::Admitted,
         };
         let Some(conference) = follower.conference(number) else {
             return seat;
@@ -381,6 +501,7 @@ impl Gateway {
         if conference.phase == Phase::Running {
             seat.is_ended = false;
         }
+        seat.admission = admission_of(conference, user);
         for fact in conference.facts.as_slice() {
             match fact {
                 Fact::User(person) if person.id == user && seat.port.is_none() => {
@@ -404,6 +525,25 @@ impl Gateway {
     pub fn is_ending(&self) -> bool {
         self.is_ending.load(Ordering::SeqCst)
     }
+}
+
+/// Adds the connections of users of a conference who were shown out.
+fn add_leaving(all: &mut Vec<Leaving>, conference: &Conference) -> Result<(), AllocError> {
+    for fact in conference.facts.as_slice() {
+        match fact {
+            Fact::Member(member) => {
+                if let Some(n) = put_out(conference, fact) {
+                    all.push(Leaving {
+                        conference: conference.number,
+                        user: member.user,
+                        n,
+                    })?;
+                }
+            }
+            _ => {}
+        }
+    }
+    Ok(())
 }
 
 /// Whether this is the token, where there is one.

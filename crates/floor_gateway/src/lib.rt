@@ -17,6 +17,7 @@ mod head;
 mod listener;
 mod network;
 mod order;
+mod ordering;
 mod pair;
 mod reset;
 mod running;

@@ -1,9 +1,10 @@
 //! What the operator's page has done: a line of the control socket, asked by a client of its own.
 
 ghost use Rattle.std.specs.Prelude.{◌≡◌, IfOk, map, option_map, string_bytes};
-ghost use Rattle.floor_gateway.specs.Order.{close_line, leave_line, line_of, of_words, revoke_line, three_words, two_words};
+ghost use Rattle.floor_gateway.specs.Order.{close_line, in_line, line_of, of_words, out_line, revoke_line, three_words, two_words};
 
 use floor_follow::{Lines, NextLine};
+use floor_web::{let_in_line, show_out_line};
 use floor_words::{read_u16, read_u32, words};
 use std::alloc::{AllocError, Global};
 use std::io::{Read, Write};
@@ -17,7 +18,7 @@ const ANSWER_SECONDS: u64 = 10;
 /// How many reads an answer may take at most.
 const READS: u32 = 64;
 
-/// The line of an order: `close <c>`, `revoke <c> <r>` or `leave <c> <n>`; `None` where it is none of these.
+/// The line of an order: `close <c>`, `revoke <c> <r>`, `out <c> <u>` or `in <c> <u>`; `None` where it is none of these.
 pub fn line_of(alloc: Global, order: &str) -> Result<Option<String>, AllocError>
     ensures value { IfOk result (λ line. option_map string_bytes line ≡ line_of order.now) }
 {
@@ -58,8 +59,10 @@ fn of_three_words(
 {
     if name == "revoke" {
         revoke_line(alloc, conference, other)
-    } else if name == "leave" {
-        leave_line(alloc, conference, other)
+    } else if name == "out" {
+        out_line(alloc, conference, other)
+    } else if name == "in" {
+        in_line(alloc, conference, other)
     } else {
         Ok(None)
     }
@@ -84,12 +87,22 @@ fn revoke_line(alloc: Global, conference: &str, request: &str) -> Result<Option<
     }
 }
 
-fn leave_line(alloc: Global, conference: &str, n: &str) -> Result<Option<String>, AllocError>
+fn out_line(alloc: Global, conference: &str, user: &str) -> Result<Option<String>, AllocError>
     ensures value { IfOk result (λ line. option_map string_bytes line
-        ≡ leave_line conference.now n.now) }
+        ≡ out_line conference.now user.now) }
 {
-    match (read_u32(conference), read_u32(n)) {
-        (Some(c), Some(n)) => Ok(Some(format!(in alloc; "leave {c} {n}\n")?)),
+    match (read_u32(conference), read_u16(user)) {
+        (Some(c), Some(user)) => Ok(Some(show_out_line(alloc, c, user)?)),
+        _ => Ok(None),
+    }
+}
+
+fn in_line(alloc: Global, conference: &str, user: &str) -> Result<Option<String>, AllocError>
+    ensures value { IfOk result (λ line. option_map string_bytes line
+        ≡ in_line conference.now user.now) }
+{
+    match (read_u32(conference), read_u16(user)) {
+        (Some(c), Some(user)) => Ok(Some(let_in_line(alloc, c, user)?)),
         _ => Ok(None),
     }
 }

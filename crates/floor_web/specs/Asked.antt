@@ -7,17 +7,19 @@ use Rattle.floor_web.specs.declared.refusal.Refusal.{Refusal}
 use Rattle.floor_web.specs.declared.refusal.Refusal.TheVariants.{BadRequest, Forbidden, MethodNotAllowed, UpgradeRequired}
 use Rattle.floor_web.specs.declared.asked.Asked.{Asked}
 use Rattle.floor_web.specs.declared.asked.Asked.TheVariants.{Page, Told, Order, Bfcp}
+use Rattle.floor_web.specs.declared.asked.Giver.{Giver}
+use Rattle.floor_web.specs.declared.asked.Giver.TheVariants as By
 use Rattle.floor_web.specs.declared.asked.Source.{Source}
 use Rattle.floor_web.specs.declared.asked.Source.TheVariants.{Meeting, Live, Operator}
 use Rattle.floor_web.specs.Fields.{values_of, only, words, has_word, behind, offers}
 use Rattle.floor_web.specs.Origins.{allows}
 
 -- what a request asks for: a file of the page by its name, or what whoever has this token is told of a source, each with its body or
--- without; that something be done, by whoever has this token; or a WebSocket for the user with this token, under the key of its handshake
+-- without; that something be done, as the operator's or a user's order, by whoever has this token; or a WebSocket for the user with this token, under the key of its handshake
 pub data Wanted : Type 0 where
   page : List ℕ → Bool → Wanted
   told : Source → List ℕ → Bool → Wanted
-  order : (token order : List ℕ) → Wanted
+  order : Giver → (token order : List ℕ) → Wanted
   socket : (token key : List ℕ) → Wanted
 
 -- what follows where nothing is refused
@@ -132,33 +134,44 @@ with_host listed fields target is_head (Some host) =
 -- ---- by POST
 
 -- the order that stands in the field Order, for whoever has the token behind `Bearer `
-abbrev pub ordered_in : Result (Option (List ℕ)) Refusal → Fields → Result Wanted Refusal
-ordered_in (Ok (Some text)) fields = Ok (order (bearer_of (values_of fields (codes "Authorization"))) text)
-ordered_in (Ok None) fields = Err BadRequest
-ordered_in (Err e) fields = Err e
+abbrev pub ordered_in : Giver → Result (Option (List ℕ)) Refusal → Fields → Result Wanted Refusal
+ordered_in giver (Ok (Some text)) fields = Ok (order giver (bearer_of (values_of fields (codes "Authorization"))) text)
+ordered_in giver (Ok None) fields = Err BadRequest
+ordered_in giver (Err e) fields = Err e
 
-abbrev pub ordered : Fields → Result Wanted Refusal
-ordered fields = ordered_in (only (values_of fields (codes "Order"))) fields
+abbrev pub ordered : Giver → Fields → Result Wanted Refusal
+ordered giver fields = ordered_in giver (only (values_of fields (codes "Order"))) fields
 
 -- without a body
-abbrev pub with_length : Result (Option (List ℕ)) Refusal → Fields → Result Wanted Refusal
-with_length (Ok None) fields = ordered fields
-with_length (Ok (Some length)) fields = if bytes_eq length (codes "0") then ordered fields else Err BadRequest
-with_length (Err e) fields = Err e
+abbrev pub with_length : Giver → Result (Option (List ℕ)) Refusal → Fields → Result Wanted Refusal
+with_length giver (Ok None) fields = ordered giver fields
+with_length giver (Ok (Some length)) fields = if bytes_eq length (codes "0") then ordered giver fields else Err BadRequest
+with_length giver (Err e) fields = Err e
 
-abbrev pub without_body : Fields → Result Wanted Refusal
-without_body fields =
-    if has_field fields (codes "Transfer-Encoding") then Err BadRequest else with_length (only (values_of fields (codes "Content-Length"))) fields
+abbrev pub without_body : Giver → Fields → Result Wanted Refusal
+without_body giver fields =
+    if has_field fields (codes "Transfer-Encoding") then Err BadRequest
+    else with_length giver (only (values_of fields (codes "Content-Length"))) fields
 
 -- one Host
-abbrev pub posted_to : Fields → Option (List ℕ) → Result Wanted Refusal
-posted_to fields None = Err BadRequest
-posted_to fields (Some host) = without_body fields
+abbrev pub posted_to : Giver → Fields → Option (List ℕ) → Result Wanted Refusal
+posted_to giver fields None = Err BadRequest
+posted_to giver fields (Some host) = without_body giver fields
 
--- an order of the operator's
+-- whose orders are given at a path
+abbrev pub giver_of : (path : List ℕ) → Option Giver
+giver_of path =
+    if bytes_eq path (codes "/operator/order") then Some By.Operator
+    else if bytes_eq path (codes "/order") then Some By.User
+    else None
+
+abbrev pub posted_by : Option Giver → Fields → Result Wanted Refusal
+posted_by (Some giver) fields = after (only (values_of fields (codes "Host"))) (posted_to giver fields)
+posted_by None fields = Err MethodNotAllowed
+
+-- an order
 abbrev pub posted : Fields → (path : List ℕ) → Result Wanted Refusal
-posted fields path =
-    if bytes_eq path (codes "/operator/order") then after (only (values_of fields (codes "Host"))) (posted_to fields) else Err MethodNotAllowed
+posted fields path = posted_by (giver_of path) fields
 
 -- the order: the method, one Host, no body, and then what its path asks for; what stands behind a `?` isn't looked at
 abbrev pub asked : List (List ℕ) → (method target : List ℕ) → Fields → Result Wanted Refusal
@@ -173,7 +186,7 @@ abbrev pub Answers : Result Wanted Refusal → Result Asked Refusal → Type 0
 Answers (Err e) answer = answer ≡ Err e
 Answers (Ok (page name is_head)) (Ok (Page n h)) = (n.now ≡ name) × (h ≡ is_head)
 Answers (Ok (told source token is_head)) (Ok (Told s t h)) = (s ≡ source) × (t.now ≡ token) × (h ≡ is_head)
-Answers (Ok (order token text)) (Ok (Order t o)) = (t.now ≡ token) × (o.now ≡ text)
+Answers (Ok (order giver token text)) (Ok (Order g t o)) = (g ≡ giver) × (t.now ≡ token) × (o.now ≡ text)
 Answers (Ok (socket token key)) (Err e) = (e ≡ BadRequest) × ¬ (IsValidKey key)
 Answers (Ok (socket token key)) (Ok (Bfcp t accept)) = (t.now ≡ token) × IsValidKey key × (accept ≡ accept_key_of key)
 Answers _ _ = ⊥

@@ -1,17 +1,17 @@
 -- Whom a token stands for by the words that are kept beside a conference.
-use Rattle.std.specs.Prelude.{ℕ, ◌==◌, ◌^◌, Bool, List, bytes_eq, codes, find, is_some, option_and_then, Option, Some, None, if◌then◌else◌}
-use Rattle.std.specs.List.{after_first, before_first}
-use Rattle.floor_words.specs.Words.{number}
+use Rattle.std.specs.Prelude.{ℕ, List, bytes_eq, codes, find, is_some, option_and_then, Option, Some, None, if◌then◌else◌}
 use Rattle.floor_follow.specs.declared.fact.Fact.{Fact}
 use Rattle.floor_follow.specs.declared.fact.Fact.TheVariants.{User, Floor, Request, Reason, Member, Word}
+use Rattle.floor_web.specs.Admission.{user_behind}
 use Rattle.floor_web.specs.Participants.{is_strong}
 
-abbrev pub is_dot : ℕ → Bool
-is_dot b = b == 46
+abbrev pub or_guest : Option ℕ → (key : List ℕ) → Option ℕ
+or_guest (Some user) key = Some user
+or_guest None key = user_behind (codes "guest") key
 
--- the user of a word's key: `token.` and the User ID
+-- the user of a word's key: `token.` and the User ID; `guest.` and the User ID of one who has joined by a link for all
 abbrev pub user_of_key : List ℕ → Option ℕ
-user_of_key key = if bytes_eq (before_first is_dot key) (codes "token") then number (2 ^ 16) (after_first is_dot key) else None
+user_of_key key = or_guest (user_behind (codes "token") key) key
 
 -- the user whose token a fact says this to be
 abbrev pub user_of_token : List ℕ → Fact → Option ℕ

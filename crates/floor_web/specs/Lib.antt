@@ -10,7 +10,9 @@ pub mod Head
 pub mod Kinds
 pub mod Replies
 pub mod Participants
+pub mod Admission
 pub mod Bearer
+pub mod Orders
 pub mod Places
 -- the steps of the proofs
 pub mod steps

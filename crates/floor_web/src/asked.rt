@@ -9,6 +9,7 @@
 //! | `/operator` | the operator's page |
 //! | `/operator/live` | how all conferences stand, and again what changes; the operator's token stands in Authorization |
 //! | `/operator/order`, by POST | that what stands in the field Order be done; the operator's token stands in Authorization |
+//! | `/order`, by POST | the same; the token is a user's, or that of a link for guests |
 //! | `/bfcp/TOKEN` | a WebSocket for the user with the token |
 //! | `/bfcp` | the same; the token is offered beside the subprotocol, as `bfcp, token.TOKEN` |
 
@@ -37,6 +38,15 @@ pub enum Source {
     Operator,
 }
 
+/// Whose an order is.
+#[derive(Clone, Copy, Debug, PartialEq, Eq)]
+pub enum Giver {
+    /// The operator's.
+    Operator,
+    /// A user's, or a guest's who wants to become one.
+    User,
+}
+
 /// What a request asks for.
 #[derive(Clone, Copy, Debug, PartialEq, Eq)]
 pub enum Asked<'a> {
@@ -51,8 +61,9 @@ pub enum Asked<'a> {
         token: &'a [u8],
         is_head: bool,
     },
-    /// That something be done, by whoever has the operator's token.
+    /// That something be done, by whoever has the token.
     Order {
+        giver: Giver,
         token: &'a [u8],
         order: &'a [u8],
     },
@@ -89,43 +100,61 @@ pub(crate) fn asked_by<'a>(
     }
 }
 
-/// What a request asks for by POST: an order of the operator's, which has no body.
+/// What a request asks for by POST: an order, which has no body.
 fn posted<'a>(head: &'a [u8], spans: &[HeaderSpan], path: &[u8]) -> Result<Asked<'a>, Refusal>
     requires within { All (IsHeaderWithin (length head.now)) spans.now }
     ensures value { spec.Answers (spec.posted (fields_of head.now spans.now) path.now) result }
 {
-    if path != b"/operator/order".as_slice() {
+    let Some(giver) = giver_of(path) else {
         return Err(Refusal::MethodNotAllowed);
-    }
+    };
     match only(head, spans, b"Host") {
-        Ok(Some(_)) => without_body(head, spans),
+        Ok(Some(_)) => without_body(giver, head, spans),
         Ok(None) => Err(Refusal::BadRequest),
         Err(refusal) => Err(refusal),
     }
 }
 
+/// Whose orders are given at a path.
+fn giver_of(path: &[u8]) -> Option<Giver>
+    ensures value { result ≡ spec.giver_of path.now }
+{
+    if path == b"/operator/order".as_slice() {
+        return Some(Giver::Operator);
+    }
+    if path == b"/order".as_slice() {
+        return Some(Giver::User);
+    }
+    None
+}
+
 /// The order, where no body follows.
-fn without_body<'a>(head: &'a [u8], spans: &[HeaderSpan]) -> Result<Asked<'a>, Refusal>
+fn without_body<'a>(
+    giver: Giver,
+    head: &'a [u8],
+    spans: &[HeaderSpan],
+) -> Result<Asked<'a>, Refusal>
     requires within { All (IsHeaderWithin (length head.now)) spans.now }
-    ensures value { spec.Answers (spec.without_body (fields_of head.now spans.now)) result }
+    ensures value { spec.Answers (spec.without_body giver (fields_of head.now spans.now)) result }
 {
     if has_field(head, spans, b"Transfer-Encoding") {
         return Err(Refusal::BadRequest);
     }
     match only(head, spans, b"Content-Length") {
         Ok(Some(length)) if length != b"0".as_slice() => Err(Refusal::BadRequest),
-        Ok(_) => ordered(head, spans),
+        Ok(_) => ordered(giver, head, spans),
         Err(refusal) => Err(refusal),
     }
 }
 
 /// The order that stands in the field Order.
-fn ordered<'a>(head: &'a [u8], spans: &[HeaderSpan]) -> Result<Asked<'a>, Refusal>
+fn ordered<'a>(giver: Giver, head: &'a [u8], spans: &[HeaderSpan]) -> Result<Asked<'a>, Refusal>
     requires within { All (IsHeaderWithin (length head.now)) spans.now }
-    ensures value { spec.Answers (spec.ordered (fields_of head.now spans.now)) result }
+    ensures value { spec.Answers (spec.ordered giver (fields_of head.now spans.now)) result }
 {
     match only(head, spans, b"Order") {
         Ok(Some(order)) => Ok(Asked::Order {
+            giver,
             token: token_borne(head, spans, b"Authorization"),
             order,
         }),

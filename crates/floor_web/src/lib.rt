@@ -7,12 +7,14 @@
 //! reading the files.
 #![tactic(auto)]
 
+mod admission;
 mod asked;
 mod end;
 mod fields;
 mod head;
 mod hear;
 mod meeting;
+mod order;
 mod origins;
 mod pages;
 mod participants;
@@ -23,15 +25,20 @@ mod relay;
 mod reply;
 mod titles;
 
-pub use asked::{Asked, Source};
+pub use admission::{Admission, admission_of, is_chair, is_invitation, put_out};
+pub use asked::{Asked, Giver, Source};
 pub use end::End;
 pub use head::{MAX_FIELDS, MAX_HEAD_LEN, Reading, last_value, read_request};
+pub use order::{
+    Joining, MAX_NAME_LEN, MAX_USERS_WITH_GUESTS, Order, OrderFault, guest_line, join, let_in_line,
+    line_of, read_joining, read_name, read_order, refusal_of, show_out_line, token_line,
+};
 pub use origins::Origins;
 pub use pages::{File, Kind, Pages, kind_of};
 pub use participants::{
     Participant, Participants, ParticipantsFault, is_strong_token, read_participants,
 };
-pub use picture::{bearer, meeting_of, overview_of};
+pub use picture::{bearer, guest_of, meeting_of, overview_of};
 pub use places::{Holder, MAX_OF_NETWORK, MAX_OF_USER, NoPlace, Places};
 pub use refusal::Refusal;
 pub use relay::{MAX_MESSAGE_LEN, Relay, Side};

@@ -11,10 +11,14 @@
 //! | `priorities` | `chair` where the page is to offer nobody but a chair a priority above normal |
 //! | `grace` | for how many seconds the server keeps the place of whoever is lost: 1 to 65,535 |
 //! | `limit.2` | for how many seconds one should have floor 2: 1 to 65,535 |
+//! | `guest.60000` | the token of user 60000, who has joined by the link for all |
+//!
+//! [`admission`](crate::admission) has those by which a chair says who is let in.
 
 ghost use Rattle.std.specs.Prelude.{◌≡◌, find, is_some, option_copied};
 ghost use Rattle.floor_web.specs.Bearer as spec;
 
+use crate::admission::{Admission, admission_of, is_chair, is_shut, user_behind};
 use crate::participants::is_strong_token;
 use crate::titles::Titles;
 use floor_follow::{Conference, Fact, Octets, Person, Phase, RequestStatus};
@@ -33,8 +37,30 @@ struct Meeting<'a> {
     ended: bool,
     grace: Option<u16>,
     priorities: &'a str,
+    /// Whether nobody new is let in.
+    locked: bool,
+    /// The token of the link for guests, which only a chair is told; empty where there is none.
+    guests: &'a str,
     floors: Vec<ShownFloor<'a>>,
     users: Vec<ShownParticipant<'a>>,
+}
+
+/// What a page is told whose user isn't let in.
+#[derive(Drop, Serialize)]
+struct NotAdmitted<'a> {
+    conference: u32,
+    title: &'a str,
+    refused: &'static str,
+}
+
+/// What the page of somebody is told who has the link for guests.
+#[derive(Drop, Serialize)]
+struct Welcome<'a> {
+    conference: u32,
+    title: &'a str,
+    guest: bool,
+    locked: bool,
+    ended: bool,
 }
 
 /// A floor, with how many hold it at once.
@@ -53,15 +79,18 @@ struct ShownFloor<'a> {
 struct ShownUser<'a> {
     id: u16,
     name: &'a str,
+    out: bool,
 }
 
 /// A user of the conference, and how a page is told whether the user is in it: `here`, `away` (the connection is
-/// lost, and the place is kept) or `gone`.
+/// lost, and the place is kept) or `gone`; whether the user has joined by the link for guests, and was shown out.
 #[derive(Drop, Serialize)]
 struct ShownParticipant<'a> {
     id: u16,
     name: &'a str,
     presence: &'static str,
+    guest: bool,
+    out: bool,
 }
 
 /// What the operator's page is told.
@@ -71,6 +100,7 @@ struct Overview<'a> {
     title: &'a str,
     phase: &'static str,
     events: u64,
+    locked: bool,
     floors: Vec<ShownFloor<'a>>,
     users: Vec<ShownUser<'a>>,
     members: Vec<ShownMember>,
@@ -145,17 +175,17 @@ fn user_of_token(fact: &Fact, token: &[u8]) -> Option<u16>
     }
 }
 
-/// The user of a word's key, `token.` and the User ID.
+/// The user of a word's key, `token.` or `guest.` and the User ID.
 fn user_of_key(key: &str) -> Option<u16>
     ensures value { result ≡ spec.user_of_key key.now }
 {
-    match key.split_once('.') {
-        Some((name, number)) if name == "token" => read_u16(number),
-        _ => None,
+    match user_behind("token", key) {
+        Some(user) => Some(user),
+        None => user_behind("guest", key),
     }
 }
 
-/// What the page of a user is told of a conference; `None` where it has no such user.
+/// What the page of a user is told of a conference, or that the user isn't let in; `None` where it has no such user.
 pub fn meeting_of(
     alloc: Global,
     conference: &Conference,
@@ -164,6 +194,24 @@ pub fn meeting_of(
 ) -> Result<Option<String>, AllocError> {
     let Some(person) = person_of(conference, user) else {
         return Ok(None);
+    };
+    let refused = match admission_of(conference, user) {
+        Admission::Admitted => "",
+        Admission::ShownOut => "out",
+        Admission::Locked => "locked",
+    };
+    if !refused.is_empty() {
+        let told = NotAdmitted {
+            conference: conference.number,
+            title: title_of(alloc, conference, None, titles)?,
+            refused,
+        };
+        return written(serde_json::to_string(alloc, &told)).map(Some);
+    }
+    let guests = if is_chair(conference, user) {
+        value_of(conference, "guests").unwrap_or("")
+    } else {
+        ""
     };
     let meeting = Meeting {
         conference: conference.number,
@@ -174,11 +222,34 @@ pub fn meeting_of(
         ended: conference.phase != Phase::Running,
         grace: read_seconds(value_of(conference, "grace").unwrap_or("")),
         priorities: value_of(conference, "priorities").unwrap_or(""),
+        locked: is_shut(conference),
+        guests,
         floors: floors_of(alloc, conference, titles)?,
         users: participants_of(alloc, conference)?,
     };
-    match serde_json::to_string(alloc, &meeting) {
-        Ok(text) => Ok(Some(text)),
+    written(serde_json::to_string(alloc, &meeting)).map(Some)
+}
+
+/// What the page of somebody is told who has the link for guests.
+pub fn guest_of(
+    alloc: Global,
+    conference: &Conference,
+    titles: &Titles,
+) -> Result<String, AllocError> {
+    let welcome = Welcome {
+        conference: conference.number,
+        title: title_of(alloc, conference, None, titles)?,
+        guest: true,
+        locked: is_shut(conference),
+        ended: conference.phase != Phase::Running,
+    };
+    written(serde_json::to_string(alloc, &welcome))
+}
+
+/// What was written; only memory can have been refused.
+fn written(text: Result<String, serde_json::Error>) -> Result<String, AllocError> {
+    match text {
+        Ok(text) => Ok(text),
         Err(_) => Err(AllocError),
     }
 }
@@ -194,16 +265,14 @@ pub fn overview_of<'a>(
         title: title_of(alloc, conference, None, titles)?,
         phase: conference.phase.name(),
         events: conference.events,
+        locked: is_shut(conference),
         floors: floors_of(alloc, conference, titles)?,
         users: users_of(alloc, conference)?,
         members: members_of(alloc, conference)?,
         requests: requests_of(alloc, conference)?,
         reasons: reasons_of(alloc, conference)?,
     };
-    match serde_json::to_string(alloc, &overview) {
-        Ok(text) => Ok(text),
-        Err(_) => Err(AllocError),
-    }
+    written(serde_json::to_string(alloc, &overview))
 }
 
 fn person_of(conference: &Conference, user: u16) -> Option<&Person> {
@@ -247,6 +316,7 @@ fn users_of<'a>(
             users.push(ShownUser {
                 id: person.id,
                 name: text_of(&person.name),
+                out: has_word(conference, "out", person.id),
             })?;
         }
     }
@@ -264,10 +334,23 @@ fn participants_of<'a>(
                 id: person.id,
                 name: text_of(&person.name),
                 presence: presence_of(conference, person.id),
+                guest: has_word(conference, "guest", person.id),
+                out: has_word(conference, "out", person.id),
             })?;
         }
     }
     Ok(users)
+}
+
+/// Whether a word is about this user, by this name.
+fn has_word(conference: &Conference, name: &str, user: u16) -> bool {
+    for fact in conference.facts.as_slice() {
+        match fact {
+            Fact::Word(word) if user_behind(name, word.key.as_str()) == Some(user) => return true,
+            _ => {}
+        }
+    }
+    false
 }
 
 /// Whether a user is in the conference: one who has a connection that isn't lost is.

@@ -4,6 +4,8 @@ import { isolate } from "./bidi.js";
 import { makeCard, showFloor, showRule } from "./card.js";
 import { prepareChair, pressChairsKey } from "./chair.js";
 import { showTimes } from "./entries.js";
+import { askName } from "./guest.js";
+import { prepareInvite, showInvite } from "./invite.js";
 import { followMeeting } from "./live.js";
 import { awaitHand, isInSight, settleHand, showMine, showOutcome } from "./mine.js";
 import { noteHolders, prepareMinutes } from "./minutes.js";
@@ -18,6 +20,8 @@ const $ = (id) => document.getElementById(id);
 
 /** One's own requests as they stood last, by number. */
 const own = new Map();
+/** Why somebody isn't let in. */
+const ADMITTANCE = ["out", "locked"];
 /** When the connection was lost, while it is. */
 let lostAt;
 
@@ -31,12 +35,16 @@ async function start() {
   addEventListener("hashchange", () => location.reload());
   const token = location.hash.slice(1);
   if (!token) return stop("noLink");
-  room.meeting = await load(token);
-  if (!room.meeting) return;
+  const meeting = await load(token);
+  if (!meeting) return;
+  if (meeting.guest) return askName(token, meeting);
+  if (meeting.refused) return wait(token, meeting);
+  room.meeting = meeting;
   prepareMeeting();
   prepareChair();
   prepareMinutes();
   preparePeople();
+  prepareInvite();
   connect(token);
   followMeeting(token, takeMeeting);
 }
@@ -51,6 +59,13 @@ async function load(token) {
     // The gateway can't be reached.
   }
   return stop("unreachable", () => location.reload());
+}
+
+/** Says why its user isn't let in, and goes on by itself once that is otherwise. */
+function wait(token, { title, conference, refused }) {
+  $("title").textContent = title ? isolate(title) : texts.conference(conference);
+  stop(refused);
+  followMeeting(token, (meeting) => meeting.refused || meeting.ended || location.reload());
 }
 
 function stop(kind, again) {
@@ -93,17 +108,20 @@ function showMeeting() {
     }
   }
   showPeople();
+  showInvite();
 }
 
 /** Takes what is told of the meeting when it has changed. */
 function takeMeeting(meeting) {
-  if (meeting.ended) return room.session.finish();
+  if (meeting.ended) return room.session.finish("meeting");
+  if (meeting.refused) return room.session.finish(meeting.refused);
   const before = room.meeting.floors.length;
   room.meeting = meeting;
   showMeeting();
   if (meeting.floors.length !== before) room.session.watch(meeting);
   room.cards.forEach(showFloor);
   showTitle();
+  if (ADMITTANCE.includes(room.session.cause) && room.session.state === "ended") room.session.again();
 }
 
 function connect(token) {
@@ -194,7 +212,7 @@ async function leave() {
 
 function showState() {
   const { state, cause, seconds } = room.session;
-  setChip(cause === "left" && state === "ended" ? "left" : state, seconds);
+  setChip(state === "ended" && ["left", ...ADMITTANCE].includes(cause) ? cause : state, seconds);
   const wasOpen = document.body.classList.contains("open");
   document.body.classList.toggle("open", state === "open");
   $("leave").hidden = state === "ended";

@@ -23,8 +23,9 @@ export function makeCard(floor) {
   });
   part(".next").addEventListener("click", () => next(card));
   part(".lower").addEventListener("click", () => lowerAll(card));
-  part("[name=limit]").addEventListener("change", (event) => {
-    setLimit(card.floor, Number(event.target.value));
+  part("[name=limit]").addEventListener("change", async (event) => {
+    await setLimit(card.floor, Number(event.target.value));
+    fillLimits(part("[name=limit]"), card.floor);
     showTimes(card);
   });
   return card;

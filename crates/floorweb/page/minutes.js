@@ -1,5 +1,6 @@
 // The minutes of a meeting: who had which floor from when to when, with topics and reasons, and what its chair decided.
 
+import { isolate } from "./bidi.js";
 import { keep, recall } from "./kept.js";
 import { nameOf, plainTitleOf, floorOf, room, requestsOf } from "./room.js";
 import { tell, warn } from "./say.js";
@@ -88,12 +89,12 @@ function stamp(at) {
   return `${day} ${two(date.getHours())}:${two(date.getMinutes())}:${two(date.getSeconds())}`;
 }
 
-/** A record as a line of text. */
+/** A record as a line of text, in which a name or a topic turns nothing beside it. */
 function line(record) {
   const [from, to, floor, who, did, topic, reason] = row(record);
   const length = record.what === "had" && record.from !== null && record.to !== null ? ` (${clock((record.to - record.from) / 1000)})` : "";
   const span = record.what === "had" ? `${from}–${to}` : from;
-  return `${span} ${floor}: ${who} ${did}${length}${topic ? `, ${topic}` : ""}${reason ? `: ${reason}` : ""}`;
+  return `${span} ${isolate(floor)}: ${isolate(who)} ${did}${length}${topic ? `, ${isolate(topic)}` : ""}${reason ? `: ${isolate(reason)}` : ""}`;
 }
 
 async function copy() {

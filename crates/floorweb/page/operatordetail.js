@@ -50,7 +50,9 @@ export function showDetail(now) {
   part(".people").hidden = !isOpen;
   part(".people .count").textContent = now.members.length || "";
   part(".people .none").hidden = now.members.length > 0;
-  list(part(".people ul"), now.members, (one) => `n${one.n}`, (node, one) => showMember(node, now, one));
+  const isHere = (id) => now.members.some(({ user }) => user === id);
+  const out = now.users.filter((user) => user.out && !isHere(user.id)).map(({ id }) => ({ user: id, isOut: true }));
+  list(part(".people ul"), [...now.members, ...out], (one) => (one.isOut ? `u${one.user}` : `n${one.n}`), (node, one) => showMember(node, now, one));
   const floors = [...now.floors].sort((a, b) => a.id - b.id);
   list(part(".floors"), isOpen ? floors : [], (floor) => `f${floor.id}`, (node, floor) => showFloor(node, now, floor), "floor");
 }
@@ -76,9 +78,10 @@ function list(parent, items, keyOf, show, template = "entry") {
   }
 }
 
-function showMember(node, now, { n, user, away }) {
+function showMember(node, now, { user, away, isOut }) {
   const name = nameOf(now, user);
-  showEntry(node, name, away ? texts.away : "", "", texts.leave, texts.leaveOf(name), `leave ${now.conference} ${n}`);
+  if (isOut) return showEntry(node, name, texts.out, "", texts.letIn, texts.letInOf(name), `in ${now.conference} ${user}`);
+  showEntry(node, name, away ? texts.away : "", "", texts.leave, texts.leaveOf(name), `out ${now.conference} ${user}`);
 }
 
 function showFloor(node, now, floor) {

@@ -50,6 +50,9 @@ export const texts = {
   revokeOf: { Granted: (name, floor) => `${floor} entziehen: ${name}`, Accepted: (name, floor) => `Aus der Reihe für ${floor} entfernen: ${name}`, Pending: (name, floor) => `Ablehnen für ${floor}: ${name}` },
   leave: "Hinausweisen",
   leaveOf: (name) => `Hinausweisen: ${name}`,
+  out: "hinausgewiesen",
+  letIn: "Einlassen",
+  letInOf: (name) => `${name} wieder einlassen`,
   ask: (what) => `${what}?`,
 };
 

@@ -50,6 +50,9 @@ export const texts = {
   revokeOf: { Granted: (name, floor) => `Take ${floor} back from ${name}`, Accepted: (name, floor) => `Remove ${name} from the queue for ${floor}`, Pending: (name, floor) => `Deny ${name} ${floor}` },
   leave: "Show out",
   leaveOf: (name) => `Show ${name} out`,
+  out: "shown out",
+  letIn: "Let in",
+  letInOf: (name) => `Let ${name} in again`,
   ask: (what) => `${what}?`,
 };
 

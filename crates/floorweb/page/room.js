@@ -19,7 +19,9 @@ export const textsOf = (floor) => kinds[floor.kind] ?? kinds.floor;
 
 /** The person's name, as it is shown to whoever looks. */
 export function shown(person) {
-  const name = isolate(person.name || nameOf(person.id));
+  const isGuest = room.meeting.users.some(({ id, guest }) => id === person.id && guest);
+  const plain = isolate(person.name || nameOf(person.id));
+  const name = isGuest ? texts.itsGuest(plain) : plain;
   return person.id === room.meeting.user ? texts.itsYou(name) : name;
 }
 

@@ -36,7 +36,7 @@ export class Lost extends Error {}
  */
 export class Session extends EventTarget {
   state = "connecting";
-  /** Once it has ended: `left` (its user has left), `meeting` (it isn't there any more), `full` (it isn't, or takes nobody more of this user), `messages` (they were taken for no BFCP) or `refused`. */
+  /** Once it has ended: `left` (its user has left), `meeting` (it isn't there any more), `full` (it isn't, or takes nobody more of this user), `out` (its user was shown out), `locked` (nobody new is let in), `messages` (they were taken for no BFCP) or `refused`. */
   cause = "";
   /** Once it waits: how many seconds it does. */
   seconds = 0;
@@ -83,9 +83,9 @@ export class Session extends EventTarget {
     this.#socket = socket;
   }
 
-  /** The meeting is known to have ended. */
-  finish() {
-    if (this.state !== "ended") this.#end("meeting");
+  /** The meeting is known to have ended, or its user isn't let in. */
+  finish(cause) {
+    if (this.state !== "ended") this.#end(cause);
   }
 
   /** Its user leaves the meeting. */

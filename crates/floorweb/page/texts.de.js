@@ -20,6 +20,17 @@ export const texts = {
   people: "Personen",
   search: "Suchen",
   nobodyFound: "Niemand heißt so.",
+  lock: "Niemand Neues: nur wer da ist, bleibt oder kommt zurück",
+  isLocked: "Niemand Neues wird eingelassen.",
+  invite: "Gäste einladen",
+  inviteGuests: "Wer diesen Link hat, kann teilnehmen",
+  link: "Link",
+  copyLink: "Link kopieren",
+  yourName: "Ihr Name",
+  joinNow: "Teilnehmen",
+  joinText: "Wählen Sie den Namen, den die anderen sehen. Danach haben Sie einen eigenen Link, mit dem Sie zurückkommen: er steht in der Adresse dieser Seite.",
+  joinLocked: "Im Moment wird niemand Neues eingelassen. Fragen Sie die Person, die Ihnen den Link geschickt hat.",
+  joinEnded: "Diese Sitzung ist zu Ende.",
   minutes: "Protokoll",
   noMinutes: "Niemand hatte das Wort, seit diese Seite offen ist.",
   copy: "Als Text kopieren",
@@ -55,7 +66,18 @@ export const texts = {
   over: (time) => `${time} zu lang`,
   moreOf: (name) => `Mehr für ${name}`,
   moreActs: "Mehr",
-  presence: { here: "da", away: "Verbindung verloren", gone: "nicht da" },
+  presence: { here: "da", away: "Verbindung verloren", gone: "nicht da", out: "hinausgewiesen" },
+  itsGuest: (name) => `${name} (Gast)`,
+  joinTitle: (meeting) => `Teilnehmen: ${meeting}`,
+  codeOf: (meeting) => `Der Link zu ${meeting} als Code`,
+  showOut: {
+    label: "Hinausweisen",
+    of: (name) => `Hinausweisen: ${name}`,
+    ask: (name) => `${name} hinausweisen?`,
+    text: "Wort und Hände werden zurückgegeben, und der Link der Person öffnet nichts, bis Sie sie wieder einlassen.",
+    guest: "Wort und Hände werden zurückgegeben, und der Link der Person öffnet nichts, bis Sie sie wieder einlassen. Gäste können mit dem Link für Gäste zurückkommen: schließen Sie ihn, oder lassen Sie niemand Neues ein.",
+  },
+  letIn: { label: "Einlassen", of: (name) => `Wieder einlassen: ${name}` },
   peopleHere: (here, all) => `${here} von ${all} da`,
   spoken: (times, length) => `${times}-mal, ${length}`,
   conference: (number) => `Konferenz ${number}`,
@@ -86,6 +108,9 @@ export const states = {
   ended: () => "Zu Ende",
   noLink: () => "Kein Link",
   left: () => "Verlassen",
+  out: () => "Hinausgewiesen",
+  locked: () => "Geschlossen",
+  joining: () => "Noch nicht dabei",
   noMeeting: () => "Keine Sitzung",
   unreachable: () => "Nicht verbunden",
 };
@@ -116,6 +141,14 @@ export const notices = {
     title: "Sie haben die Sitzung verlassen",
     text: "Ihre Hände sind gesenkt, und was Sie hatten, ist zurückgegeben.",
     again: "Wieder teilnehmen",
+  },
+  out: {
+    title: "Sie wurden aus der Sitzung gewiesen",
+    text: "Diese Seite macht von selbst weiter, wenn Sie wieder eingelassen werden.",
+  },
+  locked: {
+    title: "Niemand Neues wird eingelassen",
+    text: "Die Leitung hat die Sitzung geschlossen. Diese Seite macht von selbst weiter, wenn sie wieder offen ist.",
   },
   messages: {
     title: "Diese Seite kann nicht weitermachen",
@@ -196,6 +229,14 @@ export const told = {
   over: (floor, name) => `${floor}: die Zeit von ${name} ist um.`,
   leaving: (floors) => `Sie haben ${floors}. Beim Verlassen wird das zurückgegeben.`,
   copied: "Das Protokoll ist kopiert.",
+  linkCopied: "Der Link ist kopiert.",
+  invited: "Gäste können mit einem Link teilnehmen.",
+  uninvited: "Der Link für Gäste öffnet nichts mehr.",
+  locked: "Niemand Neues wird eingelassen.",
+  unlocked: "Andere werden wieder eingelassen.",
+  shownOut: (name) => `${name} ist hinausgewiesen.`,
+  letIn: (name) => `${name} ist wieder eingelassen.`,
+  limited: (floor, limit) => `${floor}: ${limit} für jede Person.`,
   notCopied: "Dieser Browser lässt die Seite nichts kopieren.",
   /** Was die Leitung getan hat, für das Protokoll. */
   did: { Denied: "abgelehnt", Removed: "aus der Reihe genommen", Revoked: "entzogen" },
@@ -238,4 +279,20 @@ export const refusals = {
   14: "Das hat nicht geklappt.",
 };
 
+/** Warum ein Auftrag der Leitung nicht ausgeführt wird oder jemand nicht teilnimmt. */
+const orderRefusals = {
+  NotChair: "Das dürfen Sie nicht: nur eine Leitung darf es.",
+  NoUser: "Diese Person ist nicht mehr in der Sitzung.",
+  IsChair: "Eine Leitung kann nicht hinausgewiesen werden.",
+  NoDoor: "Gäste können hier nicht eingelassen werden: fragen Sie, wer den Server betreibt.",
+  Locked: "Im Moment wird niemand Neues eingelassen.",
+  BadName: "Dieser Name geht nicht. Bitte einen anderen wählen.",
+  Full: "Die Sitzung nimmt keine weiteren Gäste auf.",
+  Ended: "Die Sitzung ist zu Ende.",
+  404: "Dieser Link öffnet nichts mehr.",
+  503: "Zu viele fragen zugleich. Bitte noch einmal versuchen.",
+  other: "Das hat nicht geklappt. Bitte noch einmal versuchen.",
+};
+
+export const orderRefusal = (name) => orderRefusals[name] ?? orderRefusals.other;
 export const refusal = (code) => refusals[code] ?? refusals[14];

@@ -22,6 +22,17 @@ export const texts = {
   people: "People",
   search: "Search",
   nobodyFound: "Nobody has this name.",
+  lock: "Nobody new: only who is here may stay or come back",
+  isLocked: "Nobody new is let in.",
+  invite: "Invite guests",
+  inviteGuests: "Whoever has this link may join",
+  link: "Link",
+  copyLink: "Copy the link",
+  yourName: "Your name",
+  joinNow: "Join",
+  joinText: "Choose the name that the others see. You then have a link of your own, by which you come back: it stands in the address of this page.",
+  joinLocked: "Nobody new is let in at the moment. Ask whoever sent you the link.",
+  joinEnded: "This meeting has ended.",
   minutes: "Minutes",
   noMinutes: "Nobody has had the floor since this page was opened.",
   copy: "Copy as text",
@@ -57,7 +68,18 @@ export const texts = {
   over: (time) => `${time} over`,
   moreOf: (name) => `More for ${name}`,
   moreActs: "More",
-  presence: { here: "here", away: "connection lost", gone: "not here" },
+  presence: { here: "here", away: "connection lost", gone: "not here", out: "shown out" },
+  itsGuest: (name) => `${name} (guest)`,
+  joinTitle: (meeting) => `Join: ${meeting}`,
+  codeOf: (meeting) => `The link to ${meeting}, as a code`,
+  showOut: {
+    label: "Show out",
+    of: (name) => `Show out: ${name}`,
+    ask: (name) => `Show ${name} out?`,
+    text: "Floors and hands are given back, and the person's link opens nothing until you let the person in again.",
+    guest: "Floors and hands are given back, and the person's link opens nothing until you let the person in again. Guests can come back by the link for guests: shut it, or let in nobody new.",
+  },
+  letIn: { label: "Let in", of: (name) => `Let in again: ${name}` },
   peopleHere: (here, all) => `${here} of ${all} here`,
   spoken: (times, length) => `${counted(times, "time", "times")}, ${length}`,
   conference: (number) => `Conference ${number}`,
@@ -88,6 +110,9 @@ export const states = {
   ended: () => "Ended",
   noLink: () => "No link",
   left: () => "Left",
+  out: () => "Shown out",
+  locked: () => "Locked",
+  joining: () => "Not joined yet",
   noMeeting: () => "No meeting",
   unreachable: () => "Not connected",
 };
@@ -118,6 +143,14 @@ export const notices = {
     title: "You have left the meeting",
     text: "Your hands are down, and floors that you had are given back.",
     again: "Come back",
+  },
+  out: {
+    title: "You were shown out of the meeting",
+    text: "This page goes on by itself if you are let in again.",
+  },
+  locked: {
+    title: "Nobody new is let in",
+    text: "The chair has locked the meeting. This page goes on by itself when it is open again.",
   },
   messages: {
     title: "This page can't go on",
@@ -198,6 +231,14 @@ export const told = {
   over: (floor, name) => `${floor}: the time of ${name} is over.`,
   leaving: (floors) => `You have ${floors}. It is given back when you leave.`,
   copied: "The minutes are copied.",
+  linkCopied: "The link is copied.",
+  invited: "Guests may join by a link.",
+  uninvited: "The link for guests opens nothing any more.",
+  locked: "Nobody new is let in.",
+  unlocked: "Others are let in again.",
+  shownOut: (name) => `${name} is shown out.`,
+  letIn: (name) => `${name} is let in again.`,
+  limited: (floor, limit) => `${floor}: ${limit} for each.`,
   notCopied: "This browser lets the page copy nothing.",
   /** What a chair did, for the minutes. */
   did: { Denied: "denied", Removed: "removed from the queue", Revoked: "taken back" },
@@ -240,4 +281,20 @@ export const refusals = {
   14: "This didn't work.",
 };
 
+/** Why an order of a chair's isn't done, or nobody joins. */
+const orderRefusals = {
+  NotChair: "You may not do this: only a chair may.",
+  NoUser: "This person isn't in the meeting any more.",
+  IsChair: "A chair can't be shown out.",
+  NoDoor: "Guests can't be let in here: ask whoever runs the server.",
+  Locked: "Nobody new is let in at the moment.",
+  BadName: "This name can't be taken. Please choose another.",
+  Full: "The meeting takes no more guests.",
+  Ended: "The meeting has ended.",
+  404: "This link opens nothing any more.",
+  503: "Too many ask at once. Please try again.",
+  other: "This didn't work. Please try again.",
+};
+
+export const orderRefusal = (name) => orderRefusals[name] ?? orderRefusals.other;
 export const refusal = (code) => refusals[code] ?? refusals[14];

@@ -4,4 +4,4 @@ import { chosen } from "./languages.js";
 
 const file = await import(`./texts.${chosen}.js`);
 
-export const { acts, asking, kinds, language, notices, refusal, standing, states, texts, told } = file;
+export const { acts, asking, kinds, language, notices, orderRefusal, refusal, standing, states, texts, told } = file;

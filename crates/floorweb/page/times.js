@@ -1,8 +1,9 @@
 // Since when each request stands as it does, and how long whoever has a floor may have it.
 
 import { keep, recall } from "./kept.js";
+import { isFollowed, order } from "./orders.js";
 import { room, titleOf } from "./room.js";
-import { texts } from "./texts.js";
+import { texts, told } from "./texts.js";
 
 /** So many seconds before a limit it is warned of. */
 const SOON = 30;
@@ -45,13 +46,17 @@ export function clock(seconds) {
 
 const keptLimit = (floor) => `limit.${room.meeting.conference}.${floor.id}`;
 
-/** For how many seconds one should have a floor: as its chair set it here, else as all pages are told; 0 for any time. */
+/** For how many seconds one should have a floor, 0 for any time: as all pages are told; where they are told nothing while they are open, as its chair set it here. */
 export function limitOf(floor) {
+  if (isFollowed()) return floor.limit ?? 0;
   const own = floor.chair === room.meeting.user ? localStorage.getItem(keptLimit(floor)) : null;
   return own === null ? (floor.limit ?? 0) : Number(own);
 }
 
-export const setLimit = (floor, seconds) => localStorage.setItem(keptLimit(floor), seconds);
+export async function setLimit(floor, seconds) {
+  if (!isFollowed()) return localStorage.setItem(keptLimit(floor), seconds);
+  if (await order(`limit ${floor.id} ${seconds}`, told.limited(titleOf(floor), seconds ? texts.limits(seconds) : texts.noLimit))) floor.limit = seconds || null;
+}
 
 /** What an entry shows of its time: a text, and whether the limit is near or over. */
 export function timeOf(floor, { id, status }) {

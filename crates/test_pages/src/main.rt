@@ -6,6 +6,7 @@
 //! of its cases. Status 1 where a case differs or a file can't be run, which standard error tells.
 #![tactic(auto)]
 
+mod admissions;
 mod answers;
 mod configurations;
 mod headers;

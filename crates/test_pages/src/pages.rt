@@ -1,5 +1,6 @@
 //! The subjects of pages.
 
+use crate::admissions::admitted;
 use crate::answers::answers;
 use crate::configurations::{built, diagnosed, keys, read, with_items};
 use crate::headers::{answered, by_chance};
@@ -35,6 +36,7 @@ fn told(alloc: Global, subject: &str, text: &str) -> Result<String, AllocError> 
         "diagnosis" => diagnosed(alloc, text),
         "keys" => keys(alloc, text),
         "request" => asked(alloc, text),
+        "admission" => admitted(alloc, text),
         "answers" => answers(alloc, text),
         "origins" => allowed(alloc, text),
         "participants" => participants(alloc, text),

@@ -1,6 +1,6 @@
 //! Requests of browsers: what they ask for.
 
-use floor_web::{Asked, Origins, Reading, Source, read_request};
+use floor_web::{Asked, Giver, Origins, Reading, Source, read_request};
 use std::alloc::{AllocError, Global};
 use std::fmt::Write;
 
@@ -33,8 +33,16 @@ fn push_asked(told: &mut String, asked: &Asked) -> Result<(), AllocError> {
             token,
             is_head,
         } => push_name(told, name_of(*source), token, *is_head),
-        Asked::Order { token, order } => {
-            push_name(told, "order", order, false)?;
+        Asked::Order {
+            giver,
+            token,
+            order,
+        } => {
+            let word = match giver {
+                Giver::Operator => "operator's order",
+                Giver::User => "order",
+            };
+            push_name(told, word, order, false)?;
             write!(told, ", token {}", text_of(token))
         }
         Asked::Bfcp { token, accept } => {
