@@ -1,0 +1,5 @@
+pub mod Pairing
+pub mod Running
+pub mod Living
+pub mod Taking
+pub mod Numbers
