@@ -79,7 +79,7 @@ fn push_answer(
         "out" => {
             for fact in conference.facts.as_slice() {
                 if let Some(n) = put_out(conference, fact) {
-                    write!(told, "{n} ")?;
+                    write!(told, "{n}|")?;
                 }
             }
             Ok(())
