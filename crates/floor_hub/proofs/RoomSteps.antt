@@ -6,7 +6,7 @@ use Rattle.floor_config.specs.declared.fault.ConfigFault.{ConfigFault}
 use Rattle.floor_config.specs.declared.fault.ConfigFault.TheVariants as faults
 use Rattle.floor_config.specs.Changed.{chair_fault, floor_fault, user_fault}
 use Rattle.floor_machine.specs.declared.event.Event.{Event}
-use Rattle.floor_machine.specs.declared.event.Event.TheVariants.{Join, Message, Took, Leave, Revoke, Close, AddUser, AddFloor, SetChair}
+use Rattle.floor_machine.specs.declared.event.Event.TheVariants.{Join, Message, Took, Leave, Revoke, Close, AddUser, AddFloor, SetChair, Say}
 use Rattle.floor_machine.specs.declared.machine.Refusal.TheVariants.{Broken, Ended, NoMember, NoUser, Full, NoRequest, Cut, BadCount, Memory, OutOfRange, DoubleUser, DoubleFloor, NoFloor, UnknownChair}
 use Rattle.floor_machine.specs.Parcel.{Parcel}
 use Rattle.floor_machine.specs.declared.machine.Refusal.{Refusal}
@@ -35,7 +35,7 @@ use Rattle.floor_hub.specs.Rooms.{AddsOwn, OneRoom, QueuesMore, RoomAfter, RoomA
 use Rattle.floor_hub.proofs.Recalling.{here-now}
 use Rattle.floor_hub.specs.steps.Serving.{AttachFailsIn, EventIn, LeaveFailsIn, IsServable, LeavesIn, ServeFailsIn, ServedIn, ServesIn}
 
-true_false : true ≡ false → ⊥
+pub true_false : true ≡ false → ⊥
 true_false e = cc
 
 -- nothing more waits
@@ -53,6 +53,7 @@ queues-new put n Close = tt
 queues-new put n (AddUser user) = tt
 queues-new put n (AddFloor floor) = tt
 queues-new put n (SetChair floor chair) = tt
+queues-new put n (Say user bytes) = tt
 
 -- what an event tells waits behind what waited
 pub queues-more : (put : List Parcel) (n : ℕ) (e : Event) (os : List Outbox) → QueuesMore os (delivered put n (os ++ joined e))
@@ -140,6 +141,11 @@ further_not further other true false d e = cc
 further_not further other true true true e = let same : further ≡ Broken = cc in other same
 further_not further other true true false e = cc
 
+user_not : (a b : Bool) → ◌≡◌ {A = Option Refusal} (cond (not a) (Some Ended) (cond (not b) (Some NoUser) None)) (Some Broken) → ⊥
+user_not false b e = cc
+user_not true false e = cc
+user_not true true e = cc
+
 request_not : (a b : Bool) → ◌≡◌ {A = Option Refusal} (cond (not a) (Some Ended) (cond (not b) (Some NoRequest) None)) (Some Broken) → ⊥
 request_not false b e = cc
 request_not true false e = cc
@@ -177,6 +183,7 @@ event_not s Close h = close_not s.is_open h
 event_not s (AddUser user) h = fault_not s.is_open (user_fault s.config user) h
 event_not s (AddFloor floor) h = fault_not s.is_open (floor_fault s.config floor) h
 event_not s (SetChair floor chair) h = fault_not s.is_open (chair_fault s.config floor chair) h
+event_not s (Say user bytes) h = user_not s.is_open (is_user s.config user) h
 
 -- a room that isn't broken doesn't refuse as broken
 told-broken : (l : Ledger) (e : Event) (b : Bool) → l.is_broken ≡ b → IsRefusedBy {T = Unit {0}} (refusal l e) (Err (ByMachine Broken)) → b ≡ true
@@ -361,11 +368,11 @@ module _ (shut_by why : Option HubRefusal) (own : Room → List Event) (c : ℕ)
   }
 
 -- a refusal of a conference without a room is neither want of memory nor that of a broken room
-calm : (b : Bool) → ◌≡◌ {A = Option HubRefusal} (Some (ended_or_none b)) by_memory → ⊥
+pub calm : (b : Bool) → ◌≡◌ {A = Option HubRefusal} (Some (ended_or_none b)) by_memory → ⊥
 calm true e = cc
 calm false e = cc
 
-unbroken_said : (b : Bool) → ◌≡◌ {A = Option HubRefusal} (Some (ended_or_none b)) by_broken → ⊥
+pub unbroken_said : (b : Bool) → ◌≡◌ {A = Option HubRefusal} (Some (ended_or_none b)) by_broken → ⊥
 unbroken_said true e = cc
 unbroken_said false e = cc
 

@@ -5,7 +5,7 @@ use Rattle.floor_config.specs.Configuration.{Configuration}
 use Rattle.floor_wire.specs.Message.{messages}
 use Rattle.floor_machine.specs.declared.act.Act.{Act}
 use Rattle.floor_machine.specs.declared.event.Event.{Event}
-use Rattle.floor_machine.specs.declared.event.Event.TheVariants.{Join, Message, Took, Leave}
+use Rattle.floor_machine.specs.declared.event.Event.TheVariants.{Join, Message, Took, Leave, Say}
 use Rattle.floor_machine.specs.Machine.{event_of_act}
 use Rattle.floor_machine.specs.Parcel.{Parcel}
 use Rattle.floor_machine.specs.declared.machine.Refusal.TheVariants.{Broken, Ended, Memory}
@@ -65,6 +65,10 @@ attach_event user r = Join user ∷ []
 -- that of an act
 abbrev pub admin_event : Act → Room → List Event
 admin_event act r = event_of_act act ∷ []
+
+-- that of a message that is said for a user
+abbrev pub say_event : ℕ → List ℕ → Room → List Event
+say_event user bytes r = Say user bytes ∷ []
 
 -- that of serving a connection: the first message that it holds, if it holds a whole one
 abbrev pub serve_event : Connection → Room → List Event

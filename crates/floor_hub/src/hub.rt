@@ -24,6 +24,7 @@ ghost use Rattle.floor_hub.specs.steps.Running.{QueuedIn, first_bytes};
 ghost use Rattle.floor_hub.specs.steps.Serving.{AttachIn, LeaveOf, ServeOf, TakeOf, TookOf};
 
 mod reading;
+mod saying;
 
 use crate::attached::{Live, has_ended, is_shut};
 use crate::concerned::Concerned;
@@ -43,7 +44,7 @@ use std::marker::Model;
 /// All conferences. A conference is found by its number, a connection by its own; nothing that a
 /// call does grows with the other conferences or connections.
 ///
-/// - Conferences: `open`, `admin`; `status`, `journal`, `members`, `user_of`, `config`, `shown` and `backlog` read;
+/// - Conferences: `open`, `admin`, `say`; `status`, `journal`, `members`, `user_of`, `config`, `shown` and `backlog` read;
 ///   `forget` gives the memory of one that has ended back.
 /// - Connections: `attach`, then `piece` and `serve` as bytes come, `take` as they are sent, `took`
 ///   once they were, and `leave` at the end. Whoever is more than 1,024 parcels behind is cut: it is
@@ -53,8 +54,8 @@ use std::marker::Model;
 ///   that it changed, for whoever watches the conference.
 ///
 /// A refused call changes nothing. Want of memory does so in `open` and `piece`, too; in `attach`,
-/// `serve`, `took`, `leave` and `admin` it breaks that one conference's room off, and no other. It
-/// comes behind every other refusal.
+/// `serve`, `took`, `leave`, `admin` and `say` it breaks that one conference's room off, and no other.
+/// It comes behind every other refusal.
 #[derive(Drop)]
 pub struct Hub {
     rooms: IndexMap<u32, Room>,
@@ -295,7 +296,7 @@ impl Hub {
     }
 
     /// Gives the memory of a conference back that has ended and of which no connection is live; what stays
-    /// is its number. Behind it `open` is refused by `Used`, `attach` and `admin` by `Ended`, and
+    /// is its number. Behind it `open` is refused by `Used`, `attach`, `admin` and `say` by `Ended`, and
     /// `status`, `journal`, `members`, `user_of` and a second `forget` by `Forgotten`. Refused by
     /// `Forgotten`, by `NoConference`, and by `Running` where it hasn't ended or is broken off, or a
     /// connection of it is live. After an error, `Memory` too, nothing has changed.
@@ -352,7 +353,7 @@ impl Hub {
         }
     }
 
-    /// Whom the last of `attach`, `serve`, `took`, `leave` and `admin` concerned, ascending: the live
+    /// Whom the last of `attach`, `serve`, `took`, `leave`, `admin` and `say` concerned, ascending: the live
     /// connections to which it queued something, those whose member it cut, and where it closed the
     /// conference or broke it off, all of that conference. Takes no memory, and so do those calls for
     /// it: there is room since the attach.
@@ -363,7 +364,7 @@ impl Hub {
     }
 
     /// What is shown now of each floor request that the event changed which the last of `attach`, `serve`,
-    /// `took`, `leave` and `admin` added, ascending: of a new one, of one that ended with its status, and of
+    /// `took`, `leave`, `admin` and `say` added, ascending: of a new one, of one that ended with its status, and of
     /// one that is shown otherwise than before. None where the call added no event or was refused. Takes
     /// no memory.
     pub fn changed(&self) -> &[SharedInfo]

@@ -164,10 +164,17 @@ fn replay(
 {
     match event {
         Event::Join { user } => join(hub, attended, alloc, joined, conference, *user),
-        Event::Message { n, frame } => say(hub, attended, number_of(joined, *n), frame.bytes()),
+        Event::Message { n, frame } => send(hub, attended, number_of(joined, *n), frame.bytes()),
         Event::Took { n, k } => took_back(hub, attended, number_of(joined, *n), *k),
         Event::Leave { n } => part(hub, attended, number_of(joined, *n)),
-        other => act(hub, attended, alloc, conference, other),
+        Event::Say { user, frame } => {
+            say(hub, attended, alloc, conference, *user, frame.bytes())
+        }
+        Event::Revoke { .. }
+        | Event::Close
+        | Event::AddUser { .. }
+        | Event::AddFloor { .. }
+        | Event::SetChair { .. } => act(hub, attended, alloc, conference, event),
     }
 }
 
@@ -216,7 +223,7 @@ fn number_of(joined: &Vec<ConnNo>, n: u32) -> ConnNo {
 }
 
 /// A message comes from a connection, and is served.
-fn say(hub: &mut Hub, attended: &mut Attended, number: ConnNo, bytes: &[u8]) -> Result<(), Fault>
+fn send(hub: &mut Hub, attended: &mut Attended, number: ConnNo, bytes: &[u8]) -> Result<(), Fault>
     ensures carries { (c : ℕ) → Carries c
         (loop_of hub.old attended.old) (loop_of hub.new attended.new) }
 {
@@ -262,6 +269,26 @@ fn part(hub: &mut Hub, attended: &mut Attended, number: ConnNo) -> Result<(), Fa
     Ok(())
 }
 
+/// Says a message for a user, and wakes whom it concerns. Nobody waits for its answer.
+fn say(
+    hub: &mut Hub,
+    attended: &mut Attended,
+    alloc: Global,
+    conference: u32,
+    user: u16,
+    bytes: &[u8],
+) -> Result<(), Fault>
+    ensures carries { Carries conference
+        (loop_of hub.old attended.old) (loop_of hub.new attended.new) }
+{
+    let said = hub.say(alloc, conference, user, bytes);
+    wake(hub, attended);
+    match said {
+        Ok(_answer) => Ok(()),
+        Err(refusal) => Err(fault_of(refusal)),
+    }
+}
+
 /// Does an act of the administrator.
 fn act(
     hub: &mut Hub,
@@ -303,7 +330,11 @@ fn act_of(alloc: Global, event: &Event) -> Result<Option<Act>, AllocError> {
         Event::AddUser { user } => Ok(Some(Act::AddUser(user.copy(alloc)?))),
         Event::AddFloor { floor } => Ok(Some(Act::AddFloor(*floor))),
         Event::SetChair { floor, chair } => Ok(Some(Act::SetChair(*floor, *chair))),
-        _ => Ok(None),
+        Event::Join { .. }
+        | Event::Message { .. }
+        | Event::Took { .. }
+        | Event::Leave { .. }
+        | Event::Say { .. } => Ok(None),
     }
 }
 

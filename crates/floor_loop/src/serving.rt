@@ -4,9 +4,10 @@ ghost use Rattle.std.specs.Prelude.{◌≡◌, ◌≢◌, ◌≤◌, ◌<◌, �
 ghost use Rattle.floor_hub.specs.Connections.{connection_at};
 ghost use Rattle.floor_hub.specs.Hub.{is_forgotten, room_at};
 ghost use Rattle.floor_hub.specs.Members.{AreMembers, user_of};
-ghost use Rattle.floor_hub.specs.Rooms.{CutIs, Forgets, IsRemembered, OneRoom, Opens, admin_event, by_broken, refusal_in};
+ghost use Rattle.floor_hub.specs.Rooms.{CutIs, Forgets, IsRemembered, OneRoom, Opens, admin_event, by_broken, refusal_in, say_event};
+ghost use Rattle.floor_hub.specs.World.{answer_said};
 ghost use Rattle.floor_hub.specs.declared.connection.Connection.{Connection};
-ghost use Rattle.floor_hub.specs.declared.step.Step.TheVariants.{Admin, Leave, Open, Serve, Took as Takes};
+ghost use Rattle.floor_hub.specs.declared.step.Step.TheVariants.{Admin, Leave, Open, Say, Serve, Took as Takes};
 ghost use Rattle.floor_room.specs.Room.{Room};
 ghost use Rattle.floor_room.specs.Standing.{backlog_of, config_of, shown_of};
 ghost use Rattle.floor_room.specs.Status.{IsStatus};
@@ -26,7 +27,9 @@ use crate::grace::Grace;
 use crate::turn::{
     acknowledge, end, fail, fill, leave_from, read_turn, serve_turn, throw_away, wake,
 };
-use floor_hub::{Act, Config, ConnNo, Event, Hub, HubRefusal, Live, Place, SharedInfo, Status};
+use floor_hub::{
+    Act, Config, ConnNo, Event, Hub, HubRefusal, Live, Place, Said, SharedInfo, Status,
+};
 use std::alloc::Global;
 use std::marker::Model;
 
@@ -36,7 +39,7 @@ const MAX_LEFT: u32 = 4_294_967_295;
 /// A hub, and what is on its way to each of its connections. Times are milliseconds; one that is earlier
 /// than the last counts as the last.
 ///
-/// - Conferences: `open`, `admin`, `forget`; `status`, `journal`, `members`, `user_of`, `config`, `shown` and
+/// - Conferences: `open`, `admin`, `say`, `forget`; `status`, `journal`, `members`, `user_of`, `config`, `shown` and
 ///   `backlog` read.
 /// - Connections: `attach`; `read` as bytes come, and again without bytes while it says that more
 ///   wait; `ended` and `failed` at the end of the stream and of the socket; `leave` once the
@@ -317,6 +320,32 @@ impl Loop {
         let done = self.hub.admin(conference, act);
         wake(&self.hub, &mut self.attended);
         done
+    }
+
+    /// Says a message for a user, as the hub does.
+    pub fn say(
+        &mut self,
+        alloc: Global,
+        conference: u32,
+        user: u16,
+        message: &[u8],
+        now: u64,
+    ) -> Result<Said, HubRefusal>
+        ensures steps { Steps (AtMost 1 (Say conference user message.now))
+            self.old.hub self.new.hub }
+        ensures said { IfOk result (λ said. (r : Room)
+            × (room_at self.old.hub conference ≡ Some r)
+            × (said ≡ answer_said r.ledger user message.now)) }
+        ensures room { OneRoom by_broken (refusal_in result) (say_event user message.now)
+            conference self.old.hub self.new.hub }
+        ensures took { TookNothing self.old self.new }
+        ensures woke { Wakes self.old self.new }
+        ensures spares { Spares self.old self.new }
+    {
+        self.attended.pass(now);
+        let said = self.hub.say(alloc, conference, user, message);
+        wake(&self.hub, &mut self.attended);
+        said
     }
 
     /// What is to be written to a connection next, 64 KiB at most: nothing where no live connection has the

@@ -1,9 +1,10 @@
 //! One conference with its journal and its outboxes.
 
-ghost use Rattle.std.specs.Prelude.{◌≡◌, ◌+◌, [], true, false, IfErr, IfOk, OnErr, OnOk, length, option_map};
-ghost use Rattle.floor_machine.specs.declared.event.Event.TheVariants.{Join, Leave, Message, Took};
+ghost use Rattle.std.specs.Prelude.{◌≡◌, ◌+◌, [], true, false, IfErr, IfOk, List, OnErr, OnOk, length, option_map, ℕ};
+ghost use Rattle.floor_machine.specs.declared.event.Event.TheVariants.{Join, Leave, Message, Say, Took};
 ghost use Rattle.floor_machine.specs.Conference.{AreCut, is_cut};
 ghost use Rattle.floor_machine.specs.Machine.{event_of_act, infos_changed};
+ghost use Rattle.floor_machine.specs.Reply.{said_reply};
 ghost use Rattle.floor_room.specs.Calls.{Applied, Left};
 ghost use Rattle.floor_room.specs.Ledger.{IsRefusedBy, closed, conference_of, refusal};
 ghost use Rattle.floor_room.specs.Room.{IsRoom, broken_room, new_room};
@@ -15,11 +16,12 @@ ghost use Rattle.std.specs.Option.{option_copied};
 
 use crate::effects::Effects;
 use crate::journal::Place;
-use crate::ledger::Ledger;
+use crate::ledger::{Called, Ledger};
 use crate::outbox::{NoMember, Outbox, held_of, outbox_for, queue, take};
 use crate::refusal::RoomRefusal;
+use crate::said::Said;
 use crate::status::Status;
-use floor_machine::{Act, Config, Event, Frame, Parcel, Refusal, SharedInfo};
+use floor_machine::{Act, Config, Event, Frame, Parcel, Refusal, SharedFrame, SharedInfo};
 use std::alloc::{AllocError, Global};
 use std::collections::VecDeque;
 use std::marker::Model;
@@ -27,10 +29,10 @@ use std::marker::Model;
 /// One conference with its journal and its outboxes: whole messages of its members in, and what
 /// waits for each member out.
 ///
-/// Readers: `journal`, `closed` (why no event is taken), `status`, `config`, `shown`, `backlog`, `held`, `is_cut`,
-/// `cut_numbers`.
-/// Events: `join`, `serve`, `took`, `leave` and `admin`, each of which changes nothing where it refuses,
-/// but that `Memory` breaks the room off. Each puts into its last argument, in place of what stood there,
+/// Readers: `journal`, `closed` (why no event is taken), `say_refusal` (why nothing is said for a user),
+/// `status`, `config`, `shown`, `backlog`, `held`, `is_cut`, `cut_numbers`.
+/// Events: `join`, `serve`, `took`, `leave`, `admin` and `say`, each of which changes nothing where it
+/// refuses, but that `Memory` breaks the room off. Each puts into its last argument, in place of what stood there,
 /// the numbers of the members to whom it queued something and what is shown of the floor requests that it
 /// changed, and none where it refuses. `take` gives what waits, also in a room that takes no event.
 /// `break_off` is for a caller that meets want of memory itself.
@@ -78,6 +80,23 @@ impl Room {
         ensures value { result ≡ closed self.now.ledger }
     {
         self.ledger.closed()
+    }
+
+    /// Why nothing is said for this user, whatever the message is: in this order `Broken`, `Ended`,
+    /// `JournalFull` and `NoUser`. Takes no memory.
+    pub fn say_refusal(&self, user: u16) -> Option<RoomRefusal>
+        ensures value { (bytes : List ℕ) → result ≡ refusal self.now.ledger (Say user bytes) }
+    {
+        match self.ledger.closed() {
+            Some(refusal) => Some(refusal),
+            None => {
+                if self.ledger.config().is_user(user) {
+                    None
+                } else {
+                    Some(RoomRefusal::Refused(Refusal::NoUser))
+                }
+            }
+        }
     }
 
     /// How the room stands. Takes no memory.
@@ -141,10 +160,16 @@ impl Room {
         held_of(self.outboxes.as_slice(), n)
     }
 
-    /// Adds an event, where nothing refuses it, queues what it tells, and says whom it told and what it
-    /// changed.
-    fn add(&mut self, event: Event, effects: &mut Effects) -> Result<(), RoomRefusal>
+    /// Adds an event, where nothing refuses it, queues what it tells, says whom it told and what it
+    /// changed, and gives what answers a message that is said.
+    fn add(
+        &mut self,
+        event: Event,
+        effects: &mut Effects,
+    ) -> Result<Option<SharedFrame>, RoomRefusal>
         ensures took { OnOk result (Applied self.old self.new event) }
+        ensures reply { IfOk result (λ reply. reply
+            ≡ said_reply (conference_of self.old.ledger) event) }
         ensures told { OnOk result
             (AreTold self.old.outboxes self.new.outboxes effects.new.told.items) }
         ensures changed { OnOk result (effects.new.changed.items
@@ -156,16 +181,19 @@ impl Room {
     {
         effects.clear();
         let outbox = outbox_for(*self.outboxes.allocator(), &event);
-        match self.ledger.add(event, &mut effects.changed) {
+        match self.ledger.call(event, &mut effects.changed) {
             Err(refusal) => Err(refusal),
-            Ok(out) => match queue(&mut self.outboxes, outbox, out, &mut effects.told) {
-                Ok(()) => Ok(()),
-                Err(_) => {
-                    effects.clear();
-                    self.ledger.break_off();
-                    Err(RoomRefusal::Refused(Refusal::Memory))
+            Ok(called) => {
+                let Called { parcels, reply } = called;
+                match queue(&mut self.outboxes, outbox, parcels, &mut effects.told) {
+                    Ok(()) => Ok(reply),
+                    Err(_) => {
+                        effects.clear();
+                        self.ledger.break_off();
+                        Err(RoomRefusal::Refused(Refusal::Memory))
+                    }
                 }
-            },
+            }
         }
     }
 
@@ -233,7 +261,8 @@ impl Room {
         ensures refused { IsRefusedBy (refusal self.old.ledger (Took n k)) result }
         ensures left { IfErr result (Left self.old self.new (Took n k)) }
     {
-        self.add(Event::Took { n, k }, effects)
+        self.add(Event::Took { n, k }, effects)?;
+        Ok(())
     }
 
     /// Takes it that a member has left. What waits for it stays until it is taken. Refused are, in this
@@ -250,7 +279,8 @@ impl Room {
         ensures refused { IsRefusedBy (refusal self.old.ledger (Leave n)) result }
         ensures left { IfErr result (Left self.old self.new (Leave n)) }
     {
-        self.add(Event::Leave { n }, effects)
+        self.add(Event::Leave { n }, effects)?;
+        Ok(())
     }
 
     /// Does what the administrator does. What waits for the members stays, also after a Close. Refused
@@ -268,7 +298,36 @@ impl Room {
         ensures refused { IsRefusedBy (refusal self.old.ledger (event_of_act act)) result }
         ensures left { IfErr result (Left self.old self.new (event_of_act act)) }
     {
-        self.add(Event::of(act), effects)
+        self.add(Event::of(act), effects)?;
+        Ok(())
+    }
+
+    /// Takes a message that the administrator says for a user, and gives its place in the journal and
+    /// what answers it, which no member is told. What waits for the members grows by what the message
+    /// tells them. Refused are, in this order, `Broken`, `Ended`, `JournalFull` and `NoUser`, and nothing
+    /// has changed; after a `Memory` the room is broken off.
+    pub fn say(
+        &mut self,
+        user: u16,
+        frame: Frame,
+        effects: &mut Effects,
+    ) -> Result<Said, RoomRefusal>
+        ensures place { IfOk result (λ said. said.place ≡ length self.new.ledger.journal) }
+        ensures reply { IfOk result (λ said. said.reply
+            ≡ said_reply (conference_of self.old.ledger) (Say user frame)) }
+        ensures took { OnOk result (Applied self.old self.new (Say user frame)) }
+        ensures told { OnOk result
+            (AreTold self.old.outboxes self.new.outboxes effects.new.told.items) }
+        ensures changed { OnOk result (effects.new.changed.items
+            ≡ infos_changed (conference_of self.old.ledger) (Say user frame)) }
+        ensures untold { OnErr result (effects.new.told.items ≡ []) }
+        ensures unchanged { OnErr result (effects.new.changed.items ≡ []) }
+        ensures refused { IsRefusedBy (refusal self.old.ledger (Say user frame)) result }
+        ensures left { IfErr result (Left self.old self.new (Say user frame)) }
+    {
+        let reply = self.add(Event::Say { user, frame }, effects)?;
+        let place = self.status().events;
+        Ok(Said { place, reply })
     }
 
     /// How many members ever joined. Takes no memory.
