@@ -1,0 +1,11 @@
+use Rattle.std.proofs.Common.{◌≡◌, subst}
+use Rattle.std.specs.Prelude.{MatchOption, Option}
+use Rattle.floor_meetings.specs.Calls.{Ends}
+use Rattle.floor_meetings.specs.declared.members.Member.{Member}
+use Rattle.floor_meetings.proofs.meetings.Meetings.ended.Goals as goal
+
+pub returns-in-Some-clause-took : goal.returns-in-Some-clause-took
+returns-in-Some-clause-took c =
+    let old = c.args.self.now.hub in
+    let new = c.end.new.hub in
+    subst (λ (o : Option Member). MatchOption o (new ≡ old) (λ m. Ends m.number old new)) c.in-Some.ensures.value c.end.ensures.took

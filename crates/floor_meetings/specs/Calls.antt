@@ -1,0 +1,61 @@
+-- What the calls come to: each is the loop's, for the member with this number.
+use Rattle.std.specs.Prelude.{◌≡◌, ℕ, Bool, true, false, nat_eq, List, [], drop, take, Option, None, IsSome, Result, IfOk, OnErr, OnOk}
+use Rattle.floor_hub.specs.Connections.{connection_at}
+use Rattle.floor_hub.specs.declared.refusal.HubRefusal.{HubRefusal}
+use Rattle.floor_hub.specs.declared.step.Step.{Step}
+use Rattle.floor_hub.specs.declared.step.Step.TheVariants.{Leave, Serve}
+use Rattle.floor_hub.specs.declared.step.Step.TheVariants as step
+use Rattle.floor_loop.specs.Done.{AtMost, Each, Hands, NoSteps, Reads, Serves, Steps}
+use Rattle.floor_loop.specs.Loop.{HasFailed, IsEnded, Loop, parcels_at, rest_at, stay_at}
+use Rattle.floor_loop.specs.Returned.{MayNotStay}
+use Rattle.floor_loop.specs.Written.{IsSparedOrOver, Spares, Took, TookNothing, Wakes, acknowledged_by}
+
+-- such steps of the hub were done, and no socket has taken anything
+pub record Quiet (Are : List Step → Type 0) (old new : Loop) : Type 0 where
+  pub steps : Steps Are old.hub new.hub
+  pub took : TookNothing old new
+
+-- These bytes came from it, and 8 of its messages at most were served.
+pub record Comes (number : ℕ) (bytes : List ℕ) (old new : Loop) (result : Result Bool HubRefusal) : Type 0 where
+  pub quiet : Quiet (Reads number bytes 8) old new
+  pub handed : OnOk result (Steps (Hands number bytes 8) old.hub new.hub)
+  pub served : IfOk result (λ more. Serves number 8 more old.hub new.hub)
+  pub woke : Wakes old new
+  pub refused : OnErr result (IsEnded new.attended number)
+  pub spares : OnOk result (Spares old new)
+  pub others : (k : ℕ) → nat_eq number k ≡ false → IsSparedOrOver old new k
+
+-- What came from it was served to its end, and it is to be shut down, nobody else but who is over.
+pub record Ends (number : ℕ) (old new : Loop) : Type 0 where
+  pub quiet : Quiet (Each (Serve number)) old new
+  pub woke : Wakes old new
+  pub ended : IsEnded new.attended number
+  pub others : (k : ℕ) → nat_eq number k ≡ false → IsSparedOrOver old new k
+
+-- The same, and it is to be shut down at once.
+pub record Fails (number : ℕ) (old new : Loop) : Type 0 where
+  pub quiet : Quiet (Each (Serve number)) old new
+  pub woke : Wakes old new
+  pub failed : HasFailed new.attended number
+  pub others : (k : ℕ) → nat_eq number k ≡ false → IsSparedOrOver old new k
+
+-- Its socket was shut: it stays, away, or has left; and it leaves only where it may not stay. No other socket has taken anything.
+pub record Parts (number : ℕ) (old new : Loop) (result : Result Bool HubRefusal) : Type 0 where
+  pub steps : Steps (AtMost 1 (Leave number)) old.hub new.hub
+  pub others : (k : ℕ) → nat_eq number k ≡ false → Took old new k [] 0
+  pub stays : IfOk result (λ stays. stays ≡ true → IsSome (stay_at new number))
+  pub left : IfOk result (λ stays. stays ≡ false → connection_at new.hub.connections number ≡ None)
+  pub leaves : IfOk result (λ stays. stays ≡ false → MayNotStay old number)
+  pub refused : OnErr result (connection_at new.hub.connections number ≡ None)
+
+-- Its socket took so many of the bytes that were lent, and no other took anything.
+pub record Takes (number count : ℕ) (old new : Loop) : Type 0 where
+  pub steps : Steps (AtMost 1 (step.Took number (parcels_at old number))) old.hub new.hub
+  pub took : Took old new number (take count (take 65536 (rest_at old number))) (acknowledged_by (drop count (rest_at old number)) (parcels_at old number))
+  pub others : (k : ℕ) → nat_eq number k ≡ false → Took old new k [] 0
+  pub spares : Spares old new
+
+-- What waits for it is dropped; no other's.
+pub record Drops (number : ℕ) (old new : Loop) : Type 0 where
+  pub steps : Steps NoSteps old.hub new.hub
+  pub others : (k : ℕ) → nat_eq number k ≡ false → Took old new k [] 0

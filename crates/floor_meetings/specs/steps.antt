@@ -1,0 +1,3 @@
+-- Definitions for the proofs alone.
+pub mod Lived
+pub mod Placed
