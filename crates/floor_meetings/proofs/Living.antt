@@ -1,33 +1,31 @@
 -- The law of lives.
-use Rattle.std.proofs.Common.{◌≡◌, ◌≢◌, ◌⊎◌, inl, inr, ℕ, ◌≤◌, Bool, true, false, cond, List, [], ◌∷◌, ◌++◌, length, take, drop, Some, None, refl, sym, ◌∙◌, ap, subst, arith}
+use Rattle.std.proofs.Common.{◌≡◌, inl, inr, ℕ, Bool, false, cond, List, [], ◌∷◌, ◌++◌, length, take, drop, Some, None, refl, sym, ◌∙◌, ap, subst}
 use Rattle.std.specs.Prelude.{Option, Result, MatchOption, max, min, nat_eq}
 use Rattle.std.specs.Option.{option_map_or}
 use Rattle.std.proofs.lemmas.Bool.Decides.{eqb_tells}
 use Rattle.std.proofs.lemmas.Option.{none-some}
-use Rattle.floor_room.specs.Room.{Room}
-use Rattle.floor_hub.specs.declared.connection.Connection.{Connection}
 use Rattle.floor_hub.specs.declared.refusal.HubRefusal.{HubRefusal}
 use Rattle.floor_hub.specs.declared.step.Step.{Step}
 use Rattle.floor_hub.specs.declared.step.Step.TheVariants as step
 use Rattle.floor_hub.specs.Runs.{alone, events, run}
 use Rattle.floor_hub.specs.StandsFor.{StandsFor}
-use Rattle.floor_hub.specs.World.{World, nothing}
+use Rattle.floor_hub.specs.World.{nothing}
 use Rattle.floor_loop.specs.Done.{AtMost, Each, LeavesIf, NoSteps, Reads, Returns}
-use Rattle.floor_loop.specs.Laws.{IsFront, IsLive, WrittenIsCalledFor, bytes_by as loop_bytes_by, parcels_by, steps_of}
-use Rattle.floor_loop.specs.Loop.{Loop, parcels_at, rest_at}
-use Rattle.floor_loop.specs.Written.{IsServing, acknowledged_by}
+use Rattle.floor_loop.specs.Laws.{IsFront, WrittenIsCalledFor, parcels_by, steps_of}
+use Rattle.floor_loop.specs.Loop.{parcels_at, rest_at}
+use Rattle.floor_loop.specs.Written.{acknowledged_by}
 use Rattle.floor_meetings.specs.declared.meetings.Meetings.{Meetings}
 use Rattle.floor_meetings.specs.declared.members.Member.{Member}
 use Rattle.floor_meetings.specs.declared.refusal.JoinRefusal.{JoinRefusal}
 use Rattle.floor_meetings.specs.declared.refusal.JoinRefusal.TheVariants.{InUse, UserConnections, Connections, Memory, ByHub}
-use Rattle.floor_meetings.specs.Calls.{Comes, Drops, Ends, Fails, Parts, Quiet, Takes}
+use Rattle.floor_meetings.specs.Calls.{Comes, Drops, Ends, Fails, Leaves, Parts, Quiet, Takes}
 use Rattle.floor_meetings.specs.Joined.{LeftBy}
 use Rattle.floor_meetings.specs.Laws.{TakenIsCalledFor}
 use Rattle.floor_meetings.specs.Meetings.{lent_at, member_at}
-use Rattle.floor_meetings.specs.Members.{IsPaired, Members, slot_of}
+use Rattle.floor_meetings.specs.Members.{Members, slot_of}
 use Rattle.floor_meetings.specs.Runs.{Call, Does, Frees, IsLiving, Lives, Open, Forget, Acts, MakeRoom, Join, Refused, Came, Ended, Failed, Left, Took, Ready, Due, Discard, LeaveAway, bytes_by, taken_by}
 use Rattle.floor_meetings.specs.steps.Lived.{Led}
-use Rattle.floor_meetings.proofs.Pairing.{Tells, one_member, one_slot}
+use Rattle.floor_meetings.proofs.Pairing.{Tells, one_slot}
 use Rattle.floor_meetings.proofs.Running.{led-both, led-same, led-timed, one-call, run-append}
 
 -- two slots that differ have members with numbers that differ
@@ -84,10 +82,10 @@ module _ (slot : ℕ) (member : Member) (old new : Meetings) (was : IsLiving slo
       by (inl t) = absurd (none-some member (sym f.free ∙ ap (member_at new) t.1 ∙ is.here))
       by (inr t) = t.0
 
-  parts : (k : ℕ) (result : Result Bool HubRefusal) (o : Option Member) → member_at old k ≡ o → Frees k old new → MatchOption o (new.hub ≡ old.hub) (λ m. Parts m.number old.hub new.hub result) →
+  parts : (k now : ℕ) (result : Result Bool HubRefusal) (o : Option Member) → member_at old k ≡ o → Frees k old new → MatchOption o (new.hub ≡ old.hub) (λ m. Parts m.number now old.hub new.hub result) →
       Led member.number old.hub new.hub []
-  parts k result None at f e = led-same member.number old.hub new.hub e
-  parts k result (Some m) at f d =
+  parts k now result None at f e = led-same member.number old.hub new.hub e
+  parts k now result (Some m) at f d =
       one-call member.number (AtMost 1 (step.Leave m.number)) old.hub new.hub [] 0 d.steps
       (d.others member.number (apart old.members slot k member.number m.number own (was.paired.named k m at) (elsewhere k f))) is.live is.serving
 
@@ -95,8 +93,8 @@ module _ (slot : ℕ) (member : Member) (old new : Meetings) (was : IsLiving slo
   drops n None at d = one-call member.number NoSteps old.hub new.hub [] 0 d.steps (d.others member.number (nowhere old.members slot member.number n own at)) is.live is.serving
   drops n (Some k) at e = led-same member.number old.hub new.hub e
 
-  leaves : (n : ℕ) (o : Option ℕ) → MatchOption o (Quiet (AtMost 1 (step.Leave n)) old.hub new.hub) (λ k. new.hub ≡ old.hub) → Led member.number old.hub new.hub []
-  leaves n None q = quiet (AtMost 1 (step.Leave n)) q
+  leaves : (n : ℕ) (o : Option ℕ) → MatchOption o (Leaves n old.hub new.hub) (λ k. new.hub ≡ old.hub) → Led member.number old.hub new.hub []
+  leaves n None d = quiet (AtMost 1 (step.Leave n)) d.quiet
   leaves n (Some k) e = led-same member.number old.hub new.hub e
 
   abbrev count_of : ℕ → ℕ → ℕ
@@ -134,7 +132,7 @@ module _ (slot : ℕ) (member : Member) (old new : Meetings) (was : IsLiving slo
   led (Came k bytes result) d = comes bytes result (member_at old k) d.1
   led (Ended k) d = ends (member_at old k) d.1
   led (Failed k) d = fails (member_at old k) d.1
-  led (Left k result) d = parts k result (member_at old k) refl d.0 d.1
+  led (Left k now result) d = parts k now result (member_at old k) refl d.0 d.1
   led (Took k bytes) d = takes k d.1.0 bytes d.1.1 d.1.2 (eqb_tells k slot)
   led Ready d = quiet NoSteps d.1
   led (Due now) d = led-timed member.number (max old.hub.attended.time now) old.hub new.hub d.1 d.2 is.live is.serving

@@ -1,9 +1,8 @@
 -- Numbers are given once.
-use Rattle.std.proofs.Common.{◌≡◌, ◌≢◌, ◌⊎◌, inl, inr, ℕ, zero, suc, ◌+◌, ◌≤◌, ◌<◌, Bool, true, false, List, [], ◌∷◌, ◌++◌, length, Some, None, refl, sym, ◌∙◌, ap, subst, arith}
+use Rattle.std.proofs.Common.{◌≡◌, ◌⊎◌, inl, inr, ℕ, zero, suc, ◌+◌, ◌≤◌, ◌<◌, Bool, false, List, [], ◌∷◌, ◌++◌, length, Some, None, refl, sym, ◌∙◌, ap, subst, arith}
 use Rattle.std.specs.Prelude.{Option, Result, MatchOption, nat_eq, slice_get}
 use Rattle.std.proofs.lemmas.Bool.Decides.{eqb_tells}
 use Rattle.std.proofs.lemmas.Option.{none-some}
-use Rattle.floor_room.specs.Room.{Room}
 use Rattle.floor_hub.specs.declared.connection.Connection.{Connection}
 use Rattle.floor_hub.specs.declared.refusal.HubRefusal.{HubRefusal}
 use Rattle.floor_hub.specs.declared.step.Answer.{Answer}
@@ -16,13 +15,12 @@ use Rattle.floor_hub.specs.Runs.{run}
 use Rattle.floor_hub.specs.StandsFor.{NumberStands, StandsFor}
 use Rattle.floor_hub.specs.World.{Aim, Place, World, aimed, nothing, offer, place, places_after, turn, turn_at}
 use Rattle.floor_loop.specs.Done.{AtMost, Each, LeavesIf, NoSteps, Reads, Returns, Steps}
-use Rattle.floor_loop.specs.Laws.{IsNew}
 use Rattle.floor_loop.specs.Loop.{Loop, parcels_at}
 use Rattle.floor_meetings.specs.declared.meetings.Meetings.{Meetings}
 use Rattle.floor_meetings.specs.declared.members.Member.{Member}
 use Rattle.floor_meetings.specs.declared.refusal.JoinRefusal.{JoinRefusal}
 use Rattle.floor_meetings.specs.declared.refusal.JoinRefusal.TheVariants.{InUse, UserConnections, Connections, Memory, ByHub}
-use Rattle.floor_meetings.specs.Calls.{Comes, Drops, Ends, Fails, Parts, Quiet, Takes}
+use Rattle.floor_meetings.specs.Calls.{Comes, Drops, Ends, Fails, Leaves, Parts, Takes}
 use Rattle.floor_meetings.specs.Joined.{Joins, LeftBy}
 use Rattle.floor_meetings.specs.Laws.{JoinsAreApart, OthersStay}
 use Rattle.floor_meetings.specs.Meetings.{member_at}
@@ -98,9 +96,9 @@ module _ (old new : Loop) where
   fails None e = went-none old new e
   fails (Some m) d = went-by (Each (step.Serve m.number)) old new d.quiet.steps
 
-  parts : (result : Result Bool HubRefusal) (o : Option Member) → MatchOption o (new ≡ old) (λ m. Parts m.number old new result) → Went old new
-  parts result None e = went-none old new e
-  parts result (Some m) d = went-by (AtMost 1 (step.Leave m.number)) old new d.steps
+  parts : (now : ℕ) (result : Result Bool HubRefusal) (o : Option Member) → MatchOption o (new ≡ old) (λ m. Parts m.number now old new result) → Went old new
+  parts now result None e = went-none old new e
+  parts now result (Some m) d = went-by (AtMost 1 (step.Leave m.number)) old new d.steps
 
   takes : (count : ℕ) (o : Option Member) → MatchOption o (new ≡ old) (λ m. Takes m.number count old new) → Went old new
   takes count None e = went-none old new e
@@ -110,8 +108,8 @@ module _ (old new : Loop) where
   drops n None d = went-by NoSteps old new d.steps
   drops n (Some k) e = went-none old new e
 
-  leaves : (n : ℕ) (o : Option ℕ) → MatchOption o (Quiet (AtMost 1 (step.Leave n)) old new) (λ k. new ≡ old) → Went old new
-  leaves n None q = went-by (AtMost 1 (step.Leave n)) old new q.steps
+  leaves : (n : ℕ) (o : Option ℕ) → MatchOption o (Leaves n old new) (λ k. new ≡ old) → Went old new
+  leaves n None d = went-by (AtMost 1 (step.Leave n)) old new d.quiet.steps
   leaves n (Some k) e = went-none old new e
 
 -- each call
@@ -119,13 +117,13 @@ went : (c : Call) (old new : Meetings) → Does c old new → Went old.hub new.h
 went (Open config) old new d = went-by (AtMost 1 (step.Open config)) old.hub new.hub d.1.steps
 went Forget old new d = went-by NoSteps old.hub new.hub d.1.steps
 went (Acts conference act) old new d = went-by (AtMost 1 (step.Admin conference act)) old.hub new.hub d.1.steps
-went (MakeRoom gone) old new d = went-by (LeavesIf gone) old.hub new.hub d.1.steps
+went (MakeRoom who) old new d = went-by (LeavesIf who) old.hub new.hub d.1.steps
 went (Join k conference user) old new d = went-by (Returns conference user new.hub.attended.away.back) old.hub new.hub d.quiet.steps
 went (Refused conference user r) old new d = refused conference user r old.hub new.hub d.1
 went (Came k bytes result) old new d = comes old.hub new.hub bytes result (member_at old k) d.1
 went (Ended k) old new d = ends old.hub new.hub (member_at old k) d.1
 went (Failed k) old new d = fails old.hub new.hub (member_at old k) d.1
-went (Left k result) old new d = parts old.hub new.hub result (member_at old k) d.1
+went (Left k now result) old new d = parts old.hub new.hub now result (member_at old k) d.1
 went (Took k bytes) old new d = takes old.hub new.hub _ (member_at old k) d.1.2
 went Ready old new d = went-by NoSteps old.hub new.hub d.1.steps
 went (Due now) old new d = went-same old.hub new.hub d.1
@@ -197,13 +195,13 @@ keeps : (c : Call) (w v : World) (old new : Meetings) → IsWithin w old → IsP
 keeps (Open config) w v old new i paired stands d = keeps-all v old new d.0
 keeps Forget w v old new i paired stands d = keeps-all v old new d.0
 keeps (Acts conference act) w v old new i paired stands d = keeps-all v old new d.0
-keeps (MakeRoom gone) w v old new i paired stands d = keeps-all v old new d.0
+keeps (MakeRoom who) w v old new i paired stands d = keeps-all v old new d.0
 keeps (Join k conference user) w v old new i paired stands d = joins v k conference user old new d (nobodys w old d.member.number i paired d.returned.next) stands
 keeps (Refused conference user r) w v old new i paired stands d = kept v old new d.0.slots
 keeps (Came k bytes result) w v old new i paired stands d = keeps-all v old new d.0
 keeps (Ended k) w v old new i paired stands d = keeps-all v old new d.0
 keeps (Failed k) w v old new i paired stands d = keeps-all v old new d.0
-keeps (Left k result) w v old new i paired stands d = frees v k old new d.0.free d.0.others
+keeps (Left k now result) w v old new i paired stands d = frees v k old new d.0.free d.0.others
 keeps (Took k bytes) w v old new i paired stands d = keeps-all v old new d.0
 keeps Ready w v old new i paired stands d = keeps-all v old new d.0
 keeps (Due now) w v old new i paired stands d = keeps-all v old new d.0

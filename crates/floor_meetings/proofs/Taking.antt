@@ -1,5 +1,5 @@
 -- What is lent, and what of it is taken.
-use Rattle.std.proofs.Common.{◌≡◌, ◌≤◌, ◌<◌, ℕ, zero, suc, List, [], ◌∷◌, length, take, drop, refl, ap, arith}
+use Rattle.std.proofs.Common.{◌≡◌, ◌≤◌, ℕ, zero, suc, List, [], ◌∷◌, length, take, refl, ap, arith}
 
 short : (k : ℕ) (bytes : List ℕ) → length (take k bytes) ≤ length bytes
 short zero bytes = omega arith

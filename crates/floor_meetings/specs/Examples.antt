@@ -1,5 +1,5 @@
 -- A worked run, computed: of two members in slots 5 and 7 each says Hello, and what the one in slot 5 is told its socket takes in two parts.
-use Rattle.std.specs.Prelude.{◌≡◌, ℕ, List, [], ◌∷◌, ◌++◌, drop, take, Result, Ok}
+use Rattle.std.specs.Prelude.{◌≡◌, List, [], ◌∷◌, ◌++◌, drop, take, Ok}
 use Rattle.std.specs.Prelude.{false}
 use Rattle.floor_machine.specs.Examples.{demonstration}
 use Rattle.floor_machine.specs.declared.act.Act.{Act}
@@ -14,7 +14,7 @@ first_part = Came 5 hello (Ok false) ∷ Came 7 other_hello (Ok false) ∷ Ready
 
 -- then conference 2 closes, whoever is in slot 7 leaves, and the socket in slot 5 takes what is left
 abbrev pub both_parts : List Call
-both_parts = first_part ++ Acts 2 Act.Close ∷ Left 7 (Ok false) ∷ Took 5 (drop 20 answer) ∷ []
+both_parts = first_part ++ Acts 2 Act.Close ∷ Left 7 0 (Ok false) ∷ Took 5 (drop 20 answer) ∷ []
 
 -- What the socket in slot 5 took is the answer to its Hello, a front of what its conference's floor machine calls for, and nothing of slot 7's.
 pub record OneIsWritten : Type 0 where

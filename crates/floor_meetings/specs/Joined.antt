@@ -1,12 +1,11 @@
 -- Who may become a member, and what becomes of the slot.
-use Rattle.std.specs.Prelude.{◌≡◌, ◌⊎◌, ◌≤◌, ◌<◌, ℕ, Bool, true, false, nat_eq, List, [], filter, length, Option, Some, None, is_some, option_and_then, Result, Ok, Err}
+use Rattle.std.specs.Prelude.{◌≡◌, ◌⊎◌, ◌≤◌, ◌<◌, ℕ, Bool, true, false, nat_eq, List, [], filter, length, IsSome, Option, Some, None, is_some, option_and_then}
 use Rattle.floor_hub.specs.declared.attached.Live.{Live}
-use Rattle.floor_hub.specs.declared.refusal.HubRefusal.{HubRefusal}
-use Rattle.floor_hub.specs.Hub.{is_forgotten, room_at}
+use Rattle.floor_hub.specs.Hub.{room_at}
 use Rattle.floor_hub.specs.Members.{AreMembers}
 use Rattle.floor_loop.specs.Laws.{IsNew}
 use Rattle.floor_loop.specs.Done.{Returns}
-use Rattle.floor_loop.specs.Loop.{Loop}
+use Rattle.floor_loop.specs.Loop.{Loop, ready_at}
 use Rattle.floor_loop.specs.Returned.{Returned}
 use Rattle.floor_loop.specs.Written.{Spares, Wakes}
 use Rattle.floor_meetings.specs.Calls.{Quiet}
@@ -61,8 +60,8 @@ IsRefused slot conference user m Connections = (member_at m slot ≡ None) × Ha
 IsRefused slot conference user m Memory = (member_at m slot ≡ None) × HasPlaces conference user m
 IsRefused slot conference user m (ByHub r) = (member_at m slot ≡ None) × ((room_at m.hub.hub conference ≡ None) ⊎ HasPlaces conference user m)
 
--- The slot had nobody, and there were places. It has a member of this conference and this user now, by an attach of the loop's that is no other's; and
--- no other slot has changed.
+-- The slot had nobody, and there were places. It has a member of this conference and this user now, by an attach of the loop's that is no other's, and is
+-- ready; no other slot has changed.
 pub record Joins (slot conference user : ℕ) (old new : Meetings) : Type 0 where
   pub free : member_at old slot ≡ None
   pub places : HasPlaces conference user old
@@ -71,6 +70,7 @@ pub record Joins (slot conference user : ℕ) (old new : Meetings) : Type 0 wher
   pub place : (member.conference ≡ conference) × (member.user ≡ user)
   pub returned : Returned conference user member.number old.hub new.hub
   pub fresh : IsNew new.hub member.number
+  pub ready : IsSome (ready_at new.hub member.number)
   pub quiet : Quiet (Returns conference user new.hub.attended.away.back) old.hub new.hub
   pub woke : Wakes old.hub new.hub
   pub spares : Spares old.hub new.hub

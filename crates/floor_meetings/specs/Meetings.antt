@@ -5,7 +5,7 @@ use Rattle.floor_room.specs.Room.{Room}
 use Rattle.floor_hub.specs.Connections.{connection_at}
 use Rattle.floor_hub.specs.Hub.{room_at}
 use Rattle.floor_hub.specs.declared.connection.Connection.{Connection}
-use Rattle.floor_loop.specs.Loop.{Loop, over_at, rest_at, until_at}
+use Rattle.floor_loop.specs.Loop.{Loop, rest_at, until_at}
 use Rattle.floor_loop.specs.Written.{Follow}
 use Rattle.floor_meetings.specs.declared.meetings.Meetings.{Meetings}
 use Rattle.floor_meetings.specs.declared.meetings.Due.{Due}
@@ -13,7 +13,7 @@ use Rattle.floor_meetings.specs.declared.meetings.Due.TheVariants as due
 use Rattle.floor_meetings.specs.declared.meetings.Ready.{Ready}
 use Rattle.floor_meetings.specs.declared.meetings.Ready.TheVariants as ready
 use Rattle.floor_meetings.specs.declared.members.Member.{Member}
-use Rattle.floor_meetings.specs.Members.{member_in, slot_of}
+use Rattle.floor_meetings.specs.Members.{member_in}
 
 -- the member in the slot
 abbrev pub member_at : Meetings → ℕ → Option Member

@@ -1,5 +1,5 @@
 -- Runs: calls, one after another, each of which did what its contract says.
-use Rattle.std.specs.Prelude.{◌≡◌, ◌⊎◌, ℕ, Bool, List, [], ◌∷◌, ◌++◌, max, min, take, length, nat_eq, false, if◌then◌else◌, MatchOption, Option, Some, Result}
+use Rattle.std.specs.Prelude.{◌≡◌, ℕ, Bool, List, [], ◌∷◌, ◌++◌, max, min, take, length, nat_eq, false, if◌then◌else◌, MatchOption, Option, Some, Result}
 use Rattle.floor_config.specs.Configuration.{Configuration}
 use Rattle.floor_machine.specs.declared.act.Act.{Act}
 use Rattle.floor_hub.specs.declared.refusal.HubRefusal.{HubRefusal}
@@ -10,7 +10,7 @@ use Rattle.floor_loop.specs.Written.{IsServing}
 use Rattle.floor_meetings.specs.declared.meetings.Meetings.{Meetings}
 use Rattle.floor_meetings.specs.declared.members.Member.{Member}
 use Rattle.floor_meetings.specs.declared.refusal.JoinRefusal.{JoinRefusal}
-use Rattle.floor_meetings.specs.Calls.{Comes, Drops, Ends, Fails, Parts, Quiet, Takes}
+use Rattle.floor_meetings.specs.Calls.{Comes, Drops, Ends, Fails, Leaves, Parts, Quiet, Takes}
 use Rattle.floor_meetings.specs.Joined.{Joins, LeftBy, SameSlots}
 use Rattle.floor_meetings.specs.Meetings.{lent_at, member_at}
 use Rattle.floor_meetings.specs.Members.{IsPaired, slot_of}
@@ -26,7 +26,7 @@ pub data Call : Type 0 where
   Came : (slot : ℕ) → List ℕ → Result Bool HubRefusal → Call
   Ended : (slot : ℕ) → Call
   Failed : (slot : ℕ) → Call
-  Left : (slot : ℕ) → Result Bool HubRefusal → Call
+  Left : (slot now : ℕ) → Result Bool HubRefusal → Call
   Took : (slot : ℕ) → List ℕ → Call
   Ready : Call
   Due : (now : ℕ) → Call
@@ -53,13 +53,13 @@ Does (Refused conference user r) old new = SameSlots old new × LeftBy r confere
 Does (Came slot bytes result) old new = Same old new × MatchOption (member_at old slot) (new.hub ≡ old.hub) (λ m. Comes m.number bytes old.hub new.hub result)
 Does (Ended slot) old new = Same old new × MatchOption (member_at old slot) (new.hub ≡ old.hub) (λ m. Ends m.number old.hub new.hub)
 Does (Failed slot) old new = Same old new × MatchOption (member_at old slot) (new.hub ≡ old.hub) (λ m. Fails m.number old.hub new.hub)
-Does (Left slot result) old new = Frees slot old new × MatchOption (member_at old slot) (new.hub ≡ old.hub) (λ m. Parts m.number old.hub new.hub result)
+Does (Left slot now result) old new = Frees slot old new × MatchOption (member_at old slot) (new.hub ≡ old.hub) (λ m. Parts m.number now old.hub new.hub result)
 Does (Took slot bytes) old new = Same old new × ((count : ℕ) × (bytes ≡ take (min count (length (lent_at old slot))) (lent_at old slot))
     × MatchOption (member_at old slot) (new.hub ≡ old.hub) (λ m. Takes m.number (min count (length (lent_at old slot))) old.hub new.hub))
 Does Ready old new = Same old new × Quiet NoSteps old.hub new.hub
 Does (Due now) old new = Same old new × (new.hub.hub ≡ old.hub.hub) × (new.hub.attended ≡ record old.hub.attended { time = max old.hub.attended.time now })
 Does (Discard number) old new = Same old new × MatchOption (slot_of old.members number) (Drops number old.hub new.hub) (λ slot. new.hub ≡ old.hub)
-Does (LeaveAway number) old new = Same old new × MatchOption (slot_of old.members number) (Quiet (AtMost 1 (step.Leave number)) old.hub new.hub) (λ slot. new.hub ≡ old.hub)
+Does (LeaveAway number) old new = Same old new × MatchOption (slot_of old.members number) (Leaves number old.hub new.hub) (λ slot. new.hub ≡ old.hub)
 
 -- These calls, one after another, led from the first value to the last.
 abbrev pub Calls : List Call → Meetings → Meetings → Type 0

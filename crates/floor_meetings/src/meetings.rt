@@ -8,12 +8,12 @@ ghost use Rattle.floor_hub.specs.declared.connection.Connection.{Connection};
 ghost use Rattle.floor_hub.specs.Rooms.{Forgets, IsRemembered, OneRoom, Opens, admin_event, by_broken, refusal_in};
 ghost use Rattle.floor_hub.specs.StandsFor.{StandsFor};
 ghost use Rattle.floor_hub.specs.World.{nothing};
-ghost use Rattle.floor_hub.specs.declared.step.Step.TheVariants.{Admin, Leave, Open};
+ghost use Rattle.floor_hub.specs.declared.step.Step.TheVariants.{Admin, Open};
 ghost use Rattle.floor_loop.specs.Done.{AtMost, LeavesIf, NoSteps};
-ghost use Rattle.floor_loop.specs.Loop.{IsFilled, over_at, ready_at};
-ghost use Rattle.floor_loop.specs.Returned.{IsOldestOf};
+ghost use Rattle.floor_loop.specs.Loop.{IsFilled, outgoing_at, over_at, ready_at};
+ghost use Rattle.floor_loop.specs.Returned.{IsKeptPlace, IsOldestOf};
 ghost use Rattle.floor_loop.specs.Written.{IsOver, IsServing, Spares, Wakes};
-ghost use Rattle.floor_meetings.specs.Calls.{Comes, Drops, Ends, Fails, Parts, Quiet, Takes};
+ghost use Rattle.floor_meetings.specs.Calls.{Comes, Drops, Ends, Fails, Leaves, Parts, Quiet, Takes};
 ghost use Rattle.floor_meetings.specs.Joined.{HasPlaces, IsRefused, Joins, LeftBy, SameSlots};
 ghost use Rattle.floor_meetings.specs.Meetings.{AreCalledFor, due_as, lent_at, member_at, ready_as, shut_by};
 ghost use Rattle.floor_meetings.specs.Members.{IsPaired, slot_of};
@@ -23,7 +23,7 @@ use crate::bounds::Bounds;
 use crate::counting::{count_in_slots, count_of_user};
 use crate::members::{Member, Members};
 use crate::refusal::JoinRefusal;
-use crate::turn::{come, drop_waiting, end, fail, part, take};
+use crate::turn::{come, drop_waiting, end, fail, leave, part, take};
 use floor_loop::{Act, Config, ConnNo, Grace, HubRefusal, Loop};
 use std::alloc::Global;
 
@@ -102,6 +102,7 @@ impl Meetings {
     pub fn open(&mut self, alloc: Global, config: Config) -> Result<(), HubRefusal>
         ensures quiet { Quiet (AtMost 1 (Open config)) self.old.hub self.new.hub }
         ensures opened { OnOk result (Opens config self.old.hub.hub self.new.hub.hub) }
+        ensures attended { self.new.hub.attended ≡ self.old.hub.attended }
         ensures members { self.new.members ≡ self.old.members }
         ensures bounds { self.new.bounds ≡ self.old.bounds }
     {
@@ -114,6 +115,7 @@ impl Meetings {
         ensures forgot { OnOk result (Forgets conference self.old.hub.hub self.new.hub.hub) }
         ensures refused { IfErr result (IsRemembered conference self.old.hub.hub) }
         ensures left { OnErr result (self.new.hub ≡ self.old.hub) }
+        ensures attended { self.new.hub.attended ≡ self.old.hub.attended }
         ensures members { self.new.members ≡ self.old.members }
         ensures bounds { self.new.bounds ≡ self.old.bounds }
     {
@@ -190,6 +192,8 @@ impl Meetings {
     ) -> Result<(), JoinRefusal>
         ensures took { OnOk result (Joins slot conference user self.old self.new) }
         ensures refused { IfErr result (IsRefused slot conference user self.old) }
+        ensures full { (r : Room) → room_at self.old.hub.hub conference ≡ Some r
+            → IsKeptPlace conference user r self.old.hub → OnOk result ⊥ }
         ensures left { IfErr result (λ r. LeftBy r conference user self.old.hub self.new.hub) }
         ensures slots { OnErr result (SameSlots self.old self.new) }
         ensures bounds { self.new.bounds ≡ self.old.bounds }
@@ -295,7 +299,7 @@ impl Meetings {
     /// life ends, and the slot is free, also where the hub refuses the leave.
     pub fn left(&mut self, slot: usize, now: u64) -> Result<bool, HubRefusal>
         ensures took { MatchOption (member_at self.old slot) (self.new.hub ≡ self.old.hub)
-            (λ m. Parts m.number self.old.hub self.new.hub result) }
+            (λ m. Parts m.number now self.old.hub self.new.hub result) }
         ensures nobody { member_at self.old slot ≡ None → result ≡ Ok false }
         ensures free { member_at self.new slot ≡ None }
         ensures others { (k : ℕ) → nat_eq slot k ≡ false
@@ -343,7 +347,9 @@ impl Meetings {
         ensures quiet { Quiet NoSteps self.old.hub self.new.hub }
         ensures found { IfSome result (λ r. (number : ℕ)
             × (r ≡ ready_as (slot_of self.old.members number) number)
-            × IsSome (ready_at self.old.hub number) × IsFilled self.new.hub number) }
+            × IsSome (ready_at self.old.hub number) × (ready_at self.new.hub number ≡ None)
+            × IsFilled self.new.hub number × ((k : ℕ) → nat_eq number k ≡ false
+            → outgoing_at self.new.hub k ≡ outgoing_at self.old.hub k)) }
         ensures none { IfNone result ((number : ℕ) → ready_at self.old.hub number ≡ None) }
         ensures spares { Spares self.old.hub self.new.hub }
         ensures members { self.new.members ≡ self.old.members }
@@ -447,14 +453,15 @@ impl Meetings {
     /// A member that is away leaves. One that is in a slot doesn't. Refused as the hub refuses it.
     pub fn leave_away(&mut self, number: ConnNo, now: u64) -> Result<(), HubRefusal>
         ensures took { MatchOption (slot_of self.old.members number)
-            (Quiet (AtMost 1 (Leave number)) self.old.hub self.new.hub)
+            (Leaves number self.old.hub self.new.hub)
             (λ slot. self.new.hub ≡ self.old.hub) }
+        ensures here { (slot : ℕ) → slot_of self.old.members number ≡ Some slot → OnErr result ⊥ }
         ensures members { self.new.members ≡ self.old.members }
         ensures bounds { self.new.bounds ≡ self.old.bounds }
     {
         match self.members.slot_of(number) {
             Some(_) => Ok(()),
-            None => self.hub.leave(number, now),
+            None => leave(&mut self.hub, number, now),
         }
     }
 }

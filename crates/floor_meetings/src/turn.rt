@@ -2,7 +2,7 @@
 
 ghost use Rattle.std.specs.Prelude.{◌≡◌, ◌≤◌, length, min, take};
 ghost use Rattle.floor_loop.specs.Loop.{rest_at};
-ghost use Rattle.floor_meetings.specs.Calls.{Comes, Drops, Ends, Fails, Parts, Takes};
+ghost use Rattle.floor_meetings.specs.Calls.{Comes, Drops, Ends, Fails, Leaves, Parts, Takes};
 
 use crate::meetings::MAX_TURN;
 use floor_loop::{ConnNo, HubRefusal, Loop};
@@ -35,7 +35,7 @@ pub(crate) fn fail(hub: &mut Loop, number: ConnNo, now: u64)
 
 /// The socket was shut.
 pub(crate) fn part(hub: &mut Loop, number: ConnNo, now: u64) -> Result<bool, HubRefusal>
-    ensures took { Parts number hub.old hub.new result }
+    ensures took { Parts number now hub.old hub.new result }
 {
     hub.lost(number, now)
 }
@@ -54,6 +54,13 @@ pub(crate) fn drop_waiting(hub: &mut Loop, number: ConnNo)
     ensures took { Drops number hub.old hub.new }
 {
     hub.discard(number);
+}
+
+/// Whoever is away leaves.
+pub(crate) fn leave(hub: &mut Loop, number: ConnNo, now: u64) -> Result<(), HubRefusal>
+    ensures took { Leaves number hub.old hub.new }
+{
+    hub.leave(number, now)
 }
 
 /// The lesser of a count and of the most that it may be.

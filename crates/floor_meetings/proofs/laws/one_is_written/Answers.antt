@@ -1,8 +1,4 @@
-use Rattle.std.proofs.Common.{refl, subst, List, ℕ}
-use Rattle.floor_machine.specs.Examples.{demonstration}
-use Rattle.floor_machine.specs.declared.event.Event.TheVariants.{Join, Message, Took}
-use Rattle.floor_loop.specs.Examples.{hello}
-use Rattle.floor_loop.specs.Laws.{IsFront}
+use Rattle.std.proofs.Common.{refl}
 use Rattle.floor_meetings.proofs.laws.one_is_written.Goals as goal
 
 pub returns : goal.returns

@@ -24,6 +24,9 @@ returns c =
         steps = c.wrote.ensures.steps;
         took = subst (λ (b : List ℕ). Took old new number b (acknowledged_by (drop n rest) (parcels_at old number))) (sym (cut 65536 n rest le)) c.wrote.ensures.took;
         others = c.wrote.ensures.others;
+        whole = c.wrote.ensures.whole;
+        acknowledged = c.wrote.ensures.acknowledged;
+        filled = c.wrote.ensures.filled;
         spares = c.wrote.ensures.spares;
       });
     }

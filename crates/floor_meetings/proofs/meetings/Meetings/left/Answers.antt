@@ -8,4 +8,4 @@ pub returns-in-Some-clause-took : goal.returns-in-Some-clause-took
 returns-in-Some-clause-took c =
     let old = c.args.self.now.hub in
     let new = c.part.new.hub in
-    subst (λ (o : Option Member). MatchOption o (new ≡ old) (λ m. Parts m.number old new c.part.result)) c.in-Some.ensures.value c.part.ensures.took
+    subst (λ (o : Option Member). MatchOption o (new ≡ old) (λ m. Parts m.number c.args.now old new c.part.result)) c.in-Some.ensures.value c.part.ensures.took

@@ -1,4 +1,4 @@
-use Rattle.std.proofs.Common.{◌≡◌, ℕ, List, [], length, min, take, subst}
+use Rattle.std.proofs.Common.{◌≡◌, [], length, min, take, subst}
 use Rattle.std.specs.Prelude.{MatchOption, Option}
 use Rattle.std.specs.Option.{option_map_or}
 use Rattle.floor_loop.specs.Loop.{rest_at}

@@ -1,4 +1,4 @@
-use Rattle.std.proofs.Common.{◌≡◌, None, sym, ◌∙◌, slice_set}
+use Rattle.std.proofs.Common.{None, sym, slice_set}
 use Rattle.std.specs.HashMap.{spare}
 use Rattle.floor_meetings.specs.Members.{Members}
 use Rattle.floor_meetings.proofs.Pairing.{elsewhere, left-paired, ranged, vacant}

@@ -1,4 +1,4 @@
-use Rattle.std.proofs.Common.{◌≡◌, sym, ◌∙◌, subst}
+use Rattle.std.proofs.Common.{sym, subst}
 use Rattle.floor_meetings.proofs.Pairing.{never-other}
 use Rattle.floor_meetings.specs.Members.{IsPaired}
 use Rattle.floor_meetings.proofs.members.Members.remove.Goals as goal
