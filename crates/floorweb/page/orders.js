@@ -1,5 +1,6 @@
 // What a chair orders of the meeting beyond its floors: who is let in, and for how long one should have a floor.
 
+import { send } from "./request.js";
 import { isChair, room } from "./room.js";
 import { tell, warn } from "./say.js";
 import { orderRefusal, told } from "./texts.js";
@@ -16,14 +17,9 @@ export function drawToken() {
 
 /** Has an order done by whoever has the token, and gives what is told of it: an empty text where it was done, else why not. */
 export async function orderBy(token, line) {
-  try {
-    const answer = await fetch("/order", { method: "POST", headers: { Authorization: `Bearer ${token}`, Order: line } });
-    const text = await answer.text();
-    if (answer.ok && text.startsWith("ok ")) return "";
-    return orderRefusal(text.match(/^error (\w+)/)?.[1] ?? String(answer.status));
-  } catch {
-    return told.lostAnswer;
-  }
+  const { isDone, fault, status } = await send("/order", token, line);
+  if (isDone) return "";
+  return status ? orderRefusal(fault ?? String(status)) : told.lostAnswer;
 }
 
 /** Has a chair's order done, and says it where it isn't. Tells whether it was. */

@@ -3,8 +3,8 @@
 import { clone } from "./entries.js";
 import { spokenOf } from "./minutes.js";
 import { canOrder, order } from "./orders.js";
+import { isSure } from "./request.js";
 import { nameOf, room, shown } from "./room.js";
-import { askSure } from "./say.js";
 import { texts, told } from "./texts.js";
 import { clock } from "./times.js";
 
@@ -65,8 +65,8 @@ function showAct(button, user) {
 
 async function showOut(user, button) {
   const name = shown({ id: user.id });
-  const isSure = await askSure(texts.showOut.ask(name), user.guest ? texts.showOut.guest : texts.showOut.text, texts.showOut.label);
-  if (isSure && (await order(`out ${user.id}`, told.shownOut(name)))) mark(user, true);
+  const { ask, label, guest, text } = texts.showOut;
+  if ((await isSure(ask(name), label, user.guest ? guest : text)) && (await order(`out ${user.id}`, told.shownOut(name)))) mark(user, true);
   button.focus();
 }
 

@@ -69,17 +69,6 @@ export function hideNotice() {
   $("notice").hidden = true;
 }
 
-/** Asks whether something is to be done, by a button of this label. */
-export function askSure(title, text, label) {
-  const dialog = $("sure");
-  dialog.querySelector("h2").textContent = title;
-  dialog.querySelector("p").textContent = text;
-  dialog.querySelector(".danger").textContent = label;
-  dialog.returnValue = "";
-  dialog.showModal();
-  return new Promise((resolve) => dialog.addEventListener("close", () => resolve(dialog.returnValue === "do"), { once: true }));
-}
-
 /** Has a field say how many bytes of UTF-8 it may still have, and refuse to be sent with more than `most`. */
 export function countBytes(field, most) {
   const left = field.closest("label").nextElementSibling;
