@@ -18,10 +18,10 @@
 ghost use Rattle.std.specs.Prelude.{◌≡◌, find, is_some, option_copied};
 ghost use Rattle.floor_web.specs.Bearer as spec;
 
-use crate::admission::{Admission, admission_of, is_chair, is_shut, user_behind};
+use crate::admission::{Admission, admission_of, is_chair, is_out, is_shut, user_behind};
 use crate::participants::is_strong_token;
 use crate::titles::Titles;
-use floor_follow::{Conference, Fact, Octets, Person, Phase, RequestStatus};
+use floor_follow::{Conference, Fact, Member, Octets, Person, Phase, RequestStatus};
 use floor_words::read_u16;
 use serde::Serialize;
 use std::alloc::{AllocError, Global};
@@ -316,7 +316,7 @@ fn users_of<'a>(
             users.push(ShownUser {
                 id: person.id,
                 name: text_of(&person.name),
-                out: has_word(conference, "out", person.id),
+                out: is_out(conference.facts.as_slice(), person.id),
             })?;
         }
     }
@@ -327,43 +327,65 @@ fn participants_of<'a>(
     alloc: Global,
     conference: &'a Conference,
 ) -> Result<Vec<ShownParticipant<'a>>, AllocError> {
+    let facts = conference.facts.as_slice();
     let mut users = Vec::new(alloc);
-    for fact in conference.facts.as_slice() {
+    for fact in facts {
         if let Fact::User(person) = fact {
             users.push(ShownParticipant {
                 id: person.id,
                 name: text_of(&person.name),
-                presence: presence_of(conference, person.id),
-                guest: has_word(conference, "guest", person.id),
-                out: has_word(conference, "out", person.id),
+                presence: "gone",
+                guest: false,
+                out: false,
             })?;
+        }
+    }
+    // Once for all users: a conference may have hundreds, and a word for each.
+    for fact in facts {
+        match fact {
+            Fact::Member(member) => show_presence(&mut users, member),
+            Fact::Word(word) => show_admission(&mut users, word.key.as_str()),
+            _ => {}
         }
     }
     Ok(users)
 }
 
-/// Whether a word is about this user, by this name.
-fn has_word(conference: &Conference, name: &str, user: u16) -> bool {
-    for fact in conference.facts.as_slice() {
-        match fact {
-            Fact::Word(word) if user_behind(name, word.key.as_str()) == Some(user) => return true,
-            _ => {}
+/// Shows that a user has a connection: one who has one that isn't lost is here.
+fn show_presence(users: &mut Vec<ShownParticipant<'_>>, member: &Member) {
+    if let Some(user) = with_id(users, member.user) {
+        if !member.is_away {
+            user.presence = "here";
+        } else if user.presence == "gone" {
+            user.presence = "away";
         }
     }
-    false
 }
 
-/// Whether a user is in the conference: one who has a connection that isn't lost is.
-fn presence_of(conference: &Conference, user: u16) -> &'static str {
-    let mut presence = "gone";
-    for fact in conference.facts.as_slice() {
-        match fact {
-            Fact::Member(member) if member.user == user && !member.is_away => return "here",
-            Fact::Member(member) if member.user == user => presence = "away",
-            _ => {}
-        }
+/// Shows what a word's key says of a user.
+fn show_admission(users: &mut Vec<ShownParticipant<'_>>, key: &str) {
+    if let Some(user) = named(users, "guest", key) {
+        user.guest = true;
     }
-    presence
+    if let Some(user) = named(users, "out", key) {
+        user.out = true;
+    }
+}
+
+/// The user whom a key names behind a name and a dot.
+fn named<'b, 'a>(
+    users: &'b mut Vec<ShownParticipant<'a>>,
+    name: &str,
+    key: &str,
+) -> Option<&'b mut ShownParticipant<'a>> {
+    with_id(users, user_behind(name, key)?)
+}
+
+fn with_id<'b, 'a>(
+    users: &'b mut Vec<ShownParticipant<'a>>,
+    id: u16,
+) -> Option<&'b mut ShownParticipant<'a>> {
+    users.iter_mut().find(|user| user.id == id)
 }
 
 fn members_of(alloc: Global, conference: &Conference) -> Result<Vec<ShownMember>, AllocError> {
