@@ -1,25 +1,38 @@
 //! One conference with its journal.
 
-ghost use Rattle.std.specs.Prelude.{◌≡◌, ◌++◌, ◌∷◌, [], true, false, IfErr, IfOk, OnErr, OnOk};
+ghost use Rattle.std.specs.Prelude.{◌≡◌, ◌++◌, ◌∷◌, [], true, false, IfErr, IfOk, OnErr, OnOk, length};
 ghost use Rattle.floor_machine.specs.Conference.{AreCut, is_cut, live_numbers};
 ghost use Rattle.floor_machine.specs.Journal.{IsJournal};
 ghost use Rattle.floor_machine.specs.Machine.{infos_changed};
+ghost use Rattle.floor_machine.specs.Reply.{said_reply};
+ghost use Rattle.floor_machine.specs.declared.event.Event.TheVariants.{Say};
 ghost use Rattle.floor_room.specs.Ledger.{Added, IsRefusedBy, Unadded, broken_off, closed, conference_of, new_ledger, refusal};
 ghost use Rattle.floor_room.specs.Standing.{backlog_of, config_of, shown_of};
 ghost use Rattle.floor_room.specs.Status.{IsStatus};
 
 use crate::refusal::RoomRefusal;
 use crate::status::{Status, narrowed, phase_of};
-use floor_machine::{Config, Event, MAX_EVENTS, Machine, Parcel, Refusal, SharedInfo};
+use floor_machine::{
+    Config, Event, Frame, MAX_EVENTS, Machine, Parcel, Refusal, SharedFrame, SharedInfo,
+};
 use floor_wire::Copies;
 use std::alloc::{AllocError, Global};
 use std::marker::Model;
 
+/// What an event calls for.
+#[derive(Debug, Drop)]
+pub struct Called {
+    /// The parcels to the members, by ascending member.
+    pub parcels: Vec<Parcel>,
+    /// What answers a message that is said for a user, which no member is told.
+    pub reply: Option<SharedFrame>,
+}
+
 /// One conference with its journal: it hands the parcels of each event to its caller.
 ///
 /// Readers: `journal`, `closed` (why no event is taken), `status`, `config`, `shown`, `backlog`, `is_cut`,
-/// `live_numbers`, `cut_numbers`. Changes: `add`, which changes nothing where it refuses, but that `Memory` breaks the
-/// ledger off, and `break_off`.
+/// `live_numbers`, `cut_numbers`. Changes: `add` and `say`, which change nothing where they refuse, but that `Memory`
+/// breaks the ledger off, and `break_off`.
 #[derive(Debug, Drop)]
 pub struct Ledger {
     config: Config,
@@ -73,6 +86,13 @@ impl Ledger {
         ensures kept { IsJournal self.now.config self.now.journal }
     {
         self.journal.as_slice()
+    }
+
+    /// How many events stand in the journal. Takes no memory.
+    pub(crate) fn events(&self) -> u32
+        ensures value { result ≡ length self.now.journal }
+    {
+        self.journal.len() as u32
     }
 
     /// Why no event is taken, whichever it is. Takes no memory.
@@ -193,6 +213,55 @@ impl Ledger {
         ensures refused { IsRefusedBy (refusal self.old event) result }
         ensures left { IfErr result (Unadded self.old self.new) }
     {
+        match self.call(event, changed) {
+            Ok(called) => {
+                let Called {
+                    parcels,
+                    reply: _reply,
+                } = called;
+                Ok(parcels)
+            }
+            Err(refusal) => Err(refusal),
+        }
+    }
+
+    /// Adds a message that the administrator says for a user, as `add` adds an event, and gives what
+    /// answers it beside the parcels: no member is told that.
+    pub fn say(
+        &mut self,
+        user: u16,
+        frame: Frame,
+        changed: &mut Vec<SharedInfo>,
+    ) -> Result<Called, RoomRefusal>
+        ensures took { IfOk result (λ called.
+            Added self.old self.new (Say user frame) called.parcels.items) }
+        ensures reply { IfOk result (λ called.
+            called.reply ≡ said_reply (conference_of self.old) (Say user frame)) }
+        ensures changed { OnOk result
+            (changed.new.items ≡ infos_changed (conference_of self.old) (Say user frame)) }
+        ensures unchanged { OnErr result (changed.new.items ≡ []) }
+        ensures refused { IsRefusedBy (refusal self.old (Say user frame)) result }
+        ensures left { IfErr result (Unadded self.old self.new) }
+    {
+        self.call(Event::Say { user, frame }, changed)
+    }
+
+    /// Adds an event, and gives all that it calls for.
+    pub(crate) fn call(
+        &mut self,
+        event: Event,
+        changed: &mut Vec<SharedInfo>,
+    ) -> Result<Called, RoomRefusal>
+        ensures took { IfOk result (λ called.
+            Added self.old self.new event called.parcels.items) }
+        ensures reply { IfOk result (λ called.
+            called.reply ≡ said_reply (conference_of self.old) event) }
+        ensures changed { OnOk result
+            (changed.new.items ≡ infos_changed (conference_of self.old) event) }
+        ensures unchanged { OnErr result (changed.new.items ≡ []) }
+        ensures refused { IsRefusedBy (refusal self.old event) result }
+        ensures left { IfErr result (Unadded self.old self.new) }
+    {
         changed.clear();
         match self.closed() {
             Some(refusal) => return Err(refusal),
@@ -200,20 +269,23 @@ impl Ledger {
         }
         let alloc = *self.journal.allocator();
         let mut out = Vec::new(alloc);
-        match self.machine.apply(&event, &mut out, changed) {
-            Ok(()) => {}
+        let reply = match self.machine.apply(&event, &mut out, changed) {
+            Ok(reply) => reply,
             Err(Refusal::Memory) => {
                 self.is_broken = true;
                 return Err(RoomRefusal::Refused(Refusal::Memory));
             }
             Err(refusal) => return Err(RoomRefusal::Refused(refusal)),
-        }
+        };
         // Whatever breaks the event off leaves it so.
         self.is_broken = true;
         match put(&mut self.journal, &mut self.copies, event) {
             Ok(()) => {
                 self.is_broken = false;
-                Ok(out)
+                Ok(Called {
+                    parcels: out,
+                    reply,
+                })
             }
             Err(refused) => {
                 changed.clear();

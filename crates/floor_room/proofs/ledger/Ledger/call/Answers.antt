@@ -3,7 +3,7 @@ use Rattle.std.specs.Prelude.{None}
 use Rattle.floor_room.specs.Ledger as spec
 use Rattle.floor_room.specs.Ledger.{closed}
 use Rattle.floor_room.proofs.Ledgers.{IsOpen, ledger-few, ledger-taken, opened}
-use Rattle.floor_room.proofs.ledger.Ledger.add.Goals as goal
+use Rattle.floor_room.proofs.ledger.Ledger.call.Goals as goal
 
 pub apply-requires : goal.apply-requires
 apply-requires c =
