@@ -12,9 +12,9 @@ use Rattle.floor_sockets.specs.declared.life.Life.{Life}
 use Rattle.floor_sockets.specs.declared.role.Role.{Role}
 use Rattle.floor_sockets.specs.declared.role.Role.TheVariants as role
 use Rattle.floor_sockets.specs.Life.{at_deadline, deed_of, due_of, is_awaiting, is_something, next_asked, next_behind, shutting, to_ask}
-use Rattle.floor_sockets.specs.Rounds.{IsPut, IsTurn, Rounds, SameQueues, times}
-use Rattle.floor_sockets.specs.Sockets.{IsDueOf, IsIdle, IsLined, IsTurnOf, Passes, Rests}
-use Rattle.floor_sockets.specs.steps.Listed.{Asks, HasLife, IsDueIn, IsListed, TurnsIn, with_asked}
+use Rattle.floor_sockets.specs.Rounds.{IsTurn, Rounds, SameQueues, times}
+use Rattle.floor_sockets.specs.Sockets.{IsDueOf, IsIdle, IsLined, IsTurnOf, Passes, Rests, StandsIn}
+use Rattle.floor_sockets.specs.steps.Listed.{Asks, HasLife, IsDueIn, IsListed, NextIn, with_asked}
 use Rattle.floor_sockets.proofs.Turning.{eq_yes, not_both}
 
 some_out : (x y : Life) → Some x ≡ Some y → x ≡ y
@@ -26,14 +26,30 @@ none_some x z e f = absurd cc
 pub same_queues : (line : Rounds) → SameQueues line line
 same_queues line = record { groups = refl; queues = λ g. refl }
 
--- who is put behind its group, where something is to be asked of it
-pub lined : (life : Life) (slot : ℕ) (old new : Rounds) → (is_awaiting life ≡ true → times old slot ≡ 0 → IsPut old new life.group slot) → (times old slot ≡ 1 → SameQueues old new)
-    → (is_awaiting life ≡ false → SameQueues old new) → IsLined (Some life) slot old new
-lined life slot old new put waits idle = record {
-  put = λ l e a none. subst (λ (z : Life). is_awaiting z ≡ true → IsPut old new z.group slot) (some_out life l e) (λ b. put b none) a;
-  waits = waits;
-  idle = λ i. idle (i life refl);
+-- who stands in the line, or was missed
+pub lined : (life : Life) (slot : ℕ) (old new : Rounds) (was is : Bool) → ((StandsIn life slot old new × (is ≡ was)) ⊎ (SameQueues old new × (is ≡ true))) → IsLined (Some life) slot old new was is
+lined life slot old new was is u = record {
+  there = λ l e. subst (λ (z : Life). (StandsIn z slot old new × (is ≡ was)) ⊎ (SameQueues old new × (is ≡ true))) (some_out life l e) u;
+  none = λ e. absurd (some_none e);
 }
+  where
+    some_none : Some life ≡ None → ⊥
+    some_none e = cc
+
+-- of whom nothing is to be asked: the same wait
+pub lined_idle : (life : Life) (slot : ℕ) (line : Rounds) (short : Bool) → is_awaiting life ≡ false → IsLined (Some life) slot line line short short
+lined_idle life slot line short idle =
+    lined life slot line line short short (inl (record { put = λ e. not_both (sym e ∙ idle); waits = λ e. same_queues line; idle = λ e. same_queues line }, refl))
+
+-- who stays as it is: it stands in the line, if anything is to be asked of it, or the line is short
+pub unlined : (lives : Slab Life) (line : Rounds) (short : Bool) (slot : ℕ) (life : Life) → (short ≡ false → IsListed lives line) → get lives slot ≡ Some life → IsLined (Some life) slot line line short short
+unlined lives line short slot life listed is = by short refl
+  where
+    by : (b : Bool) → short ≡ b → IsLined (Some life) slot line line short short
+    by true e = lined life slot line line short short (inr (same_queues line, e))
+    by false e =
+        lined life slot line line short short
+        (inl (record { put = λ a none. (let one = listed e slot life is a in absurd (omega (arith, one, none))); waits = λ h. same_queues line; idle = λ h. same_queues line }, refl))
 
 -- one more turn went by
 pub passes_more : (lives : ℕ → Option Life) (slots : List ℕ) (slot : ℕ) (old between new : Rounds) → Passes lives slots old between → IsTurn between new slot → IsIdle (lives slot) → Passes lives (slots ++ slot ∷ []) old new
@@ -166,9 +182,9 @@ due_idle : (l : Life) (slot : ℕ) (deed : Deed) → deed_of ((at_deadline l).as
 due_idle l slot deed e = asked_idle ((at_deadline l).asked) slot deed (to_ask (at_deadline l)) e
 
 -- the same of the whole table
-pub due_all : (old new : Slab Life) (line : Rounds) (due left : List Deadline) (time : ℕ) (deed : Deed) → IsDueIn old new due left time deed
-    → IsDueOf (record { lives = old.slots; line = line; deadlines = due; time = time }) (record { lives = new.slots; line = line; deadlines = left; time = time }) deed
-due_all old new line due left time deed d = record {
+pub due_all : (old new : Slab Life) (line : Rounds) (due left : List Deadline) (time : ℕ) (short : Bool) (deed : Deed) → IsDueIn old new due left time deed
+    → IsDueOf (record { lives = old.slots; line = line; deadlines = due; time = time; is_short = short }) (record { lives = new.slots; line = line; deadlines = left; time = time; is_short = short }) deed
+due_all old new line due left time short deed d = record {
   deadline = d.deadline;
   life = d.life;
   stood = d.stood;
@@ -179,21 +195,22 @@ due_all old new line due left time deed d = record {
     here = d.here ∙ sym (ap (λ (z : Option Life). option_map at_deadline z) d.was);
     others = d.others;
     line =
-        subst (λ (z : Option Life). IsLined (option_map at_deadline z) d.deadline.slot line line) (sym d.was)
-        (lined (at_deadline d.life) d.deadline.slot line line (λ e. not_both (sym e ∙ due_idle d.life d.deadline.slot deed d.by_deed)) (λ e. same_queues line) (λ e. same_queues line));
+        subst (λ (z : Option Life). IsLined (option_map at_deadline z) d.deadline.slot line line short short) (sym d.was)
+        (lined_idle (at_deadline d.life) d.deadline.slot line short (due_idle d.life d.deadline.slot deed d.by_deed));
     due = d.rest;
     time = refl;
   };
 }
 
 -- a turn, of the whole table, where no deadline has come
-pub turn_all : (r : Option Deed) (old between new : Slab Life) (before after : Rounds) (due left : List Deadline) (time : ℕ) → between ≡ old → left ≡ due → All (λ d. time < d.until) due → IfSome r (TurnsIn between new before after)
+pub turn_all : (r : Option Deed) (old between new : Slab Life) (before after : Rounds) (due left : List Deadline) (time : ℕ) (was is : Bool) → between ≡ old → left ≡ due → All (λ d. time < d.until) due
+    → IfSome r (NextIn between new before after was is)
     → IfSome r (λ deed.
-    IsDueOf (record { lives = old.slots; line = before; deadlines = due; time = time }) (record { lives = new.slots; line = after; deadlines = left; time = time }) deed
-    ⊎ IsTurnOf (record { lives = old.slots; line = before; deadlines = due; time = time }) (record { lives = new.slots; line = after; deadlines = left; time = time }) deed)
-turn_all None old between new before after due left time same none early turns = tt
-turn_all (Some deed) old between new before after due left time same none early turns =
-    let t = subst (λ (z : Slab Life). TurnsIn z new before after deed) same turns in
+    IsDueOf (record { lives = old.slots; line = before; deadlines = due; time = time; is_short = was }) (record { lives = new.slots; line = after; deadlines = left; time = time; is_short = is }) deed
+    ⊎ IsTurnOf (record { lives = old.slots; line = before; deadlines = due; time = time; is_short = was }) (record { lives = new.slots; line = after; deadlines = left; time = time; is_short = is }) deed)
+turn_all None old between new before after due left time was is same none early turns = tt
+turn_all (Some deed) old between new before after due left time was is same none early turns =
+    let t = subst (λ (z : Slab Life). NextIn z new before after was is deed) same turns in
     inr (record {
       early = early;
       passed = t.passed;
@@ -211,14 +228,15 @@ turn_all (Some deed) old between new before after due left time same none early 
     })
 
 -- and where nobody has one
-pub turn_none : (r : Option Deed) (old between new : Slab Life) (before after : Rounds) (due left : List Deadline) (time : ℕ) → between ≡ old → left ≡ due → IfNone r ((k : ℕ) → get new k ≡ get between k)
-    → IfNone r ((passed : List ℕ) × Passes (get between) passed before after) → IfNone r ((k : ℕ) → times after k ≡ 0)
-    → IfNone r (Rests (record { lives = old.slots; line = before; deadlines = due; time = time }) (record { lives = new.slots; line = after; deadlines = left; time = time }))
-turn_none (Some deed) old between new before after due left time same none lives passes nobody = tt
-turn_none None old between new before after due left time same none lives passes nobody = record {
+pub turn_none : (r : Option Deed) (old between new : Slab Life) (before after : Rounds) (due left : List Deadline) (time : ℕ) (was is : Bool) → between ≡ old → left ≡ due → IfNone r ((k : ℕ) → get new k ≡ get between k)
+    → IfNone r ((passed : List ℕ) × Passes (get between) passed before after) → IfNone r ((k : ℕ) → times after k ≡ 0) → IfNone r (is ≡ false)
+    → IfNone r (Rests (record { lives = old.slots; line = before; deadlines = due; time = time; is_short = was }) (record { lives = new.slots; line = after; deadlines = left; time = time; is_short = is }))
+turn_none (Some deed) old between new before after due left time was is same none lives passes nobody whole = tt
+turn_none None old between new before after due left time was is same none lives passes nobody whole = record {
   passed = passes.0;
   passes = subst (λ (z : Slab Life). Passes (get z) passes.0 before after) same passes.1;
   nobody = nobody;
+  whole = whole;
   lives = λ k. lives k ∙ ap (λ (z : Slab Life). get z k) same;
   due = none;
   time = refl;

@@ -12,7 +12,7 @@ use Rattle.floor_sockets.specs.declared.life.Life.{Life}
 use Rattle.floor_sockets.specs.declared.role.Role.{Role}
 use Rattle.floor_sockets.specs.declared.role.Role.TheVariants as role
 use Rattle.floor_sockets.specs.Life.{at_accept, at_deadline, at_read, at_serve, at_shut, at_write, came, deed_of, due_of, held, is_accepting, is_shutting, lent, next_asked, next_behind, none_came, one_came, over, put_off, reading, renamed, served, shutting, taken, unblocked, worded}
-use Rattle.floor_sockets.specs.Sockets.{Changed, Closed, IsTurnOf, Left, Opens, Rests, Sockets, accepts, goes_on, is_at_door, is_there, later, life_at, renamed_due, renamed_life, with_due, without}
+use Rattle.floor_sockets.specs.Sockets.{Changed, Closed, IsLined, IsTurnOf, Left, Opens, Rests, Sockets, accepts, goes_on, is_at_door, is_there, later, life_at, renamed_due, renamed_life, with_due, without}
 use Rattle.floor_sockets.specs.Runs.{Accepted, BecomeRole, Call, Calls, Came, Does, End, Fail, Hold, Lend, Next, NothingCame, Open, Readable, Refused, Served, Shut, Shuts, Time, Took, Unaccepted, Writable}
 use Rattle.floor_sockets.specs.Laws.{IsEarly, given, have_shut, is_shut}
 use Rattle.floor_sockets.proofs.Timing.{stays_with, stays_without}
@@ -323,6 +323,19 @@ renamed_stays (Some m) k ds d ne h = by m.is_over (is_at_door m.role)
 
 renamed_same : (o : Option Life) (l : Life) (k : ℕ) (ds : List Deadline) → o ≡ Some l → l.is_over ≡ true → renamed_due k o ds ≡ ds
 renamed_same o l k ds e over = ap (λ (z : Option Life). renamed_due k z ds) e ∙ ap (λ (b : Bool). cond b ds (cond (is_at_door l.role) (without k ds) ds)) over
+
+-- of who is to be shut down the role stays
+pub over_stays : (role : Role) (group slot : ℕ) (s : Sockets) (life : Life) → life_at s slot ≡ Some life → life.is_over ≡ true → IsLined (Some life) slot s.line s.line s.is_short s.is_short
+    → Changed (renamed_life role group) slot (renamed_due slot (life_at s slot) s.deadlines) s s
+over_stays role group slot s life is over lined =
+    let same : option_map (renamed_life role group) (life_at s slot) ≡ Some life = ap (λ (o : Option Life). option_map (renamed_life role group) o) is ∙ ap (λ (b : Bool). Some (cond b life (renamed role group life))) over in
+    record {
+      here = is ∙ sym same;
+      others = λ k e. refl;
+      line = subst (λ (o : Option Life). IsLined o slot s.line s.line s.is_short s.is_short) (sym same) lined;
+      due = sym (renamed_same (life_at s slot) life slot s.deadlines is over);
+      time = refl;
+    }
 
 pub at_same : (k slot : ℕ) (s : Sockets) (l : Life) → k ≡ slot → life_at s slot ≡ Some l → life_at s k ≡ Some l
 at_same k slot s l e there = ap (λ (z : ℕ). life_at s z) e ∙ there

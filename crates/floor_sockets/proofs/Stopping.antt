@@ -87,7 +87,7 @@ pub answered_other : (done : Deed) (slot : ℕ) (s : Sockets) → is_shut slot (
 answered_other done slot s other = record {
   its = sym other;
   call = Refused;
-  does = record { lives = λ k. refl; line = same_queues s.line; deadlines = refl; time = refl };
+  does = record { lives = λ k. refl; line = same_queues s.line; deadlines = refl; time = refl; short = refl };
   gave_none = refl;
   time = refl;
   fewer = omega arith;

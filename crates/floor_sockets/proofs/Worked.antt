@@ -9,7 +9,7 @@ use Rattle.floor_sockets.specs.Life.{at_deadline, came, is_awaiting, over, worde
 use Rattle.floor_sockets.specs.Rounds.{Rounds, queue}
 use Rattle.floor_sockets.specs.Sockets.{life_at}
 use Rattle.floor_sockets.specs.Examples.{OneIsRead, OneIsShut, member, nobody, the_one, with_one}
-use Rattle.floor_sockets.proofs.Listing.{lined, same_queues}
+use Rattle.floor_sockets.proofs.Listing.{lined, lined_idle}
 use Rattle.floor_sockets.proofs.Turning.{not_both}
 
 -- no other slot has a socket
@@ -40,7 +40,7 @@ one_is_shut = record {
   ended = record {
     here = refl;
     others = others member (over member) nobody nobody [] (record { slot = 0; until = 11000000 } ∷ []) 1000000 1000000;
-    line = lined (over member) 0 nobody nobody (λ e. not_both (sym e)) (λ e. same_queues nobody) (λ e. same_queues nobody);
+    line = lined_idle (over member) 0 nobody false refl;
     due = refl;
     time = refl;
   };
@@ -57,7 +57,7 @@ one_is_shut = record {
       changed = record {
         here = refl;
         others = others (over member) (at_deadline (over member)) nobody nobody (record { slot = 0; until = 11000000 } ∷ []) [] 11000000 11000000;
-        line = lined (at_deadline (over member)) 0 nobody nobody (λ e. not_both (sym e)) (λ e. same_queues nobody) (λ e. same_queues nobody);
+        line = lined_idle (at_deadline (over member)) 0 nobody false refl;
         due = refl;
         time = refl;
       };
@@ -77,7 +77,8 @@ one_is_read = record {
     here = refl;
     others = others member (worded false member) nobody the_one [] [] 0 0;
     line =
-        lined (worded false member) 0 nobody the_one (λ e none. record { here = refl; others = other_queues; behind = refl }) (λ e. absurd (omega (arith, e))) (λ e. not_both e);
+        lined (worded false member) 0 nobody the_one false false
+        (inl (record { put = λ e none. record { here = refl; others = other_queues; behind = refl }; waits = λ e. absurd (omega (arith, e)); idle = λ e. not_both e }, refl));
     due = refl;
     time = refl;
   };
@@ -92,7 +93,7 @@ one_is_read = record {
         line = the_one;
         passes = refl;
         slot = 0;
-        turn = record { group = 0; behind = []; first = refl; served = refl; others = λ g e. sym (other_queues g e); again = refl };
+        turn = inl (record { group = 0; behind = []; first = refl; served = refl; others = λ g e. sym (other_queues g e); again = refl }, refl);
         life = worded false member;
         was = refl;
         asked = refl;
@@ -106,7 +107,7 @@ one_is_read = record {
       here = refl;
       others = others (record (worded false member) { asked = asked.Read }) (came 100 false (record (worded false member) { asked = asked.Read })) nobody nobody [] [] 0 0;
       line =
-          lined (came 100 false (record (worded false member) { asked = asked.Read })) 0 nobody nobody (λ e. not_both (sym e)) (λ e. same_queues nobody) (λ e. same_queues nobody);
+          lined_idle (came 100 false (record (worded false member) { asked = asked.Read })) 0 nobody false refl;
       due = refl;
       time = refl;
     },

@@ -25,6 +25,7 @@ with_one life line deadlines time = record {
   line = line;
   deadlines = deadlines;
   time = time;
+  is_short = false;
 }
 
 abbrev pub member : Life

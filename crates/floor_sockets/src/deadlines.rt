@@ -39,18 +39,23 @@ impl Deadlines {
         }
     }
 
-    /// Takes room for one more.
-    pub(crate) fn reserve(&mut self) -> Result<(), AllocError>
+    /// Takes room for more deadlines than there are sockets, of which there are so many.
+    pub(crate) fn reserve(&mut self, sockets: usize) -> Result<(), AllocError>
         ensures items { self.new.items ≡ self.old.items }
-        ensures room { OnOk result (length self.old.items < self.new.room) }
+        ensures room { OnOk result (sockets < self.new.room) }
+        ensures more { self.old.room ≤ self.new.room }
     {
-        self.items.reserve(1)
+        let Some(count) = sockets.checked_add(1) else {
+            return Err(AllocError);
+        };
+        self.items.reserve(count)
     }
 
-    /// This is the slot's deadline, and none before it, where the socket is to have it. There is room for one more.
+    /// This is the slot's deadline, and none before it, where the socket is to have it. There is room for it.
     pub(crate) fn put(&mut self, has_one: bool, slot: usize, until: u64)
-        requires { length self.old.items < self.old.room }
+        requires { length (without slot self.old.items) < self.old.room }
         ensures next { self.new.items ≡ with_due has_one slot until self.old.items }
+        ensures room { self.new.room ≡ self.old.room }
     {
         if has_one {
             cancel_in(&mut self.items, slot);
@@ -61,6 +66,7 @@ impl Deadlines {
     /// Those of a slot are no more.
     pub(crate) fn cancel(&mut self, slot: usize)
         ensures next { self.new.items ≡ without slot self.old.items }
+        ensures room { self.new.room ≡ self.old.room }
     {
         cancel_in(&mut self.items, slot);
     }
@@ -69,6 +75,7 @@ impl Deadlines {
     pub(crate) fn cancel_where(&mut self, is_so: bool, slot: usize)
         ensures next { self.new.items
             ≡ (if is_so then without slot self.old.items else self.old.items) }
+        ensures room { self.new.room ≡ self.old.room }
     {
         if is_so {
             self.cancel(slot);

@@ -17,7 +17,7 @@ pub fn end_and_shut(sockets: &mut Sockets, slot: usize, now: u64) -> Result<(), 
     requires late { later sockets.old.time MAX_SHUT_MICROS ≤ now }
     ensures shut { OnOk result (life_at sockets.new slot ≡ None) }
 {
-    sockets.end(slot)?;
+    sockets.end(slot);
     sockets.time(now);
     shut_what_is_due(sockets, slot)
 }
@@ -46,7 +46,7 @@ fn answer(sockets: &mut Sockets, slot: usize, deed: Deed) -> Result<bool, AllocE
             Ok(other == slot)
         }
         Deed::Accept(other) => {
-            sockets.nothing(other)?;
+            sockets.nothing(other);
             Ok(false)
         }
         Deed::Read(_) => Ok(false),

@@ -10,7 +10,7 @@ use crate::deadlines::Deadlines;
 use crate::life::{Deed, Life};
 use crate::role::Role;
 use crate::rounds::Rounds;
-use crate::turn::{due_in, set_in, turn_in};
+use crate::turn::{due_in, next_in, set_in};
 use slab::Slab;
 use std::alloc::{AllocError, Global};
 use std::marker::Model;
@@ -33,14 +33,17 @@ pub const ACCEPT_AGAIN_MICROS: u64 = 100_000;
 /// - `end` has a socket shut once its time is over, `fail` at once; `time` is the clock, and `due` says when it is
 ///   wanted.
 ///
-/// A slot without a socket, and an answer to what wasn't asked, change nothing. Where memory is refused nothing has
-/// changed. Each slot waits for one turn, and has one deadline, at most.
+/// A slot without a socket, and an answer to what wasn't asked, change nothing. `open` alone may be refused memory, and
+/// then nothing has changed: where the line of turns is refused it, the next turn behind those in line is anybody's of
+/// whom anything is to be asked, until nothing is of any. Each slot waits for one turn, and has one deadline, at most.
 #[derive(Drop)]
 pub struct Sockets {
     lives: Slab<Life>,
     line: Rounds,
     deadlines: Deadlines,
     time: u64,
+    /// Whether the line was refused memory, so that somebody may wait beside it.
+    is_short: bool,
 }
 
 impl Model for Sockets {
@@ -54,9 +57,10 @@ impl Model for Sockets {
       line = s.line;
       deadlines = s.deadlines.items;
       time = s.time;
+      is_short = s.is_short;
     } };
 
-    ghost invariant = { λ s. IsSound s.lives s.line s.deadlines.items };
+    ghost invariant = { λ s. IsSound s.lives s.line s.is_short s.deadlines };
 }
 
 impl Sockets {
@@ -65,12 +69,14 @@ impl Sockets {
         ensures lives { (slot : ℕ) → life_at result slot ≡ None }
         ensures deadlines { result.deadlines ≡ [] }
         ensures time { result.time ≡ 0 }
+        ensures whole { result.is_short ≡ false }
     {
         Sockets {
             lives: Slab::new(alloc),
             line: Rounds::new(alloc),
             deadlines: Deadlines::new(alloc),
             time: 0,
+            is_short: false,
         }
     }
 
@@ -106,7 +112,7 @@ impl Sockets {
         ensures left { OnErr result (Left self.old self.new) }
     {
         self.lives.reserve(1)?;
-        self.deadlines.reserve()?;
+        self.deadlines.reserve(self.lives.len())?;
         let slot = self.lives.insert_reserved(Life::new(role, group));
         let until = self.time.saturating_add(MAX_HEADER_MICROS);
         self.deadlines.put(role.is_at_door(), slot, until);
@@ -114,196 +120,230 @@ impl Sockets {
     }
 
     /// The poll told that something may be read, or somebody accepted, and whether the stream ends.
-    pub fn readable(&mut self, slot: usize, ends: bool) -> Result<(), AllocError>
-        ensures took { OnOk result
-            (Changed (worded ends) slot self.old.deadlines self.old self.new) }
-        ensures left { OnErr result (Left self.old self.new) }
+    pub fn readable(&mut self, slot: usize, ends: bool)
+        ensures took { Changed (worded ends) slot self.old.deadlines self.old self.new }
     {
         match self.get(slot) {
-            Some(life) => set_in(&mut self.lives, &mut self.line, slot, life.worded(ends)),
-            None => Ok(()),
+            Some(life) => set_in(
+                &mut self.lives,
+                &mut self.line,
+                &mut self.is_short,
+                slot,
+                life.worded(ends),
+            ),
+            None => {}
         }
     }
 
     /// The poll told that the socket takes bytes.
-    pub fn writable(&mut self, slot: usize) -> Result<(), AllocError>
-        ensures took { OnOk result
-            (Changed unblocked slot self.old.deadlines self.old self.new) }
-        ensures left { OnErr result (Left self.old self.new) }
+    pub fn writable(&mut self, slot: usize)
+        ensures took { Changed unblocked slot self.old.deadlines self.old self.new }
     {
         match self.get(slot) {
-            Some(life) => set_in(&mut self.lives, &mut self.line, slot, life.unblocked()),
-            None => Ok(()),
+            Some(life) => set_in(
+                &mut self.lives,
+                &mut self.line,
+                &mut self.is_short,
+                slot,
+                life.unblocked(),
+            ),
+            None => {}
         }
     }
 
     /// Bytes are lent to be written to it from now on, or none.
-    pub fn lend(&mut self, slot: usize, has_bytes: bool) -> Result<(), AllocError>
-        ensures took { OnOk result
-            (Changed (lent has_bytes) slot self.old.deadlines self.old self.new) }
-        ensures left { OnErr result (Left self.old self.new) }
+    pub fn lend(&mut self, slot: usize, has_bytes: bool)
+        ensures took { Changed (lent has_bytes) slot self.old.deadlines self.old self.new }
     {
         match self.get(slot) {
-            Some(life) => set_in(&mut self.lives, &mut self.line, slot, life.lent(has_bytes)),
-            None => Ok(()),
+            Some(life) => set_in(
+                &mut self.lives,
+                &mut self.line,
+                &mut self.is_short,
+                slot,
+                life.lent(has_bytes),
+            ),
+            None => {}
         }
     }
 
     /// It is neither read nor served from now on, as a client with an answer under way, or is again.
-    pub fn hold(&mut self, slot: usize, is_held: bool) -> Result<(), AllocError>
-        ensures took { OnOk result
-            (Changed (held is_held) slot self.old.deadlines self.old self.new) }
-        ensures left { OnErr result (Left self.old self.new) }
+    pub fn hold(&mut self, slot: usize, is_held: bool)
+        ensures took { Changed (held is_held) slot self.old.deadlines self.old self.new }
     {
         match self.get(slot) {
-            Some(life) => set_in(&mut self.lives, &mut self.line, slot, life.held(is_held)),
-            None => Ok(()),
+            Some(life) => set_in(
+                &mut self.lives,
+                &mut self.line,
+                &mut self.is_short,
+                slot,
+                life.held(is_held),
+            ),
+            None => {}
         }
     }
 
     /// It is for something else from now on, and shares its turns with these; unless it is to be shut down. Who was at
     /// a door has its five seconds no more.
-    pub fn become_role(&mut self, slot: usize, role: Role, group: usize) -> Result<(), AllocError>
-        ensures took { OnOk result (Changed (renamed_life role group) slot
-            (renamed_due slot (life_at self.old slot) self.old.deadlines) self.old self.new) }
-        ensures left { OnErr result (Left self.old self.new) }
+    pub fn become_role(&mut self, slot: usize, role: Role, group: usize)
+        ensures took { Changed (renamed_life role group) slot
+            (renamed_due slot (life_at self.old slot) self.old.deadlines) self.old self.new }
     {
         let Some(life) = self.get(slot) else {
-            return Ok(());
+            return;
         };
         if life.is_over {
-            return Ok(());
+            return;
         }
         set_in(
             &mut self.lives,
             &mut self.line,
+            &mut self.is_short,
             slot,
             life.renamed(role, group),
-        )?;
+        );
         self.deadlines.cancel_where(life.role.is_at_door(), slot);
-        Ok(())
     }
 
     /// A read found so many bytes, of which a turn has left messages over or hasn't.
-    pub fn came(&mut self, slot: usize, count: usize, has_more: bool) -> Result<(), AllocError>
-        ensures took { OnOk result
-            (Changed (came count has_more) slot self.old.deadlines self.old self.new) }
-        ensures left { OnErr result (Left self.old self.new) }
+    pub fn came(&mut self, slot: usize, count: usize, has_more: bool)
+        ensures took { Changed (came count has_more) slot self.old.deadlines self.old self.new }
     {
         match self.get(slot) {
             Some(life) => set_in(
                 &mut self.lives,
                 &mut self.line,
+                &mut self.is_short,
                 slot,
                 life.came(count, has_more),
             ),
-            None => Ok(()),
+            None => {}
         }
     }
 
     /// A read found nothing, or nobody waits to be accepted.
-    pub fn nothing(&mut self, slot: usize) -> Result<(), AllocError>
-        ensures took { OnOk result
-            (Changed none_came slot self.old.deadlines self.old self.new) }
-        ensures left { OnErr result (Left self.old self.new) }
+    pub fn nothing(&mut self, slot: usize)
+        ensures took { Changed none_came slot self.old.deadlines self.old self.new }
     {
         match self.get(slot) {
-            Some(life) => set_in(&mut self.lives, &mut self.line, slot, life.none_came()),
-            None => Ok(()),
+            Some(life) => set_in(
+                &mut self.lives,
+                &mut self.line,
+                &mut self.is_short,
+                slot,
+                life.none_came(),
+            ),
+            None => {}
         }
     }
 
     /// One was accepted at this listener: others may wait.
-    pub fn accepted(&mut self, slot: usize) -> Result<(), AllocError>
-        ensures took { OnOk result
-            (Changed one_came slot self.old.deadlines self.old self.new) }
-        ensures left { OnErr result (Left self.old self.new) }
+    pub fn accepted(&mut self, slot: usize)
+        ensures took { Changed one_came slot self.old.deadlines self.old self.new }
     {
         match self.get(slot) {
-            Some(life) => set_in(&mut self.lives, &mut self.line, slot, life.one_came()),
-            None => Ok(()),
+            Some(life) => set_in(
+                &mut self.lives,
+                &mut self.line,
+                &mut self.is_short,
+                slot,
+                life.one_came(),
+            ),
+            None => {}
         }
     }
 
     /// An accept failed at this listener, as it does without a descriptor left: it accepts again 100 milliseconds
     /// later.
-    pub fn unaccepted(&mut self, slot: usize) -> Result<(), AllocError>
-        ensures took { OnOk result (Changed put_off slot
+    pub fn unaccepted(&mut self, slot: usize)
+        ensures took { Changed put_off slot
             (with_due (accepts (life_at self.old slot)) slot (later self.old.time ACCEPT_AGAIN_MICROS)
-            self.old.deadlines) self.old self.new) }
-        ensures left { OnErr result (Left self.old self.new) }
+            self.old.deadlines) self.old self.new }
     {
         let Some(life) = self.get(slot) else {
-            return Ok(());
+            return;
         };
-        self.deadlines.reserve()?;
-        set_in(&mut self.lives, &mut self.line, slot, life.put_off())?;
+        set_in(
+            &mut self.lives,
+            &mut self.line,
+            &mut self.is_short,
+            slot,
+            life.put_off(),
+        );
         let until = self.time.saturating_add(ACCEPT_AGAIN_MICROS);
         self.deadlines.put(life.is_accepting(), slot, until);
-        Ok(())
     }
 
     /// What a turn had left over was served, but for what it has left over.
-    pub fn served(&mut self, slot: usize, has_more: bool) -> Result<(), AllocError>
-        ensures took { OnOk result
-            (Changed (served has_more) slot self.old.deadlines self.old self.new) }
-        ensures left { OnErr result (Left self.old self.new) }
-    {
-        match self.get(slot) {
-            Some(life) => set_in(&mut self.lives, &mut self.line, slot, life.served(has_more)),
-            None => Ok(()),
-        }
-    }
-
-    /// The socket took so many of the bytes that were lent. A count above what was lent counts as all of it. A write
-    /// that fails takes none, and ends nothing.
-    pub fn took(&mut self, slot: usize, count: usize, lent: usize) -> Result<(), AllocError>
-        ensures took { OnOk result
-            (Changed (taken count lent) slot self.old.deadlines self.old self.new) }
-        ensures left { OnErr result (Left self.old self.new) }
+    pub fn served(&mut self, slot: usize, has_more: bool)
+        ensures took { Changed (served has_more) slot self.old.deadlines self.old self.new }
     {
         match self.get(slot) {
             Some(life) => set_in(
                 &mut self.lives,
                 &mut self.line,
+                &mut self.is_short,
+                slot,
+                life.served(has_more),
+            ),
+            None => {}
+        }
+    }
+
+    /// The socket took so many of the bytes that were lent. A count above what was lent counts as all of it. A write
+    /// that fails takes none, and ends nothing.
+    pub fn took(&mut self, slot: usize, count: usize, lent: usize)
+        ensures took { Changed (taken count lent) slot self.old.deadlines self.old self.new }
+    {
+        match self.get(slot) {
+            Some(life) => set_in(
+                &mut self.lives,
+                &mut self.line,
+                &mut self.is_short,
                 slot,
                 life.taken(count, lent),
             ),
-            None => Ok(()),
+            None => {}
         }
     }
 
     /// It is to be shut down ten seconds later: until then what is lent is written, and nothing is read.
-    pub fn end(&mut self, slot: usize) -> Result<(), AllocError>
-        ensures took { OnOk result (Changed over slot
+    pub fn end(&mut self, slot: usize)
+        ensures took { Changed over slot
             (with_due (goes_on (life_at self.old slot)) slot (later self.old.time MAX_SHUT_MICROS)
-            self.old.deadlines) self.old self.new) }
-        ensures left { OnErr result (Left self.old self.new) }
+            self.old.deadlines) self.old self.new }
     {
         let Some(life) = self.get(slot) else {
-            return Ok(());
+            return;
         };
-        self.deadlines.reserve()?;
-        set_in(&mut self.lives, &mut self.line, slot, life.over())?;
+        set_in(
+            &mut self.lives,
+            &mut self.line,
+            &mut self.is_short,
+            slot,
+            life.over(),
+        );
         let until = self.time.saturating_add(MAX_SHUT_MICROS);
         self.deadlines.put(!life.is_over, slot, until);
-        Ok(())
     }
 
     /// It is to be shut down at once: it has failed, or nothing is left to be written.
-    pub fn fail(&mut self, slot: usize) -> Result<(), AllocError>
-        ensures took { OnOk result (Changed over slot
+    pub fn fail(&mut self, slot: usize)
+        ensures took { Changed over slot
             (with_due (is_there (life_at self.old slot)) slot self.old.time self.old.deadlines)
-            self.old self.new) }
-        ensures left { OnErr result (Left self.old self.new) }
+            self.old self.new }
     {
         let Some(life) = self.get(slot) else {
-            return Ok(());
+            return;
         };
-        self.deadlines.reserve()?;
-        set_in(&mut self.lives, &mut self.line, slot, life.over())?;
+        set_in(
+            &mut self.lives,
+            &mut self.line,
+            &mut self.is_short,
+            slot,
+            life.over(),
+        );
         self.deadlines.put(!life.is_shutting(), slot, self.time);
-        Ok(())
     }
 
     /// It was shut, as was asked: its slot is free.
@@ -335,6 +375,6 @@ impl Sockets {
             Some(deed) => return Some(deed),
             None => {}
         }
-        turn_in(&mut self.lives, &mut self.line)
+        next_in(&mut self.lives, &mut self.line, &mut self.is_short)
     }
 }

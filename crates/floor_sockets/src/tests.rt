@@ -149,13 +149,13 @@ fn tell_one(sockets: &mut Sockets, plain: &mut Plain, drawn: &mut Drawn) -> Resu
     let kind = drawn.below(9);
     let is_on = drawn.is_one_of(2);
     match kind {
-        0..=2 => sockets.readable(slot, is_on)?,
-        3 => sockets.writable(slot)?,
-        4 => sockets.lend(slot, is_on)?,
-        5 => sockets.hold(slot, is_on)?,
-        6 => sockets.end(slot)?,
-        7 => sockets.fail(slot)?,
-        _ => sockets.become_role(slot, Role::MemberByDoor, 3)?,
+        0..=2 => sockets.readable(slot, is_on),
+        3 => sockets.writable(slot),
+        4 => sockets.lend(slot, is_on),
+        5 => sockets.hold(slot, is_on),
+        6 => sockets.end(slot),
+        7 => sockets.fail(slot),
+        _ => sockets.become_role(slot, Role::MemberByDoor, 3),
     }
     let Some(mut life) = plain.get(slot) else {
         return Ok(());
@@ -201,12 +201,12 @@ fn answer_read(
     mut life: Life,
 ) -> Result<(), AllocError> {
     if drawn.is_one_of(3) {
-        sockets.nothing(slot)?;
+        sockets.nothing(slot);
         life.is_readable = false;
     } else {
         let is_full = drawn.is_one_of(2);
         let has_more = drawn.is_one_of(3);
-        sockets.came(slot, if is_full { 4_096 } else { 100 }, has_more)?;
+        sockets.came(slot, if is_full { 4_096 } else { 100 }, has_more);
         life.is_readable = is_full || life.ends;
         life.has_more = has_more;
     }
@@ -224,12 +224,12 @@ fn answer_accept(
 ) -> Result<(), AllocError> {
     match drawn.below(3) {
         0 => {
-            sockets.nothing(slot)?;
+            sockets.nothing(slot);
             life.is_readable = false;
         }
-        1 => sockets.accepted(slot)?,
+        1 => sockets.accepted(slot),
         _ => {
-            sockets.unaccepted(slot)?;
+            sockets.unaccepted(slot);
             life.is_held = true;
             plain.put(slot, 100_000)?;
         }
@@ -291,12 +291,12 @@ fn answer_turn(
         Asked::Read => answer_read(sockets, plain, drawn, slot, life)?,
         Asked::Serve => {
             life.has_more = drawn.is_one_of(3);
-            sockets.served(slot, life.has_more)?;
+            sockets.served(slot, life.has_more);
             plain.set(slot, Some(life));
         }
         Asked::Write => {
             let count = drawn.below(12) as usize;
-            sockets.took(slot, count, 8)?;
+            sockets.took(slot, count, 8);
             life.is_blocked = count < 8;
             life.has_bytes = count < 8;
             plain.set(slot, Some(life));
@@ -372,19 +372,19 @@ fn turns_go_round_the_groups(rt: HostRuntime) -> Result<(), AllocError> {
     }
     let other = sockets.open(Role::Member, 2)?;
     for slot in 0..64 {
-        sockets.readable(slot, false)?;
-        sockets.readable(slot, false)?;
+        sockets.readable(slot, false);
+        sockets.readable(slot, false);
     }
     let mut turns = Vec::new(rt.alloc());
     for _ in 0..65 {
         match sockets.next() {
             Some(Deed::Read(slot)) => {
                 turns.push(slot)?;
-                sockets.came(slot, 10, slot == other && turns.len() < 4)?;
+                sockets.came(slot, 10, slot == other && turns.len() < 4);
             }
             Some(Deed::Serve(slot)) => {
                 turns.push(slot)?;
-                sockets.served(slot, false)?;
+                sockets.served(slot, false);
             }
             _ => {}
         }
@@ -408,13 +408,13 @@ fn a_burst_is_accepted_to_its_end_and_a_failed_accept_is_tried_again(
     let mut sockets = Sockets::new(rt.alloc());
     let listener = sockets.open(Role::Listener, 0)?;
     sockets.time(1_000);
-    sockets.readable(listener, false)?;
+    sockets.readable(listener, false);
     for _ in 0..70 {
         assert_eq!(rt; sockets.next(), Some(Deed::Accept(listener)));
-        sockets.accepted(listener)?;
+        sockets.accepted(listener);
     }
     assert_eq!(rt; sockets.next(), Some(Deed::Accept(listener)));
-    sockets.unaccepted(listener)?;
+    sockets.unaccepted(listener);
     assert!(rt; sockets.next().is_none());
     assert_eq!(rt; sockets.due(), Some(101_000));
     sockets.time(100_999);
@@ -422,7 +422,7 @@ fn a_burst_is_accepted_to_its_end_and_a_failed_accept_is_tried_again(
     assert!(rt; sockets.next().is_none());
     sockets.time(101_000);
     assert_eq!(rt; sockets.next(), Some(Deed::Accept(listener)));
-    sockets.nothing(listener)?;
+    sockets.nothing(listener);
     assert!(rt; sockets.next().is_none());
     assert!(rt; sockets.due().is_none());
     Ok(())
@@ -432,22 +432,22 @@ fn a_burst_is_accepted_to_its_end_and_a_failed_accept_is_tried_again(
 fn who_is_over_is_written_for_ten_seconds_and_shut_once(rt: HostRuntime) -> Result<(), AllocError> {
     let mut sockets = Sockets::new(rt.alloc());
     let member = sockets.open(Role::Member, 0)?;
-    sockets.readable(member, true)?;
-    sockets.lend(member, true)?;
-    sockets.end(member)?;
-    sockets.end(member)?;
+    sockets.readable(member, true);
+    sockets.lend(member, true);
+    sockets.end(member);
+    sockets.end(member);
     assert_eq!(rt; sockets.next(), Some(Deed::Write(member)));
-    sockets.took(member, 3, 8)?;
+    sockets.took(member, 3, 8);
     assert!(rt; sockets.next().is_none());
-    sockets.writable(member)?;
+    sockets.writable(member);
     assert_eq!(rt; sockets.next(), Some(Deed::Write(member)));
-    sockets.took(member, 9, 5)?;
+    sockets.took(member, 9, 5);
     sockets.shut(member);
     assert!(rt; sockets.get(member).is_some());
     assert_eq!(rt; sockets.due(), Some(10_000_000));
     sockets.time(10_000_000);
     assert_eq!(rt; sockets.next(), Some(Deed::Shut(member)));
-    sockets.fail(member)?;
+    sockets.fail(member);
     assert!(rt; sockets.next().is_none());
     sockets.shut(member);
     assert!(rt; sockets.get(member).is_none());

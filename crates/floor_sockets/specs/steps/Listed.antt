@@ -1,13 +1,14 @@
 -- Who waits for a turn.
-use Rattle.std.specs.Prelude.{◌≡◌, ◌≤◌, ℕ, true, false, not, List, All, Contains, filter, Some, is_some, nat_eq}
-use Rattle.slab.specs.Slab.{Slab, get}
+use Rattle.std.specs.Prelude.{◌≡◌, ◌≤◌, ◌⊎◌, ℕ, Bool, true, false, not, List, All, Contains, filter, Some, is_some, nat_eq}
+use Rattle.slab.specs.Slab.{Slab, get, slab_len}
 use Rattle.floor_sockets.specs.declared.deadlines.Deadline.{Deadline}
 use Rattle.floor_sockets.specs.declared.life.Asked.{Asked}
 use Rattle.floor_sockets.specs.declared.life.Deed.{Deed}
 use Rattle.floor_sockets.specs.declared.life.Life.{Life}
 use Rattle.floor_sockets.specs.Life.{at_deadline, deed_of, is_awaiting, next_asked}
 use Rattle.floor_sockets.specs.Rounds.{IsTurn, Rounds, times}
-use Rattle.floor_sockets.specs.Sockets.{Passes, due_times}
+use Rattle.floor_sockets.specs.Sockets.{HasTurn, Passes, due_times}
+use Rattle.floor_sockets.specs.steps.Due.{Deadlines}
 
 -- each of whom something is to be asked stands in the line
 abbrev pub IsListed : Slab Life → Rounds → Type 0
@@ -37,6 +38,20 @@ pub record TurnsIn (old new : Slab Life) (before after : Rounds) (deed : Deed) :
   pub turn : IsTurn line after slot
   pub asks : Asks old new slot deed
 
+-- What is to be asked next of any socket was asked by this deed.
+pub record AsksAny (old new : Slab Life) (deed : Deed) : Type 0 where
+  pub slot : ℕ
+  pub asks : Asks old new slot deed
+
+-- The next turn was had, in the line or beside it.
+pub record NextIn (old new : Slab Life) (before after : Rounds) (was_short is_short : Bool) (deed : Deed) : Type 0 where
+  pub passed : List ℕ
+  pub line : Rounds
+  pub passes : Passes (get old) passed before line
+  pub slot : ℕ
+  pub turn : HasTurn line after slot was_short is_short
+  pub asks : Asks old new slot deed
+
 -- the slot of a deadline has a socket
 abbrev pub HasLife : Slab Life → Deadline → Type 0
 HasLife lives d = is_some (get lives d.slot) ≡ true
@@ -53,9 +68,10 @@ pub record IsDueIn (old new : Slab Life) (due left : List Deadline) (time : ℕ)
   pub others : (k : ℕ) → nat_eq deadline.slot k ≡ false → get new k ≡ get old k
   pub rest : left ≡ filter (λ d. not (nat_eq d.slot deadline.slot)) due
 
--- Each of whom something is to be asked stands in the line, and each slot of a deadline has a socket; each stands there once, and has one deadline, at most.
-pub record IsSound (lives : Slab Life) (line : Rounds) (deadlines : List Deadline) : Type 0 where
-  pub listed : IsListed lives line
-  pub alive : All (HasLife lives) deadlines
+-- Each of whom something is to be asked stands in the line, unless it is short, and each slot of a deadline has a socket; each stands there once, and has one deadline, at most; and there is room for a deadline of each socket.
+pub record IsSound (lives : Slab Life) (line : Rounds) (is_short : Bool) (deadlines : Deadlines) : Type 0 where
+  pub listed : is_short ≡ false → IsListed lives line
+  pub alive : All (HasLife lives) deadlines.items
   pub once : IsOnce line
-  pub few : (slot : ℕ) → due_times deadlines slot ≤ 1
+  pub few : (slot : ℕ) → due_times deadlines.items slot ≤ 1
+  pub room : slab_len lives ≤ deadlines.room

@@ -13,11 +13,11 @@ returns-in-Shut c = record {
       (record { took = c.shut.ensures.took; not_asked = c.shut.ensures.not_asked; none = c.shut.ensures.none }) refl);
 }
 
-pub returns-in_ok-nothing-in-Accept : goal.returns-in_ok-nothing-in-Accept
-returns-in_ok-nothing-in-Accept c = record {
+pub returns-in-Accept : goal.returns-in-Accept
+returns-in-Accept c = record {
   answered =
       subst (λ (d : Deed). IsAnswered d c.args.slot c.args.sockets.now false c.nothing.new.self) (sym c.in-Accept.is)
-      (answered_accept c.in-Accept.other c.args.slot c.args.sockets.now c.nothing.new.self c.in_ok-nothing-in-Accept.ensures.took);
+      (answered_accept c.in-Accept.other c.args.slot c.args.sockets.now c.nothing.new.self c.nothing.ensures.took);
 }
 
 pub returns-in-Read : goal.returns-in-Read
