@@ -67,16 +67,7 @@ impl Server {
             place: known.place,
             port,
         };
-        let entered = match known.place {
-            Place::Port {
-                conference,
-                user,
-                ..
-            } => self.enter_at_port(peer, known.group, conference, user),
-            Place::Door { named_by, .. } => self.connections.open_at_door(peer, named_by),
-            Place::Health { .. } => self.connections.open_probe(),
-        };
-        match entered {
+        match self.come_in(peer, known.group) {
             Ok(socket) => Ok(socket),
             Err(refusal) => {
                 self.connections.tell(Entry::Refused { peer, refusal });
@@ -100,6 +91,23 @@ impl Server {
     {
         self.connections.pass(now);
         self.connections.fail_to_accept(listener);
+    }
+
+    /// Who has connected there joins, waits for its header to come, or is to be let go.
+    fn come_in(&mut self, peer: Peer, group: usize) -> Result<usize, Refusal>
+        ensures joined { IfOk result (λ socket. (c u p : ℕ) → peer.place ≡ Port c u p
+            → (m : Known) × (member_at self.new.meetings socket ≡ Some m)
+            × (m.conference ≡ c) × (m.user ≡ u)) }
+    {
+        match peer.place {
+            Place::Port {
+                conference,
+                user,
+                ..
+            } => self.enter_at_port(peer, group, conference, user),
+            Place::Door { named_by, .. } => self.connections.open_at_door(peer, named_by),
+            Place::Health { .. } => self.connections.open_probe(),
+        }
     }
 
     /// Who has connected to a user's port joins its conference.
