@@ -5,7 +5,7 @@ ghost use Rattle.floor_machine.specs.Conference.{AreCut, is_cut, live_numbers};
 ghost use Rattle.floor_machine.specs.Journal.{IsJournal};
 ghost use Rattle.floor_machine.specs.Machine.{infos_changed};
 ghost use Rattle.floor_machine.specs.Reply.{said_reply};
-ghost use Rattle.floor_machine.specs.declared.event.Event.TheVariants.{Say};
+ghost use Rattle.floor_machine.specs.declared.event.Event.TheVariants.{Say, Took};
 ghost use Rattle.floor_room.specs.Ledger.{Added, IsRefusedBy, Unadded, broken_off, closed, conference_of, new_ledger, refusal};
 ghost use Rattle.floor_room.specs.Standing.{backlog_of, config_of, shown_of};
 ghost use Rattle.floor_room.specs.Status.{IsStatus};
@@ -294,6 +294,36 @@ impl Ledger {
         }
     }
 
+    /// Adds it that so many of the parcels to a member were brought to their end, as `add` adds an event. Nobody is
+    /// told, and each floor request is shown as before, so that nothing is handed on.
+    pub(crate) fn took(&mut self, n: u32, k: u32) -> Result<(), RoomRefusal>
+        ensures took { OnOk result (Added self.old self.new (Took n k) []) }
+        ensures still { OnOk result (infos_changed (conference_of self.old) (Took n k) ≡ []) }
+        ensures refused { IsRefusedBy (refusal self.old (Took n k)) result }
+        ensures left { IfErr result (Unadded self.old self.new) }
+    {
+        match self.closed() {
+            Some(refusal) => return Err(refusal),
+            None => {}
+        }
+        match self.machine.took(n, k) {
+            Ok(()) => {}
+            Err(Refusal::Memory) => {
+                self.break_off();
+                return Err(RoomRefusal::Refused(Refusal::Memory));
+            }
+            Err(refusal) => return Err(RoomRefusal::Refused(refusal)),
+        }
+        // Whatever breaks the event off leaves it so.
+        self.is_broken = true;
+        match push(&mut self.journal, Event::Took { n, k }) {
+            Ok(()) => {}
+            Err(refused) => return Err(RoomRefusal::from(refused)),
+        }
+        self.is_broken = false;
+        Ok(())
+    }
+
     /// Breaks the conference off for good: no event is taken any more. Takes no memory.
     pub fn break_off(&mut self)
         ensures next { self.new ≡ broken_off self.old }
@@ -309,7 +339,15 @@ fn put(journal: &mut Vec<Event>, copies: &mut Copies, event: Event) -> Result<()
     ensures left { OnErr result (journal.new.items ≡ journal.old.items) }
 {
     let kept = event.exact(copies)?;
+    push(journal, kept)
+}
+
+/// Puts an event behind those of a journal. After an error the journal is as it was.
+fn push(journal: &mut Vec<Event>, event: Event) -> Result<(), AllocError>
+    ensures next { OnOk result (journal.new.items ≡ journal.old.items ++ event ∷ []) }
+    ensures left { OnErr result (journal.new.items ≡ journal.old.items) }
+{
     journal.reserve(1)?;
-    journal.push_reserved(kept);
+    journal.push_reserved(event);
     Ok(())
 }

@@ -294,8 +294,11 @@ impl Room {
         ensures refused { IsRefusedBy (refusal self.old.ledger (Took n k)) result }
         ensures left { IfErr result (Left self.old self.new (Took n k)) }
     {
-        self.add(Event::Took { n, k }, effects)?;
-        Ok(())
+        effects.clear();
+        match self.ledger.took(n, k) {
+            Ok(()) => Ok(()),
+            Err(refusal) => Err(refusal),
+        }
     }
 
     /// Takes it that a member has left. What waits for it stays until it is taken. Refused are, in this
