@@ -5,7 +5,7 @@ use Rattle.floor_datagram.specs.Session.{Session}
 use Rattle.floor_datagram.specs.Run.{Input, datagram, piece, ends, shut, lost, late}
 use Rattle.floor_datagram.specs.declared.end.End.TheVariants as Why
 
--- the notice that is out was sent four times, and 15 T1 are over since it was sent first
+-- the notice that is out was sent four times, and 15 times its retransmission timer are over since it was sent first
 abbrev pub IsOverdue : Option Out → (now : ℕ) → Type 0
 IsOverdue None now = ⊥
 IsOverdue (Some o) now = (o.tries ≡ 4) × (15 * o.t1 ≤ now - o.first)

@@ -45,7 +45,7 @@ fresh_id last next = if is_near last (not_zero next) then not_zero ((not_zero ne
 
 -- ---- notices
 
--- the notice that is out: its ID, its datagrams, when it was first sent, how often it was sent, and its T1
+-- the notice that is out: its ID, its datagrams, when it was first sent, how often it was sent, and its retransmission timer
 pub record Out : Type 0 where
   pub id : ℕ
   pub datagrams : List (List ℕ)

@@ -6,7 +6,7 @@ pub record Round : Type 0 where
   pub smoothed : ℕ
   pub variation : ℕ
 
--- what was measured, if anything was, and T1, the time until a notice is sent again
+-- what was measured, if anything was, and the request retransmission timer, after which a notice is sent again
 pub record Pace : Type 0 where
   pub round : Option Round
   pub t1 : ℕ
@@ -14,7 +14,7 @@ pub record Pace : Type 0 where
 abbrev pub first_pace : Pace
 first_pace = record { round = None; t1 = 500 }
 
--- the longest T1
+-- the longest retransmission timer
 abbrev pub max_t1 : ℕ
 max_t1 = 60000
 
@@ -27,7 +27,7 @@ abbrev pub round_with : Option Round → ℕ → Round
 round_with None time = record { smoothed = time; variation = time / 2 }
 round_with (Some r) time = record { smoothed = (7 * r.smoothed + time) / 8; variation = (3 * r.variation + apart r.smoothed time) / 4 }
 
--- T1: the round trip and four times what it varies by, 100 at least; 500 at least, and a minute at most
+-- the retransmission timer: the round trip and four times what it varies by, 100 at least; 500 at least, and a minute at most
 abbrev pub t1_of : Round → ℕ
 t1_of r = min max_t1 (max 500 (r.smoothed + max 100 (4 * r.variation)))
 
@@ -35,11 +35,11 @@ t1_of r = min max_t1 (max 500 (r.smoothed + max 100 (4 * r.variation)))
 abbrev pub measured : Pace → (time : ℕ) → Pace
 measured p time = let round = round_with p.round (min max_t1 time) in record { round = Some round; t1 = t1_of round }
 
--- T2: how long an answer is kept, and fragments are held
+-- how long an answer is kept, and fragments are held: 20 times the retransmission timer, ten seconds at least
 abbrev pub t2_of : (t1 : ℕ) → ℕ
 t2_of t1 = max 10000 (20 * t1)
 
--- how long after it was sent first a notice is due that was sent so often: T1, 3 T1, 7 T1 and 15 T1
+-- how long after it was sent first a notice is due that was sent so often: 1, 3, 7 and 15 times the retransmission timer
 abbrev pub due_after : (t1 tries : ℕ) → ℕ
 due_after t1 tries = t1 * (2 ^ tries - 1)
 

@@ -179,7 +179,7 @@ server_ends now s = if s.answered then parts Why.ServerGone now s else refused s
 
 -- ---- times
 
--- the fragments that are held are given up, T2 behind the first
+-- the fragments that are held are given up, once they are held as long as an answer
 abbrev pub expires : Option ℕ → (now t2 : ℕ) → Bool
 expires None now t2 = false
 expires (Some since) now t2 = nat_le t2 (now - since)

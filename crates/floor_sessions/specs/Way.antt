@@ -49,14 +49,14 @@ alone_by Kinds.Nothing d = Dropped
 abbrev pub alone : List ℕ → Way
 alone d = alone_by (kind_of d) d
 
--- Behind a session that ended less than T2 ago at the same port only a Hello with a newer ID begins one.
+-- Behind a session that ended less long ago, at the same port, than an answer is kept, only a Hello with a newer ID begins one.
 abbrev pub behind_end : Standing → List ℕ → Way
 behind_end s d =
     if nat_le s.t2 s.ago || not s.is_here then alone d
     else if is_hello d && is_newer_than s.last d then Begins else Onward
 
--- Beside a session only a Hello takes over from another port. At the same port a Hello with an older ID, T2 or more after a
--- request was taken, is a client's that began anew.
+-- Beside a session only a Hello takes over from another port. At the same port a Hello with an older ID, as long after a
+-- request was taken as an answer is kept, is a client's that began anew.
 abbrev pub beside : Standing → List ℕ → Way
 beside s d =
     if not (is_hello d) then (if s.is_here then Onward else Dropped)
