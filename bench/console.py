@@ -3,7 +3,7 @@
 
 Four clients flood two conferences. Meanwhile come `open`, `close` and `revoke`, each of them twice,
 in all 90 orders, the k-th of which is cut off by `stop` after k mod 7 lines: each line has the
-answer that docs/OPERATION.md has for it, each client hears a beginning of the HelloAcks of what it
+answer that docs/operate/names.md has for it, each client hears a beginning of the HelloAcks of what it
 sent, and the report of `stop` is at least what was heard and at most twice what was sent: a message
 that is answered has one acknowledgement at most. Then the file of `open` changes, breaks and
 vanishes between lines and while it is read, standard input ends or isn't UTF-8, and nobody reads

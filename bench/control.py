@@ -2,7 +2,7 @@
 """Clients of the control socket: ./control.py FLOORHUB [CASE ..]
 
 Runs each case (or those that are named) against a floorhub of its own. Clients that mean no good are answered by the
-name that docs/OPERATION.md has for it, and lose or hold up nothing: meanwhile another client's lines are answered,
+name that docs/operate/names.md has for it, and lose or hold up nothing: meanwhile another client's lines are answered,
 each within DEADLINE, and at the end of a case threads and descriptors are what they were. Clients that watch are
 killed at any moment, and whoever goes on behind the last place that ended has lost and doubled no line: reckoning.py
 says what the journal's events show. Status 1 where anything is otherwise. (together.py has many clients that do what

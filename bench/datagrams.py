@@ -3,7 +3,7 @@
 
     bench/datagrams.py PROGRAM [INPUTS] [SEED]
 
-PROGRAM is test_datagrams, built in any way. A model of a session in Python, written by the rules of docs/PROTOCOL.md
+PROGRAM is test_datagrams, built in any way. A model of a session in Python, written by the rules of docs/protocol.md
 and not by the definitions, is driven by random datagrams, pieces of a server's stream, times and ends; what it sends is
 what the program has to send. INPUTS is how many inputs there are, 1,000,000 if not given, in files of 20,000; the seed
 is printed. The status is 1 where something differs.

@@ -60,6 +60,7 @@ static size_t run(floor_hub *hub, uint32_t *answers) {
     answers[count++] = floor_floor(hub, 1, 2, 1, true, 12);
     answers[count++] = floor_chair(hub, 1, 2, false, 0);
     answers[count++] = floor_revoke(hub, 1, 1);
+    answers[count++] = floor_say(hub, 1, 10, REQUEST, sizeof REQUEST, bytes, sizeof bytes).result;
     answers[count++] = floor_status(hub, 1).result;
     answers[count++] = floor_leave(hub, bob.connection);
     answers[count++] = floor_close(hub, 1);

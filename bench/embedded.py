@@ -146,7 +146,9 @@ def act(chance):
     """What an administrator does."""
     conference, id_ = chance.choice((1, 2, 3)), chance.randint(9, 16)
     floor, request = chance.randint(1, 6), chance.randint(1, 12)
+    said = good(chance, conference, chance.choice((id_, 10)))
     return chance.choice((
+        f'say {conference} {id_} {said.hex()}', f'say {conference} {id_} {said.hex()}',
         f'revoke {conference} {request}', f'revoke {conference} {request}', f'user {conference} {id_} proxy name Ann {id_}',
         f'floor {conference} {floor} room {chance.randint(1, 3)} chair {id_}', f'chair {conference} {floor} {id_}',
         f'chair {conference} {floor}', f'close {conference}' if chance.random() < 0.1 else f'revoke {conference} 1'))
@@ -235,6 +237,9 @@ class Played:
             hub.add_floor(*numbers, int(rest[3]), int(rest[5]))
         elif word == 'chair':
             hub.set_chair(*numbers, *(int(it) for it in rest[2:]))
+        elif word == 'say':
+            if answer := hub.say(*numbers, bytes.fromhex(rest[2]))[1]:
+                printed.append(f'said {answer.hex()}')
 
     def check_journals(self):
         """Each journal, by pieces, has the events that the status tells, each in a line with its place."""

@@ -1,6 +1,6 @@
 """Messages as bytes, and what a conference without floor requests answers to each of them.
 
-Written from RFC 8855 (section 5) and docs/PROTOCOL.md alone: what a script compares the server with
+Written from RFC 8855 (section 5) and docs/protocol.md alone: what a script compares the server with
 is never the server's own. At its import the worked messages below are answered, as a check of it.
 """
 import random

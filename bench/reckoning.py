@@ -1,7 +1,7 @@
 """What a conference's journal shows to whoever watches the conference, and how the conference then stands.
 
-Reckoned from the opening configuration and the journal's lines, by RFC 8855 and docs/PROTOCOL.md alone: what a
-script compares the server with is never the server's own. Each event is decided as PROTOCOL says; then what is
+Reckoned from the opening configuration and the journal's lines, by RFC 8855 and docs/protocol.md alone: what a
+script compares the server with is never the server's own. Each event is decided as that page says; then what is
 shown of every ongoing request is compared with what was shown before it. `compare` has the same journal as floorsim
 ran it, and sees that floorsim tells each member as many messages, and each status just so.
 """

@@ -8,7 +8,7 @@ request and its release, while connections leave and others join, and one now an
 what it asks for: it has to be shut down, and what it got to be a beginning of its answers. Conference
 1 goes on to its
 65,535th floor request, conference 2 to its 2,000,000th event. Every byte is compared with what RFC
-8855 and docs/PROTOCOL.md call for. Prints the server's memory each so many seconds (5); at the end
+8855 and docs/protocol.md call for. Prints the server's memory each so many seconds (5); at the end
 threads and descriptors have to be what they were at the start. Each conference has at least the
 events that its clients made, and the report of `stop` is their sum. Status 1 where anything is
 otherwise.

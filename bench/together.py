@@ -7,7 +7,7 @@ for floors, decide and go. Each answer has to stand at its own line, which its t
 may have.
 
 In the end, of each conference the journal says what every line should have been. reckoning.py, which is written a
-second time from RFC 8855 and docs/PROTOCOL.md, reckons what each event shows, and how the conference stands behind
+second time from RFC 8855 and docs/protocol.md, reckons what each event shows, and how the conference stands behind
 it. Each client's live lines are compared with that, from the place on from which it watched; each ` at <place>` with
 the event there, and with what the client had been sent by then; what `floors`, `users`, `members`, `list`, `status`
 and `journal` answered with how the conference stood at their place. And floorsim runs the same journals, up to so many

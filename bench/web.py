@@ -501,8 +501,8 @@ def unread(program, folder):
 # A proxy
 
 def proxy(program, folder):
-    """nginx with the block of docs/OPERATION.md before the gateway, with a certificate made here."""
-    page = open(os.path.join(os.path.dirname(os.path.abspath(__file__)), '../docs/OPERATION.md')).read()
+    """nginx with the block of docs/operate/browsers.md before the gateway, with a certificate made here."""
+    page = open(os.path.join(os.path.dirname(os.path.abspath(__file__)), '../docs/operate/browsers.md')).read()
     block = re.search(r'^limit_conn_zone .*?^\}\n', page, re.M | re.S).group()
     name = re.search(r'server_name (\S+);', block).group(1)
     with tempfile.TemporaryDirectory() as place:

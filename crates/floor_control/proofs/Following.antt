@@ -67,31 +67,31 @@ follows-opening config m cut is none =
       place = omega arith;
     }
 
-memory-alone : (r : Refusal) → machine.IsRefusedBy {T = Unit {0}} None (Err r) → Refused r ≡ Refused Memory
-memory-alone Broken h = absurd h
-memory-alone Ended h = absurd h
-memory-alone NoMember h = absurd h
-memory-alone NoUser h = absurd h
-memory-alone Full h = absurd h
-memory-alone NoRequest h = absurd h
-memory-alone Cut h = absurd h
-memory-alone BadCount h = absurd h
-memory-alone OutOfRange h = absurd h
-memory-alone DoubleUser h = absurd h
-memory-alone DoubleFloor h = absurd h
-memory-alone NoFloor h = absurd h
-memory-alone UnknownChair h = absurd h
-memory-alone Memory h = refl
+memory-alone : (T : Type 0) (r : Refusal) → machine.IsRefusedBy {T = T} None (Err r) → Refused r ≡ Refused Memory
+memory-alone T Broken h = absurd h
+memory-alone T Ended h = absurd h
+memory-alone T NoMember h = absurd h
+memory-alone T NoUser h = absurd h
+memory-alone T Full h = absurd h
+memory-alone T NoRequest h = absurd h
+memory-alone T Cut h = absurd h
+memory-alone T BadCount h = absurd h
+memory-alone T OutOfRange h = absurd h
+memory-alone T DoubleUser h = absurd h
+memory-alone T DoubleFloor h = absurd h
+memory-alone T NoFloor h = absurd h
+memory-alone T UnknownChair h = absurd h
+memory-alone T Memory h = refl
 
--- a watcher refuses as its machine does
-pub refused-as : (w : Watcher) (m : Machine) (e : Event) (r : Refusal) → None ≡ closed w → m ≡ whole w.conference →
-    machine.IsRefusedBy {T = Unit {0}} (event_refusal m e) (Err r) → room.IsRefusedBy {T = Unit {0}} (refusal w e) (Err (Refused r))
-refused-as w m e r none is h =
+-- a watcher refuses as its machine does, which gives what answers an event besides
+pub refused-as : (T : Type 0) (w : Watcher) (m : Machine) (e : Event) (r : Refusal) → None ≡ closed w → m ≡ whole w.conference →
+    machine.IsRefusedBy {T = T} (event_refusal m e) (Err r) → room.IsRefusedBy {T = Unit {0}} (refusal w e) (Err (Refused r))
+refused-as T w m e r none is h =
     subst (λ (o : Option RoomRefusal). room.IsRefusedBy {T = Unit {0}} (room.first_of o (option_map Refused (event_refusal (whole w.conference) e))) (Err (Refused r))) none
-    (by (event_refusal (whole w.conference) e) (subst (λ (x : Machine). machine.IsRefusedBy {T = Unit {0}} (event_refusal x e) (Err r)) is h))
+    (by (event_refusal (whole w.conference) e) (subst (λ (x : Machine). machine.IsRefusedBy {T = T} (event_refusal x e) (Err r)) is h))
   where
-    by : (o : Option Refusal) → machine.IsRefusedBy {T = Unit {0}} o (Err r) → room.IsRefusedBy {T = Unit {0}} (option_map Refused o) (Err (Refused r))
-    by None h = memory-alone r h
+    by : (o : Option Refusal) → machine.IsRefusedBy {T = T} o (Err r) → room.IsRefusedBy {T = Unit {0}} (option_map Refused o) (Err (Refused r))
+    by None h = memory-alone T r h
     by (Some q) h = let is : r ≡ q = cc in ap (λ (x : Refusal). Err (Refused x)) is
 
 -- a machine that isn't broken

@@ -8,7 +8,7 @@ use Rattle.floor_message.specs.declared.information.Info.{Info}
 use Rattle.floor_message.specs.declared.information.Who.{Who}
 use Rattle.floor_machine.specs.Conference.{Conference, is_cut, live_numbers, user_of}
 use Rattle.floor_machine.specs.declared.event.Event.{Event}
-use Rattle.floor_machine.specs.declared.event.Event.TheVariants.{Join, Message, Took, Leave, Revoke, Close, AddUser, AddFloor, SetChair}
+use Rattle.floor_machine.specs.declared.event.Event.TheVariants.{Join, Message, Took, Leave, Revoke, Close, AddUser, AddFloor, SetChair, Say}
 use Rattle.floor_machine.specs.Machine.{infos_changed}
 use Rattle.floor_machine.specs.Next.{is_nothing, next}
 use Rattle.floor_room.specs.Text.{number_word, text_word}
@@ -86,8 +86,8 @@ member_text word n user = word ++ codes " " ++ decimal n ++ codes " user " ++ de
 abbrev pub cut_text : Conference → ℕ → List ℕ
 cut_text s n = member_text (codes "cut") n (user_of s n)
 
--- What an event says of itself, where a member who joins gets this number, and one who leaves was of this user: a message, an
--- acknowledgement and a revocation say nothing, for the requests that they change speak.
+-- What an event says of itself, where a member who joins gets this number, and one who leaves was of this user: a message, also
+-- one that is said for a user, an acknowledgement and a revocation say nothing, for the requests that they change speak.
 abbrev pub said : ℕ → ℕ → Event → List (List ℕ)
 said number leaver (Join user) = member_text (codes "joined") number user ∷ []
 said number leaver (Message n bytes) = []
@@ -98,6 +98,7 @@ said number leaver Close = codes "closed" ∷ []
 said number leaver (AddUser user) = user_text user ∷ []
 said number leaver (AddFloor floor) = floor_words floor ∷ []
 said number leaver (SetChair floor chair) = chair_text floor chair ∷ []
+said number leaver (Say user bytes) = []
 
 -- the user of the member who leaves
 abbrev pub leaver : Conference → Event → ℕ

@@ -51,6 +51,7 @@ impl At {
             Event::AddUser { user } => self.add_user(out, user.as_user()),
             Event::AddFloor { floor } => self.add_floor(out, floor),
             Event::SetChair { floor, chair } => self.add_chair(out, *floor, *chair),
+            Event::Say { .. } => Ok(()),
         }
     }
 
@@ -232,6 +233,7 @@ fn says(event: &Event) -> bool
         Event::AddUser { .. } => true,
         Event::AddFloor { .. } => true,
         Event::SetChair { .. } => true,
+        Event::Say { .. } => false,
     }
 }
 

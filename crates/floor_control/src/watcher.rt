@@ -90,7 +90,7 @@ impl Watcher {
         let mut parcels = Vec::new(alloc);
         let mut changed = Vec::new(alloc);
         match self.machine.apply(event, &mut parcels, &mut changed) {
-            Ok(()) => {}
+            Ok(_reply) => {}
             Err(refusal) => {
                 let refusal = RoomRefusal::Refused(refusal);
                 // Want of memory breaks the watcher.
@@ -131,7 +131,7 @@ impl Watcher {
         let mut parcels = Vec::new(alloc);
         let mut changed = Vec::new(alloc);
         match self.machine.apply(event, &mut parcels, &mut changed) {
-            Ok(()) => {}
+            Ok(_reply) => {}
             Err(refusal) => {
                 let refusal = RoomRefusal::Refused(refusal);
                 // Want of memory breaks the watcher.

@@ -85,7 +85,8 @@ pub fn what_waits_for_the_server_is_bounded()
 {}
 
 /// Of any run: a session that goes on is lost by the next input exactly where a notice is out that was sent four
-/// times and 15 T1 have passed since it was sent first, or where the caller says so (RFC 8855, section 8.3.1).
+/// times and 15 times the retransmission timer has passed since it was sent first, or where the caller says so
+/// (RFC 8855, section 8.3.1).
 pub fn a_peer_is_lost_that_does_not_acknowledge()
     ensures { (terms : Terms) (first now : ℕ) (inputs : List Input) (next : Input)
         → (run (begins terms first now) inputs).after.end ≡ None

@@ -87,7 +87,7 @@ impl Notices {
         self.out.is_some()
     }
 
-    /// T2, in milliseconds: how long an answer is kept.
+    /// How long an answer is kept, in milliseconds.
     pub(crate) fn t2(&self) -> u32
         ensures value { result ≡ t2_of self.now.pace.t1 }
     {

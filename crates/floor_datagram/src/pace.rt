@@ -7,16 +7,16 @@ ghost use Rattle.floor_datagram.specs.Pace.{apart};
 
 use std::marker::Model;
 
-/// T1 before anything was measured.
+/// The retransmission timer before anything was measured.
 const FIRST_T1: u32 = 500;
 
-/// The longest T1, and the longest time that is measured.
+/// The longest retransmission timer, and the longest time that is measured.
 const MAX_T1: u32 = 60_000;
 
-/// The least T2.
+/// How long an answer is kept at least.
 const MIN_T2: u32 = 10_000;
 
-/// What was measured of acknowledgements, and T1.
+/// What was measured of acknowledgements, and the retransmission timer.
 #[derive(Drop)]
 pub(crate) struct Pace {
     round: Option<Round>,
@@ -43,7 +43,7 @@ impl Model for Pace {
 }
 
 impl Pace {
-    /// Nothing was measured: T1 is half a second.
+    /// Nothing was measured: the retransmission timer is half a second.
     pub(crate) fn new() -> Pace
         ensures value { result ≡ spec.first_pace }
     {
@@ -53,7 +53,7 @@ impl Pace {
         }
     }
 
-    /// T1: how long after it was sent a notice is sent again.
+    /// The retransmission timer: how long after it was sent a notice is sent again.
     pub(crate) fn t1(&self) -> u32
         ensures value { result ≡ self.now.t1 }
         ensures range { result ≤ 60000 }
@@ -62,7 +62,7 @@ impl Pace {
         self.t1
     }
 
-    /// T2: how long an answer is kept for copies of its request, and fragments are held.
+    /// How long an answer is kept for copies of its request, and fragments are held.
     pub(crate) fn t2(&self) -> u32
         ensures value { result ≡ spec.t2_of self.now.t1 }
     {

@@ -139,7 +139,7 @@ impl Session {
         self.taken
     }
 
-    /// T2, in milliseconds: how long what was answered is kept behind its end.
+    /// How long what was answered is kept behind its end, in milliseconds (RFC 8855, section 8.3.2).
     pub fn t2(&self) -> u32
         ensures value { result ≡ t2_of self.now.notices.pace.t1 }
     {
@@ -457,7 +457,7 @@ impl Session {
         }
     }
 
-    /// Gives up fragments that are held for T2.
+    /// Gives up fragments that are held as long as an answer is kept.
     fn expire(&mut self, now: u64)
         ensures { self.new ≡ spec.expired self.old now }
     {

@@ -1,9 +1,10 @@
 /* floor.h: conferences with floor control (BFCP, RFC 8855), without input or output.
  *
  * A hub holds conferences. The caller has the connections: it says which is which user's, hands in the bytes
- * that come, cut anywhere, and takes whole messages to send. Bytes in: floor_piece, then floor_serve. Bytes
- * out, after each floor_attach, floor_serve, floor_took, floor_leave, floor_close, floor_revoke, floor_user,
- * floor_floor and floor_chair: floor_take for whom floor_told names, then floor_took once they are sent.
+ * that come, cut anywhere, and takes whole messages to send. Bytes in: floor_piece, then floor_serve; and
+ * floor_say for a user who has no connection. Bytes out, after each floor_attach, floor_serve, floor_took,
+ * floor_leave, floor_close, floor_revoke, floor_user, floor_floor, floor_chair and floor_say: floor_take for
+ * whom floor_told names, then floor_took once they are sent.
  *
  * Link libfloor.a or libfloor.so: `pkg-config --cflags --libs floor`. It wants malloc, realloc, free, memcpy,
  * memmove and memset of the C library, and nothing else. It keeps nothing outside the hub, does no input or
@@ -53,6 +54,7 @@ enum floor_result {
 	FLOOR_JOURNAL_FULL = 14,          /* the conference has 2,000,000 events */
 	FLOOR_FORGOTTEN = 15,             /* the conference was forgotten */
 	FLOOR_RUNNING = 16,               /* it hasn't ended, is broken off, or a connection of it is live */
+	FLOOR_BAD_MESSAGE = 17,           /* what is said for a user isn't exactly one message */
 
 	FLOOR_BROKEN = 20,                /* want of memory has broken the conference off */
 	FLOOR_ENDED = 21,                 /* the conference has ended */
@@ -99,6 +101,7 @@ struct floor_text { uint32_t result; size_t len; };
 struct floor_attached { uint32_t result; uint64_t connection; };
 struct floor_served { uint32_t result; uint32_t served; };
 struct floor_taken { uint32_t result; uint32_t parcels; size_t len; };
+struct floor_said { uint32_t result; uint32_t place; size_t len; };
 struct floor_named { uint32_t result; size_t count; };
 struct floor_lines { uint32_t result; size_t events; size_t len; };
 struct floor_state {
@@ -139,10 +142,10 @@ uint32_t floor_piece(floor_hub *hub, uint64_t connection, const uint8_t *bytes, 
  * FLOOR_ROOM_MEMORY with the conference broken off. A server leaves such a connection. */
 struct floor_served floor_serve(floor_hub *hub, uint64_t connection, uint32_t most);
 /* Whom the last call of floor_attach, floor_serve, floor_took, floor_leave, floor_close, floor_revoke,
- * floor_user, floor_floor or floor_chair concerned, ascending: the connections that have something to take,
- * those that it cut, and all of a conference that it closed or broke off. Of floor_serve: the connection that
- * was served, and these. FLOOR_TOO_SHORT: `count` is more than `size`, and nothing is written. No conference
- * has more than 64 connections, so that room for 64 is enough. */
+ * floor_user, floor_floor, floor_chair or floor_say concerned, ascending: the connections that have something
+ * to take, those that it cut, and all of a conference that it closed or broke off. Of floor_serve: the
+ * connection that was served, and these. FLOOR_TOO_SHORT: `count` is more than `size`, and nothing is written.
+ * No conference has more than 64 connections, so that room for 64 is enough. */
 struct floor_named floor_told(floor_hub *hub, uint64_t *connections, size_t size);
 /* Takes messages to a connection, whole ones, as many as there is room for, one behind the other: `parcels`
  * of them, `len` bytes. FLOOR_NOTHING: none waits. FLOOR_TOO_SHORT: the first one has `len` bytes, more than
@@ -175,6 +178,12 @@ uint32_t floor_floor(floor_hub *hub, uint32_t conference, uint16_t floor, uint16
                      uint16_t chair);
 /* Gives a floor a chair, or none. FLOOR_NO_FLOOR, FLOOR_UNKNOWN_CHAIR. */
 uint32_t floor_chair(floor_hub *hub, uint32_t conference, uint16_t floor, bool has_chair, uint16_t chair);
+/* Says a message for a user, who needs no connection: a floor request, a release or a chair's action, as if a
+ * connection of the user had sent it. Gives its place in the journal, and writes what answers it, which no
+ * connection is told: its `len` bytes, 0 where nothing does. Where `size` is less nothing is written, and it
+ * is said all the same: FLOOR_MESSAGE_MAX is always enough. FLOOR_NO_USER, FLOOR_BAD_MESSAGE. */
+struct floor_said floor_say(floor_hub *hub, uint32_t conference, uint16_t user, const uint8_t *message,
+                            size_t message_len, uint8_t *answer, size_t size);
 /* Gives the memory of a conference back that has ended and of which no connection is live. Refused by
  * FLOOR_FORGOTTEN, FLOOR_NO_CONFERENCE, FLOOR_RUNNING and FLOOR_MEMORY. */
 uint32_t floor_forget(floor_hub *hub, uint32_t conference);

@@ -156,6 +156,19 @@ public:
 	{
 		check(floor_chair(held, conference, floor, false, 0));
 	}
+	// Says a message for a user, who needs no connection, puts what answers it behind the bytes of a buffer, and
+	// gives its place in the journal.
+	std::uint32_t say(std::uint32_t conference, std::uint16_t user, const void *message, std::size_t len,
+	                  std::vector<std::uint8_t> &answer)
+	{
+		const std::size_t before = answer.size();
+		answer.resize(before + FLOOR_MESSAGE_MAX);
+		const floor_said said = floor_say(held, conference, user, static_cast<const std::uint8_t *>(message ? message : ""),
+		                                  len, answer.data() + before, FLOOR_MESSAGE_MAX);
+		answer.resize(before + (said.result == FLOOR_OK ? said.len : 0));
+		check(said.result);
+		return said.place;
+	}
 	void forget(std::uint32_t conference) { check(floor_forget(held, conference)); }
 
 	floor_state status(std::uint32_t conference)

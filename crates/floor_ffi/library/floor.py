@@ -15,7 +15,7 @@ import os
 from ctypes import POINTER, Structure, c_bool, c_char_p, c_size_t, c_uint8, c_uint16, c_uint32, c_uint64, c_void_p
 
 OK, NOTHING, TOO_SHORT, NOT_UTF8 = range(4)
-USED, NO_CONFERENCE, NO_CONNECTION, MEMORY, JOURNAL_FULL, FORGOTTEN, RUNNING = range(10, 17)
+USED, NO_CONFERENCE, NO_CONNECTION, MEMORY, JOURNAL_FULL, FORGOTTEN, RUNNING, BAD_MESSAGE = range(10, 18)
 (BROKEN, ENDED, NO_MEMBER, NO_USER, FULL, NO_REQUEST, CUT, BAD_COUNT, OUT_OF_RANGE, DOUBLE_USER, DOUBLE_FLOOR, NO_FLOOR,
  UNKNOWN_CHAIR, ROOM_MEMORY) = range(20, 34)
 (TEXT_SYNTAX, TEXT_MISSING_KEY, TEXT_WRONG_TYPE, TEXT_OUT_OF_RANGE, TEXT_DOUBLE_USER, TEXT_DOUBLE_FLOOR, TEXT_NO_FLOOR,
@@ -34,6 +34,7 @@ _Count = _answer(('count', c_size_t))
 _Attached = _answer(('connection', c_uint64))
 _Served = _answer(('served', c_uint32))
 _Taken = _answer(('parcels', c_uint32), ('len', c_size_t))
+_Said = _answer(('place', c_uint32), ('len', c_size_t))
 _Lines = _answer(('events', c_size_t), ('len', c_size_t))
 
 
@@ -63,6 +64,7 @@ _CALLS = {
     'floor_user': (c_uint32, _HUB, _CONFERENCE, _ID, c_bool, *_BYTES, *_BYTES),
     'floor_floor': (c_uint32, _HUB, _CONFERENCE, _ID, c_uint16, c_bool, _ID),
     'floor_chair': (c_uint32, _HUB, _CONFERENCE, _ID, c_bool, _ID),
+    'floor_say': (_Said, _HUB, _CONFERENCE, _ID, *_BYTES, POINTER(c_uint8), c_size_t),
     'floor_forget': (c_uint32, _HUB, _CONFERENCE),
     'floor_status': (State, _HUB, _CONFERENCE),
     'floor_journal': (_Lines, _HUB, _CONFERENCE, c_size_t, *_BYTES),
@@ -239,6 +241,12 @@ class Hub:
     def set_chair(self, conference, floor, chair=None):
         """Gives a floor a chair, or none."""
         self._check(self._call('floor_chair', conference, floor, chair is not None, chair or 0))
+
+    def say(self, conference, user, message):
+        """Says a message for a user, who needs no connection: its place in the journal, and what answers it."""
+        said = self._call('floor_say', conference, user, message, len(message), self._bytes, len(self._bytes))
+        self._check(said.result)
+        return said.place, bytes(memoryview(self._bytes)[: said.len])
 
     def forget(self, conference):
         """Gives the memory of a conference back that has ended and of which no connection is live."""

@@ -23,6 +23,7 @@ found (Refused hub.Used) = refl
 found (Refused hub.NoConference) = refl
 found (Refused hub.Forgotten) = refl
 found (Refused hub.Running) = refl
+found (Refused hub.BadMessage) = refl
 found (Refused hub.NoConnection) = refl
 found (Refused hub.Memory) = refl
 found (Refused (hub.ByRoom room.JournalFull)) = refl

@@ -3,12 +3,13 @@ use Rattle.std.proofs.Common.{◌≡◌, ◌<◌, ◌+◌, ◌++◌, ℕ, zero, 
 use Rattle.std.specs.Prelude.{slice_get}
 use Rattle.std.specs.Option.{option_map_or}
 use Rattle.std.proofs.lemmas.Option.{none-some}
-use Rattle.std.specs.Prelude.{MatchOption}
+use Rattle.std.specs.Prelude.{Bool, true, false, IsErr, MatchOption, if◌then◌else◌}
 use Rattle.floor_machine.specs.Parcel.{Parcel}
 use Rattle.floor_room.specs.Outbox.{Outbox}
 use Rattle.floor_room.specs.Replay.{bytes_of}
-use Rattle.floor_room.specs.Room.{Room}
-use Rattle.floor_room.specs.Taking.{GivesFrom, GivesHeld, outbox_of}
+use Rattle.floor_room.specs.Room.{Room, is_kept}
+use Rattle.floor_room.specs.Taking.{GivesFrom, GivesHeld, GivesIf, outbox_of}
+use Rattle.floor_room.specs.declared.outbox.NoMember.{NoMember}
 use Rattle.floor_hub.specs.Connections.{connection_at}
 use Rattle.floor_hub.specs.Hub.{Hub, room_at}
 use Rattle.floor_hub.specs.Rooms.{TakenFrom, TakenOf, first_at, first_in}
@@ -36,9 +37,18 @@ from-first : (old new : List Outbox) (n : ℕ) (o : Option Outbox) (parcel : Opt
 from-first old new n None parcel gave = absurd (true≢false (sym gave.0))
 from-first old new n (Some o) parcel gave = held-first old new n o o.held parcel gave
 
+-- where not all that was told is kept, nothing is handed out
+held-back : (o : Option Outbox) (parcel : Option Parcel) → MatchOption o (IsErr {T = Option Parcel} {E = NoMember} (Ok parcel)) (λ (x : Outbox). ◌≡◌ {A = Result (Option Parcel) NoMember} (Ok parcel) (Ok None)) → parcel ≡ None
+held-back None parcel gave = absurd (true≢false (sym gave))
+held-back (Some o) parcel gave = ap value_in gave
+
+handed-first : (r : Room) (new : List Outbox) (n : ℕ) (parcel : Option Parcel) (b : Bool) → GivesIf b r.outboxes new n (Ok parcel) → parcel ≡ slice_get (if b then option_map_or (λ x. x.held) (outbox_of r.outboxes n) [] else []) 0
+handed-first r new n parcel true gave = from-first r.outboxes new n (outbox_of r.outboxes n) parcel gave
+handed-first r new n parcel false gave = held-back (outbox_of r.outboxes n) parcel gave.0
+
 taken-first : (h new : Hub) (c n : ℕ) (parcel : Option Parcel) → TakenFrom c n parcel h new → parcel ≡ first_in (room_at h c) n
 taken-first h new c n parcel taken =
-    from-first taken.before.outboxes taken.after.outboxes n (outbox_of taken.before.outboxes n) parcel taken.gave.given
+    handed-first taken.before taken.after.outboxes n parcel (is_kept taken.before) taken.gave.given
     ∙ ap (λ (r : Option Room). first_in r n) (sym taken.was)
 
 of-first : (h new : Hub) (x : Option Connection) (p : Parcel) (r : Result (Option Parcel) HubRefusal) → first_at h x ≡ Some p → TakenOf x r h new → r ≡ Ok (Some p)

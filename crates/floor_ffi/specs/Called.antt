@@ -5,19 +5,20 @@ use Rattle.floor_machine.specs.Parcel.{Parcel}
 use Rattle.floor_machine.specs.declared.act.Act.{Act}
 use Rattle.floor_machine.specs.declared.event.Event.TheVariants.{Took as Takes}
 use Rattle.floor_room.specs.Room.{Room}
+use Rattle.floor_room.specs.declared.said.Said as room
 use Rattle.floor_hub.specs.Calls.{Fails, FailsGone, FailsSame, Turns, answer_of}
 use Rattle.floor_hub.specs.Concerned.{Concerns}
 use Rattle.floor_hub.specs.Connections.{Puts, SameConnections, StayLive, connection_at}
 use Rattle.floor_hub.specs.Hub.{Hub, room_at}
 use Rattle.floor_hub.specs.Left.{LeftAt, LeftLeaving, LeftServing, LeftTaking}
-use Rattle.floor_hub.specs.Rooms.{Forgets, IsRefusedIn, IsRemembered, Joins, KeptOf, OneRoom, Opens, RoomOf, SameHub, TakenOf, admin_event, attach_event, by_broken, leave_event, refusal_in, serve_event, took_event}
+use Rattle.floor_hub.specs.Rooms.{Forgets, IsRefusedIn, IsRemembered, Joins, KeptOf, OneRoom, Opens, RoomOf, SameHub, TakenOf, admin_event, attach_event, by_broken, leave_event, refusal_in, serve_event, say_event, took_event}
 use Rattle.floor_hub.specs.StandsFor.{StandsFor}
-use Rattle.floor_hub.specs.World.{World}
+use Rattle.floor_hub.specs.World.{World, answer_said}
 use Rattle.floor_hub.specs.declared.connection.Connection.{Connection}
 use Rattle.floor_hub.specs.declared.refusal.HubRefusal.{HubRefusal}
-use Rattle.floor_hub.specs.declared.step.Answer.TheVariants.{Attached, Done}
+use Rattle.floor_hub.specs.declared.step.Answer.TheVariants.{Attached, Done, Said}
 use Rattle.floor_hub.specs.declared.step.Served.{Served}
-use Rattle.floor_hub.specs.declared.step.Step.TheVariants.{Admin, Attach, Leave, Open, Piece, Serve, Took}
+use Rattle.floor_hub.specs.declared.step.Step.TheVariants.{Admin, Attach, Leave, Open, Piece, Say, Serve, Took}
 
 -- `Hub::open`
 pub record Opening (config : Configuration) (old new : Hub) (r : Result (Unit {0}) HubRefusal) : Type 0 where
@@ -81,6 +82,16 @@ pub record Acting (conference : ℕ) (act : Act) (old new : Hub) (r : Result (Un
   pub room : OneRoom by_broken (refusal_in r) (admin_event act) conference old new
   pub connections : StayLive old.connections new.connections
   pub left : IfErr r (LeftAt (admin_event act) conference old new)
+  pub concerned : Concerns old new
+  pub forgotten : new.forgotten ≡ old.forgotten
+
+-- `Hub::say`
+pub record Saying (conference user : ℕ) (bytes : List ℕ) (old new : Hub) (r : Result room.Said HubRefusal) : Type 0 where
+  pub next : (w : World) → StandsFor old w → MatchResult r (λ v. Turns new w (Say conference user bytes) (Said v)) (λ why. Fails new w (Say conference user bytes) why)
+  pub said : IfOk r (λ v. (s : Room) × (room_at old conference ≡ Some s) × (v ≡ answer_said s.ledger user bytes))
+  pub room : OneRoom by_broken (refusal_in r) (say_event user bytes) conference old new
+  pub connections : StayLive old.connections new.connections
+  pub left : IfErr r (LeftAt (say_event user bytes) conference old new)
   pub concerned : Concerns old new
   pub forgotten : new.forgotten ≡ old.forgotten
 

@@ -1,5 +1,5 @@
 -- What each call from C gives: the hub at the pointer before and after, the number that is answered, and what is written for the caller.
-use Rattle.std.specs.Prelude.{◌≡◌, ◌⊎◌, ◌≤◌, ◌<◌, ◌+◌, ◌-◌, ◌++◌, ℕ, zero, suc, Bool, true, false, nat_eq, List, [], ◌∷◌, length, take, drop, IsUtf8, Some, None, Result, Ok, Err, MatchOption, IfOk}
+use Rattle.std.specs.Prelude.{◌≡◌, ◌⊎◌, ◌≤◌, ◌<◌, ◌+◌, ◌-◌, ◌++◌, ℕ, zero, suc, Bool, true, false, nat_eq, List, Option, [], ◌∷◌, length, take, drop, IsUtf8, Some, None, Result, Ok, Err, MatchOption, MatchResult, IfOk}
 use Rattle.std.specs.List.{list_all}
 use base.Fml.{Fml, fex, fsep, ftrue}
 use base.Fraction.{full_share}
@@ -14,6 +14,7 @@ use Rattle.floor_machine.specs.declared.act.Act.TheVariants.{AddUser}
 use Rattle.floor_machine.specs.declared.event.Event.{Event}
 use Rattle.floor_room.specs.Replay.{bytes_of}
 use Rattle.floor_room.specs.Room.{Room}
+use Rattle.floor_room.specs.declared.said.Said as room
 use Rattle.floor_room.specs.Status.{IsStatus}
 use Rattle.floor_room.specs.Text.{lines}
 use Rattle.floor_room.specs.declared.status.Status.{Status}
@@ -23,7 +24,7 @@ use Rattle.floor_hub.specs.Rooms.{CutIs, first_at, forgotten_or_none}
 use Rattle.floor_hub.specs.declared.refusal.HubRefusal.{HubRefusal}
 use Rattle.floor_hub.specs.declared.refusal.HubRefusal.TheVariants.{Memory, NoConnection}
 use Rattle.floor_hub.specs.declared.step.Served.{Served}
-use Rattle.floor_ffi.specs.Called.{Acknowledging, Acting, Attaching, Forgetting, Handing, Leaving, Opening, Serving, Taking}
+use Rattle.floor_ffi.specs.Called.{Acknowledging, Acting, Attaching, Forgetting, Handing, Leaving, Opening, Saying, Serving, Taking}
 use Rattle.floor_ffi.specs.Numbers.{number_of, of_phase}
 use Rattle.floor_ffi.specs.declared.outcome.Outcome.{Outcome}
 use Rattle.floor_ffi.specs.declared.outcome.Outcome.TheVariants.{Done, Nothing, TooShort, NotUtf8, Refused, Fault}
@@ -181,6 +182,19 @@ UserGives old conference id proxy name uri new number =
     ⊎ ((IsUtf8 name × IsUtf8 uri)
     × (((number ≡ number_of (Refused Memory)) × (new ≡ old))
     ⊎ ActGives old conference (AddUser record { id = id; name = Some name; uri = Some uri; proxy = proxy; port = None }) new number))
+
+-- an answer is written, where there is one and room for it, else nothing is, and its length is told: 0 where there is none
+abbrev pub PutsReply : Option (List ℕ) → ℕ → List ℕ → List ℕ → Type 0
+PutsReply None len before bytes = (len ≡ 0) × (bytes ≡ before)
+PutsReply (Some reply) len before bytes =
+    (len ≡ length reply) × (length reply ≤ length before → take (length reply) bytes ≡ reply) × (length before < length reply → bytes ≡ before)
+
+-- what floor_say gives: the message's place and its answer, where it was said; where it wasn't, neither, and nothing is written
+abbrev pub SayGives : Hub → ℕ → ℕ → List ℕ → Hub → ℕ → ℕ → ℕ → List ℕ → List ℕ → Type 0
+SayGives old conference user message new number place len before bytes =
+    (r : Result room.Said HubRefusal) × (number ≡ number_of (outcome_of r))
+    × MatchResult r (λ v. (place ≡ v.place) × PutsReply v.reply len before bytes) (λ _. (place ≡ 0) × (len ≡ 0) × (bytes ≡ before))
+    × Saying conference user message old new r
 
 -- what floor_forget gives
 abbrev pub ForgetGives : Hub → ℕ → Hub → ℕ → Type 0

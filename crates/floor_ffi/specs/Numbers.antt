@@ -39,6 +39,7 @@ of_refusal hub.Memory = 13
 of_refusal (hub.ByRoom room.JournalFull) = 14
 of_refusal hub.Forgotten = 15
 of_refusal hub.Running = 16
+of_refusal hub.BadMessage = 17
 of_refusal (hub.ByRoom (room.Refused refusal)) = of_machine refusal
 
 -- the number of each fault of a configuration; want of memory has the hub's

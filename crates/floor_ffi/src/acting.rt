@@ -1,14 +1,16 @@
 //! What the administrator of a conference does.
 
-ghost use Rattle.std.specs.Prelude.{◌≡◌, Some, None, IfOk, IfErr, true, false, if◌then◌else◌, MatchResult};
+ghost use Rattle.std.specs.Prelude.{◌≡◌, ◌≤◌, Some, None, IfOk, IfErr, true, false, if◌then◌else◌, length, take, MatchResult};
 ghost use Rattle.floor_machine.specs.declared.act.Act.TheVariants.{AddFloor, Close, Revoke, SetChair};
-ghost use Rattle.floor_ffi.specs.Gives.{ActGives, UserGives};
+ghost use Rattle.floor_ffi.specs.Gives.{ActGives, PutsReply, SayGives, UserGives};
 ghost use Rattle.floor_ffi.specs.declared.outcome.Outcome.TheVariants.{NotUtf8, Refused};
 
+use crate::answers::FloorSaid;
 use crate::opening::outcome_of;
 use crate::outcome::Outcome;
 use floor_config::Text;
 use floor_hub::{Act, AddedUser, Floor, Hub, HubRefusal, User};
+use floor_wire::SharedFrame;
 use std::alloc::{AllocError, Global};
 
 /// Ends a conference.
@@ -117,4 +119,62 @@ fn user_of(
             port: None,
         },
     )
+}
+
+/// Says a message for a user, and writes what answers it, where there is room for that.
+pub(crate) fn say(
+    hub: &mut Hub,
+    alloc: Global,
+    conference: u32,
+    user: u16,
+    message: &[u8],
+    room: &mut [u8],
+) -> FloorSaid
+    ensures gives { SayGives hub.old conference user message.now hub.new result.result
+        result.place result.len room.old room.new }
+{
+    match hub.say(alloc, conference, user, message) {
+        Ok(said) => {
+            let len = put_reply(&said.reply, room);
+            FloorSaid {
+                result: Outcome::Done.number(),
+                place: said.place,
+                len,
+            }
+        }
+        Err(refusal) => FloorSaid {
+            result: Outcome::Refused(refusal).number(),
+            place: 0,
+            len: 0,
+        },
+    }
+}
+
+/// Writes an answer, where there is one and room for it, and gives its length: 0 where there is none.
+fn put_reply(reply: &Option<SharedFrame>, room: &mut [u8]) -> usize
+    ensures puts { PutsReply reply.now result room.old room.new }
+{
+    match reply {
+        Some(reply) => {
+            let len = reply.len();
+            if len <= room.len() {
+                fill(reply, room);
+            }
+            len
+        }
+        None => 0,
+    }
+}
+
+/// Puts an answer to the front of a room that has place for it.
+fn fill(reply: &SharedFrame, room: &mut [u8])
+    requires room { length reply.now ≤ length room.old }
+    ensures bytes { take (length reply.now) room.new ≡ reply.now }
+{
+    let header = reply.header();
+    let payload = reply.payload();
+    let (front, rest) = room.split_at_mut(header.len());
+    front.copy_from_slice(header);
+    let (middle, _) = rest.split_at_mut(payload.len());
+    middle.copy_from_slice(payload);
 }

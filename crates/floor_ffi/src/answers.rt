@@ -52,6 +52,18 @@ pub struct FloorTaken {
     pub len: usize,
 }
 
+/// What saying a message for a user has answered.
+#[repr(C)]
+#[derive(Clone, Copy)]
+pub struct FloorSaid {
+    /// The outcome's number.
+    pub result: u32,
+    /// The message's place in the journal, where it was said, else 0.
+    pub place: u32,
+    /// How many bytes what answers it has: 0 where nothing does.
+    pub len: usize,
+}
+
 /// Whom the last call concerned.
 #[repr(C)]
 #[derive(Clone, Copy)]

@@ -9,15 +9,15 @@ ghost use Rattle.floor_hub.specs.Hub.{Hub as Kept};
 ghost use Rattle.floor_hub.specs.StandsFor.{StandsFor};
 ghost use Rattle.floor_hub.specs.World.{nothing};
 ghost use Rattle.floor_hub.specs.contracts.hub.Hub.{the_row as HubRow};
-ghost use Rattle.floor_ffi.specs.Gives.{ActGives, AttachGives, CutGives, DiagnoseGives, ForgetGives, JournalGives, LeaveGives, Lies, OpenGives, PieceGives, PutsText, ServeGives, StatusGives, TakeGives, ToldGives, TookGives, UserGives};
+ghost use Rattle.floor_ffi.specs.Gives.{ActGives, AttachGives, CutGives, DiagnoseGives, ForgetGives, JournalGives, LeaveGives, Lies, OpenGives, PieceGives, PutsText, SayGives, ServeGives, StatusGives, TakeGives, ToldGives, TookGives, UserGives};
 ghost use Rattle.floor_ffi.specs.Numbers.{name_of, number_of};
 ghost use Rattle.floor_ffi.specs.declared.exports.TheConstants.{VERSION};
 ghost use Rattle.floor_ffi.specs.declared.outcome.Outcome.{Outcome};
 
-use crate::acting::{add_floor, add_user, close, revoke, set_chair};
+use crate::acting::{add_floor, add_user, close, revoke, say, set_chair};
 use crate::answers::{
-    FloorAttached, FloorLines, FloorNamed, FloorOpened, FloorServed, FloorState, FloorTaken,
-    FloorText,
+    FloorAttached, FloorLines, FloorNamed, FloorOpened, FloorSaid, FloorServed, FloorState,
+    FloorTaken, FloorText,
 };
 use crate::opening::{diagnose_text, end, forget, fresh, open};
 use crate::outcome::{name_of_number, put_text};
@@ -279,6 +279,31 @@ pub unsafe extern "C" fn floor_chair(
         (SetChair floor (if has_chair then Some chair else None)) new result)) }
 {
     set_chair(&mut *(hub as *mut Hub), conference, floor, has_chair, chair)
+}
+
+/// Says a message for a user, and writes what answers it.
+#[unsafe(no_mangle)]
+pub unsafe extern "C" fn floor_say(
+    hub: *mut u8,
+    alloc: Global,
+    conference: u32,
+    user: u16,
+    message: &[u8],
+    room: &mut [u8],
+) -> FloorSaid
+    ghost old: { Kept }
+    requires* { sem 𝓛 (lies_at HubRow full_share hub old) }
+    ensures* { sem 𝓛 (Lies HubRow hub (λ new. SayGives old conference user message.now new
+        result.result result.place result.len room.old room.new)) }
+{
+    say(
+        &mut *(hub as *mut Hub),
+        alloc,
+        conference,
+        user,
+        message,
+        room,
+    )
 }
 
 /// How a conference stands.

@@ -18,8 +18,8 @@ mod taking;
 mod tests;
 
 pub use answers::{
-    FloorAttached, FloorLines, FloorNamed, FloorOpened, FloorServed, FloorState, FloorTaken,
-    FloorText,
+    FloorAttached, FloorLines, FloorNamed, FloorOpened, FloorSaid, FloorServed, FloorState,
+    FloorTaken, FloorText,
 };
 pub use laws::numbers_tell_outcomes;
 pub use outcome::Outcome;

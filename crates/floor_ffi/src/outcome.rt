@@ -69,6 +69,7 @@ fn number_of_refusal(refusal: HubRefusal) -> u32
         HubRefusal::ByRoom(RoomRefusal::JournalFull) => 14,
         HubRefusal::Forgotten => 15,
         HubRefusal::Running => 16,
+        HubRefusal::BadMessage => 17,
         HubRefusal::ByRoom(RoomRefusal::Refused(refusal)) => number_in_machine(refusal),
     }
 }
@@ -115,7 +116,7 @@ fn number_of_fault(fault: ConfigFault) -> u32
 }
 
 /// All outcomes but a configuration's want of memory, by ascending number.
-const OUTCOMES: [Outcome; 35] = [
+const OUTCOMES: [Outcome; 36] = [
     Outcome::Done,
     Outcome::Nothing,
     Outcome::TooShort,
@@ -127,6 +128,7 @@ const OUTCOMES: [Outcome; 35] = [
     Outcome::Refused(HubRefusal::ByRoom(RoomRefusal::JournalFull)),
     Outcome::Refused(HubRefusal::Forgotten),
     Outcome::Refused(HubRefusal::Running),
+    Outcome::Refused(HubRefusal::BadMessage),
     Outcome::Refused(HubRefusal::ByRoom(RoomRefusal::Refused(Refusal::Broken))),
     Outcome::Refused(HubRefusal::ByRoom(RoomRefusal::Refused(Refusal::Ended))),
     Outcome::Refused(HubRefusal::ByRoom(RoomRefusal::Refused(Refusal::NoMember))),

@@ -1,6 +1,6 @@
 //! Each call with memory, by the functions that the exports lend the hub to.
 
-use crate::acting::{add_floor, add_user, close, revoke, set_chair};
+use crate::acting::{add_floor, add_user, close, revoke, say, set_chair};
 use crate::opening::{diagnose_text, end, forget, fresh, open};
 use crate::outcome::{Outcome, name_of_number};
 use crate::reading::{journal, status};
@@ -31,6 +31,24 @@ fn opened(alloc: Global, rt: &impl Abort) -> Hub {
     assert_eq!(rt; answer.result, 0);
     assert_eq!(rt; answer.opened, 2);
     hub
+}
+
+/// User 12, who has no connection, asks for floor 1, and again; what answers it, with the user's name, is written where
+/// there is room for it.
+fn says(rt: &impl Abort, alloc: Global, hub: &mut Hub) {
+    const REQUEST: &[u8] = b"\x20\x01\0\x01\0\0\0\x01\0\x01\0\x0c\x04\x04\0\x01";
+    let mut room = [0u8; 64];
+    let said = say(hub, alloc, 1, 12, REQUEST, &mut room);
+    assert_eq!(rt; (said.result, said.len), (0, 48));
+    assert_eq!(rt; (room[1], room[22]), (4, 3));
+    let short = say(hub, alloc, 1, 12, REQUEST, &mut room[..12]);
+    assert_eq!(rt; (short.result, short.place), (0, said.place + 1));
+    assert!(rt; 12 < short.len);
+    assert_eq!(rt; say(hub, alloc, 1, 99, REQUEST, &mut room).result, NO_USER);
+    assert_eq!(rt;
+        say(hub, alloc, 1, 12, &REQUEST[..15], &mut room).result,
+        17
+    );
 }
 
 #[test]
@@ -67,6 +85,7 @@ fn a_conference_is_held_by_calls(rt: HostRuntime) {
     assert_eq!(&rt; add_floor(&mut hub, 1, 2, 1, true, 12), 0);
     assert_eq!(&rt; set_chair(&mut hub, 1, 2, false, 0), 0);
     assert_eq!(&rt; leave(&mut hub, ann), 0);
+    says(&rt, alloc, &mut hub);
     assert_eq!(&rt; close(&mut hub, 1), 0);
     assert_eq!(&rt; leave(&mut hub, bob), 0);
     assert_eq!(&rt; forget(&mut hub, 1), 0);

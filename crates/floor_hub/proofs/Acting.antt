@@ -7,7 +7,7 @@ use Rattle.std.proofs.lemmas.Bool.{eqb-true, eqb-false, ne_eqb}
 use Rattle.std.proofs.lemmas.Map.{update_here, update_apart}
 use Rattle.floor_machine.specs.declared.act.Act.{Act}
 use Rattle.floor_machine.specs.declared.event.Event.{Event}
-use Rattle.floor_machine.specs.declared.event.Event.TheVariants.{Join, Message, Took, Leave, Revoke, Close, AddUser, AddFloor, SetChair}
+use Rattle.floor_machine.specs.declared.event.Event.TheVariants.{Join, Message, Took, Leave, Revoke, Close, AddUser, AddFloor, SetChair, Say}
 use Rattle.floor_machine.specs.declared.machine.Refusal.TheVariants.{Broken, Ended, NoMember, NoUser, Full, NoRequest, Cut, BadCount, Memory, OutOfRange, DoubleUser, DoubleFloor, NoFloor, UnknownChair}
 use Rattle.floor_machine.specs.Machine.{event_of_act}
 use Rattle.floor_room.specs.declared.refusal.RoomRefusal.{RoomRefusal}
@@ -51,6 +51,7 @@ messages-quiet n (Close ∷ es) e q = messages-quiet n es e q
 messages-quiet n (AddUser user ∷ es) e q = messages-quiet n es e q
 messages-quiet n (AddFloor floor ∷ es) e q = messages-quiet n es e q
 messages-quiet n (SetChair floor chair ∷ es) e q = messages-quiet n es e q
+messages-quiet n (Say user bytes ∷ es) e q = messages-quiet n es e q
 
 -- what came stays, where the room has taken it
 came-quiet : (r new : Room) (e : Event) → IsQuiet e → r.ledger.is_broken ≡ false → new.ledger.journal ≡ r.ledger.journal ++ e ∷ [] → (x : Connection) (a : Arrival) → CameTo (Some r) x a → CameTo (Some new) x a
@@ -190,7 +191,7 @@ module _ (rooms now : ℕ → Option Room) (xs : ℕ → Option Connection) (k :
   act_done r new is others here t =
       act_taken r new (w.parts c) refl is others here t (subst (λ (x : Option Room). RoomStands x (w.parts c)) is (st.of_rooms c))
 
-  same_all : (r new : Room) → rooms c ≡ Some r → ((d : ℕ) → d ≢ c → now d ≡ rooms d) → now c ≡ Some new → new ≡ r → (d : ℕ) (b : Bool) → (d == c) ≡ b → now d ≡ rooms d
+  pub same_all : (r new : Room) → rooms c ≡ Some r → ((d : ℕ) → d ≢ c → now d ≡ rooms d) → now c ≡ Some new → new ≡ r → (d : ℕ) (b : Bool) → (d == c) ≡ b → now d ≡ rooms d
   same_all r new is others here same d true h =
       ap now (eqb-true d c h) ∙ here ∙ ap (λ (x : Room). Some x) same ∙ sym is ∙ ap rooms (sym (eqb-true d c h))
   same_all r new is others here same d false h = others d (eqb-false d c h)
@@ -215,11 +216,11 @@ module _ (rooms now : ℕ → Option Room) (xs : ℕ → Option Connection) (k :
       by : (a b : RoomRefusal) → ◌≡◌ {A = Option RoomRefusal} (Some a) (Some b) → a ≡ b
       by a b x = cc
 
-  stays : (r new : Room) → rooms c ≡ Some r → ((d : ℕ) → d ≢ c → now d ≡ rooms d) → now c ≡ Some new → new ≡ r → RoomsStand now xs k w
+  pub stays : (r new : Room) → rooms c ≡ Some r → ((d : ℕ) → d ≢ c → now d ≡ rooms d) → now c ≡ Some new → new ≡ r → RoomsStand now xs k w
   stays r new is others here same =
       unchanged rooms now xs k w c e quiet st (λ d. same_all r new is others here same d (d == c) refl) w.parts (λ d. refl)
 
-  broken_off : (r new : Room) → rooms c ≡ Some r → ((d : ℕ) → d ≢ c → now d ≡ rooms d) → now c ≡ Some new → (new ≡ broken_room r) ⊎ Began r new e → RoomsStand now xs k w
+  pub broken_off : (r new : Room) → rooms c ≡ Some r → ((d : ℕ) → d ≢ c → now d ≡ rooms d) → now c ≡ Some new → (new ≡ broken_room r) ⊎ Began r new e → RoomsStand now xs k w
   broken_off r new is others here (inl same) =
       stands_broken rooms now xs k w c e quiet st r new is others here (ap (λ (x : Room). x.ledger.is_broken) same) (ap (λ (x : Room). x.ledger.config) same)
   broken_off r new is others here (inr began) =

@@ -15,7 +15,7 @@ use Rattle.floor_hub.specs.declared.refusal.HubRefusal.TheVariants.{ByRoom}
 use Rattle.floor_hub.specs.declared.running.Memory.{Memory as OutOfMemory}
 use Rattle.floor_hub.specs.declared.step.Step.{Step}
 use Rattle.floor_hub.specs.declared.step.Answer.{Answer}
-use Rattle.floor_hub.specs.declared.step.Answer.TheVariants.{Done, Attached, Nothing, Served, Refused}
+use Rattle.floor_hub.specs.declared.step.Answer.TheVariants.{Done, Attached, Nothing, Served, Said, Refused}
 use Rattle.floor_hub.specs.Hub.{Hub, is_forgotten, room_at}
 use Rattle.floor_hub.specs.Rooms.{OneRoom, Opens, QueuesMore, RoomAfter, RoomAfterIn, RoomOf, SameHub, by_memory, refusal_in}
 use Rattle.floor_hub.specs.steps.Running.{AreUntaken, AreWhole, Goes, IsRunning, place_of, IsRunOn}
@@ -34,6 +34,7 @@ NoNumber (Attached n) = ⊥
 NoNumber Done = Unit {0}
 NoNumber Nothing = Unit {0}
 NoNumber Served = Unit {0}
+NoNumber (Said v) = Unit {0}
 NoNumber (Refused r) = Unit {0}
 
 -- only an attach that succeeds makes a place
@@ -42,6 +43,7 @@ places_at ps c (Attached n) h = absurd h
 places_at ps c Done h = refl
 places_at ps c Nothing h = refl
 places_at ps c Served h = refl
+places_at ps c (Said v) h = refl
 places_at ps c (Refused r) h = refl
 
 places_kept : (w : World) (x : Option Aim) → NoNumber (turn_at w x).answer → (turn_at w x).world.places ≡ w.places
@@ -160,6 +162,10 @@ new_place ps c number Nothing e = absurd (none e)
 new_place ps c number Served e = absurd (none e)
   where
     none : Served ≡ Attached number → ⊥
+    none e = cc
+new_place ps c number (Said v) e = absurd (none e)
+  where
+    none : Said v ≡ Attached number → ⊥
     none e = cc
 new_place ps c number (Refused r) e = absurd (none e)
   where

@@ -5,16 +5,17 @@ use Rattle.std.specs.Option.{option_map_or}
 use Rattle.std.proofs.lemmas.Bool.{eqb-true, eqb-false}
 use Rattle.std.proofs.lemmas.Map.{update_here, update_apart}
 use Rattle.floor_machine.specs.declared.event.Event.{Event}
-use Rattle.floor_machine.specs.declared.event.Event.TheVariants.{Join, Message, Took as Takes}
+use Rattle.floor_machine.specs.declared.event.Event.TheVariants.{Join, Message, Took as Takes, Say as Says}
 use Rattle.std.proofs.lemmas.Option.{slice_get-get_or, slice_get_past}
 use Rattle.std.proofs.Math.Seq.{get_or-append_seam}
 use Rattle.std.proofs.Math.ListN.{get_or-append}
 use Rattle.floor_room.specs.declared.refusal.RoomRefusal.{RoomRefusal}
+use Rattle.floor_hub.specs.declared.refusal.HubRefusal.{HubRefusal}
 use Rattle.floor_hub.specs.declared.refusal.HubRefusal.TheVariants.{NoConnection}
 use Rattle.floor_hub.specs.declared.step.Step.{Step}
-use Rattle.floor_hub.specs.declared.step.Step.TheVariants.{Open, Attach, Piece, Serve, Took, Leave, Admin}
+use Rattle.floor_hub.specs.declared.step.Step.TheVariants.{Open, Attach, Piece, Serve, Took, Leave, Admin, Say}
 use Rattle.floor_hub.specs.declared.step.Answer.{Answer}
-use Rattle.floor_hub.specs.declared.step.Answer.TheVariants.{Done, Attached, Nothing, Served, Refused}
+use Rattle.floor_hub.specs.declared.step.Answer.TheVariants.{Done, Attached, Nothing, Served, Said, Refused}
 use Rattle.floor_hub.specs.World as world
 use Rattle.floor_hub.specs.World.{Part, Arrival, World, Place, Aim, Turn, Offered, offer, turn, turn_at, aim, aimed, put, place, numbered, places_after, nothing}
 use Rattle.floor_hub.specs.Runs.{run, within, own, own_answer, alone_in, answers, answers_to, events_in}
@@ -28,6 +29,7 @@ Counts k (Attached n) l = (n ≡ k + 1) × (l ≡ k + 1)
 Counts k Done l = l ≡ k
 Counts k Nothing l = l ≡ k
 Counts k Served l = l ≡ k
+Counts k (Said v) l = l ≡ k
 Counts k (Refused r) l = l ≡ k
 
 abbrev pub CountsOffer : ℕ → Offered → Type 0
@@ -74,6 +76,10 @@ took_counts : (p : Part) (n k : ℕ) (a : Option Arrival) → CountsOffer (lengt
 took_counts p n k None = refl
 took_counts p n k (Some a) = added_counts p (Takes n k) (world.refused p (Takes n k))
 
+said_counts : (p : Part) (user : ℕ) (bytes : List ℕ) (r : Option HubRefusal) → CountsOffer (length p.arrivals) (world.say p user bytes r)
+said_counts p user bytes None = refl
+said_counts p user bytes (Some r) = refl
+
 pub offer_counts : (part : Option Part) (s : Step) → CountsOffer (arrivals_in part) (offer part s)
 offer_counts None (Open config) = refl
 offer_counts None (Attach c user) = refl
@@ -82,6 +88,7 @@ offer_counts None (Serve n) = refl
 offer_counts None (Took n k) = refl
 offer_counts None (Leave n) = refl
 offer_counts None (Admin c act) = refl
+offer_counts None (Say c user bytes) = refl
 offer_counts (Some p) (Open config) = refl
 offer_counts (Some p) (Attach c user) = attach_counts p user (world.refused p (Join user))
 offer_counts (Some p) (Piece n bytes) = piece_counts p n bytes (world.if_live (world.arrival p n))
@@ -89,6 +96,7 @@ offer_counts (Some p) (Serve n) = any_serve_counts p n (world.if_live (world.arr
 offer_counts (Some p) (Took n k) = took_counts p n k (world.if_live (world.arrival p n))
 offer_counts (Some p) (Leave n) = leave_counts p n (world.if_live (world.arrival p n))
 offer_counts (Some p) (Admin c act) = added_counts p (event_of_act act) (world.refused p (event_of_act act))
+offer_counts (Some p) (Say c user bytes) = said_counts p user bytes (world.unsaid (world.refused p (Says user bytes)) (world.is_message bytes))
 
 -- the places of a conference that is alone
 abbrev pub solo : ℕ → ℕ → List Place
@@ -128,6 +136,7 @@ places_own c k l (Attached n) h =
 places_own c k l Done h = sym (ap (solo c) h)
 places_own c k l Nothing h = sym (ap (solo c) h)
 places_own c k l Served h = sym (ap (solo c) h)
+places_own c k l (Said v) h = sym (ap (solo c) h)
 places_own c k l (Refused r) h = sym (ap (solo c) h)
 
 -- a step for c does the same to both
@@ -146,6 +155,7 @@ numbers_agree c k l ps (Attached n) h =
 numbers_agree c k l ps Done h = refl
 numbers_agree c k l ps Nothing h = refl
 numbers_agree c k l ps Served h = refl
+numbers_agree c k l ps (Said v) h = refl
 numbers_agree c k l ps (Refused r) h = refl
 
 answer_own : (c : ℕ) (w v : World) (o : Offered) → CountsOffer (arrivals_in (w.parts c)) o → Same c w v → (put v c o).answer ≡ within (put w c o).world.places (put w c o).answer
@@ -161,6 +171,7 @@ IsFor c (Serve n) = Unit {0}
 IsFor c (Took n k) = Unit {0}
 IsFor c (Leave n) = Unit {0}
 IsFor c (Admin d act) = d ≡ c
+IsFor c (Say d user bytes) = d ≡ c
 
 abbrev pub IsAim : Option Aim → Type 0
 IsAim None = Unit {0}
@@ -190,6 +201,7 @@ aims w (Serve n) = serve_aims (place w.places n)
 aims w (Took n k) = took_aims k (place w.places n)
 aims w (Leave n) = leave_aims (place w.places n)
 aims w (Admin d act) = refl
+aims w (Say d user bytes) = refl
 
 -- a number in the conference alone is n, or nobody's
 abbrev pub IsKnown : ℕ → ℕ → ℕ → Option Place → Type 0
@@ -260,6 +272,7 @@ aimed_alone c part v (Serve n) e h = rw e (serve_alone c part n (place (solo c (
 aimed_alone c part v (Took n k) e h = rw e (took_alone c part n k (place (solo c (arrivals_in part)) n) (known c (arrivals_in part) n))
 aimed_alone c part v (Leave n) e h = rw e (leave_alone c part n (place (solo c (arrivals_in part)) n) (known c (arrivals_in part) n))
 aimed_alone c part v (Admin d act) e h = inl (ap (λ x. Some record { conference = x; step = Admin d act }) h)
+aimed_alone c part v (Say d user bytes) e h = inl (ap (λ x. Some record { conference = x; step = Say d user bytes }) h)
 
 -- what a step for c does in the world of c alone
 pub record SameTurn (c : ℕ) (w v : Turn) : Type 0 where

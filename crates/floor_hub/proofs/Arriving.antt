@@ -8,7 +8,7 @@ use Rattle.std.proofs.lemmas.Bool.Decides.{nat_tests}
 use Rattle.std.proofs.lemmas.Option.{none-some}
 use Rattle.std.proofs.lemmas.Map.{update_here, update_apart}
 use Rattle.floor_machine.specs.declared.event.Event.{Event}
-use Rattle.floor_machine.specs.declared.event.Event.TheVariants.{Join, Message, Took as Takes, Leave as Leaves, Revoke, Close, AddUser, AddFloor, SetChair}
+use Rattle.floor_machine.specs.declared.event.Event.TheVariants.{Join, Message, Took as Takes, Leave as Leaves, Revoke, Close, AddUser, AddFloor, SetChair, Say as Says}
 use Rattle.floor_machine.specs.declared.machine.Refusal.TheVariants.{Broken, Ended, NoMember, NoUser, Full, NoRequest, Cut, BadCount, Memory, OutOfRange, DoubleUser, DoubleFloor, NoFloor, UnknownChair}
 use Rattle.floor_machine.specs.declared.member.Member.{Member}
 use Rattle.floor_machine.specs.Conference.{Conference, member_with, opening}
@@ -80,6 +80,7 @@ messages_before s (Close ∷ es) n h l few = messages_before (next s Close) es n
 messages_before s (AddUser user ∷ es) n h l few = messages_before (next s (AddUser user)) es n (numbered-next s (AddUser user) h) l.1 few
 messages_before s (AddFloor floor ∷ es) n h l few = messages_before (next s (AddFloor floor)) es n (numbered-next s (AddFloor floor) h) l.1 few
 messages_before s (SetChair floor chair ∷ es) n h l few = messages_before (next s (SetChair floor chair)) es n (numbered-next s (SetChair floor chair) h) l.1 few
+messages_before s (Says user bytes ∷ es) n h l few = messages_before (next s (Says user bytes)) es n (numbered-next s (Says user bytes) h) l.1 few
 
 push_apart : {A : Type 0} (xs : List A) (x : A) (k : ℕ) → k ≢ length xs → slice_get (xs ++ x ∷ []) k ≡ slice_get xs k
 push_apart [] x zero ne = absurd (ne refl)

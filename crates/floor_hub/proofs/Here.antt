@@ -5,7 +5,7 @@ use Rattle.std.specs.List.{concat}
 use Rattle.std.specs.Map.{update}
 use Rattle.std.proofs.lemmas.Option.{none-some}
 use Rattle.floor_machine.specs.declared.event.Event.{Event}
-use Rattle.floor_machine.specs.declared.event.Event.TheVariants.{Join, Message, Took as Takes, Leave as Leaves, Revoke, Close, AddUser, AddFloor, SetChair}
+use Rattle.floor_machine.specs.declared.event.Event.TheVariants.{Join, Message, Took as Takes, Leave as Leaves, Revoke, Close, AddUser, AddFloor, SetChair, Say as Says}
 use Rattle.floor_room.specs.Room.{Room}
 use Rattle.floor_hub.specs.declared.refusal.HubRefusal.TheVariants.{NoConnection}
 use Rattle.floor_hub.specs.declared.connection.Connection.{Connection}
@@ -119,6 +119,7 @@ messages-append n (Close ∷ es) fs = messages-append n es fs
 messages-append n (AddUser user ∷ es) fs = messages-append n es fs
 messages-append n (AddFloor floor ∷ es) fs = messages-append n es fs
 messages-append n (SetChair floor chair ∷ es) fs = messages-append n es fs
+messages-append n (Says user bytes ∷ es) fs = messages-append n es fs
 
 pub concat-append : (xs ys : List (List ℕ)) → concat (xs ++ ys) ≡ concat xs ++ concat ys
 concat-append [] ys = refl

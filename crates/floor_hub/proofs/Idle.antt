@@ -5,13 +5,14 @@ use Rattle.std.specs.Map.{update}
 use Rattle.std.proofs.lemmas.Bool.{eqb-true, eqb-false}
 use Rattle.std.proofs.lemmas.Map.{update_here, update_apart}
 use Rattle.floor_machine.specs.declared.event.Event.{Event}
-use Rattle.floor_machine.specs.declared.event.Event.TheVariants.{Join, Message, Took as Takes}
+use Rattle.floor_machine.specs.declared.event.Event.TheVariants.{Join, Message, Took as Takes, Say as Says}
 use Rattle.floor_machine.specs.Machine.{event_of_act}
 use Rattle.floor_room.specs.declared.refusal.RoomRefusal.{RoomRefusal}
+use Rattle.floor_hub.specs.declared.refusal.HubRefusal.{HubRefusal}
 use Rattle.floor_hub.specs.declared.step.Step.{Step}
-use Rattle.floor_hub.specs.declared.step.Step.TheVariants.{Open, Attach, Piece, Serve, Took, Leave, Admin}
+use Rattle.floor_hub.specs.declared.step.Step.TheVariants.{Open, Attach, Piece, Serve, Took, Leave, Admin, Say}
 use Rattle.floor_hub.specs.declared.step.Answer.{Answer}
-use Rattle.floor_hub.specs.declared.step.Answer.TheVariants.{Done, Attached, Nothing, Served, Refused}
+use Rattle.floor_hub.specs.declared.step.Answer.TheVariants.{Done, Attached, Nothing, Served, Said, Refused}
 use Rattle.floor_hub.specs.World as world
 use Rattle.floor_hub.specs.World.{IsIdle, Aim, Arrival, Offered, Part, Place, World, aimed, numbered, offer, places_after, turn, turn_at}
 use Rattle.floor_hub.specs.Laws.{IdleStays}
@@ -56,6 +57,10 @@ took_stays : (p : Part) (n k : ℕ) (a : Option Arrival) → Stays (Some p) (wor
 took_stays p n k None h = refl
 took_stays p n k (Some a) h = added_stays p (Takes n k) (world.refused p (Takes n k)) h
 
+said_stays : (p : Part) (user : ℕ) (bytes : List ℕ) (r : Option HubRefusal) → Stays (Some p) (world.say p user bytes r)
+said_stays p user bytes None h = absurd h
+said_stays p user bytes (Some r) h = refl
+
 offer_stays : (z : Option Part) (s : Step) → Stays z (offer z s)
 offer_stays None (Open config) h = absurd h
 offer_stays None (Attach c user) h = refl
@@ -64,6 +69,7 @@ offer_stays None (Serve n) h = refl
 offer_stays None (Took n k) h = refl
 offer_stays None (Leave n) h = refl
 offer_stays None (Admin c act) h = refl
+offer_stays None (Say c user bytes) h = refl
 offer_stays (Some p) (Open config) h = refl
 offer_stays (Some p) (Attach c user) h = attach_stays p user (world.refused p (Join user)) h
 offer_stays (Some p) (Piece n bytes) h = piece_stays p n bytes (world.if_live (world.arrival p n)) h
@@ -71,12 +77,14 @@ offer_stays (Some p) (Serve n) h = any_serve_stays p n (world.if_live (world.arr
 offer_stays (Some p) (Took n k) h = took_stays p n k (world.if_live (world.arrival p n)) h
 offer_stays (Some p) (Leave n) h = leave_stays p n (world.if_live (world.arrival p n)) h
 offer_stays (Some p) (Admin c act) h = added_stays p (event_of_act act) (world.refused p (event_of_act act)) h
+offer_stays (Some p) (Say c user bytes) h = said_stays p user bytes (world.unsaid (world.refused p (Says user bytes)) (world.is_message bytes)) h
 
 idle_within : (ps : List Place) (answer : Answer) → IsIdle (numbered ps answer) → IsIdle answer
 idle_within ps (Attached n) h = h
 idle_within ps Done h = h
 idle_within ps Nothing h = h
 idle_within ps Served h = h
+idle_within ps (Said v) h = h
 idle_within ps (Refused r) h = h
 
 places_stay : (ps : List Place) (c : ℕ) (answer : Answer) → IsIdle answer → places_after ps c answer ≡ ps
@@ -84,6 +92,7 @@ places_stay ps c (Attached n) h = absurd h
 places_stay ps c Done h = absurd h
 places_stay ps c Nothing h = refl
 places_stay ps c Served h = absurd h
+places_stay ps c (Said v) h = absurd h
 places_stay ps c (Refused r) h = refl
 
 turn_stays : (w : World) (x : Option Aim) → IsIdle (turn_at w x).answer → ((c : ℕ) → (turn_at w x).world.parts c ≡ w.parts c) × ((turn_at w x).world.places ≡ w.places)

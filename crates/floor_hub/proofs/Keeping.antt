@@ -10,11 +10,11 @@ use Rattle.std.proofs.lemmas.List.{map-append}
 use Rattle.std.proofs.lemmas.List.Sums.{sum_by-append}
 use Rattle.std.proofs.lemmas.Map.{update_here, update_apart}
 use Rattle.floor_config.specs.Configuration.{Configuration}
-use Rattle.floor_wire.specs.Message.{IsMessage, messages}
+use Rattle.floor_wire.specs.Message.{IsMessage, message_len, messages}
 use Rattle.floor_wire.proofs.Messages.{messages_are_messages}
 use Rattle.floor_machine.specs.declared.act.Act.{Act}
 use Rattle.floor_machine.specs.declared.event.Event.{Event}
-use Rattle.floor_machine.specs.declared.event.Event.TheVariants.{Join, Message, Took as Takes, Leave as Leaves, Revoke, Close, AddUser, AddFloor, SetChair}
+use Rattle.floor_machine.specs.declared.event.Event.TheVariants.{Join, Message, Took as Takes, Leave as Leaves, Revoke, Close, AddUser, AddFloor, SetChair, Say as Says}
 use Rattle.floor_machine.specs.declared.machine.Refusal.{Refusal}
 use Rattle.floor_machine.specs.declared.machine.Refusal.TheVariants.{Ended}
 use Rattle.floor_machine.specs.Conference.{Conference, is_live, opening}
@@ -33,9 +33,9 @@ use Rattle.floor_room.specs.Ledger.{closed, first_of}
 use Rattle.floor_room.proofs.Ledgers as adding
 use Rattle.floor_hub.specs.declared.refusal.HubRefusal.{HubRefusal}
 use Rattle.floor_hub.specs.declared.step.Step.{Step}
-use Rattle.floor_hub.specs.declared.step.Step.TheVariants.{Open, Attach, Piece, Serve, Took, Leave, Admin}
+use Rattle.floor_hub.specs.declared.step.Step.TheVariants.{Open, Attach, Piece, Serve, Took, Leave, Admin, Say}
 use Rattle.floor_hub.specs.declared.step.Answer.{Answer}
-use Rattle.floor_hub.specs.declared.step.Answer.TheVariants.{Done, Attached, Nothing, Served, Refused}
+use Rattle.floor_hub.specs.declared.step.Answer.TheVariants.{Done, Attached, Nothing, Served, Said, Refused}
 use Rattle.floor_hub.specs.World as world
 use Rattle.floor_hub.specs.World.{World, Part, Place, Arrival, Aim, Turn, Offered, arrival, aimed, nothing, offer, place, places_after, put, refused, ledger_of, state_of, turn, turn_at, unserved, with_arrival, with_events}
 use Rattle.floor_hub.specs.Runs.{run, events_in}
@@ -54,6 +54,7 @@ lawful_open s Close h = h
 lawful_open s (AddUser user) h = h.0
 lawful_open s (AddFloor floor) h = h.0
 lawful_open s (SetChair floor chair) h = h.0
+lawful_open s (Says user bytes) h = h.0
 
 joins_one : (e : Event) → joins (e ∷ []) ≡ joins_by e
 joins_one (Join user) = refl
@@ -65,6 +66,7 @@ joins_one Close = refl
 joins_one (AddUser user) = refl
 joins_one (AddFloor floor) = refl
 joins_one (SetChair floor chair) = refl
+joins_one (Says user bytes) = refl
 
 joins-append : (es fs : List Event) → joins (es ++ fs) ≡ joins es + joins fs
 joins-append es fs = sum_by-append (λ e. cond (is_join e) 1 0) es fs
@@ -308,6 +310,22 @@ took_kept : (p : Part) (n many : ℕ) → IsKeptPart p → (a : Option Arrival) 
 took_kept p n many k None = k
 took_kept p n many k (Some a) = added_kept p (Takes n many) tt (λ i. tt) refl (refused p (Takes n many)) refl k
 
+-- a message that is said for a user, where it is one
+is_one : (bytes : List ℕ) → world.is_message bytes ≡ true → IsMessage bytes
+is_one bytes h = Rattle.std.proofs.lemmas.Bool.eqb-true (length bytes) (message_len bytes) h
+
+unsaid_none : (r : Option RoomRefusal) (b : Bool) → world.unsaid r b ≡ None → (b ≡ true) × (r ≡ None)
+unsaid_none None true h = (refl, refl)
+unsaid_none None false h = cc
+unsaid_none (Some r) b h = cc
+
+said_kept : (p : Part) (user : ℕ) (bytes : List ℕ) (r : Option HubRefusal) → world.unsaid (refused p (Says user bytes)) (world.is_message bytes) ≡ r → IsKeptPart p → KeptIn (world.say p user bytes r).part
+said_kept p user bytes (Some r) is k = k
+said_kept p user bytes None is k =
+    let free = unsaid_none (refused p (Says user bytes)) (world.is_message bytes) is in
+    let ok = allowed p (Says user bytes) (is_one bytes free.0) free.1 in
+    kept_event p (Says user bytes) p.arrivals k ok.0 ok.1 (omega arith) (λ n b h live. inl (b, h, live, tt))
+
 pub offer_kept : (z : Option Part) (s : Step) → KeptIn z → KeptIn (offer z s).part
 offer_kept None (Open config) k = opened_kept config
 offer_kept None (Attach c user) k = tt
@@ -316,6 +334,7 @@ offer_kept None (Serve n) k = tt
 offer_kept None (Took n many) k = tt
 offer_kept None (Leave n) k = tt
 offer_kept None (Admin c act) k = tt
+offer_kept None (Say c user bytes) k = tt
 offer_kept (Some p) (Open config) k = k
 offer_kept (Some p) (Attach c user) k = attach_kept p user (refused p (Join user)) refl k
 offer_kept (Some p) (Piece n bytes) k = piece_kept p n bytes (world.if_live (arrival p n)) refl k
@@ -323,6 +342,7 @@ offer_kept (Some p) (Serve n) k = any_serve_kept p n k (world.if_live (arrival p
 offer_kept (Some p) (Took n many) k = took_kept p n many k (world.if_live (arrival p n))
 offer_kept (Some p) (Leave n) k = leave_kept p n k (world.if_live (arrival p n)) refl
 offer_kept (Some p) (Admin c act) k = added_kept p (event_of_act act) (whole_act act) (stays_act act) (joins_act act) (refused p (event_of_act act)) refl k
+offer_kept (Some p) (Say c user bytes) k = said_kept p user bytes (world.unsaid (refused p (Says user bytes)) (world.is_message bytes)) refl k
 
 numbers_append : (c : ℕ) (ps qs : List Place) → numbers_of c (ps ++ qs) ≡ numbers_of c ps ++ numbers_of c qs
 numbers_append c [] qs = refl
@@ -348,6 +368,7 @@ own_places c k l ps (Attached n) h is =
 own_places c k l ps Done h is = is ∙ sym (ap first_numbers h)
 own_places c k l ps Nothing h is = is ∙ sym (ap first_numbers h)
 own_places c k l ps Served h is = is ∙ sym (ap first_numbers h)
+own_places c k l ps (Said v) h is = is ∙ sym (ap first_numbers h)
 own_places c k l ps (Refused r) h is = is ∙ sym (ap first_numbers h)
 
 -- and of another
@@ -357,6 +378,7 @@ other_places c d ps (Attached n) ne =
 other_places c d ps Done ne = refl
 other_places c d ps Nothing ne = refl
 other_places c d ps Served ne = refl
+other_places c d ps (Said v) ne = refl
 other_places c d ps (Refused r) ne = refl
 
 module _ (w : World) (k : IsKept w) (d : ℕ) (o : Offered) (part : KeptIn o.part) (counts : Counts (arrivals_in (w.parts d)) o.answer (arrivals_in o.part)) where

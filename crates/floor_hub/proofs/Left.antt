@@ -9,7 +9,7 @@ use Rattle.floor_machine.specs.declared.machine.Refusal.TheVariants.{Broken, End
 use Rattle.floor_machine.specs.Journal.{parcels_of}
 use Rattle.floor_room.specs.declared.refusal.RoomRefusal.{RoomRefusal}
 use Rattle.floor_room.specs.declared.refusal.RoomRefusal.TheVariants.{JournalFull, Refused as ByMachine}
-use Rattle.floor_room.specs.Calls.{Left}
+use Rattle.floor_room.specs.Calls.{Left, told_by}
 use Rattle.floor_machine.specs.Conference.{is_cut, is_live}
 use Rattle.floor_room.specs.Ledger.{IsRefusedBy, closed, conference_of, refusal}
 use Rattle.floor_room.specs.Room.{Room, broken_room}
@@ -46,6 +46,7 @@ attach-left r s user why (inr f) = subst (Left r s (Join user)) (sym f.0) (inr (
   put = parcels_of (conference_of r.ledger) (Join user);
   rest = [];
   all = sym (append-nil (parcels_of (conference_of r.ledger) (Join user)));
+  told = told_by r (parcels_of (conference_of r.ledger) (Join user)) false;
   next = f.1.2 ∙ ap broken_room f.1.1.next;
 }))
 
@@ -57,7 +58,7 @@ attach-allowed : (r s : Room) (user : ℕ) (why : RoomRefusal) → AttachFailsIn
 attach-allowed r s user why (inl f) memory = free r (Join user) why f.0 memory
 attach-allowed r s user why (inr f) memory = f.1.1.allowed
 
-err_is : {T : Type 0} (x y : HubRefusal) → ◌≡◌ {A = Result T HubRefusal} (Err x) (Err y) → x ≡ y
+pub err_is : {T : Type 0} (x y : HubRefusal) → ◌≡◌ {A = Result T HubRefusal} (Err x) (Err y) → x ≡ y
 err_is x y e = cc
 
 ok_err : {T : Type 0} (v : T) (x : HubRefusal) → ◌≡◌ {A = Result T HubRefusal} (Ok v) (Err x) → ⊥
@@ -69,7 +70,7 @@ some_is y z e = cc
 module _ (c : ℕ) (old new : Hub) (r s : Room) (was : room_at old c ≡ Some r) (now : room_at new c ≡ Some s)
     (others : (d : ℕ) → nat_eq c d ≡ false → room_at new d ≡ room_at old d) (arrivals : new.arrivals ≡ old.arrivals) where
   -- nothing has changed
-  unchanged : s ≡ r → SameConnections old.connections new.connections → SameHub old new
+  pub unchanged : s ≡ r → SameConnections old.connections new.connections → SameHub old new
   unchanged same connections = record { rooms = λ d. by d (nat_eq c d) refl; connections = connections; arrivals = arrivals }
     where
       by : (d : ℕ) (b : Bool) → nat_eq c d ≡ b → room_at new d ≡ room_at old d
@@ -81,7 +82,7 @@ module _ (c : ℕ) (old new : Hub) (r s : Room) (was : room_at old c ≡ Some r)
   breaks Is own may broken = record { before = r; after = s; was = was; now = now; allowed = may; broken = broken; others = others; arrivals = arrivals }
 
   -- the room has refused the event
-  left-room : (own : Room → List Event) (e : Event) (why : RoomRefusal) → own r ≡ e ∷ [] → (why ≡ ByMachine Memory → refusal r.ledger e ≡ None) → Left r s e why → SameConnections old.connections new.connections → LeftAt own c old new (ByRoom why)
+  pub left-room : (own : Room → List Event) (e : Event) (why : RoomRefusal) → own r ≡ e ∷ [] → (why ≡ ByMachine Memory → refusal r.ledger e ≡ None) → Left r s e why → SameConnections old.connections new.connections → LeftAt own c old new (ByRoom why)
   left-room own e JournalFull is free left same = unchanged left same
   left-room own e (ByMachine Broken) is free left same = unchanged left same
   left-room own e (ByMachine Ended) is free left same = unchanged left same
@@ -99,7 +100,7 @@ module _ (c : ℕ) (old new : Hub) (r s : Room) (was : room_at old c ≡ Some r)
   left-room own e (ByMachine Memory) is free left same = (breaks IsBrokenOff own (e, is, free refl) (broken-off (own r) r s e is left), same)
 
 -- what a refusal of a conference without a room has left
-none-left : (own : Room → List Event) (c : ℕ) (old new : Hub) (b : Bool) → SameHub old new → LeftAt own c old new (ended_or_none b)
+pub none-left : (own : Room → List Event) (c : ℕ) (old new : Hub) (b : Bool) → SameHub old new → LeftAt own c old new (ended_or_none b)
 none-left own c old new true same = same
 none-left own c old new false same = same
 

@@ -44,3 +44,5 @@ pub mod Concerning
 pub mod Attaching
 pub mod Naming
 pub mod Handing
+pub mod Saying
+pub mod KeptRooms

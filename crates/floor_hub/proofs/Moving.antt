@@ -27,13 +27,13 @@ first-none r e h = by (closed r.ledger) (option_map ByMachine (event_refusal (wh
     by None z h = refl
     by (Some y) z h = absurd (none-some y (sym h))
 
-applied-went : (r s : Room) (e : Event) → Applied r s e → Went r s
+pub applied-went : (r s : Room) (e : Event) → Applied r s e → Went r s
 applied-went r s e t = inr (first-none r e t.allowed, inr (e, t))
 
 broken-went : (r s : Room) → closed r.ledger ≡ None → s ≡ broken_room r → Went r s
 broken-went r s none e = inr (none, inl (ap (λ (z : Room). z.ledger.is_broken) e))
 
-left-went : (e : Event) (r s : Room) (why : RoomRefusal) → (why ≡ ByMachine Memory → refusal r.ledger e ≡ None) → Left r s e why → Went r s
+pub left-went : (e : Event) (r s : Room) (why : RoomRefusal) → (why ≡ ByMachine Memory → refusal r.ledger e ≡ None) → Left r s e why → Went r s
 left-went e r s JournalFull free left = inl left
 left-went e r s (ByMachine Broken) free left = inl left
 left-went e r s (ByMachine Ended) free left = inl left

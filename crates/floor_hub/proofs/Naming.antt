@@ -226,7 +226,7 @@ known-opened P (Ok v) config old new lists done same outboxes a k =
         let t = a.live config.conference l.number l.n (subst (λ (z : List Live). Stands z l.number l.n) (sym e) (inl (refl, refl))) in
         absurd (none_has t.0.n (subst (λ (y : Option Room). HasOutbox y t.0.n) (ap (room_at old) t.2 ∙ done.0) (outboxes l.number t.0 t.1)))
 
-known-ledger : (r s : Room) → s.ledger ≡ r.ledger → (live : List Live) → EachOf (IsKnown r) live → EachOf (IsKnown s) live
+pub known-ledger : (r s : Room) → s.ledger ≡ r.ledger → (live : List Live) → EachOf (IsKnown r) live → EachOf (IsKnown s) live
 known-ledger r s e [] h = tt
 known-ledger r s e (l ∷ live) h =
     (subst (λ (z : Ledger). (z.is_broken || not (conference_of z).is_open) ≡ false → l.is_cut ≡ (not z.is_broken && is_cut (conference_of z) l.n)) (sym e) h.0, known-ledger r s e live h.1)

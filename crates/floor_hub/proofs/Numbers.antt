@@ -8,7 +8,7 @@ use Rattle.std.proofs.lemmas.List.Sums.{count_by-le-length}
 use Rattle.std.proofs.lemmas.Map.{update_here, update_apart}
 use Rattle.std.proofs.lemmas.Option.{none-some}
 use Rattle.floor_hub.specs.declared.step.Step.{Step}
-use Rattle.floor_hub.specs.declared.step.Step.TheVariants.{Open, Attach, Piece, Serve, Took, Leave, Admin}
+use Rattle.floor_hub.specs.declared.step.Step.TheVariants.{Open, Attach, Piece, Serve, Took, Leave, Admin, Say}
 use Rattle.floor_hub.specs.World.{Aim, Part, Place, World, aim, aimed, offer, place, turn_at}
 use Rattle.floor_hub.specs.Kept.{IsNumbered, KeptIn, arrivals_in, first_numbers, is_join, numbers_of}
 use Rattle.floor_hub.specs.Laws.{ArrivalsFit, OpensNumbered, StepNumbers}
@@ -101,6 +101,7 @@ opens c None (Serve n) p own bears h e = absurd (none-some p e)
 opens c None (Took n k) p own bears h e = absurd (none-some p e)
 opens c None (Leave n) p own bears h e = absurd (none-some p e)
 opens c None (Admin d act) p own bears h e = absurd (none-some p e)
+opens c None (Say d user bytes) p own bears h e = absurd (none-some p e)
 
 abbrev Bears : Option Aim → Type 0
 Bears None = Unit {0}
@@ -130,6 +131,7 @@ bears w (Leave number) h = by (place w.places number)
     by None = tt
     by (Some p) = tt
 bears w (Admin c act) h = tt
+bears w (Say c user bytes) h = tt
 
 numbered_at : (w : World) (x : Option Aim) → IsAim x → Bears x → IsNumbered w → IsNumbered (turn_at w x).world
 numbered_at w None own h numbered = numbered

@@ -1,6 +1,6 @@
 -- Each live connection keeps its outbox: no room loses one.
 use Rattle.std.proofs.Common.{◌≡◌, ℕ, zero, suc, ◌≤◌, Bool, true, false, List, [], ◌∷◌, length, refl, sym, ◌∙◌, ap, subst, arith, Some, None}
-use Rattle.std.specs.Prelude.{Option, nat_eq, slice_get, slice_set, Result, Ok, Err, MatchResult, OnErr}
+use Rattle.std.specs.Prelude.{Option, nat_eq, slice_get, slice_set, Result, Ok, Err, IsErr, MatchOption, MatchResult, OnErr}
 use Rattle.std.proofs.lemmas.Bool.{eqb-true}
 use Rattle.std.proofs.lemmas.Option.{none-some}
 use Rattle.floor_config.specs.Configuration.{Configuration}
@@ -9,7 +9,8 @@ use Rattle.floor_machine.specs.declared.event.Event.{Event}
 use Rattle.floor_room.specs.declared.outbox.NoMember.{NoMember}
 use Rattle.floor_room.specs.Outbox.{Outbox}
 use Rattle.floor_room.specs.Room.{Room, new_room}
-use Rattle.floor_room.specs.Taking.{Gave, GivesFrom, GivesHeld, after_take, outbox_of}
+use Rattle.floor_room.specs.Taking.{Gave, GivesFrom, GivesHeld, GivesIf, after_take, outbox_of}
+use Rattle.floor_room.specs.Room.{is_kept}
 use Rattle.floor_hub.specs.declared.refusal.HubRefusal.{HubRefusal}
 use Rattle.floor_hub.specs.declared.connection.Connection.{Connection}
 use Rattle.floor_hub.specs.Connections.{Connections, Puts, SameConnections, connection_at}
@@ -122,11 +123,15 @@ grows-taken (Some x) result old new t d = by (nat_eq x.conference d) refl
     at os ps zero (Some o) given is h = absurd (none-some o is)
     at os ps (suc k) (Some o) given is h = held os ps k o o.held given h
 
+    may : (b : Bool) (os ps : List Outbox) (n : ℕ) (given : Result (Option Parcel) NoMember) → GivesIf b os ps n given → length os ≤ length ps
+    may true os ps n given h = at os ps n (outbox_of os n) given refl h
+    may false os ps n given h = same_length os ps h.1
+
     own : Grows (room_at old x.conference) (room_at new x.conference)
     own =
         let f = t.2 in
         subst (λ (y : Option Room). Grows y (room_at new x.conference)) (sym f.was)
-        (subst (Grows (Some f.before)) (sym f.now) (at f.before.outboxes f.after.outboxes x.n (outbox_of f.before.outboxes x.n) (Ok t.0) refl f.gave.given))
+        (subst (Grows (Some f.before)) (sym f.now) (may (is_kept f.before) f.before.outboxes f.after.outboxes x.n (Ok t.0) f.gave.given))
 
     by : (b : Bool) → nat_eq x.conference d ≡ b → Grows (room_at old d) (room_at new d)
     by true e = subst (λ (i : ℕ). Grows (room_at old i) (room_at new i)) (eqb-true x.conference d e) own
@@ -169,9 +174,7 @@ outbox-there os (suc k) first last = get-there os k last
 -- a member that has an outbox is given what waits
 pub given-ok : (r new : Room) (n : ℕ) (given : Result (Option Parcel) NoMember) → 1 ≤ n → n ≤ length r.outboxes → Gave r new n given → (p : Option Parcel) × (given ≡ Ok p)
 given-ok r new n (Ok p) first last g = (p, refl)
-given-ok r new n (Err e) first last g =
-    let o = outbox-there r.outboxes n first last in
-    absurd (by o.0 o.0.held (subst (λ (y : Option Outbox). GivesFrom r.outboxes new.outboxes n y (Err e)) o.1 g.given))
+given-ok r new n (Err e) first last g = may (is_kept r) g.given
   where
     err_ok : (p : Option Parcel) → ◌≡◌ {A = Result (Option Parcel) NoMember} (Err e) (Ok p) → ⊥
     err_ok p h = cc
@@ -179,3 +182,11 @@ given-ok r new n (Err e) first last g =
     by : (o : Outbox) (held : List Parcel) → GivesHeld r.outboxes new.outboxes n o held (Err e) → ⊥
     by o [] h = err_ok None h.0
     by o (p ∷ rest) h = err_ok (Some p) h.0
+
+    o : (o : Outbox) × (outbox_of r.outboxes n ≡ Some o)
+    o = outbox-there r.outboxes n first last
+
+    may : (b : Bool) → GivesIf b r.outboxes new.outboxes n (Err e) → (p : Option Parcel) × (◌≡◌ {A = Result (Option Parcel) NoMember} (Err e) (Ok p))
+    may true h = absurd (by o.0 o.0.held (subst (λ (y : Option Outbox). GivesFrom r.outboxes new.outboxes n y (Err e)) o.1 h))
+    may false h =
+        absurd (err_ok None (subst (λ (y : Option Outbox). MatchOption y (IsErr {T = Option Parcel} (Err e)) (λ z. ◌≡◌ {A = Result (Option Parcel) NoMember} (Err e) (Ok None))) o.1 h.0))

@@ -29,7 +29,7 @@ use Rattle.floor_hub.proofs.Standing.{RoomsStand}
 
 -- a room that is this part
 abbrev pub room_of : Part → Room
-room_of p = record { ledger = ledger_of p; outboxes = [] }
+room_of p = record { ledger = ledger_of p; outboxes = []; told = 0; kept = 0 }
 
 -- the room of a conference, and of a forgotten one what it is in the world
 abbrev pub recall : Bool → Option Room → Option Part → Option Room

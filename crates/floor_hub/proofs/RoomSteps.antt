@@ -6,7 +6,7 @@ use Rattle.floor_config.specs.declared.fault.ConfigFault.{ConfigFault}
 use Rattle.floor_config.specs.declared.fault.ConfigFault.TheVariants as faults
 use Rattle.floor_config.specs.Changed.{chair_fault, floor_fault, user_fault}
 use Rattle.floor_machine.specs.declared.event.Event.{Event}
-use Rattle.floor_machine.specs.declared.event.Event.TheVariants.{Join, Message, Took, Leave, Revoke, Close, AddUser, AddFloor, SetChair}
+use Rattle.floor_machine.specs.declared.event.Event.TheVariants.{Join, Message, Took, Leave, Revoke, Close, AddUser, AddFloor, SetChair, Say}
 use Rattle.floor_machine.specs.declared.machine.Refusal.TheVariants.{Broken, Ended, NoMember, NoUser, Full, NoRequest, Cut, BadCount, Memory, OutOfRange, DoubleUser, DoubleFloor, NoFloor, UnknownChair}
 use Rattle.floor_machine.specs.Parcel.{Parcel}
 use Rattle.floor_machine.specs.declared.machine.Refusal.{Refusal}
@@ -18,7 +18,7 @@ use Rattle.floor_wire.specs.Message.{messages}
 use Rattle.floor_machine.specs.Journal.{parcels_of, sent_to}
 use Rattle.floor_room.specs.declared.refusal.RoomRefusal.{RoomRefusal}
 use Rattle.floor_room.specs.declared.refusal.RoomRefusal.TheVariants.{JournalFull, Refused as ByMachine}
-use Rattle.floor_room.specs.Calls.{Applied, Left, with_event}
+use Rattle.floor_room.specs.Calls.{Applied, Left, told_by, with_event}
 use Rattle.floor_room.specs.Ledger.{IsRefusedBy, Ledger, closed, conference_of, first_of, refusal}
 use Rattle.floor_room.specs.Outbox.{Outbox, delivered}
 use Rattle.floor_room.specs.Room.{Room, broken_room, joined}
@@ -35,7 +35,7 @@ use Rattle.floor_hub.specs.Rooms.{AddsOwn, OneRoom, QueuesMore, RoomAfter, RoomA
 use Rattle.floor_hub.proofs.Recalling.{here-now}
 use Rattle.floor_hub.specs.steps.Serving.{AttachFailsIn, EventIn, LeaveFailsIn, IsServable, LeavesIn, ServeFailsIn, ServedIn, ServesIn}
 
-true_false : true ≡ false → ⊥
+pub true_false : true ≡ false → ⊥
 true_false e = cc
 
 -- nothing more waits
@@ -53,6 +53,7 @@ queues-new put n Close = tt
 queues-new put n (AddUser user) = tt
 queues-new put n (AddFloor floor) = tt
 queues-new put n (SetChair floor chair) = tt
+queues-new put n (Say user bytes) = tt
 
 -- what an event tells waits behind what waited
 pub queues-more : (put : List Parcel) (n : ℕ) (e : Event) (os : List Outbox) → QueuesMore os (delivered put n (os ++ joined e))
@@ -70,14 +71,15 @@ room-same shut_by why own r s calm shut told adds e =
       config = ap (λ (x : Room). x.ledger.config) e;
       journal = subst (λ (x : Room). AddsOwn why own r.ledger.journal x.ledger.journal) (sym e) adds;
       outboxes = subst (λ (x : Room). QueuesMore r.outboxes x.outboxes) (sym e) (queues-same r.outboxes);
+      kept = ap (λ (x : Room). x.kept) e;
     }
 
 false_true : false ≡ true → ⊥
 false_true e = cc
 
-room-event : (shut_by why : Option HubRefusal) (own : List Event) (r s : Room) (e : Event) (put : List Parcel) (b : Bool) → r.ledger.is_broken ≡ false → (b ≡ true) ↔ (why ≡ by_memory) →
-    why ≢ by_broken → AddsOwn why own r.ledger.journal (r.ledger.journal ++ e ∷ []) → s ≡ with_event r e put b → RoomAfter shut_by why own r s
-room-event shut_by why own r s e put b sound want told adds is =
+room-event : (shut_by why : Option HubRefusal) (own : List Event) (r s : Room) (e : Event) (put : List Parcel) (b : Bool) (told_now : ℕ) → r.ledger.is_broken ≡ false → (b ≡ true) ↔ (why ≡ by_memory) →
+    why ≢ by_broken → AddsOwn why own r.ledger.journal (r.ledger.journal ++ e ∷ []) → s ≡ record (with_event r e put b) { told = told_now } → RoomAfter shut_by why own r s
+room-event shut_by why own r s e put b told_now sound want told adds is =
     let now : s.ledger.is_broken ≡ b = ap (λ (x : Room). x.ledger.is_broken) is in record {
       broken = (λ t. inr (want.0 (sym now ∙ t)), λ h. elim h [ inl t ↦ absurd (true_false (sym t ∙ sound)) | inr w ↦ now ∙ want.1 w ]);
       shut = λ broken. absurd (true_false (sym broken ∙ sound));
@@ -85,11 +87,12 @@ room-event shut_by why own r s e put b sound want told adds is =
       config = ap (λ (x : Room). x.ledger.config) is;
       journal = subst (λ (x : Room). AddsOwn why own r.ledger.journal x.ledger.journal) (sym is) adds;
       outboxes = subst (λ (x : Room). QueuesMore r.outboxes x.outboxes) (sym is) (queues-more put 1 e r.outboxes);
+      kept = ap (λ (x : Room). x.kept) is;
     }
 
 pub room-took : (shut_by : Option HubRefusal) (own : List Event) (r s : Room) (e : Event) → own ≡ e ∷ [] → Applied r s e → RoomAfter shut_by None own r s
 room-took shut_by own r s e is t =
-    room-event shut_by None own r s e (parcels_of (conference_of r.ledger) e) false (allowed-open r.ledger e t.allowed).unbroken
+    room-event shut_by None own r s e (parcels_of (conference_of r.ledger) e) false (told_by r (parcels_of (conference_of r.ledger) e) false) (allowed-open r.ledger e t.allowed).unbroken
     (λ f. absurd (false_true f), λ w. absurd (none-some (ByRoom (ByMachine Memory)) w)) (λ w. none-some (ByRoom (ByMachine Broken)) w)
     (ap (λ (es : List Event). r.ledger.journal ++ es) (sym is)) t.next
 
@@ -105,6 +108,7 @@ room-off shut_by own r s sound e = record {
   config = ap (λ (x : Room). x.ledger.config) e;
   journal = inl (ap (λ (x : Room). x.ledger.journal) e);
   outboxes = subst (λ (x : Room). QueuesMore r.outboxes x.outboxes) (sym e) (queues-same r.outboxes);
+  kept = ap (λ (x : Room). x.kept) e;
 }
 
 -- a broken room refuses by nothing else
@@ -139,6 +143,11 @@ further_not further other false b d e = cc
 further_not further other true false d e = cc
 further_not further other true true true e = let same : further ≡ Broken = cc in other same
 further_not further other true true false e = cc
+
+user_not : (a b : Bool) → ◌≡◌ {A = Option Refusal} (cond (not a) (Some Ended) (cond (not b) (Some NoUser) None)) (Some Broken) → ⊥
+user_not false b e = cc
+user_not true false e = cc
+user_not true true e = cc
 
 request_not : (a b : Bool) → ◌≡◌ {A = Option Refusal} (cond (not a) (Some Ended) (cond (not b) (Some NoRequest) None)) (Some Broken) → ⊥
 request_not false b e = cc
@@ -177,6 +186,7 @@ event_not s Close h = close_not s.is_open h
 event_not s (AddUser user) h = fault_not s.is_open (user_fault s.config user) h
 event_not s (AddFloor floor) h = fault_not s.is_open (floor_fault s.config floor) h
 event_not s (SetChair floor chair) h = fault_not s.is_open (chair_fault s.config floor chair) h
+event_not s (Say user bytes) h = user_not s.is_open (is_user s.config user) h
 
 -- a room that isn't broken doesn't refuse as broken
 told-broken : (l : Ledger) (e : Event) (b : Bool) → l.is_broken ≡ b → IsRefusedBy {T = Unit {0}} (refusal l e) (Err (ByMachine Broken)) → b ≡ true
@@ -231,7 +241,7 @@ room-left own r s e (ByMachine NoFloor) is by left = left-same own r s e (ByMach
 room-left own r s e (ByMachine UnknownChair) is by left = left-same own r s e (ByMachine UnknownChair) (λ w. cc) refl by left
 room-left own r s e (ByMachine Memory) is by (inl off) = room-off by_broken own r s (sound-before r e r.ledger.is_broken refl by) off
 room-left own r s e (ByMachine Memory) is by (inr began) =
-    room-event by_broken by_memory own r s e began.put true (sound-before r e r.ledger.is_broken refl by) (λ t. refl, λ w. refl) memory_broken
+    room-event by_broken by_memory own r s e began.put true began.told (sound-before r e r.ledger.is_broken refl by) (λ t. refl, λ w. refl) memory_broken
     (inr (ap (λ (es : List Event). r.ledger.journal ++ es) (sym is))) began.next
 
 -- where the room wasn't broken, what a broken one answers is another matter
@@ -243,12 +253,13 @@ other-shut other shut_by why own r s sound a = record {
   journal = a.journal;
   config = a.config;
   outboxes = a.outboxes;
+  kept = a.kept;
 }
 
 -- the room was joined, and broken off then
 room-unjoined : (r mid s : Room) (e : Event) → Applied r mid e → s ≡ broken_room mid → RoomAfter by_broken by_memory (e ∷ []) r s
 room-unjoined r mid s e t off =
-    room-event by_broken by_memory (e ∷ []) r s e (parcels_of (conference_of r.ledger) e) true (allowed-open r.ledger e t.allowed).unbroken (λ x. refl, λ w. refl) memory_broken (inr refl)
+    room-event by_broken by_memory (e ∷ []) r s e (parcels_of (conference_of r.ledger) e) true (told_by r (parcels_of (conference_of r.ledger) e) false) (allowed-open r.ledger e t.allowed).unbroken (λ x. refl, λ w. refl) memory_broken (inr refl)
     (off ∙ ap broken_room t.next)
 
 pub room-attach-fails : (r s : Room) (user : ℕ) (why : RoomRefusal) → AttachFailsIn r s user why → RoomAfter by_broken (Some (ByRoom why)) (Join user ∷ []) r s
@@ -361,11 +372,11 @@ module _ (shut_by why : Option HubRefusal) (own : Room → List Event) (c : ℕ)
   }
 
 -- a refusal of a conference without a room is neither want of memory nor that of a broken room
-calm : (b : Bool) → ◌≡◌ {A = Option HubRefusal} (Some (ended_or_none b)) by_memory → ⊥
+pub calm : (b : Bool) → ◌≡◌ {A = Option HubRefusal} (Some (ended_or_none b)) by_memory → ⊥
 calm true e = cc
 calm false e = cc
 
-unbroken_said : (b : Bool) → ◌≡◌ {A = Option HubRefusal} (Some (ended_or_none b)) by_broken → ⊥
+pub unbroken_said : (b : Bool) → ◌≡◌ {A = Option HubRefusal} (Some (ended_or_none b)) by_broken → ⊥
 unbroken_said true e = cc
 unbroken_said false e = cc
 

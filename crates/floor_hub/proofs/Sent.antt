@@ -7,7 +7,7 @@ use Rattle.std.proofs.lemmas.Option.{none-some}
 use Rattle.std.proofs.lemmas.Bool.{eqb-true, eq-eqb}
 use Rattle.floor_config.specs.Configuration.{Configuration}
 use Rattle.floor_machine.specs.declared.event.Event.{Event}
-use Rattle.floor_machine.specs.declared.event.Event.TheVariants.{Join, Message, Took as Takes, Leave as Leaves}
+use Rattle.floor_machine.specs.declared.event.Event.TheVariants.{Join, Message, Took as Takes, Leave as Leaves, Say as Says}
 use Rattle.floor_machine.specs.declared.machine.Refusal.TheVariants.{Ended}
 use Rattle.floor_room.specs.declared.refusal.RoomRefusal.TheVariants.{JournalFull, Refused as ByMachine}
 use Rattle.floor_room.specs.declared.refusal.RoomRefusal.{RoomRefusal}
@@ -19,11 +19,12 @@ use Rattle.floor_machine.specs.Outgoing.{Outgoing, outgoing_bytes}
 use Rattle.floor_machine.specs.Machine.{event_of_act}
 use Rattle.floor_machine.specs.Journal.{after_from, told_from, parcels, Q}
 use Rattle.floor_machine.specs.Next.{next, told}
+use Rattle.floor_hub.specs.declared.refusal.HubRefusal.{HubRefusal}
 use Rattle.floor_hub.specs.declared.refusal.HubRefusal.TheVariants.{ByRoom}
 use Rattle.floor_hub.specs.declared.step.Step.{Step}
-use Rattle.floor_hub.specs.declared.step.Step.TheVariants.{Open, Attach, Piece, Serve, Took, Leave, Admin}
+use Rattle.floor_hub.specs.declared.step.Step.TheVariants.{Open, Attach, Piece, Serve, Took, Leave, Admin, Say}
 use Rattle.floor_hub.specs.declared.step.Answer.{Answer}
-use Rattle.floor_hub.specs.declared.step.Answer.TheVariants.{Done, Attached, Nothing, Served, Refused}
+use Rattle.floor_hub.specs.declared.step.Answer.TheVariants.{Done, Attached, Nothing, Served, Said, Refused}
 use Rattle.floor_hub.specs.World as world
 use Rattle.floor_hub.specs.World.{Part, Arrival, World, Place, Aim, Turn, Offered, offer, turn, turn_at, aimed, put, nothing, numbered}
 use Rattle.floor_hub.specs.Runs.{run, events_in, added, adds, adds_in, adds_to, parcels_after, sends, sent}
@@ -117,6 +118,10 @@ admin_adds : (p : Part) (c : ℕ) (act : _) (r : Option RoomRefusal) → Adds p 
 admin_adds p c act None = record { part = _; is = refl; config = refl; events = refl }
 admin_adds p c act (Some r) = stays p (Admin c act) (Refused (ByRoom r)) refl
 
+said_adds : (p : Part) (c user : ℕ) (bytes : List ℕ) (r : Option HubRefusal) → Adds p (Say c user bytes) (world.say p user bytes r)
+said_adds p c user bytes None = record { part = _; is = refl; config = refl; events = refl }
+said_adds p c user bytes (Some r) = stays p (Say c user bytes) (Refused r) refl
+
 pub offer_adds : (p : Part) (s : Step) → Adds p s (offer (Some p) s)
 offer_adds p (Open config) = stays p (Open config) (Refused _) refl
 offer_adds p (Attach c user) = attach_adds p c user (world.refused p (Join user))
@@ -125,6 +130,7 @@ offer_adds p (Serve n) = any_serve_adds p n (world.if_live (world.arrival p n)) 
 offer_adds p (Took n k) = took_adds p n k (world.if_live (world.arrival p n))
 offer_adds p (Leave n) = leave_adds p n (world.if_live (world.arrival p n))
 offer_adds p (Admin c act) = admin_adds p c act (world.refused p (event_of_act act))
+offer_adds p (Say c user bytes) = said_adds p c user bytes (world.unsaid (world.refused p (Says user bytes)) (world.is_message bytes))
 
 attached_adds : (p : Part) (s : Step) (k n : ℕ) → adds p s (Attached k) ≡ adds p s (Attached n)
 attached_adds p (Open config) k n = refl
@@ -134,12 +140,14 @@ attached_adds p (Serve m) k n = refl
 attached_adds p (Took m j) k n = refl
 attached_adds p (Leave m) k n = refl
 attached_adds p (Admin c act) k n = refl
+attached_adds p (Say c user bytes) k n = refl
 
 numbered_adds : (p : Part) (s : Step) (ps : List Place) (answer : Answer) → adds p s (numbered ps answer) ≡ adds p s answer
 numbered_adds p s ps (Attached n) = attached_adds p s (length ps + 1) n
 numbered_adds p s ps Done = refl
 numbered_adds p s ps Nothing = refl
 numbered_adds p s ps Served = refl
+numbered_adds p s ps (Said v) = refl
 numbered_adds p s ps (Refused r) = refl
 
 -- what one step makes of a part: it has the configuration that it had, and these events more; and what opens has none
@@ -157,6 +165,7 @@ offer_grew None (Serve m) ps = refl
 offer_grew None (Took m k) ps = refl
 offer_grew None (Leave m) ps = refl
 offer_grew None (Admin c act) ps = refl
+offer_grew None (Say c user bytes) ps = refl
 offer_grew (Some p) s ps =
     let more = offer_adds p s in
     subst (λ (x : Option Part). Grew (Some p) x (adds p s (numbered ps (offer (Some p) s).answer))) (sym more.is)

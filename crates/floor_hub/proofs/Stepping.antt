@@ -3,17 +3,17 @@ use Rattle.std.proofs.Common.{◌≡◌, ◌≢◌, ◌⊎◌, inl, inr, ℕ, ze
 use Rattle.std.specs.Prelude.{Option, All, not, ◌==◌, ◌&&◌, is_some, if◌then◌else◌, nat_le, slice_get}
 use Rattle.std.specs.List.{concat, flat_map}
 use Rattle.std.specs.Option.{option_map}
-use Rattle.std.proofs.lemmas.Bool.{eqb-true, eqb-false}
+use Rattle.std.proofs.lemmas.Bool.{eqb-true, eqb-false, eq-eqb}
 use Rattle.std.proofs.lemmas.Bool.Decides.{nat_tests}
 use Rattle.std.proofs.lemmas.List.Elements.{All-nil, All-cons, All-append}
 use Rattle.std.proofs.lemmas.Map.{update_here}
 use Rattle.std.proofs.lemmas.Option.{none-some, slice_get_within}
 use Rattle.floor_config.specs.Configuration.{Configuration}
-use Rattle.floor_wire.specs.Message.{IsMessage, messages}
+use Rattle.floor_wire.specs.Message.{IsMessage, message_len, messages}
 use Rattle.floor_wire.proofs.Messages.{messages-concat}
 use Rattle.floor_machine.specs.declared.act.Act.{Act}
 use Rattle.floor_machine.specs.declared.event.Event.{Event}
-use Rattle.floor_machine.specs.declared.event.Event.TheVariants.{Join, Message, Took as Takes, Leave as Leaves, Revoke, Close, AddUser, AddFloor, SetChair}
+use Rattle.floor_machine.specs.declared.event.Event.TheVariants.{Join, Message, Took as Takes, Leave as Leaves, Revoke, Close, AddUser, AddFloor, SetChair, Say as Says}
 use Rattle.floor_machine.specs.declared.machine.Refusal.TheVariants.{Ended}
 use Rattle.floor_machine.specs.declared.member.Member.{Member}
 use Rattle.floor_machine.specs.Conference.{Conference, is_live, member_with}
@@ -30,14 +30,14 @@ use Rattle.floor_room.specs.declared.refusal.RoomRefusal.TheVariants.{JournalFul
 use Rattle.floor_room.specs.Ledger.{closed, first_of}
 use Rattle.floor_hub.specs.declared.refusal.HubRefusal.TheVariants.{ByRoom}
 use Rattle.floor_hub.specs.declared.step.Step.{Step}
-use Rattle.floor_hub.specs.declared.step.Step.TheVariants.{Open, Attach, Piece, Serve, Took, Leave, Admin}
+use Rattle.floor_hub.specs.declared.step.Step.TheVariants.{Open, Attach, Piece, Serve, Took, Leave, Admin, Say}
 use Rattle.floor_hub.specs.World as world
 use Rattle.floor_hub.specs.World.{World, Part, Arrival, Place, Aim, aim, aimed, arrival, if_live, is_full, joined, nothing, offer, opened, place, places_after, put, refused, ledger_of, state_of, turn, turn_at, unserved, with_arrival, with_events}
 use Rattle.floor_hub.specs.Kept.{IsKeptPart, KeptIn, arrivals_in}
 use Rattle.floor_hub.specs.Runs.{events_in, resuming_of, run, steps_for, steps_from, steps_of}
 use Rattle.floor_hub.specs.Laws.{JournalsAreEvents, JournalsAreOpened, JournalsAreResumed}
 use Rattle.floor_hub.specs.declared.step.Answer.{Answer}
-use Rattle.floor_hub.specs.declared.step.Answer.TheVariants.{Done, Attached, Nothing, Served, Refused}
+use Rattle.floor_hub.specs.declared.step.Answer.TheVariants.{Done, Attached, Nothing, Served, Said, Refused}
 use Rattle.floor_hub.proofs.Alone.{Counts, offer_counts}
 use Rattle.floor_hub.proofs.Arrivals.{arrival_set, arrival_set_other, lt_or_le, there_live}
 use Rattle.floor_hub.proofs.Keeping.{IsSetFrom, kept_event, offer_kept, opened_kept, set_from, state_more}
@@ -57,6 +57,7 @@ opened_now s Close h = h
 opened_now s (AddUser user) h = h.0
 opened_now s (AddFloor floor) h = h.0
 opened_now s (SetChair floor chair) h = h.0
+opened_now s (Says user bytes) h = h.0
 
 accepted : (p : Part) (e : Event) → IsWhole e → IsLawful (state_of p) e → length p.events < 2000000 → refused p e ≡ None
 accepted p e framed lawful few =
@@ -105,6 +106,7 @@ places_at base c ps k l (Attached m) counts count known = (
 places_at base c ps k l Done counts count known = (count ∙ ap (λ (i : ℕ). base + i) (sym counts), λ n first within. known n first (omega (arith, within, counts)))
 places_at base c ps k l Nothing counts count known = (count ∙ ap (λ (i : ℕ). base + i) (sym counts), λ n first within. known n first (omega (arith, within, counts)))
 places_at base c ps k l Served counts count known = (count ∙ ap (λ (i : ℕ). base + i) (sym counts), λ n first within. known n first (omega (arith, within, counts)))
+places_at base c ps k l (Said v) counts count known = (count ∙ ap (λ (i : ℕ). base + i) (sym counts), λ n first within. known n first (omega (arith, within, counts)))
 places_at base c ps k l (Refused r) counts count known = (count ∙ ap (λ (i : ℕ). base + i) (sym counts), λ n first within. known n first (omega (arith, within, counts)))
 
 -- a step for c leads to what is offered to the step that bears n
@@ -180,6 +182,20 @@ goes_act base c v p act f lawful few =
     none (Act.AddUser user) = refl
     none (Act.AddFloor floor) = refl
     none (Act.SetChair floor chair) = refl
+
+-- a message that is said for a user
+goes_said : (base c : ℕ) (v : World) (p : Part) (user : ℕ) (bytes : List ℕ) → Follows base c v p → IsLawful (state_of p) (Says user bytes) → length p.events < 2000000 →
+    Follows base c (turn v (Say c user bytes)).world (with_events p (Says user bytes ∷ []))
+goes_said base c v p user bytes f lawful few =
+    let framed : world.is_message bytes ≡ true = eq-eqb (length bytes) (message_len bytes) lawful.2 in
+    let is : (offer (Some p) (Say c user bytes)).part ≡ Some (with_events p (Says user bytes ∷ [])) =
+    ap (λ (b : Bool). (world.say p user bytes (world.unsaid (refused p (Says user bytes)) b)).part) framed
+    ∙ ap (λ (r : Option RoomRefusal). (world.say p user bytes (world.unsaid r true)).part) (accepted p (Says user bytes) lawful.2 lawful few) in record {
+      at = moved base c v p (with_events p (Says user bytes ∷ [])) (Say c user bytes) (Say c user bytes) f.at refl is;
+      kept = kept_by p (with_events p (Says user bytes ∷ [])) (Say c user bytes) f.kept is;
+      here = λ n h. f.here n (was_live p (Says user bytes) n refl (sym (ap (λ (s : Conference). is_live s n) (state_more p.config p.events (Says user bytes))) ∙ h));
+      idle = f.idle;
+    }
 
 -- some of the parcels to a live member are acknowledged
 goes_took : (base c : ℕ) (v : World) (p : Part) (n k : ℕ) (a : Arrival) → Follows base c v p → IsLawful (state_of p) (Takes n k) → length p.events < 2000000 →
@@ -414,6 +430,7 @@ goes base c v p Close f lawful few = (with_events p (Close ∷ []), goes_act bas
 goes base c v p (AddUser user) f lawful few = (with_events p (AddUser user ∷ []), goes_act base c v p (Act.AddUser user) f lawful few, refl, refl)
 goes base c v p (AddFloor floor) f lawful few = (with_events p (AddFloor floor ∷ []), goes_act base c v p (Act.AddFloor floor) f lawful few, refl, refl)
 goes base c v p (SetChair floor chair) f lawful few = (with_events p (SetChair floor chair ∷ []), goes_act base c v p (Act.SetChair floor chair) f lawful few, refl, refl)
+goes base c v p (Says user bytes) f lawful few = (with_events p (Says user bytes ∷ []), goes_said base c v p user bytes f lawful few, refl, refl)
 
 -- the world has under c the part with these events more
 abbrev Ends : ℕ → World → Part → List Event → Type 0
@@ -482,6 +499,7 @@ steps-first c Close = refl
 steps-first c (AddUser user) = refl
 steps-first c (AddFloor floor) = refl
 steps-first c (SetChair floor chair) = refl
+steps-first c (Says user bytes) = refl
 
 all-first : (c : ℕ) (es : List Event) → flat_map (steps_from 0 c) es ≡ flat_map (steps_for c) es
 all-first c [] = refl

@@ -12,7 +12,7 @@ use Rattle.floor_room.specs.declared.refusal.RoomRefusal.TheVariants.{JournalFul
 use Rattle.floor_room.specs.Ledger.{IsRefusedBy, Ledger, conference_of, first_of, refusal}
 
 -- no ledger refuses an event by want of memory
-never : (l : Ledger) (e : Event) → refusal l e ≡ Some (ByMachine Memory) → ⊥
+pub never : (l : Ledger) (e : Event) → refusal l e ≡ Some (ByMachine Memory) → ⊥
 never l e h = by l.is_broken (conference_of l).is_open (nat_le 2000000 (length l.journal)) (event_refusal (whole (conference_of l)) e) refl h
   where
     by : (a b f : Bool) (o : Option Refusal) → o ≡ event_refusal (whole (conference_of l)) e →

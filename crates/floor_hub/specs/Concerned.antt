@@ -1,11 +1,11 @@
 -- Whom a call of the hub concerns: the connections to which it queued something, whose member it cut, or whose conference it closed or broke off.
-use Rattle.std.specs.Prelude.{◌≡◌, ◌⊎◌, ◌<◌, ◌||◌, ◌&&◌, not, ℕ, List, [], ◌∷◌, Bool, true, false, Some, length}
+use Rattle.std.specs.Prelude.{◌≡◌, ◌⊎◌, ◌<◌, ◌||◌, ◌&&◌, not, ℕ, List, [], ◌∷◌, Bool, true, false, Some, length, if◌then◌else◌}
 use Rattle.std.specs.Option.{option_map_or}
 use Rattle.std.specs.List.{Contains}
 use Rattle.floor_machine.specs.Conference as machine
 use Rattle.floor_machine.specs.Parcel.{Parcel}
 use Rattle.floor_room.specs.Ledger.{conference_of}
-use Rattle.floor_room.specs.Room.{Room}
+use Rattle.floor_room.specs.Room.{Room, is_kept}
 use Rattle.floor_room.specs.Taking.{outbox_of}
 use Rattle.floor_hub.specs.declared.connection.Connection.{Connection}
 use Rattle.floor_hub.specs.Connections.{connection_at}
@@ -14,6 +14,10 @@ use Rattle.floor_hub.specs.Hub.{Hub, room_at}
 -- what waits for the member n, and nothing where nobody has joined under the number
 abbrev pub waiting : Room → ℕ → List Parcel
 waiting r n = option_map_or (λ o. o.held) (outbox_of r.outboxes n) []
+
+-- what is handed out to the member n of this room: what waits for it, where all that was told is kept
+abbrev pub handed : Room → ℕ → List Parcel
+handed r n = if is_kept r then waiting r n else []
 
 -- the member n is cut; of a room that is broken off nobody is said to be
 abbrev pub is_cut : Room → ℕ → Bool

@@ -8,11 +8,12 @@ use Rattle.floor_wire.specs.Spelled.{spelled, spelled_within}
 use Rattle.floor_message.specs.Ask.{ask}
 use Rattle.floor_machine.specs.declared.act.Act.{Act}
 use Rattle.floor_machine.specs.declared.event.Event.{Event}
-use Rattle.floor_machine.specs.declared.event.Event.TheVariants.{Join, Message, Took as Takes, Leave as Leaves, Close, AddUser, AddFloor, SetChair}
+use Rattle.floor_machine.specs.declared.event.Event.TheVariants.{Join, Message, Took as Takes, Leave as Leaves, Close, AddUser, AddFloor, SetChair, Say as Says}
 use Rattle.floor_machine.specs.declared.machine.Refusal.TheVariants.{Ended, NoUser, Full, NoRequest, BadCount, DoubleUser, NoFloor}
 use Rattle.floor_machine.specs.Shown.{info_of}
 use Rattle.floor_machine.specs.Same.{same_info}
 use Rattle.floor_machine.specs.Checks.{refusal}
+use Rattle.floor_machine.specs.Said.{said}
 use Rattle.floor_machine.specs.Change.{change, shown, settled}
 use Rattle.floor_machine.specs.Outgoing.{outgoing_bytes}
 use Rattle.floor_machine.specs.Reply.{reply}
@@ -20,10 +21,10 @@ use Rattle.floor_machine.specs.Told.{changed_requests, changed_floors, due}
 use Rattle.floor_machine.specs.Next.{next, told}
 use Rattle.floor_machine.specs.Journal.{parcels_of}
 use Rattle.floor_room.specs.declared.refusal.RoomRefusal.TheVariants.{Refused as ByMachine}
-use Rattle.floor_hub.specs.declared.refusal.HubRefusal.TheVariants.{Used, NoConference, NoConnection, ByRoom}
+use Rattle.floor_hub.specs.declared.refusal.HubRefusal.TheVariants.{Used, NoConference, NoConnection, BadMessage, ByRoom}
 use Rattle.floor_hub.specs.declared.step.Step.{Step}
-use Rattle.floor_hub.specs.declared.step.Step.TheVariants.{Open, Attach, Piece, Serve, Took, Leave, Admin}
-use Rattle.floor_hub.specs.declared.step.Answer.TheVariants.{Done, Attached, Nothing, Served, Refused}
+use Rattle.floor_hub.specs.declared.step.Step.TheVariants.{Open, Attach, Piece, Serve, Took, Leave, Admin, Say}
+use Rattle.floor_hub.specs.declared.step.Answer.TheVariants.{Done, Attached, Nothing, Served, Said, Refused}
 use Rattle.floor_hub.specs.World.{nothing}
 use Rattle.floor_hub.specs.Laws.{GiveAlike}
 use Rattle.floor_hub.specs.Runs.{alone, answers, answers_to, events, queues, steps_of}
@@ -287,6 +288,45 @@ pub acknowledged_events : events 1 acknowledged ≡
     ∷ []
 unfolding ask spelled spelled_within outgoing_bytes info_of same_info refusal change shown settled reply changed_requests changed_floors due told next parcels_of messages messages_of_at_most
 acknowledged_events = refl
+
+-- messages are said for users of conference 1, who have no connection: a request, a Hello, and bytes that are no message
+abbrev says : List Step
+says =
+    Say 1 10 first_request
+    ∷ Open (demonstration 1)
+    ∷ Say 1 99 (0x20 ∷ 0x01 ∷ 0x00 ∷ 0x01 ∷ [])
+    ∷ Say 1 10 (0x20 ∷ 0x01 ∷ 0x00 ∷ 0x01 ∷ [])
+    ∷ Say 1 10 first_request
+    ∷ Say 1 10 (0x20 ∷ 0x0b ∷ 0x00 ∷ 0x00 ∷ 0x00 ∷ 0x00 ∷ 0x00 ∷ 0x01 ∷ 0x00 ∷ 0x03 ∷ 0x00 ∷ 0x0a ∷ [])
+    ∷ Attach 1 11
+    ∷ Admin 1 Act.Close
+    ∷ Say 1 99 first_request
+    ∷ []
+
+-- each is answered to who says it, or refused, and makes no arrival
+pub says_answers : answers nothing says ≡
+    Refused NoConference
+    ∷ Done
+    ∷ Refused (ByRoom (ByMachine NoUser))
+    ∷ Refused BadMessage
+    ∷ Said record { place = 1; reply = Some (0x20 ∷ 0x04 ∷ 0x00 ∷ 0x07 ∷ 0x00 ∷ 0x00 ∷ 0x00 ∷ 0x01 ∷ 0x00 ∷ 0x02 ∷ 0x00 ∷ 0x0a ∷ 0x1e ∷ 0x1c ∷ 0x00 ∷ 0x01 ∷ 0x24 ∷ 0x08 ∷ 0x00 ∷ 0x01 ∷ 0x0a ∷ 0x04 ∷ 0x03 ∷ 0x00 ∷ 0x22 ∷ 0x08 ∷ 0x00 ∷ 0x01 ∷ 0x0a ∷ 0x04 ∷ 0x03 ∷ 0x00 ∷ 0x1c ∷ 0x04 ∷ 0x00 ∷ 0x0a ∷ 0x08 ∷ 0x04 ∷ 0x40 ∷ 0x00 ∷ []) }
+    ∷ Said record { place = 2; reply = Some (0x20 ∷ 0x0d ∷ 0x00 ∷ 0x01 ∷ 0x00 ∷ 0x00 ∷ 0x00 ∷ 0x01 ∷ 0x00 ∷ 0x03 ∷ 0x00 ∷ 0x0a ∷ 0x0c ∷ 0x03 ∷ 0x03 ∷ 0x00 ∷ []) }
+    ∷ Attached 1
+    ∷ Done
+    ∷ Refused (ByRoom (ByMachine Ended))
+    ∷ []
+unfolding ask said spelled spelled_within outgoing_bytes info_of same_info refusal change shown settled reply changed_requests changed_floors due told next parcels_of messages messages_of_at_most
+says_answers = refl
+
+-- what was taken is an event, also where its answer is an Error
+pub says_events : events 1 says ≡
+    Says 10 first_request
+    ∷ Says 10 (0x20 ∷ 0x0b ∷ 0x00 ∷ 0x00 ∷ 0x00 ∷ 0x00 ∷ 0x00 ∷ 0x01 ∷ 0x00 ∷ 0x03 ∷ 0x00 ∷ 0x0a ∷ [])
+    ∷ Join 11
+    ∷ Close
+    ∷ []
+unfolding ask said spelled spelled_within outgoing_bytes info_of same_info refusal change shown settled reply changed_requests changed_floors due told next parcels_of messages messages_of_at_most
+says_events = refl
 
 -- so many connections of user 10
 abbrev attaches : ℕ → List Step

@@ -3,7 +3,7 @@ use Rattle.std.specs.Prelude.{◌≡◌, ℕ, zero, suc, ◌≤◌, List, [], �
 use Rattle.floor_machine.specs.Conference.{is_live}
 use Rattle.floor_machine.specs.Journal.{IsJournal}
 use Rattle.floor_machine.specs.declared.event.Event.{Event}
-use Rattle.floor_machine.specs.declared.event.Event.TheVariants.{Join, Message, Took, Leave, Revoke, Close, AddUser, AddFloor, SetChair}
+use Rattle.floor_machine.specs.declared.event.Event.TheVariants.{Join, Message, Took, Leave, Revoke, Close, AddUser, AddFloor, SetChair, Say}
 use Rattle.floor_hub.specs.World.{World, Part, Place, Arrival, arrival, state_of}
 
 abbrev pub is_join : Event → Bool
@@ -16,6 +16,7 @@ is_join Close = false
 is_join (AddUser user) = false
 is_join (AddFloor floor) = false
 is_join (SetChair floor chair) = false
+is_join (Say user bytes) = false
 
 -- how many of these events are Joins
 abbrev pub joins : List Event → ℕ

@@ -4,7 +4,7 @@ use Rattle.floor_config.specs.Configuration.{Configuration}
 use Rattle.floor_machine.specs.declared.event.Event.{Event}
 use Rattle.floor_machine.specs.Journal.{IsJournal, Q, after}
 use Rattle.floor_hub.specs.declared.step.Step.{Step}
-use Rattle.floor_hub.specs.declared.step.Step.TheVariants.{Open, Attach, Piece, Serve, Took, Leave, Admin}
+use Rattle.floor_hub.specs.declared.step.Step.TheVariants.{Open, Attach, Piece, Serve, Took, Leave, Admin, Say}
 use Rattle.floor_hub.specs.declared.transcript.Transcript.{Transcript}
 use Rattle.floor_hub.specs.World.{IsIdle, Part, World, nothing, state_of, turn}
 use Rattle.floor_hub.specs.Kept.{IsKept, IsNumbered, first_numbers, joins}
@@ -97,6 +97,7 @@ OpensNumbered (Serve number) = Unit {0}
 OpensNumbered (Took number k) = Unit {0}
 OpensNumbered (Leave number) = Unit {0}
 OpensNumbered (Admin c act) = Unit {0}
+OpensNumbered (Say c user bytes) = Unit {0}
 
 -- such a step leaves a world whose conferences have ids of 32 bits
 abbrev pub StepNumbers : Type 0

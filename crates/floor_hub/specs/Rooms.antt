@@ -1,11 +1,12 @@
 -- What a call of the hub has done to the rooms.
-use Rattle.std.specs.Prelude.{◌≡◌, ◌≢◌, ◌↔◌, ◌⊎◌, ℕ, ◌+◌, List, [], ◌∷◌, ◌++◌, nat_eq, if◌then◌else◌, Bool, true, false, Option, Some, None, is_some, map, slice_get, take, Result, Ok, Err, MatchResult}
+use Rattle.std.specs.Prelude.{◌≡◌, ◌≢◌, ◌↔◌, ◌⊎◌, ℕ, ◌+◌, List, [], ◌∷◌, ◌++◌, length, nat_eq, if◌then◌else◌, Bool, true, false, Option, Some, None, is_some, map, max, min, slice_get, take, Result, Ok, Err, MatchResult}
 use Rattle.std.specs.Option.{option_map_or}
 use Rattle.floor_config.specs.Configuration.{Configuration}
 use Rattle.floor_wire.specs.Message.{messages}
 use Rattle.floor_machine.specs.declared.act.Act.{Act}
 use Rattle.floor_machine.specs.declared.event.Event.{Event}
-use Rattle.floor_machine.specs.declared.event.Event.TheVariants.{Join, Message, Took, Leave}
+use Rattle.floor_machine.specs.declared.event.Event.TheVariants.{Join, Message, Took, Leave, Say}
+use Rattle.floor_machine.specs.Journal.{MAX_EVENTS}
 use Rattle.floor_machine.specs.Machine.{event_of_act}
 use Rattle.floor_machine.specs.Parcel.{Parcel}
 use Rattle.floor_machine.specs.declared.machine.Refusal.TheVariants.{Broken, Ended, Memory}
@@ -18,7 +19,7 @@ use Rattle.floor_room.specs.Taking.{Gave, outbox_of}
 use Rattle.floor_hub.specs.declared.refusal.HubRefusal.{HubRefusal}
 use Rattle.floor_hub.specs.declared.refusal.HubRefusal.TheVariants.{NoConference, Forgotten, Running, NoConnection, ByRoom, Memory as NoMemory}
 use Rattle.floor_hub.specs.declared.connection.Connection.{Connection}
-use Rattle.floor_hub.specs.Concerned.{is_cut, waiting}
+use Rattle.floor_hub.specs.Concerned.{handed, is_cut}
 use Rattle.floor_hub.specs.Connections.{Puts, SameConnections, connection_at}
 use Rattle.floor_hub.specs.Hub.{Hub, is_forgotten, room_at}
 
@@ -66,6 +67,10 @@ attach_event user r = Join user ∷ []
 abbrev pub admin_event : Act → Room → List Event
 admin_event act r = event_of_act act ∷ []
 
+-- that of a message that is said for a user
+abbrev pub say_event : ℕ → List ℕ → Room → List Event
+say_event user bytes r = Say user bytes ∷ []
+
 -- that of serving a connection: the first message that it holds, if it holds a whole one
 abbrev pub serve_event : Connection → Room → List Event
 serve_event x r = map (Message x.n) (take 1 (messages x.held))
@@ -92,6 +97,7 @@ pub record RoomAfter (shut_by why : Option HubRefusal) (own : List Event) (old n
   pub config : new.ledger.config ≡ old.ledger.config
   pub journal : AddsOwn why own old.ledger.journal new.ledger.journal
   pub outboxes : QueuesMore old.outboxes new.outboxes
+  pub kept : new.kept ≡ old.kept
 
 abbrev pub RoomAfterIn : Option HubRefusal → Option HubRefusal → (Room → List Event) → Option Room → Option Room → Type 0
 RoomAfterIn shut_by why own None new = (new ≡ None) × (why ≢ by_memory) × (why ≢ by_broken)
@@ -130,12 +136,12 @@ pub record TakenFrom (c n : ℕ) (parcel : Option Parcel) (old new : Hub) : Type
   pub connections : SameConnections old.connections new.connections
   pub arrivals : new.arrivals ≡ old.arrivals
 
--- what waits first for the member n of this room
+-- what is handed out first to the member n of this room
 abbrev pub first_in : Option Room → ℕ → Option Parcel
 first_in None n = None
-first_in (Some r) n = slice_get (waiting r n) 0
+first_in (Some r) n = slice_get (handed r n) 0
 
--- what waits first for a live connection, and nothing without one
+-- what is handed out first to a live connection, and nothing without one
 abbrev pub first_at : Hub → Option Connection → Option Parcel
 first_at h None = None
 first_at h (Some x) = first_in (room_at h x.conference) x.n
@@ -211,3 +217,24 @@ IsRemembered conference h NoConference = (is_forgotten h conference ≡ false) �
 IsRemembered conference h Running = (r : Room) × (room_at h conference ≡ Some r) × ((closed r.ledger ≢ Some (ByMachine Ended)) ⊎ IsAttended conference h)
 IsRemembered conference h NoMemory = IsOver conference h
 IsRemembered conference h refusal = ⊥
+
+-- all events so far of a room
+abbrev pub all_so_far : Room → ℕ
+all_so_far r = length r.ledger.journal
+
+-- so many of them, and no fewer than were kept before
+abbrev pub so_many : ℕ → Room → ℕ
+so_many events r = max r.kept (min events (length r.ledger.journal))
+
+-- all, those to come too
+abbrev pub all_to_come : Room → ℕ
+all_to_come r = MAX_EVENTS
+
+-- So many events of this conference's room count as kept now. All else is as it was.
+pub record KeepsIn (count : Room → ℕ) (conference : ℕ) (old new : Hub) : Type 0 where
+  pub before : Room
+  pub was : room_at old conference ≡ Some before
+  pub now : room_at new conference ≡ Some (record before { kept = count before })
+  pub others : (d : ℕ) → nat_eq conference d ≡ false → room_at new d ≡ room_at old d
+  pub connections : SameConnections old.connections new.connections
+  pub arrivals : new.arrivals ≡ old.arrivals

@@ -6,14 +6,14 @@ use Rattle.floor_config.specs.Configuration.{Configuration}
 use Rattle.floor_machine.specs.Conference.{Conference}
 use Rattle.floor_machine.specs.declared.act.Act.{Act}
 use Rattle.floor_machine.specs.declared.event.Event.{Event}
-use Rattle.floor_machine.specs.declared.event.Event.TheVariants.{Join, Message, Took as Takes, Leave as Leaves, Revoke, Close, AddUser, AddFloor, SetChair}
+use Rattle.floor_machine.specs.declared.event.Event.TheVariants.{Join, Message, Took as Takes, Leave as Leaves, Revoke, Close, AddUser, AddFloor, SetChair, Say as Says}
 use Rattle.floor_machine.specs.Journal.{Q, told_from}
 use Rattle.floor_machine.specs.Machine.{event_of_act}
 use Rattle.floor_machine.specs.Outgoing.{outgoing_bytes}
 use Rattle.floor_hub.specs.declared.step.Step.{Step}
-use Rattle.floor_hub.specs.declared.step.Step.TheVariants.{Open, Attach, Piece, Serve, Took, Leave, Admin}
+use Rattle.floor_hub.specs.declared.step.Step.TheVariants.{Open, Attach, Piece, Serve, Took, Leave, Admin, Say}
 use Rattle.floor_hub.specs.declared.step.Answer.{Answer}
-use Rattle.floor_hub.specs.declared.step.Answer.TheVariants.{Done, Attached, Nothing, Served, Refused}
+use Rattle.floor_hub.specs.declared.step.Answer.TheVariants.{Done, Attached, Nothing, Served, Said, Refused}
 use Rattle.floor_hub.specs.declared.transcript.Queued.{Queued}
 use Rattle.floor_hub.specs.declared.transcript.Transcript.{Transcript}
 use Rattle.floor_hub.specs.Kept.{first_numbers, joins}
@@ -43,13 +43,14 @@ configuration c steps = option_map (λ p. p.config) ((run nothing steps).parts c
 
 -- the events that a step adds to a part, by its answer: an attach that succeeds its Join; a serve that finds a message that
 -- message, the next unserved one of all bytes of its arrival; a took that succeeds its Took; a leave its Leave, where the conference is open and its
--- journal isn't full; an act that succeeds itself; and nothing else adds an event
+-- journal isn't full; an act that succeeds itself; a message that is said its Say; and nothing else adds an event
 abbrev pub adds : Part → Step → Answer → List Event
 adds p (Attach c user) (Attached number) = Join user ∷ []
 adds p (Serve n) Served = map (Message n) (messages_next (arrival p n))
 adds p (Took n k) Done = Takes n k ∷ []
 adds p (Leave n) Done = if (state_of p).is_open && not (is_full p) then Leaves n ∷ [] else []
 adds p (Admin c act) Done = event_of_act act ∷ []
+adds p (Say c user bytes) (Said v) = Says user bytes ∷ []
 adds p s answer = []
 
 abbrev pub adds_in : Option Part → Step → Answer → List Event
@@ -83,6 +84,7 @@ within ps (Attached number) = option_map_or (λ p. Attached p.n) (place ps numbe
 within ps Done = Done
 within ps Nothing = Nothing
 within ps Served = Served
+within ps (Said v) = Said v
 within ps (Refused r) = Refused r
 
 abbrev pub own_answer : ℕ → Option Aim → Turn → List Answer
@@ -105,6 +107,7 @@ steps_for c Close = Admin c Act.Close ∷ []
 steps_for c (AddUser user) = Admin c (Act.AddUser user) ∷ []
 steps_for c (AddFloor floor) = Admin c (Act.AddFloor floor) ∷ []
 steps_for c (SetChair floor chair) = Admin c (Act.SetChair floor chair) ∷ []
+steps_for c (Says user bytes) = Say c user bytes ∷ []
 
 -- the steps that give a conference these events: its Open, then those of each event
 abbrev pub steps_of : Configuration → List Event → List Step
@@ -121,6 +124,7 @@ steps_from base c Close = Admin c Act.Close ∷ []
 steps_from base c (AddUser user) = Admin c (Act.AddUser user) ∷ []
 steps_from base c (AddFloor floor) = Admin c (Act.AddFloor floor) ∷ []
 steps_from base c (SetChair floor chair) = Admin c (Act.SetChair floor chair) ∷ []
+steps_from base c (Says user bytes) = Say c user bytes ∷ []
 
 -- the steps that resume a conference behind so many arrivals: its Open, then those of each event
 abbrev pub resuming_of : ℕ → Configuration → List Event → List Step

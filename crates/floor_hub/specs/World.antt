@@ -3,22 +3,24 @@ use Rattle.std.specs.Prelude.{ℕ, zero, suc, ◌+◌, List, [], ◌∷◌, ◌+
 use Rattle.std.specs.Option.{option_map_or}
 use Rattle.std.specs.Map.{update}
 use Rattle.floor_config.specs.Configuration.{Configuration}
-use Rattle.floor_wire.specs.Message.{messages}
+use Rattle.floor_wire.specs.Message.{message_len, messages}
 use Rattle.floor_machine.specs.Conference.{Conference}
 use Rattle.floor_machine.specs.declared.event.Event.{Event}
-use Rattle.floor_machine.specs.declared.event.Event.TheVariants.{Join, Message, Took as Takes, Leave as Leaves, Revoke, Close, AddUser, AddFloor, SetChair}
+use Rattle.floor_machine.specs.declared.event.Event.TheVariants.{Join, Message, Took as Takes, Leave as Leaves, Revoke, Close, AddUser, AddFloor, SetChair, Say as Says}
 use Rattle.floor_machine.specs.declared.machine.Refusal.TheVariants.{Ended}
 use Rattle.floor_machine.specs.Journal.{MAX_EVENTS, after}
 use Rattle.floor_machine.specs.Machine.{event_of_act}
+use Rattle.floor_machine.specs.Reply.{said_reply}
 use Rattle.floor_room.specs.declared.refusal.RoomRefusal.{RoomRefusal}
 use Rattle.floor_room.specs.declared.refusal.RoomRefusal.TheVariants.{Refused as ByMachine}
-use Rattle.floor_room.specs.Ledger.{Ledger, closed, refusal}
+use Rattle.floor_room.specs.Ledger.{Ledger, closed, conference_of, refusal}
+use Rattle.floor_room.specs.declared.said.Said as room
 use Rattle.floor_hub.specs.declared.refusal.HubRefusal.{HubRefusal}
-use Rattle.floor_hub.specs.declared.refusal.HubRefusal.TheVariants.{NoConference, NoConnection, Used, ByRoom}
+use Rattle.floor_hub.specs.declared.refusal.HubRefusal.TheVariants.{NoConference, NoConnection, Used, BadMessage, ByRoom}
 use Rattle.floor_hub.specs.declared.step.Step.{Step}
-use Rattle.floor_hub.specs.declared.step.Step.TheVariants.{Open, Attach, Piece, Serve, Took, Leave, Admin}
+use Rattle.floor_hub.specs.declared.step.Step.TheVariants.{Open, Attach, Piece, Serve, Took, Leave, Admin, Say}
 use Rattle.floor_hub.specs.declared.step.Answer.{Answer}
-use Rattle.floor_hub.specs.declared.step.Answer.TheVariants.{Done, Attached, Nothing, Served, Refused}
+use Rattle.floor_hub.specs.declared.step.Answer.TheVariants.{Done, Attached, Nothing, Served, Said, Refused}
 
 -- what came from a connection: all its bytes, how many messages of them were served, and whether it is still there
 pub record Arrival : Type 0 where
@@ -133,6 +135,25 @@ leave p n None = refuses (Some p) NoConnection
 leave p n (Some a) =
     record { part = Some (with_arrival (with_events p (left p n)) n record { bytes = a.bytes; served = a.served; live = false }); answer = Done }
 
+-- the bytes are exactly one message
+abbrev pub is_message : List ℕ → Bool
+is_message bytes = length bytes == message_len bytes
+
+-- what a message is answered by that is said for a user of this ledger's conference: its place in the journal, and its reply
+abbrev pub answer_said : Ledger → ℕ → List ℕ → room.Said
+answer_said l user bytes = record { place = length l.journal + 1; reply = said_reply (conference_of l) (Says user bytes) }
+
+-- why nothing is said: the event is refused, or else it isn't one message
+abbrev pub unsaid : Option RoomRefusal → Bool → Option HubRefusal
+unsaid (Some r) framed = Some (ByRoom r)
+unsaid None true = None
+unsaid None false = Some BadMessage
+
+-- a message that is said for a user, unless it is refused so
+abbrev pub say : Part → ℕ → List ℕ → Option HubRefusal → Offered
+say p user bytes None = record { part = Some (with_events p (Says user bytes ∷ [])); answer = Said (answer_said (ledger_of p) user bytes) }
+say p user bytes (Some r) = refuses (Some p) r
+
 -- one conference's part and a step that bears n in place of an arrival's number
 abbrev pub offer : Option Part → Step → Offered
 offer None (Open config) = record { part = Some (opened config); answer = Done }
@@ -142,6 +163,7 @@ offer None (Serve n) = refuses None NoConnection
 offer None (Took n k) = refuses None NoConnection
 offer None (Leave n) = refuses None NoConnection
 offer None (Admin c act) = refuses None NoConference
+offer None (Say c user bytes) = refuses None NoConference
 offer (Some p) (Open config) = refuses (Some p) Used
 offer (Some p) (Attach c user) = attach p user (refused p (Join user))
 offer (Some p) (Piece n bytes) = piece p n bytes (if_live (arrival p n))
@@ -149,6 +171,7 @@ offer (Some p) (Serve n) = serve p n (if_live (arrival p n))
 offer (Some p) (Took n k) = took p n k (if_live (arrival p n))
 offer (Some p) (Leave n) = leave p n (if_live (arrival p n))
 offer (Some p) (Admin c act) = add_event p (event_of_act act) (refused p (event_of_act act))
+offer (Some p) (Say c user bytes) = say p user bytes (unsaid (refused p (Says user bytes)) (is_message bytes))
 
 -- whose an arrival is: its conference, and n within it
 pub record Place : Type 0 where
@@ -185,6 +208,7 @@ aimed w (Serve number) = aim Serve (place w.places number)
 aimed w (Took number k) = aim (λ n. Took n k) (place w.places number)
 aimed w (Leave number) = aim Leave (place w.places number)
 aimed w (Admin c act) = Some record { conference = c; step = Admin c act }
+aimed w (Say c user bytes) = Some record { conference = c; step = Say c user bytes }
 
 -- an attach gets the next number over all conferences
 abbrev pub numbered : List Place → Answer → Answer
@@ -192,6 +216,7 @@ numbered ps (Attached n) = Attached (length ps + 1)
 numbered ps Done = Done
 numbered ps Nothing = Nothing
 numbered ps Served = Served
+numbered ps (Said v) = Said v
 numbered ps (Refused r) = Refused r
 
 abbrev pub places_after : List Place → ℕ → Answer → List Place
@@ -199,6 +224,7 @@ places_after ps c (Attached n) = ps ++ record { conference = c; n = n } ∷ []
 places_after ps c Done = ps
 places_after ps c Nothing = ps
 places_after ps c Served = ps
+places_after ps c (Said v) = ps
 places_after ps c (Refused r) = ps
 
 pub record Turn : Type 0 where
@@ -226,6 +252,7 @@ IsIdle Nothing = Unit {0}
 IsIdle Done = ⊥
 IsIdle (Attached number) = ⊥
 IsIdle Served = ⊥
+IsIdle (Said v) = ⊥
 
 -- the bytes of n's messages
 abbrev pub messages_of : ℕ → List Event → List (List ℕ)
@@ -239,3 +266,4 @@ messages_of n (Close ∷ es) = messages_of n es
 messages_of n (AddUser user ∷ es) = messages_of n es
 messages_of n (AddFloor floor ∷ es) = messages_of n es
 messages_of n (SetChair floor chair ∷ es) = messages_of n es
+messages_of n (Says user bytes ∷ es) = messages_of n es

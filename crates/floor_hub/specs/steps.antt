@@ -6,3 +6,4 @@ pub mod Serving
 pub mod Running
 pub mod Attached
 pub mod Handed
+pub mod KeptBy

@@ -4,7 +4,7 @@ ghost use Rattle.std.specs.Prelude.{◌≡◌, ◌++◌, IfOk, OnErr, OnOk, leng
 ghost use Rattle.std.specs.Option.{option_copied};
 ghost use Rattle.floor_machine.specs.Events.{joiner};
 ghost use Rattle.floor_room.specs.Replay.{bytes_of};
-ghost use Rattle.floor_hub.specs.Concerned.{waiting};
+ghost use Rattle.floor_hub.specs.Concerned.{handed};
 ghost use Rattle.floor_hub.specs.Members.{user_of};
 ghost use Rattle.floor_hub.specs.steps.Running.{QueuedIn, first_bytes};
 
@@ -56,27 +56,28 @@ fn put(parcel: &Parcel, bytes: &mut Vec<u8>) -> Result<(), AllocError>
     Ok(())
 }
 
-/// The first parcel that waits for a member, which goes on to wait.
+/// The first parcel that is handed out to a member, which goes on to wait; none where not all that was told
+/// is kept.
 pub(crate) fn first_in(room: &Room, n: u32) -> Option<&Parcel>
-    ensures value { option_copied result ≡ slice_get (waiting room.now n) 0 }
+    ensures value { option_copied result ≡ slice_get (handed room.now n) 0 }
 {
+    if !room.is_kept() {
+        return None;
+    }
     match room.held(n) {
         Some(held) => held.front(),
         None => None,
     }
 }
 
-/// Puts the bytes of the first parcel that waits for a member. After an error nothing has changed.
+/// Puts the bytes of the first parcel that is handed out to a member. After an error nothing has changed.
 pub(crate) fn put_first(room: &Room, n: u32, bytes: &mut Vec<u8>) -> Result<(), AllocError>
     ensures next { OnOk result
-        (bytes.new.items ≡ bytes.old.items ++ first_bytes (waiting room.now n)) }
+        (bytes.new.items ≡ bytes.old.items ++ first_bytes (handed room.now n)) }
     ensures left { OnErr result (bytes.new.items ≡ bytes.old.items) }
 {
-    match room.held(n) {
-        Some(held) => match held.front() {
-            Some(parcel) => put_whole(parcel, bytes),
-            None => Ok(()),
-        },
+    match first_in(room, n) {
+        Some(parcel) => put_whole(parcel, bytes),
         None => Ok(()),
     }
 }

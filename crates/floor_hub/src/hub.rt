@@ -7,7 +7,7 @@ ghost use Rattle.indexmap.specs.IndexSet.{contains};
 ghost use Rattle.floor_machine.specs.declared.event.Event.TheVariants.{Took as Takes};
 ghost use Rattle.floor_room.specs.Room.{IsRoom, Room as Kept};
 ghost use Rattle.floor_hub.specs.Calls.{Fails, FailsGone, FailsSame, Turns, answer_of};
-ghost use Rattle.floor_hub.specs.Concerned.{Concerns, is_cut, waiting};
+ghost use Rattle.floor_hub.specs.Concerned.{Concerns, handed, is_cut};
 ghost use Rattle.floor_hub.specs.Connections.{Puts, SameConnections, StayLive, connection_at};
 ghost use Rattle.floor_hub.specs.Hub.{is_forgotten, room_at};
 ghost use Rattle.floor_hub.specs.Left.{LeftAt, LeftLeaving, LeftServing, LeftTaking};
@@ -23,7 +23,9 @@ ghost use Rattle.floor_hub.specs.steps.Handed.{HandedBy, HandedOf, Hands};
 ghost use Rattle.floor_hub.specs.steps.Running.{QueuedIn, first_bytes};
 ghost use Rattle.floor_hub.specs.steps.Serving.{AttachIn, LeaveOf, ServeOf, TakeOf, TookOf};
 
+mod keeping;
 mod reading;
+mod saying;
 
 use crate::attached::{Live, has_ended, is_shut};
 use crate::concerned::Concerned;
@@ -43,8 +45,10 @@ use std::marker::Model;
 /// All conferences. A conference is found by its number, a connection by its own; nothing that a
 /// call does grows with the other conferences or connections.
 ///
-/// - Conferences: `open`, `admin`; `status`, `journal`, `members`, `user_of`, `config`, `shown` and `backlog` read;
+/// - Conferences: `open`, `admin`, `say`; `status`, `journal`, `members`, `user_of`, `config`, `shown` and `backlog` read;
 ///   `forget` gives the memory of one that has ended back.
+/// - Keeping: behind `begin_keeping` nothing is handed out of a conference while an event that told
+///   something isn't kept; `keep` says how many are, and `end_keeping` that none has to be. `is_kept` reads.
 /// - Connections: `attach`, then `piece` and `serve` as bytes come, `take` as they are sent, `took`
 ///   once they were, and `leave` at the end. Whoever is more than 1,024 parcels behind is cut: it is
 ///   told nothing more, its messages are refused by `Cut`, and `is_cut` tells it.
@@ -53,8 +57,8 @@ use std::marker::Model;
 ///   that it changed, for whoever watches the conference.
 ///
 /// A refused call changes nothing. Want of memory does so in `open` and `piece`, too; in `attach`,
-/// `serve`, `took`, `leave` and `admin` it breaks that one conference's room off, and no other. It
-/// comes behind every other refusal.
+/// `serve`, `took`, `leave`, `admin` and `say` it breaks that one conference's room off, and no other.
+/// It comes behind every other refusal.
 #[derive(Drop)]
 pub struct Hub {
     rooms: IndexMap<u32, Room>,
@@ -295,7 +299,7 @@ impl Hub {
     }
 
     /// Gives the memory of a conference back that has ended and of which no connection is live; what stays
-    /// is its number. Behind it `open` is refused by `Used`, `attach` and `admin` by `Ended`, and
+    /// is its number. Behind it `open` is refused by `Used`, `attach`, `admin` and `say` by `Ended`, and
     /// `status`, `journal`, `members`, `user_of` and a second `forget` by `Forgotten`. Refused by
     /// `Forgotten`, by `NoConference`, and by `Running` where it hasn't ended or is broken off, or a
     /// connection of it is live. After an error, `Memory` too, nothing has changed.
@@ -352,7 +356,7 @@ impl Hub {
         }
     }
 
-    /// Whom the last of `attach`, `serve`, `took`, `leave` and `admin` concerned, ascending: the live
+    /// Whom the last of `attach`, `serve`, `took`, `leave`, `admin` and `say` concerned, ascending: the live
     /// connections to which it queued something, those whose member it cut, and where it closed the
     /// conference or broke it off, all of that conference. Takes no memory, and so do those calls for
     /// it: there is room since the attach.
@@ -363,7 +367,7 @@ impl Hub {
     }
 
     /// What is shown now of each floor request that the event changed which the last of `attach`, `serve`,
-    /// `took`, `leave` and `admin` added, ascending: of a new one, of one that ended with its status, and of
+    /// `took`, `leave`, `admin` and `say` added, ascending: of a new one, of one that ended with its status, and of
     /// one that is shown otherwise than before. None where the call added no event or was refused. Takes
     /// no memory.
     pub fn changed(&self) -> &[SharedInfo]
@@ -401,8 +405,9 @@ impl Hub {
         }
     }
 
-    /// The first parcel that waits for a connection, which goes on to wait: `take` gives it. None where
-    /// nothing waits, and where no live connection has the number. Takes no memory.
+    /// The first parcel that is handed out to a connection, which goes on to wait: `take` gives it. None where
+    /// nothing waits or not all that was told is kept, and where no live connection has the number. Takes no
+    /// memory.
     pub fn first(&self, number: ConnNo) -> Option<&Parcel>
         ensures value { option_copied result
             ≡ first_at self.now (connection_at self.now.connections number) }
@@ -465,7 +470,7 @@ impl Hub {
             → connection_at self.now.connections number ≡ Some x
             → room_at self.now x.conference ≡ Some r
             → OnOk result (buffer.new.items
-            ≡ buffer.old.items ++ first_bytes (waiting r x.n)) }
+            ≡ buffer.old.items ++ first_bytes (handed r x.n)) }
         ensures left { OnErr result (buffer.new.items ≡ buffer.old.items) }
     {
         match self.connections.get(number) {

@@ -21,8 +21,8 @@ mod transcript;
 pub use attached::Live;
 pub use connection::{ConnNo, Place};
 pub use floor_room::{
-    Act, AddedUser, Config, Event, Floor, Frame, Info, Parcel, Refusal, RoomRefusal, SharedInfo,
-    Status, User,
+    Act, AddedUser, Config, Event, Floor, Frame, Info, Parcel, Refusal, RoomRefusal, Said,
+    SharedInfo, Status, User,
 };
 pub use floor_wire::Octets;
 pub use hub::Hub;

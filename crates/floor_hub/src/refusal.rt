@@ -17,6 +17,8 @@ pub enum HubRefusal {
     Running,
     /// No live connection has the number.
     NoConnection,
+    /// What is said for a user isn't exactly one message.
+    BadMessage,
     /// Memory was refused, and nothing has changed.
     Memory,
     /// The conference's room refuses it. Where that is for want of memory, the room is broken off.
@@ -36,6 +38,7 @@ impl HubRefusal {
             HubRefusal::Forgotten => "Forgotten",
             HubRefusal::Running => "Running",
             HubRefusal::NoConnection => "NoConnection",
+            HubRefusal::BadMessage => "BadMessage",
             HubRefusal::Memory => "Memory",
             HubRefusal::ByRoom(refusal) => refusal.name(),
         }
@@ -49,7 +52,12 @@ impl HubRefusal {
         match self {
             HubRefusal::Memory => true,
             HubRefusal::ByRoom(refusal) => refusal.is_memory(),
-            _ => false,
+            HubRefusal::Used
+            | HubRefusal::NoConference
+            | HubRefusal::Forgotten
+            | HubRefusal::Running
+            | HubRefusal::NoConnection
+            | HubRefusal::BadMessage => false,
         }
     }
 }

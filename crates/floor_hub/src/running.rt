@@ -2,8 +2,8 @@
 
 ghost use Rattle.std.specs.Prelude.{◌≡◌, ℕ, List, IfOk, MatchResult, OnErr};
 ghost use Rattle.floor_hub.specs.declared.connection.Place.{Place as Placed};
-ghost use Rattle.floor_hub.specs.declared.step.Answer.TheVariants.{Done, Refused};
-ghost use Rattle.floor_hub.specs.declared.step.Step.TheVariants.{Admin, Attach, Leave, Open, Piece, Serve, Took};
+ghost use Rattle.floor_hub.specs.declared.step.Answer.TheVariants.{Done, Refused, Said as HasSaid};
+ghost use Rattle.floor_hub.specs.declared.step.Step.TheVariants.{Admin, Attach, Leave, Open, Piece, Say, Serve, Took};
 ghost use Rattle.floor_hub.specs.Runs.{IsRunOf, queues_from};
 ghost use Rattle.floor_hub.specs.steps.Running.{Goes, IsRunning, IsRunOn, StopsRun};
 ghost use Rattle.floor_hub.specs.Calls.{answer_of};
@@ -14,7 +14,7 @@ use crate::hub::Hub;
 use crate::refusal::HubRefusal;
 use crate::step::{Answer, Served, Step};
 use crate::transcript::{Answers, Queued, Queues, Transcript};
-use floor_room::{Act, Config, Refusal, RoomRefusal};
+use floor_room::{Act, Config, Refusal, RoomRefusal, Said};
 use std::alloc::{AllocError, Global};
 
 /// A call of the run met want of memory.
@@ -87,6 +87,11 @@ fn step(
         Step::Took { number, k } => took(hub, *number, *k),
         Step::Leave(number) => leave(hub, *number),
         Step::Admin { conference, act } => admin(hub, alloc, *conference, act),
+        Step::Say {
+            conference,
+            user,
+            message,
+        } => say(hub, alloc, *conference, *user, message.as_slice()),
     }
 }
 
@@ -156,6 +161,19 @@ fn admin(hub: &mut Hub, alloc: Global, conference: u32, act: &Act) -> Result<Ans
     }
 }
 
+fn say(
+    hub: &mut Hub,
+    alloc: Global,
+    conference: u32,
+    user: u16,
+    message: &[u8],
+) -> Result<Answer, Memory>
+    ensures { (places : List Placed)
+        → Goes hub.old hub.new places places (Say conference user message.now) result }
+{
+    said(hub.say(alloc, conference, user, message))
+}
+
 /// The answer that a refusal is, unless it is want of memory, now or before.
 fn refused(refusal: HubRefusal) -> Result<Answer, Memory>
     ensures value { IfOk result (λ a. (a ≡ Refused refusal) × IsRunOn refusal) }
@@ -188,6 +206,17 @@ fn served(outcome: Result<Served, HubRefusal>) -> Result<Answer, Memory>
     match outcome {
         Ok(Served::Nothing) => Ok(Answer::Nothing),
         Ok(Served::Message) => Ok(Answer::Served),
+        Err(refusal) => refused(refusal),
+    }
+}
+
+fn said(outcome: Result<Said, HubRefusal>) -> Result<Answer, Memory>
+    ensures value { IfOk result (λ a. MatchResult outcome (λ said. a ≡ HasSaid said)
+        (λ r. (a ≡ Refused r) × IsRunOn r)) }
+    ensures memory { OnErr result (MatchResult outcome (λ _. ⊥) StopsRun) }
+{
+    match outcome {
+        Ok(said) => Ok(Answer::Said(said)),
         Err(refusal) => refused(refusal),
     }
 }

@@ -1,7 +1,7 @@
 //! Steps and their answers.
 
 use crate::refusal::HubRefusal;
-use floor_room::{Act, Config};
+use floor_room::{Act, Config, Said};
 use floor_wire::Octets;
 
 /// One call of the hub, as data.
@@ -41,10 +41,19 @@ pub enum Step {
         /// What is done.
         act: Act,
     },
+    /// The administrator of a conference says a message for a user.
+    Say {
+        /// The conference.
+        conference: u32,
+        /// The user.
+        user: u16,
+        /// The bytes of the message.
+        message: Octets,
+    },
 }
 
 /// What a step was answered.
-#[derive(Clone, Copy, Debug, PartialEq, Eq)]
+#[derive(Debug, Drop)]
 pub enum Answer {
     /// It was done.
     Done,
@@ -54,6 +63,8 @@ pub enum Answer {
     Nothing,
     /// A message was served.
     Served,
+    /// A message was said for a user: its place in the journal, and what answers it.
+    Said(Said),
     /// It was refused.
     Refused(HubRefusal),
 }

@@ -8,7 +8,7 @@ use Rattle.hex.specs.Hex.{encode_lower}
 use Rattle.floor_room.specs.Text.{mark_word, number_word, text_word}
 use Rattle.floor_config.specs.Configuration.{Configuration}
 use Rattle.floor_machine.specs.declared.event.Event.{Event}
-use Rattle.floor_machine.specs.declared.event.Event.TheVariants.{Join, Message, Took, Leave, Revoke, Close, AddUser, AddFloor, SetChair}
+use Rattle.floor_machine.specs.declared.event.Event.TheVariants.{Join, Message, Took, Leave, Revoke, Close, AddUser, AddFloor, SetChair, Say}
 use Rattle.floor_kept.specs.Body.{IsBody, IsFirstBad, entry_lines, is_one_line, next_place}
 use Rattle.floor_kept.specs.Entries.{entry_line, place_behind}
 use Rattle.floor_kept.specs.File.{IsBadIn, IsFile, IsTextBefore}
@@ -180,6 +180,7 @@ event_is_some place (AddFloor floor) =
     (omega arith)
 event_is_some place (SetChair floor chair) =
     some_behind (decimal place) (codes " chair " ++ (decimal floor ++ (codes " " ++ (number_word chair ++ codes "\n")))) (omega arith)
+event_is_some place (Say user bytes) = some_behind (decimal place) (codes " say " ++ (decimal user ++ (codes " " ++ (encode_lower bytes ++ codes "\n")))) (omega arith)
 
 entry_is_some : (place : ℕ) (entry : Entry) → 1 ≤ length (entry_line place entry)
 entry_is_some place (Happened e) = event_is_some place e

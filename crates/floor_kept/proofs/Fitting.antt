@@ -9,13 +9,13 @@ use Rattle.std.proofs.lemmas.Str.{IsUtf8-from_is_utf8}
 use Rattle.hex.specs.Hex.{decode_of}
 use Rattle.hex.specs.declared.error.FromHexError.{FromHexError}
 use Rattle.hex.proofs.HexLemmas.{decode_of-ok}
-use Rattle.floor_machine.specs.declared.event.Event.TheVariants.{Join, Message, Took, Leave, Revoke, Close, AddUser, AddFloor, SetChair}
+use Rattle.floor_machine.specs.declared.event.Event.TheVariants.{Join, Message, Took, Leave, Revoke, Close, AddUser, AddFloor, SetChair, Say}
 use Rattle.floor_words.specs.Words.{is_numeral, number}
 use Rattle.floor_wire.specs.Bytes.{IsBytes}
 use Rattle.floor_wire.specs.Message.{IsMessage, message_len}
 use Rattle.floor_kept.specs.Entries.{IsBorne, IsEntry, IsOctets, IsText, is_key}
 use Rattle.floor_kept.specs.declared.entry.Entry.TheVariants.{Happened, Port, Word, End}
-use Rattle.floor_kept.specs.steps.Parsed.{and_then, bytes_of, chair_words, entry_words, event_words, floor_words, mark_of, message_of, message_words, note_words, number_where, octets_where, one_word, port_words, some_bytes, text_of, text_where, three_words, took_words, two_words, unless_none, user_words, word_words}
+use Rattle.floor_kept.specs.steps.Parsed.{and_then, bytes_of, chair_words, entry_words, event_words, floor_words, mark_of, message_of, message_words, say_words, note_words, number_where, octets_where, one_word, port_words, some_bytes, text_of, text_where, three_words, took_words, two_words, unless_none, user_words, word_words}
 
 and_right : (a b : Bool) → (a && b) ≡ true → b ≡ true
 and_right true b e = e
@@ -97,6 +97,13 @@ message_fits first second =
     (and_then (bytes_of second) message_of) (then IsBytes (λ b. IsMessage b × IsBytes b) message_of message_fit (bytes_of second) (bytes_fit second)))
     (number (2 ^ 32) first) (below (2 ^ 32) first)
 
+say_fits : (first second : List ℕ) → IfSome (say_words first second) IsBorne
+say_fits first second =
+    then (λ n. n < 2 ^ 16) IsBorne _
+    (λ n h. then (λ b. IsMessage b × IsBytes b) IsBorne (λ bytes. Some (Say n bytes)) (λ b (m, are). (h, m, are))
+    (and_then (bytes_of second) message_of) (then IsBytes (λ b. IsMessage b × IsBytes b) message_of message_fit (bytes_of second) (bytes_fit second)))
+    (number (2 ^ 16) first) (below (2 ^ 16) first)
+
 took_fits : (first second : List ℕ) → IfSome (took_words first second) IsBorne
 took_fits first second =
     then (λ n. n < 2 ^ 32) IsBorne _
@@ -113,7 +120,8 @@ three_fit : (name first second : List ℕ) → IfSome (three_words name first se
 three_fit name first second =
     either IsBorne (bytes_eq name (codes "message")) (message_words first second) _ (message_fits first second)
     (either IsBorne (bytes_eq name (codes "took")) (took_words first second) _ (took_fits first second)
-    (either IsBorne (bytes_eq name (codes "chair")) (chair_words first second) None (chair_fits first second) tt))
+    (either IsBorne (bytes_eq name (codes "chair")) (chair_words first second) _ (chair_fits first second)
+    (either IsBorne (bytes_eq name (codes "say")) (say_words first second) None (say_fits first second) tt)))
 
 floor_fits : (name first second third : List ℕ) → IfSome (floor_words name first second third) IsBorne
 floor_fits name first second third =

@@ -11,7 +11,7 @@ use Rattle.floor_config.specs.Configuration.{Configuration}
 use Rattle.floor_config.specs.declared.fault.ConfigFault.{ConfigFault}
 use Rattle.floor_config.specs.Reading.{reading}
 use Rattle.floor_machine.specs.declared.event.Event.{Event}
-use Rattle.floor_machine.specs.declared.event.Event.TheVariants.{Join, Message, Took, Leave, Revoke, Close, AddUser, AddFloor, SetChair}
+use Rattle.floor_machine.specs.declared.event.Event.TheVariants.{Join, Message, Took, Leave, Revoke, Close, AddUser, AddFloor, SetChair, Say}
 use Rattle.floor_room.specs.Text.{mark_word, number_word, text_word}
 use Rattle.floor_words.specs.Laws.{NumbersAreReadBack, WordsAreReadBack, is_plain}
 use Rattle.floor_kept.specs.Body.{AreEntries, entry_lines, is_one_line}
@@ -105,6 +105,7 @@ event-is-one Close h = (refl, tt)
 event-is-one (AddUser user) h = (refl, (short user.id h.id, (mark-is-one user.proxy, (text-is-one user.name, (text-is-one user.uri, tt)))))
 event-is-one (AddFloor floor) h = (refl, (short floor.id h.id, (short floor.room h.room, (number-is-one floor.chair h.chair, tt))))
 event-is-one (SetChair floor chair) h = (refl, (short floor h.0, (number-is-one chair h.1, tt)))
+event-is-one (Say user bytes) h = (refl, (short user h.0, (hex-is-one bytes, tt)))
 
 entry-is-one : (place : ℕ) (entry : Entry) → place < 2 ^ 32 → IsEntry entry → AreOne (spelled place entry)
 entry-is-one place (Happened e) few h = (long place few, event-is-one e h)

@@ -12,7 +12,7 @@ use Rattle.std.proofs.lemmas.Str.{is_utf8-from_IsUtf8}
 use Rattle.hex.specs.Hex.{encode_lower, encode_with, lower_digits}
 use Rattle.hex.proofs.HexLemmas.{decode_of-encode_lower}
 use Rattle.floor_machine.specs.declared.event.Event.{Event}
-use Rattle.floor_machine.specs.declared.event.Event.TheVariants.{Join, Message, Took, Leave, Revoke, Close, AddUser, AddFloor, SetChair}
+use Rattle.floor_machine.specs.declared.event.Event.TheVariants.{Join, Message, Took, Leave, Revoke, Close, AddUser, AddFloor, SetChair, Say}
 use Rattle.floor_room.specs.Text.{line, mark_word, number_word, text_word}
 use Rattle.floor_words.specs.Laws.{NumbersAreReadBack, WordsAreReadBack, is_plain}
 use Rattle.floor_words.specs.Words.{is_space, is_word, number, words}
@@ -165,6 +165,7 @@ event_spelled Close = codes "close" ∷ []
 event_spelled (AddUser user) = codes "user" ∷ decimal user.id ∷ mark_word user.proxy ∷ text_word user.name ∷ text_word user.uri ∷ []
 event_spelled (AddFloor floor) = codes "floor" ∷ decimal floor.id ∷ decimal floor.room ∷ number_word floor.chair ∷ []
 event_spelled (SetChair floor chair) = codes "chair" ∷ decimal floor ∷ number_word chair ∷ []
+event_spelled (Say user bytes) = codes "say" ∷ decimal user ∷ encode_lower bytes ∷ []
 
 -- the words of an entry's line
 abbrev pub spelled : ℕ → Entry → List (List ℕ)
@@ -183,6 +184,7 @@ event_joined place Close = simp append_assoc
 event_joined place (AddUser user) = simp append_assoc
 event_joined place (AddFloor floor) = simp append_assoc
 event_joined place (SetChair floor chair) = simp append_assoc
+event_joined place (Say user bytes) = simp append_assoc
 
 pub joined : (place : ℕ) (entry : Entry) → entry_line place entry ≡ join_with_byte 32 (spelled place entry) ++ codes "\n"
 joined place (Happened e) = event_joined place e
@@ -214,6 +216,8 @@ module _ (numbers : NumbersAreReadBack) where
       (one_plain (number_word floor.chair) [] (number_where_plain numbers floor.chair h.chair) refl))
   event_plain (SetChair floor chair) (h, j) =
       one_plain (decimal floor) (number_word chair ∷ []) (short_plain numbers floor h) (one_plain (number_word chair) [] (number_where_plain numbers chair j) refl)
+  event_plain (Say user bytes) (h, m, b) =
+      one_plain (decimal user) (encode_lower bytes ∷ []) (short_plain numbers user h) (one_plain (encode_lower bytes) [] (hex_plain bytes (omega (arith, m))) refl)
 
   plain : (place : ℕ) (entry : Entry) → place < 2 ^ 32 → IsEntry entry → list_all is_plain (spelled place entry) ≡ true
   plain place (Happened e) few h = one_plain (decimal place) (event_spelled e) (long_plain numbers place few) (event_plain e h)
@@ -239,6 +243,10 @@ module _ (numbers : NumbersAreReadBack) where
   event_back (AddFloor floor) h =
       rw (short_back numbers floor.id h.id, short_back numbers floor.room h.room, number_where_back numbers floor.chair h.chair) refl
   event_back (SetChair floor chair) (h, j) = rw (short_back numbers floor h, number_where_back numbers chair j) refl
+  event_back (Say user bytes) (h, m, b) =
+      ap (λ r. and_then r (λ user. and_then (and_then (bytes_of (encode_lower bytes)) message_of) (λ bytes. Some (Say user bytes)))) (short_back numbers user h)
+      ∙ ap (λ r. and_then (and_then r message_of) (λ bytes. Some (Say user bytes))) (bytes_back bytes b)
+      ∙ ap (λ r. and_then r (λ bytes. Some (Say user bytes))) (message_back bytes m)
 
   back : (place : ℕ) (entry : Entry) → place < 2 ^ 32 → IsEntry entry → entry_words (spelled place entry) ≡ Some entry
   back place (Happened e) few h =

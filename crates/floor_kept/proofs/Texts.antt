@@ -8,7 +8,7 @@ use Rattle.std.proofs.lemmas.List.{append-nil}
 use Rattle.std.proofs.lemmas.Fmt.{decimal_digit}
 use Rattle.std.proofs.lemmas.Str.{IsUtf8-from_is_utf8, is_utf8-from_IsUtf8}
 use Rattle.floor_machine.specs.declared.event.Event.{Event}
-use Rattle.floor_machine.specs.declared.event.Event.TheVariants.{Join, Message, Took, Leave, Revoke, Close, AddUser, AddFloor, SetChair}
+use Rattle.floor_machine.specs.declared.event.Event.TheVariants.{Join, Message, Took, Leave, Revoke, Close, AddUser, AddFloor, SetChair, Say}
 use Rattle.hex.specs.Hex.{encode_lower}
 use Rattle.floor_room.specs.Text.{line, lines, mark_word, number_word, text_word}
 use Rattle.floor_kept.specs.steps.Parsed.{and_then, some_bytes, text_of}
@@ -60,6 +60,7 @@ behind_place Close = codes " close\n"
 behind_place (AddUser user) = codes " user " ++ (decimal user.id ++ (codes " " ++ (mark_word user.proxy ++ (codes " " ++ (text_word user.name ++ (codes " " ++ (text_word user.uri ++ codes "\n")))))))
 behind_place (AddFloor floor) = codes " floor " ++ (decimal floor.id ++ (codes " " ++ (decimal floor.room ++ (codes " " ++ (number_word floor.chair ++ codes "\n")))))
 behind_place (SetChair floor chair) = codes " chair " ++ (decimal floor ++ (codes " " ++ (number_word chair ++ codes "\n")))
+behind_place (Say user bytes) = codes " say " ++ (decimal user ++ (codes " " ++ (encode_lower bytes ++ codes "\n")))
 
 any_place : (place : ℕ) (e : Event) → line place e ≡ decimal place ++ behind_place e
 any_place place (Join user) = refl
@@ -71,6 +72,7 @@ any_place place Close = refl
 any_place place (AddUser user) = refl
 any_place place (AddFloor floor) = refl
 any_place place (SetChair floor chair) = refl
+any_place place (Say user bytes) = refl
 
 -- at the first place it begins with the digit 1
 pub begins : (e : Event) → line 1 e ≡ 49 ∷ behind_place e

@@ -9,7 +9,7 @@ use Rattle.floor_words.specs.Laws.{is_plain}
 use Rattle.floor_config.specs.declared.floors.Floor.{Floor}
 use Rattle.floor_config.specs.declared.users.User.{User}
 use Rattle.floor_machine.specs.declared.event.Event.{Event}
-use Rattle.floor_machine.specs.declared.event.Event.TheVariants.{Join, Message, Took, Leave, Revoke, Close, AddUser, AddFloor, SetChair}
+use Rattle.floor_machine.specs.declared.event.Event.TheVariants.{Join, Message, Took, Leave, Revoke, Close, AddUser, AddFloor, SetChair, Say}
 use Rattle.floor_machine.specs.Journal.{MAX_EVENTS}
 use Rattle.floor_room.specs.Text.{end_line, line, text_word}
 use Rattle.floor_kept.specs.declared.entry.Entry.{Entry}
@@ -45,6 +45,7 @@ IsBorne Close = Unit {0}
 IsBorne (AddUser user) = IsUserOfLine user
 IsBorne (AddFloor floor) = IsFloorOfLine floor
 IsBorne (SetChair floor chair) = (floor < 2 ^ 16) × IfSome chair (λ user. user < 2 ^ 16)
+IsBorne (Say user bytes) = (user < 2 ^ 16) × IsMessage bytes × IsBytes bytes
 
 -- what a word is kept by: it isn't empty, and has no space and no line feed
 abbrev pub is_key : List ℕ → Bool

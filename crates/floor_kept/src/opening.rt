@@ -165,6 +165,11 @@ fn add(room: &mut Room, event: Event, effects: &mut Effects) -> Result<(), RoomR
         Event::AddUser { user } => room.admin(Act::AddUser(user), effects),
         Event::AddFloor { floor } => room.admin(Act::AddFloor(floor), effects),
         Event::SetChair { floor, chair } => room.admin(Act::SetChair(floor, chair), effects),
+        // Nobody waits for its answer any more.
+        Event::Say { user, frame } => {
+            room.say(user, frame, effects)?;
+            Ok(())
+        }
     }
 }
 

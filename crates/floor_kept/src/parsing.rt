@@ -133,7 +133,7 @@ fn of_two_words(name: &str, word: &str) -> Option<Event>
     None
 }
 
-/// `message <n> <bytes>`, `took <n> <k>`, `chair <floor> <user>`
+/// `message <n> <bytes>`, `took <n> <k>`, `chair <floor> <user>`, `say <user> <bytes>`
 fn of_three_words(
     alloc: Global,
     name: &str,
@@ -151,6 +151,9 @@ fn of_three_words(
     if name == "chair" {
         return Ok(chair_of(first, second));
     }
+    if name == "say" {
+        return say_of(alloc, first, second);
+    }
     Ok(None)
 }
 
@@ -164,6 +167,18 @@ fn message_of(alloc: Global, first: &str, second: &str) -> Result<Option<Event>,
         return Ok(None);
     };
     Ok(Some(Event::Message { n, frame }))
+}
+
+fn say_of(alloc: Global, first: &str, second: &str) -> Result<Option<Event>, AllocError>
+    ensures { IfOk result (λ found. found ≡ spec.say_words first.now second.now) }
+{
+    let Some(user) = read_u16(first) else {
+        return Ok(None);
+    };
+    let Some(frame) = frame_of(alloc, second)? else {
+        return Ok(None);
+    };
+    Ok(Some(Event::Say { user, frame }))
 }
 
 fn took_of(first: &str, second: &str) -> Option<Event>

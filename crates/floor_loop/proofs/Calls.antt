@@ -10,20 +10,21 @@ use Rattle.floor_machine.specs.declared.act.Act.{Act}
 use Rattle.floor_machine.specs.Parcel.{Parcel}
 use Rattle.floor_room.specs.Ledger.{Ledger}
 use Rattle.floor_room.specs.Room.{IsRoom, Room}
+use Rattle.floor_room.specs.declared.said.Said as room
 use Rattle.floor_hub.specs.declared.connection.Connection.{Connection}
 use Rattle.floor_hub.specs.declared.refusal.HubRefusal.{HubRefusal}
 use Rattle.floor_hub.specs.declared.refusal.HubRefusal.TheVariants.{NoConnection}
-use Rattle.floor_hub.specs.declared.step.Answer.TheVariants.{Attached, Done}
+use Rattle.floor_hub.specs.declared.step.Answer.TheVariants.{Attached, Done, Said}
 use Rattle.floor_hub.specs.declared.step.Served.{Served}
 use Rattle.floor_hub.specs.declared.step.Step.{Step}
-use Rattle.floor_hub.specs.declared.step.Step.TheVariants.{Admin, Attach, Leave, Open, Piece, Serve, Took as Takes}
+use Rattle.floor_hub.specs.declared.step.Step.TheVariants.{Admin, Attach, Leave, Open, Piece, Say, Serve, Took as Takes}
 use Rattle.floor_hub.specs.Calls.{Fails, FailsGone, FailsSame, Turns, answer_of}
 use Rattle.floor_hub.specs.Concerned.{Concerns}
 use Rattle.floor_hub.specs.Connections.{Puts, SameConnections, StayLive, connection_at}
 use Rattle.floor_hub.specs.Hub.{Hub, room_at}
 use Rattle.floor_hub.specs.Members.{user_of}
 use Rattle.floor_hub.specs.Left.{LeftAt}
-use Rattle.floor_hub.specs.Rooms.{KeptOf, OneRoom, Opens, RoomOf, SameHub, TakenFrom, TakenInto, admin_event, attach_event, by_broken, bytes_in, leave_event, refusal_in, serve_event, took_event}
+use Rattle.floor_hub.specs.Rooms.{KeptOf, OneRoom, Opens, RoomOf, SameHub, TakenFrom, TakenInto, admin_event, attach_event, by_broken, bytes_in, leave_event, refusal_in, say_event, serve_event, took_event}
 use Rattle.floor_hub.specs.StandsFor.{StandsFor}
 use Rattle.floor_hub.specs.World.{World}
 use Rattle.floor_loop.specs.Loop.{Attended, Loop, Outgoing, outgoing_at, outgoing_in, until_of}
@@ -66,6 +67,14 @@ moved-admin conference act old new res next room stay concerns keeps =
     moved-told (AtMost 1 (Admin conference act)) old new (steps-turn old.hub new.hub (Admin conference act) (λ _. Done) res next) (went-one by_broken (refusal_in res) (admin_event act) conference old.hub new.hub room stay) concerns
     (keeps-live new.hub (outgoing_at old) (outgoing_at new) keeps)
 
+pub moved-say : (conference user : ℕ) (bytes : List ℕ) (old new : Loop) (res : Result room.Said HubRefusal) →
+    ((w : World) → StandsFor old.hub w → MatchResult res (λ v. Turns new.hub w (Say conference user bytes) (Said v)) (λ r. Fails new.hub w (Say conference user bytes) r)) →
+    OneRoom by_broken (refusal_in res) (say_event user bytes) conference old.hub new.hub → StayLive old.hub.connections new.hub.connections → Concerns old.hub new.hub → KeepsAll (outgoing_at old) (outgoing_at new) → FewerStays old.attended new.attended → AreWoken new.hub new.attended →
+    Moved (AtMost 1 (Say conference user bytes)) old new
+moved-say conference user bytes old new res next room stay concerns keeps =
+    moved-told (AtMost 1 (Say conference user bytes)) old new (steps-turn old.hub new.hub (Say conference user bytes) Said res next) (went-one by_broken (refusal_in res) (say_event user bytes) conference old.hub new.hub room stay) concerns
+    (keeps-live new.hub (outgoing_at old) (outgoing_at new) keeps)
+
 -- a connection has left, and nothing is on its way to it any more
 pub moved-leave : (number : ℕ) (old new : Loop) (res : Result (Unit {0}) HubRefusal) →
     ((w : World) → StandsFor old.hub w → MatchResult res (λ _. Turns new.hub w (Leave number) Done) (λ r. FailsGone new.hub w (Leave number) r)) →
@@ -85,7 +94,7 @@ moved-unattached conference user old new r next room left concerns keeps =
     (keeps-live new.hub (outgoing_at old) (outgoing_at new) keeps)
 
 -- rooms with the same ledgers, and the same connections: who is to be shut down is so
-same-timed : (old new : Loop) → Went old.hub new.hub → ((c : ℕ) (r s : Room) → room_at old.hub c ≡ Some r → room_at new.hub c ≡ Some s → s.ledger ≡ r.ledger) → KeepsLive new.hub (outgoing_at old) (outgoing_at new) → IsLoop old → IsTimed new
+pub same-timed : (old new : Loop) → Went old.hub new.hub → ((c : ℕ) (r s : Room) → room_at old.hub c ≡ Some r → room_at new.hub c ≡ Some s → s.ledger ≡ r.ledger) → KeepsLive new.hub (outgoing_at old) (outgoing_at new) → IsLoop old → IsTimed new
 same-timed old new went same keeps l number y s p is_y is_s is_p over =
     let x = went.live number y is_y in
     let a = l.serving number x.connection x.live in

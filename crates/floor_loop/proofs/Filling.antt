@@ -6,11 +6,12 @@ use Rattle.std.specs.Option.{option_map, option_map_or}
 use Rattle.floor_machine.specs.Parcel.{Parcel}
 use Rattle.floor_room.specs.declared.outbox.NoMember.{NoMember}
 use Rattle.floor_room.specs.Outbox.{Outbox}
-use Rattle.floor_room.specs.Room.{Room}
-use Rattle.floor_room.specs.Taking.{Gives, GivesFrom, GivesHeld, outbox_of}
+use Rattle.floor_room.specs.Room.{Room, is_kept}
+use Rattle.floor_room.specs.Taking.{Gave, Gives, GivesFrom, GivesHeld, GivesIf, outbox_of}
 use Rattle.floor_hub.specs.declared.connection.Connection.{Connection}
 use Rattle.floor_hub.specs.declared.refusal.HubRefusal.{HubRefusal}
 use Rattle.floor_hub.specs.declared.refusal.HubRefusal.TheVariants.{NoConnection}
+use Rattle.floor_hub.specs.Concerned.{handed, waiting}
 use Rattle.floor_hub.specs.Connections.{connection_at}
 use Rattle.floor_hub.specs.Hub.{Hub}
 use Rattle.floor_hub.specs.Rooms.{TakenFrom, TakenInto, first_at, first_in}
@@ -38,7 +39,22 @@ empty os ps n h = by (outbox_of os n) refl h
     by None is g = ap first g.1 ∙ ap (λ (z : Option Outbox). slice_get (option_map_or (λ q. q.held) z []) 0) is
     by (Some o) is g = held o o.held is refl g
 
--- where the hub gave none, none waits
+if-none : (b : Bool) (ps : List Parcel) → slice_get ps 0 ≡ None → slice_get (if b then ps else []) 0 ≡ None
+if-none true ps none = none
+if-none false ps none = refl
+
+-- a room that gave nothing hands nothing out
+empty-handed : (r s : Room) (n : ℕ) → Gave r s n (Ok None) → slice_get (handed s n) 0 ≡ None
+empty-handed r s n g = by (is_kept r) refl g.given
+  where
+    same : is_kept s ≡ is_kept r
+    same = ap (λ (z : Room). is_kept z) g.same
+
+    by : (b : Bool) → is_kept r ≡ b → GivesIf b r.outboxes s.outboxes n (Ok None) → slice_get (handed s n) 0 ≡ None
+    by true is h = if-none (is_kept s) (waiting s n) (empty r.outboxes s.outboxes n h)
+    by false is h = ap (λ (b : Bool). slice_get (if b then waiting s n else []) 0) (same ∙ is)
+
+-- where the hub gave none, none is handed out
 none-waits : (number : ℕ) (old new : Hub) (x : Option Connection) (before after : List ℕ) → connection_at old.connections number ≡ x → TakenInto x (Ok false) before after old new → first_at new (connection_at new.connections number) ≡ None
 none-waits number old new None before after is g = absurd (not_ok g.0)
   where
@@ -51,7 +67,7 @@ none-waits number old new (Some x) before after is g = by g.0 g.1 g.3
 
     by : (parcel : Option Parcel) → false ≡ is_some parcel → TakenFrom x.conference x.n parcel old new → first_at new (connection_at new.connections number) ≡ None
     by (Some p) e t = absurd (not_both e)
-    by None e t = ap (first_at new) (t.connections number ∙ is) ∙ ap (λ (z : Option Room). first_in z x.n) t.now ∙ empty t.before.outboxes t.after.outboxes x.n t.gave.given
+    by None e t = ap (first_at new) (t.connections number ∙ is) ∙ ap (λ (z : Option Room). first_in z x.n) t.now ∙ empty-handed t.before t.after x.n t.gave
 
 -- what is there where one that was there is changed
 at-changed : (f : Outgoing → Outgoing) (number : ℕ) (before after : List (ℕ × Outgoing)) (o p : Outgoing) → after ≡ changed f number before → lookup (nat_eq number) before ≡ Some o → lookup (nat_eq number) after ≡ Some p → p ≡ f o

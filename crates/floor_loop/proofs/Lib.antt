@@ -26,3 +26,4 @@ pub mod Resumed
 pub mod Carrying
 pub mod Filling
 pub mod Found
+pub mod Released

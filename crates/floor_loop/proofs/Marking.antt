@@ -1,5 +1,5 @@
 -- A mark that is set.
-use Rattle.std.proofs.Common.{◌≡◌, ◌≢◌, ◌⊎◌, inl, inr, ◌≤◌, ℕ, true, false, List, [], refl, sym, ◌∙◌, ap, subst, Some, None}
+use Rattle.std.proofs.Common.{◌≡◌, ◌≢◌, ◌⊎◌, inl, inr, ◌≤◌, ℕ, ◌+◌, arith, true, false, List, [], refl, sym, ◌∙◌, ap, subst, Some, None}
 use Rattle.std.specs.Prelude.{Option, IsSome, nat_eq, option_and_then}
 use Rattle.std.specs.Map.{lookup}
 use Rattle.std.specs.Option.{option_map}
@@ -12,7 +12,7 @@ use Rattle.floor_loop.specs.Loop.{Attended, Outgoing, earlier, outgoing_in, unti
 use Rattle.floor_loop.specs.steps.Changed.{changed, mark_of, marked, or_time}
 use Rattle.floor_loop.specs.steps.Moved.{KeepsAll, KeptAt}
 use Rattle.floor_loop.proofs.Altering.{keeps-changed, look-here, look-other}
-use Rattle.floor_loop.specs.steps.Listed.{IsListed, Line}
+use Rattle.floor_loop.specs.steps.Listed.{IsListed, Line, deadline}
 use Rattle.floor_loop.proofs.Listing.{has-within}
 use Rattle.floor_loop.proofs.Stepping.{some-out}
 
@@ -85,10 +85,16 @@ marked-beside mark other time number a b next same o is = by (outgoing_in a numb
     by (Some q) h e = (q, h, ap (mark_of other) (sym (some-out (marked mark time q) o e)) ∙ same q)
 
 -- a connection is marked so, and woken
-pub ended-by : (t u number : ℕ) (a b c : Attended) → b.outgoing ≡ changed (marked Ends t) number a.outgoing → c.outgoing ≡ changed (marked Ready u) number b.outgoing → (o : Outgoing) → outgoing_in c number ≡ Some o → IsSome o.ready × IsSome o.ends
-ended-by t u number a b c first next o is =
+pub ended-by : (u number : ℕ) (b c : Attended) → c.outgoing ≡ changed (marked Ready u) number b.outgoing → c.time ≡ b.time → ((o : Outgoing) → outgoing_in b number ≡ Some o → (ends : ℕ) × (o.ends ≡ Some ends) × (ends ≤ b.time + 10000)) →
+    (o : Outgoing) → outgoing_in c number ≡ Some o → IsSome o.ready × ((ends : ℕ) × (o.ends ≡ Some ends) × (ends ≤ c.time + 10000))
+ended-by u number b c next time soon o is =
     let was = marked-beside Ready Ends u number b c next (λ q. refl) o is in
-    (marked-some Ready u number b c next o is, subst IsSome (sym was.2) (marked-some Ends t number a b first was.0 was.1))
+    let p = soon was.0 was.1 in
+    (marked-some Ready u number b c next o is, (p.0, was.2 ∙ p.1, subst (λ (k : ℕ). p.0 ≤ k + 10000) (sym time) p.2))
+
+-- it is to be shut down so
+pub ends-some : (o : Outgoing) → (ends : ℕ) × (o.ends ≡ Some ends) → IsSome o.ends
+ends-some o e = subst IsSome (sym e.1) refl
 
 pub failed-by : (u number : ℕ) (b c : Attended) → c.outgoing ≡ changed (marked Ready u) number b.outgoing → c.time ≡ b.time → ((o : Outgoing) → outgoing_in b number ≡ Some o → (until : ℕ) × (o.fails ≡ Some until) × (until ≤ b.time)) →
     (o : Outgoing) → outgoing_in c number ≡ Some o → IsSome o.ready × ((until : ℕ) × (o.fails ≡ Some until) × (until ≤ c.time))
@@ -128,3 +134,18 @@ past-by es fs number time line next l o is =
     by : (z : Option ℕ) → o.fails ≡ z → IsSome z → (until : ℕ) × (o.fails ≡ Some until) × (until ≤ time)
     by None e some = absurd (not_true some)
     by (Some until) e some = (until, e, has-within Fails fs time line number until o l is e)
+
+-- who is to be shut down is so within ten seconds
+pub soon-by : (es fs : List (ℕ × Outgoing)) (number t time : ℕ) (line : Line) → fs ≡ changed (marked Ends t) number es → IsListed Ends fs (deadline time) line → (o : Outgoing) → lookup (nat_eq number) fs ≡ Some o →
+    (ends : ℕ) × (o.ends ≡ Some ends) × (ends ≤ time + 10000)
+soon-by es fs number t time line next l o is =
+    by o.ends refl (marked-some Ends t number (record { outgoing = es; time = time; away = nobody }) (record { outgoing = fs; time = time; away = nobody }) next o is)
+  where
+    not_true : false ≡ true → ⊥
+    not_true e = cc
+
+    by : (z : Option ℕ) → o.ends ≡ z → IsSome z → (ends : ℕ) × (o.ends ≡ Some ends) × (ends ≤ time + 10000)
+    by None e some = absurd (not_true some)
+    by (Some ends) e some =
+        let le : ends ≤ deadline time = has-within Ends fs (deadline time) line number ends o l is e in
+        (ends, e, omega (arith, le))

@@ -275,6 +275,7 @@ places-after ps c (answer.Attached n) = omega (arith, length-append ps (record {
 places-after ps c answer.Done = omega arith
 places-after ps c answer.Nothing = omega arith
 places-after ps c answer.Served = omega arith
+places-after ps c (answer.Said v) = omega arith
 places-after ps c (answer.Refused r) = omega arith
 
 places-at : (w : World) (a : Option Aim) → length w.places ≤ length (turn_at w a).world.places

@@ -1,5 +1,5 @@
 -- Whoever is told nothing more is told nothing more later.
-use Rattle.std.proofs.Common.{◌≡◌, ◌≢◌, ◌⊎◌, inl, inr, ℕ, Bool, true, false, cond, List, [], ◌∷◌, ◌++◌, refl, sym, ◌∙◌, ap, Some}
+use Rattle.std.proofs.Common.{◌≡◌, ◌≢◌, ◌⊎◌, inl, inr, ℕ, Bool, true, false, cond, List, [], ◌∷◌, ◌++◌, refl, sym, ◌∙◌, ap, Some, None}
 use Rattle.std.specs.Prelude.{Option, is_some, nat_eq, ◌&&◌, ◌||◌, not}
 use Rattle.std.proofs.lemmas.Bool.Decides.{eqb_tells}
 use Rattle.floor_config.specs.Configuration.{Configuration}
@@ -7,9 +7,10 @@ use Rattle.floor_message.specs.Ask.{Answer, asks, refused, unanswered, ask}
 use Rattle.floor_machine.specs.Change.{asked_change, change, message_change, no_change, settled}
 use Rattle.floor_machine.specs.Checks.{refusal}
 use Rattle.floor_machine.specs.Conference as machine
-use Rattle.floor_machine.specs.Conference.{Conference, binding, opening, user_of}
+use Rattle.floor_machine.specs.Conference.{Conference, binding, binding_for, opening, user_of}
+use Rattle.floor_machine.specs.Said.{said}
 use Rattle.floor_machine.specs.declared.event.Event.{Event}
-use Rattle.floor_machine.specs.declared.event.Event.TheVariants.{Join, Message, Took, Leave, Revoke, Close, AddUser, AddFloor, SetChair}
+use Rattle.floor_machine.specs.declared.event.Event.TheVariants.{Join, Message, Took, Leave, Revoke, Close, AddUser, AddFloor, SetChair, Say}
 use Rattle.floor_machine.specs.Journal.{after, after_from}
 use Rattle.floor_machine.specs.Next.{next}
 use Rattle.floor_machine.proofs.Counted.{cut-next}
@@ -22,12 +23,12 @@ use Rattle.floor_loop.specs.Written.{IsOver}
 use Rattle.floor_loop.specs.steps.Moved.{Grows, SameLedgers}
 
 -- a message leaves a conference as open as it is
-open-message : (s : Conference) (n : ℕ) (a : Answer) → (message_change s n a).is_open ≡ s.is_open
-open-message s n unanswered = refl
-open-message s n (refused code details) = refl
-open-message s n (asks a) = by (is_some (refusal s (user_of s n) a))
+open-message : (s : Conference) (n : Option ℕ) (user : ℕ) (a : Answer) → (message_change s n user a).is_open ≡ s.is_open
+open-message s n user unanswered = refl
+open-message s n user (refused code details) = refl
+open-message s n user (asks a) = by (is_some (refusal s user a))
   where
-    by : (b : Bool) → (cond b (no_change s) (asked_change s n a)).is_open ≡ s.is_open
+    by : (b : Bool) → (cond b (no_change s) (asked_change s n user a)).is_open ≡ s.is_open
     by true = refl
     by false = refl
 
@@ -35,7 +36,7 @@ open-message s n (asks a) = by (is_some (refusal s (user_of s n) a))
 closed-change : (s : Conference) (e : Event) → s.is_open ≡ false → (change s e).is_open ≡ false
 unfolding change
 closed-change s (Join user) h = h
-closed-change s (Message n bytes) h = open-message s n (ask bytes (binding s n)) ∙ h
+closed-change s (Message n bytes) h = open-message s (Some n) (user_of s n) (ask bytes (binding s n)) ∙ h
 closed-change s (Took n k) h = h
 closed-change s (Leave n) h = h
 closed-change s (Revoke request) h = h
@@ -43,6 +44,7 @@ closed-change s Close h = refl
 closed-change s (AddUser user) h = h
 closed-change s (AddFloor floor) h = h
 closed-change s (SetChair floor chair) h = h
+closed-change s (Say user bytes) h = open-message s None user (said bytes (binding_for s user)) ∙ h
 
 closed-next : (s : Conference) (e : Event) → s.is_open ≡ false → (next s e).is_open ≡ false
 unfolding next settled

@@ -10,7 +10,7 @@ use Rattle.floor_room.specs.declared.refusal.RoomRefusal.TheVariants as room
 use Rattle.floor_room.specs.Room.{Room}
 use Rattle.floor_hub.specs.declared.connection.Connection.{Connection}
 use Rattle.floor_hub.specs.declared.refusal.HubRefusal.{HubRefusal}
-use Rattle.floor_hub.specs.declared.refusal.HubRefusal.TheVariants.{Used, NoConference, Forgotten, Running, NoConnection, Memory, ByRoom}
+use Rattle.floor_hub.specs.declared.refusal.HubRefusal.TheVariants.{Used, NoConference, Forgotten, Running, NoConnection, BadMessage, Memory, ByRoom}
 use Rattle.floor_hub.specs.declared.step.Answer.{Answer}
 use Rattle.floor_hub.specs.declared.step.Step.{Step}
 use Rattle.floor_hub.specs.Calls.{Fails, FailsGone, FailsSame, Turns}
@@ -87,6 +87,7 @@ left-connections own c old new NoConference h = h.connections
 left-connections own c old new Forgotten h = h.connections
 left-connections own c old new Running h = h.connections
 left-connections own c old new NoConnection h = h.connections
+left-connections own c old new BadMessage h = h.connections
 left-connections own c old new Memory h = h.connections
 left-connections own c old new (ByRoom refusal) h = h.connections
 

@@ -1,6 +1,6 @@
 -- A parcel that is taken from the hub goes behind the rest, and what the socket takes is its front.
 use Rattle.std.proofs.Common.{◌≡◌, ◌≢◌, ◌⊎◌, inl, inr, ℕ, zero, suc, ◌+◌, ◌-◌, ◌≤◌, Bool, true, false, List, [], ◌∷◌, ◌++◌, length, take, drop, map, refl, sym, ◌∙◌, ap, subst, arith, append_assoc, append-nil, Some, None}
-use Rattle.std.specs.Prelude.{Option, Result, Ok, IsSome, ◌&&◌, ◌||◌, not, nat_eq, slice_get, slice_set}
+use Rattle.std.specs.Prelude.{Option, Result, Ok, IsSome, ◌&&◌, ◌||◌, not, nat_eq, slice_get, slice_set, MatchOption}
 use Rattle.std.specs.Option.{option_map_or}
 use Rattle.std.proofs.lemmas.Bool.Decides.{eqb_tells}
 use Rattle.std.proofs.lemmas.Option.{none-some}
@@ -16,8 +16,8 @@ use Rattle.floor_machine.specs.Parcel.{Parcel}
 use Rattle.floor_room.specs.declared.outbox.NoMember.{NoMember}
 use Rattle.floor_room.specs.Outbox.{Outbox}
 use Rattle.floor_room.specs.Replay.{bytes_of}
-use Rattle.floor_room.specs.Room.{AreSent, IsRoom, IsSent, Room, parcels_to}
-use Rattle.floor_room.specs.Taking.{Gave, Gives, GivesFrom, GivesHeld, after_take, outbox_of, with_outbox}
+use Rattle.floor_room.specs.Room.{AreSent, IsRoom, IsSent, Room, parcels_to, is_kept}
+use Rattle.floor_room.specs.Taking.{Gave, GivesFrom, GivesHeld, GivesIf, after_take, outbox_of, with_outbox}
 use Rattle.floor_hub.specs.declared.connection.Connection.{Connection}
 use Rattle.floor_hub.specs.Concerned.{IsLeftAlone}
 use Rattle.floor_hub.specs.Connections.{connection_at}
@@ -98,8 +98,13 @@ Given os ps n p = (o : Outbox) × (rest : List Parcel) × (outbox_of os n ≡ So
 not_both : false ≡ true → ⊥
 not_both e = cc
 
-gave-some : (os ps : List Outbox) (n : ℕ) (p : Parcel) → Gives os ps n (Ok (Some p)) → Given os ps n p
-gave-some os ps n p h = by (outbox_of os n) refl h
+gave-some : (b : Bool) (os ps : List Outbox) (n : ℕ) (p : Parcel) → GivesIf b os ps n (Ok (Some p)) → Given os ps n p
+gave-some false os ps n p h = absurd (none (outbox_of os n) h.0)
+  where
+    none : (z : Option Outbox) → MatchOption z (false ≡ true) (λ o. ◌≡◌ {A = Result (Option Parcel) NoMember} (Ok (Some p)) (Ok None)) → ⊥
+    none None g = cc
+    none (Some o) g = cc
+gave-some true os ps n p h = by (outbox_of os n) refl h
   where
     ok_is : (a b : Option Parcel) → ◌≡◌ {A = Result (Option Parcel) NoMember} (Ok a) (Ok b) → a ≡ b
     ok_is a b e = cc
@@ -112,8 +117,9 @@ gave-some os ps n p h = by (outbox_of os n) refl h
     by None is g = absurd (not_both g.0)
     by (Some o) is g = held o o.held is refl g
 
-gave-none : (os ps : List Outbox) (n : ℕ) → Gives os ps n (Ok None) → ps ≡ os
-gave-none os ps n h = by (outbox_of os n) h
+gave-none : (b : Bool) (os ps : List Outbox) (n : ℕ) → GivesIf b os ps n (Ok None) → ps ≡ os
+gave-none false os ps n h = h.1
+gave-none true os ps n h = by (outbox_of os n) h
   where
     ok_is : (a b : Option Parcel) → ◌≡◌ {A = Result (Option Parcel) NoMember} (Ok a) (Ok b) → a ≡ b
     ok_is a b e = cc
@@ -157,17 +163,17 @@ count_in None = 0
 count_in (Some p) = 1
 
 -- a parcel was taken for n from this room, if one waited, and put behind the rest
-pub way-taken : (r s : Room) (n : ℕ) (rest : List ℕ) (parcels : ℕ) (parcel : Option Parcel) → s.ledger.config ≡ r.ledger.config → s.ledger.journal ≡ r.ledger.journal → Gives r.outboxes s.outboxes n (Ok parcel) → IsRoom r → IsOnItsWay r n rest parcels →
+pub way-taken : (r s : Room) (n : ℕ) (rest : List ℕ) (parcels : ℕ) (parcel : Option Parcel) → s.ledger.config ≡ r.ledger.config → s.ledger.journal ≡ r.ledger.journal → GivesIf (is_kept r) r.outboxes s.outboxes n (Ok parcel) → IsRoom r → IsOnItsWay r n rest parcels →
     IsOnItsWay s n (rest ++ bytes_in parcel) (parcels + count_in parcel) × (written s n (rest ++ bytes_in parcel) ≡ written r n rest) × (acknowledged s n (parcels + count_in parcel) ≡ acknowledged r n parcels)
 way-taken r s n rest parcels None config journal gave kept h =
-    let same : s.outboxes ≡ r.outboxes = gave-none r.outboxes s.outboxes n gave in
+    let same : s.outboxes ≡ r.outboxes = gave-none (is_kept r) r.outboxes s.outboxes n gave in
     let taken : taken_of s n ≡ taken_of r n = ap (λ (os : List Outbox). option_map_or (λ o. o.taken) (outbox_of os n) 0) same in
     let t = way-same r s n rest parcels config journal taken h in
     let count : parcels ≡ parcels + 0 = omega arith in
     subst (λ (k : ℕ). IsOnItsWay s n (rest ++ []) k × (written s n (rest ++ []) ≡ written r n rest) × (acknowledged s n k ≡ acknowledged r n parcels)) count
     (subst (λ (z : List ℕ). IsOnItsWay s n z parcels × (written s n z ≡ written r n rest) × (acknowledged s n parcels ≡ acknowledged r n parcels)) (sym (append-nil rest)) t)
 way-taken r s n rest parcels (Some p) config journal gave kept h =
-    let g = gave-some r.outboxes s.outboxes n p gave in
+    let g = gave-some (is_kept r) r.outboxes s.outboxes n p gave in
     let sent = sent-of r n g.0 kept g.2 in
     let was : taken_of r n ≡ g.0.taken = ap (λ (z : Option Outbox). option_map_or (λ o. o.taken) z 0) g.2 in
     let now : taken_of s n ≡ taken_of r n + 1 =
@@ -196,12 +202,12 @@ way-taken r s n rest parcels (Some p) config journal gave kept h =
     )
 
 -- another member of the room is left
-pub way-beside : (r s : Room) (n m : ℕ) (rest : List ℕ) (parcels : ℕ) (parcel : Option Parcel) → m ≢ n → s.ledger.config ≡ r.ledger.config → s.ledger.journal ≡ r.ledger.journal → Gives r.outboxes s.outboxes n (Ok parcel) →
+pub way-beside : (r s : Room) (n m : ℕ) (rest : List ℕ) (parcels : ℕ) (parcel : Option Parcel) → m ≢ n → s.ledger.config ≡ r.ledger.config → s.ledger.journal ≡ r.ledger.journal → GivesIf (is_kept r) r.outboxes s.outboxes n (Ok parcel) →
     IsOnItsWay r m rest parcels → IsOnItsWay s m rest parcels × (written s m rest ≡ written r m rest) × (acknowledged s m parcels ≡ acknowledged r m parcels)
 way-beside r s n m rest parcels None ne config journal gave h =
-    way-same r s m rest parcels config journal (ap (λ (os : List Outbox). option_map_or (λ o. o.taken) (outbox_of os m) 0) (gave-none r.outboxes s.outboxes n gave)) h
+    way-same r s m rest parcels config journal (ap (λ (os : List Outbox). option_map_or (λ o. o.taken) (outbox_of os m) 0) (gave-none (is_kept r) r.outboxes s.outboxes n gave)) h
 way-beside r s n m rest parcels (Some p) ne config journal gave h =
-    let g = gave-some r.outboxes s.outboxes n p gave in
+    let g = gave-some (is_kept r) r.outboxes s.outboxes n p gave in
     way-same r s m rest parcels config journal
     (ap (λ (os : List Outbox). option_map_or (λ o. o.taken) (outbox_of os m) 0) g.4 ∙ ap (λ (z : Option Outbox). option_map_or (λ o. o.taken) z 0) (outbox-other r.outboxes n m (after_take g.0 g.1) ne)) h
 
@@ -249,10 +255,10 @@ over-by r s n same (inl cut) = inl (ap (λ (l : Ledger). not l.is_broken && mach
 over-by r s n same (inr shut) = inr (ap (λ (l : Ledger). l.is_broken || not (conference_of l).is_open) (sym same) ∙ shut)
 
 -- another member's outbox is as it was
-beside : (os ps : List Outbox) (n m : ℕ) (parcel : Option Parcel) → m ≢ n → Gives os ps n (Ok parcel) → outbox_of ps m ≡ outbox_of os m
-beside os ps n m None ne h = ap (λ (z : List Outbox). outbox_of z m) (gave-none os ps n h)
-beside os ps n m (Some p) ne h =
-    let g = gave-some os ps n p h in
+beside : (b : Bool) (os ps : List Outbox) (n m : ℕ) (parcel : Option Parcel) → m ≢ n → GivesIf b os ps n (Ok parcel) → outbox_of ps m ≡ outbox_of os m
+beside b os ps n m None ne h = ap (λ (z : List Outbox). outbox_of z m) (gave-none b os ps n h)
+beside b os ps n m (Some p) ne h =
+    let g = gave-some b os ps n p h in
     ap (λ (z : List Outbox). outbox_of z m) g.4 ∙ outbox-other os n m (after_take g.0 g.1) ne
 
 -- whoever has another number is left alone
@@ -260,7 +266,7 @@ pub beside-waits : (r s : Room) (n m : ℕ) (parcel : Option Parcel) → m ≢ n
 beside-waits r s n m parcel ne g =
     let ledger : s.ledger ≡ r.ledger = ap (λ (z : Room). z.ledger) g.same in
     record {
-      waiting = ap (λ (z : Option Outbox). option_map_or (λ o. o.held) z []) (beside r.outboxes s.outboxes n m parcel ne g.given);
+      waiting = ap (λ (z : Option Outbox). option_map_or (λ o. o.held) z []) (beside (is_kept r) r.outboxes s.outboxes n m parcel ne g.given);
       cut = λ h. ap (λ (l : Ledger). not l.is_broken && machine_is_cut (conference_of l) m) (sym ledger) ∙ h;
       shut = λ h. ap (λ (l : Ledger). l.is_broken || not (conference_of l).is_open) (sym ledger) ∙ h;
     }

@@ -1,5 +1,5 @@
 -- A loop, as contracts see it: a hub, and what is on its way to each of its connections.
-use Rattle.std.specs.Prelude.{◌≡◌, ◌⊎◌, ◌≤◌, ℕ, List, [], length, nat_eq, min, Option, Some, None, IsSome, option_and_then}
+use Rattle.std.specs.Prelude.{◌≡◌, ◌≢◌, ◌⊎◌, ◌≤◌, ℕ, ◌+◌, List, [], length, nat_eq, min, Option, Some, None, IsSome, option_and_then}
 use Rattle.std.specs.Map.{lookup}
 use Rattle.std.specs.Option.{option_map_or}
 use Rattle.floor_wire.specs.Message.{messages}
@@ -85,9 +85,9 @@ stays_until l number = ends_of l.attended.away number
 abbrev pub over_at : Loop → ℕ → Option ℕ
 over_at l number = over_in l.attended number
 
--- the connection with this number, if there is one, is ready, and is to be shut down
+-- the connection with this number, if there is one, is ready, and is to be shut down within ten seconds
 abbrev pub IsEnded : Attended → ℕ → Type 0
-IsEnded a number = (o : Outgoing) → outgoing_in a number ≡ Some o → IsSome o.ready × IsSome o.ends
+IsEnded a number = (o : Outgoing) → outgoing_in a number ≡ Some o → IsSome o.ready × ((ends : ℕ) × (o.ends ≡ Some ends) × (ends ≤ a.time + 10000))
 
 -- the connection with this number, if there is one, is ready, and is to be shut down by now, since its socket failed
 abbrev pub HasFailed : Attended → ℕ → Type 0
@@ -106,3 +106,11 @@ IsFilled l number =
 -- no whole message is left of what came from the connection with this number
 abbrev pub HoldsNoMessage : Hub → ℕ → Type 0
 HoldsNoMessage h number = (x : Connection) → connection_at h.connections number ≡ Some x → messages x.held ≡ []
+
+-- the connection with this number, if there is one, is ready where something waits for it in the hub and is handed out
+abbrev pub IsHandedOut : Hub → Attended → ℕ → Type 0
+IsHandedOut h a number = (o : Outgoing) → outgoing_in a number ≡ Some o → first_at h (connection_at h.connections number) ≢ None → IsSome o.ready
+
+-- so each live connection of this conference
+abbrev pub AreHandedOut : ℕ → Loop → Type 0
+AreHandedOut conference l = (number : ℕ) (x : Connection) → connection_at l.hub.connections number ≡ Some x → x.conference ≡ conference → IsHandedOut l.hub l.attended number

@@ -2,7 +2,7 @@
 use Rattle.std.specs.Prelude.{◌≡◌, All, List, ◌++◌, Some}
 use Rattle.floor_config.specs.Configuration.{Configuration}
 use Rattle.floor_machine.specs.declared.event.Event.{Event}
-use Rattle.floor_machine.specs.declared.event.Event.TheVariants.{Join, Message, Took, Leave, Revoke, Close, AddUser, AddFloor, SetChair}
+use Rattle.floor_machine.specs.declared.event.Event.TheVariants.{Join, Message, Took, Leave, Revoke, Close, AddUser, AddFloor, SetChair, Say}
 use Rattle.floor_room.specs.Room.{Room}
 use Rattle.floor_hub.specs.Hub.{Hub, room_at}
 
@@ -17,6 +17,7 @@ IsLeave Close = ⊥
 IsLeave (AddUser user) = ⊥
 IsLeave (AddFloor floor) = ⊥
 IsLeave (SetChair floor chair) = ⊥
+IsLeave (Say user bytes) = ⊥
 
 -- the journal has these events, in order, and behind them members that left
 pub record Continues (events journal : List Event) : Type 0 where

@@ -1,14 +1,20 @@
 -- Who comes back to a conference in which members of its own are away.
-use Rattle.std.specs.Prelude.{◌≡◌, ◌⊎◌, ◌≤◌, ℕ, ◌+◌, List, true, false, nat_eq, Some, None}
+use Rattle.std.specs.Prelude.{◌≡◌, ◌⊎◌, ◌≤◌, ℕ, ◌+◌, List, Bool, true, false, nat_eq, Some, None}
 use Rattle.std.specs.List.{Contains}
 use Rattle.floor_room.specs.Room.{Room}
 use Rattle.floor_hub.specs.declared.attached.Live.{Live}
 use Rattle.floor_hub.specs.declared.connection.Connection.{Connection}
+use Rattle.floor_hub.specs.declared.refusal.HubRefusal.{HubRefusal}
+use Rattle.floor_hub.specs.declared.refusal.HubRefusal.TheVariants.{Memory as NoMemory}
+use Rattle.floor_hub.specs.declared.step.Step.TheVariants.{Attach}
+use Rattle.floor_hub.specs.Calls.{Fails}
 use Rattle.floor_hub.specs.Connections.{connection_at}
 use Rattle.floor_hub.specs.Members.{AreMembers, user_of}
 use Rattle.floor_hub.specs.Hub.{Hub, room_at}
+use Rattle.floor_hub.specs.StandsFor.{StandsFor}
+use Rattle.floor_hub.specs.World.{World}
 use Rattle.floor_loop.specs.declared.stay.Stay.{Stay}
-use Rattle.floor_loop.specs.Away.{Away, IsOldest, are_live, away_among, is_stay_of, stay_of}
+use Rattle.floor_loop.specs.Away.{Away, IsOldest, are_live, away_among, by_full, is_stay_of, stay_of}
 use Rattle.floor_loop.specs.Loop.{Loop, stay_at}
 use Rattle.floor_loop.specs.Written.{IsOver}
 
@@ -30,6 +36,14 @@ pub record IsKeptPlace (conference user : ℕ) (r : Room) (l : Loop) : Type 0 wh
   pub keeps : l.attended.away.keeps_place ≡ true
   pub live : are_live 63 r user ≡ true
   pub nobody : (k : ℕ) (x : Connection) → connection_at l.hub.connections k ≡ Some x → x.conference ≡ conference → is_stay_of user (stay_at l k) ≡ false
+
+-- Why nobody of this user is attached to the conference: memory was refused; or nothing but the last place is left, which is kept for who comes back; or the
+-- hub refuses it so.
+abbrev pub IsRefusedAs : ℕ → ℕ → Bool → Hub → Hub → HubRefusal → Type 0
+IsRefusedAs conference user keeps_place old new r =
+    (r ≡ NoMemory)
+    ⊎ (((r ≡ by_full) × (keeps_place ≡ true) × ((q : Room) → room_at old conference ≡ Some q → are_live 63 q user ≡ true))
+    ⊎ ((w : World) → StandsFor old w → Fails new w (Attach conference user) r))
 
 -- Each stay is of a connection that has come; and where that is live, it is in its own member's name, as its conference's journal has it.
 abbrev pub StaysAreOwn : Loop → Type 0

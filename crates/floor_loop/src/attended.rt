@@ -1,6 +1,6 @@
 //! The connections of a loop: which of them are ready, by when which are to be shut down, and which are away.
 
-ghost use Rattle.std.specs.Prelude.{◌≡◌, ◌≤◌, ◌<◌, [], ℕ, IfNone, IfOk, IfSome, IsSome, MatchOption, None, OnErr, OnOk, Some, drop, false, if◌then◌else◌, length, max, nat_eq, option_and_then, option_copied, true};
+ghost use Rattle.std.specs.Prelude.{◌≡◌, ◌≤◌, ◌<◌, ◌+◌, [], ℕ, IfNone, IfOk, IfSome, IsSome, MatchOption, None, OnErr, OnOk, Some, drop, false, if◌then◌else◌, length, max, nat_eq, option_and_then, option_copied, true};
 ghost use Rattle.floor_hub.specs.StandsFor.{StandsFor};
 ghost use Rattle.floor_hub.specs.World.{World};
 ghost use Rattle.floor_loop.specs.declared.outgoing.Mark.TheVariants.{Ends, Fails, Ready};
@@ -110,6 +110,8 @@ impl Attended {
         ensures next { self.new ≡ record self.old {
           outgoing = changed (marked Ends (deadline self.old.time)) number self.old.outgoing;
         } }
+        ensures soon { (o : Way) → outgoing_in self.new number ≡ Some o
+            → (ends : ℕ) × (o.ends ≡ Some ends) × (ends ≤ self.new.time + 10000) }
     {
         let until = self.time.saturating_add(MAX_WAIT);
         if !mark_in(&mut self.outgoing, Mark::Ends, number, until) {

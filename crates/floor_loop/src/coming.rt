@@ -1,6 +1,6 @@
 //! Whose connection is lost stays, and whoever comes back takes the place of its own members that are away.
 
-ghost use Rattle.std.specs.Prelude.{◌≡◌, ◌≢◌, ◌⊎◌, [], ℕ, IfOk, IfSome, IsSome, List, None, OnErr, OnOk, Some, false, if◌then◌else◌, nat_eq, true};
+ghost use Rattle.std.specs.Prelude.{◌≡◌, ◌≢◌, ◌⊎◌, [], ℕ, Bool, IfErr, IfOk, IfSome, IsSome, List, None, OnErr, OnOk, Some, false, if◌then◌else◌, nat_eq, true};
 ghost use Rattle.std.specs.List.{Contains};
 ghost use Rattle.floor_config.specs.Lookup.{is_user};
 ghost use Rattle.floor_room.specs.Room.{Room};
@@ -19,7 +19,7 @@ ghost use Rattle.floor_loop.specs.Laws.{IsNew};
 ghost use Rattle.floor_loop.specs.Loop.{Outgoing as Way, outgoing_in};
 ghost use Rattle.floor_loop.specs.Written.{IsOver, IsServing, IsTimed, Spares, TookNothing, Wakes};
 ghost use Rattle.floor_loop.specs.steps.Changed.{changed, unended};
-ghost use Rattle.floor_loop.specs.Returned.{IsKeptPlace, IsOldestOf, Returned, StaysAreOwn};
+ghost use Rattle.floor_loop.specs.Returned.{IsKeptPlace, IsOldestOf, IsRefusedAs, Returned, StaysAreOwn};
 ghost use Rattle.floor_loop.specs.steps.Entered.{Entered, takes_events};
 ghost use Rattle.floor_loop.specs.steps.Losing.{CannotStay, HasNoUser, is_away};
 ghost use Rattle.floor_loop.specs.steps.Moved.{IsLoop, Moved, loop_of};
@@ -204,6 +204,8 @@ pub(crate) fn come(
     ensures full { IsLoop (loop_of hub.old attended.old) → (r : Room)
         → room_at hub.old conference ≡ Some r → IsKeptPlace conference user r (loop_of hub.old attended.old) → OnOk result ⊥ }
     ensures left { OnErr result (attended.new.away.back ≡ []) }
+    ensures refused { IfErr result
+        (IsRefusedAs conference user attended.old.away.keeps_place hub.old hub.new) }
 {
     let back = match gather(hub, attended, alloc, conference, user) {
         Ok(back) => back,
@@ -246,6 +248,8 @@ fn enter(
         connection_at hub.new.connections number ≡ None ⊎ ((o : Way)
         × (outgoing_in attended.new number ≡ Some o) × IsSome o.ready)) }
     ensures left { OnErr result (attended.new.away.back ≡ []) }
+    ensures refused { (keeps_place : Bool) → IfErr result
+        (IsRefusedAs conference user keeps_place hub.old hub.new) }
 {
     match attach(hub, attended, alloc, conference, user) {
         Ok(number) => {
@@ -272,6 +276,9 @@ fn is_kept_place(
     ensures value { (r : Room) → room_at hub.now conference ≡ Some r
         → back.now ≡ [] → attended.now.away.keeps_place ≡ true → are_live 63 r user ≡ true
         → result ≡ true }
+    ensures keeps { result ≡ true → attended.now.away.keeps_place ≡ true }
+    ensures live { result ≡ true → (r : Room) → room_at hub.now conference ≡ Some r
+        → are_live 63 r user ≡ true }
 {
     if !back.is_empty() {
         return false;

@@ -22,7 +22,7 @@ mod turn;
 
 pub use floor_hub::{
     Act, AddedUser, Config, ConnNo, Event, Floor, HubRefusal, Info, Live, Place, Refusal,
-    RoomRefusal, SharedInfo, Status, User,
+    RoomRefusal, Said, SharedInfo, Status, User,
 };
 pub use grace::Grace;
 pub use laws::{hello_is_written, written_is_called_for};

@@ -13,7 +13,7 @@ use crate::coming::{MAX_LIVE, keep, send_off};
 use crate::same::continues;
 use crate::stay::Lost;
 use crate::turn::{attach, is_over, read_turn, throw_away, wake};
-use floor_hub::{Act, Config, ConnNo, Event, Hub, HubRefusal};
+use floor_hub::{Act, Config, ConnNo, Event, Hub, HubRefusal, Said};
 use std::alloc::{AllocError, Global};
 
 /// Why a conference isn't resumed. The first that applies is answered.
@@ -164,10 +164,17 @@ fn replay(
 {
     match event {
         Event::Join { user } => join(hub, attended, alloc, joined, conference, *user),
-        Event::Message { n, frame } => say(hub, attended, number_of(joined, *n), frame.bytes()),
+        Event::Message { n, frame } => send(hub, attended, number_of(joined, *n), frame.bytes()),
         Event::Took { n, k } => took_back(hub, attended, number_of(joined, *n), *k),
         Event::Leave { n } => part(hub, attended, number_of(joined, *n)),
-        other => act(hub, attended, alloc, conference, other),
+        Event::Say { user, frame } => {
+            say(hub, attended, alloc, conference, *user, frame.bytes())
+        }
+        Event::Revoke { .. }
+        | Event::Close
+        | Event::AddUser { .. }
+        | Event::AddFloor { .. }
+        | Event::SetChair { .. } => act(hub, attended, alloc, conference, event),
     }
 }
 
@@ -216,7 +223,7 @@ fn number_of(joined: &Vec<ConnNo>, n: u32) -> ConnNo {
 }
 
 /// A message comes from a connection, and is served.
-fn say(hub: &mut Hub, attended: &mut Attended, number: ConnNo, bytes: &[u8]) -> Result<(), Fault>
+fn send(hub: &mut Hub, attended: &mut Attended, number: ConnNo, bytes: &[u8]) -> Result<(), Fault>
     ensures carries { (c : ℕ) → Carries c
         (loop_of hub.old attended.old) (loop_of hub.new attended.new) }
 {
@@ -262,6 +269,23 @@ fn part(hub: &mut Hub, attended: &mut Attended, number: ConnNo) -> Result<(), Fa
     Ok(())
 }
 
+/// Says a message for a user, and wakes whom it concerns. Nobody waits for its answer.
+fn say(
+    hub: &mut Hub,
+    attended: &mut Attended,
+    alloc: Global,
+    conference: u32,
+    user: u16,
+    bytes: &[u8],
+) -> Result<(), Fault>
+    ensures carries { Carries conference
+        (loop_of hub.old attended.old) (loop_of hub.new attended.new) }
+{
+    let said = hub.say(alloc, conference, user, bytes);
+    wake(hub, attended);
+    said_outcome(said)
+}
+
 /// Does an act of the administrator.
 fn act(
     hub: &mut Hub,
@@ -303,13 +327,24 @@ fn act_of(alloc: Global, event: &Event) -> Result<Option<Act>, AllocError> {
         Event::AddUser { user } => Ok(Some(Act::AddUser(user.copy(alloc)?))),
         Event::AddFloor { floor } => Ok(Some(Act::AddFloor(*floor))),
         Event::SetChair { floor, chair } => Ok(Some(Act::SetChair(*floor, *chair))),
-        _ => Ok(None),
+        Event::Join { .. }
+        | Event::Message { .. }
+        | Event::Took { .. }
+        | Event::Leave { .. }
+        | Event::Say { .. } => Ok(None),
     }
 }
 
 fn outcome(done: Result<(), HubRefusal>) -> Result<(), Fault> {
     match done {
         Ok(()) => Ok(()),
+        Err(refusal) => Err(fault_of(refusal)),
+    }
+}
+
+fn said_outcome(said: Result<Said, HubRefusal>) -> Result<(), Fault> {
+    match said {
+        Ok(_answer) => Ok(()),
         Err(refusal) => Err(fault_of(refusal)),
     }
 }

@@ -51,7 +51,24 @@ fn is_leave(event: &Event) -> bool
 {
     match event {
         Event::Leave { n: _n } => true,
-        _ => false,
+        Event::Join { user: _user } => false,
+        Event::Message {
+            n: _n,
+            frame: _frame,
+        } => false,
+        Event::Took { n: _n, k: _k } => false,
+        Event::Revoke { request: _request } => false,
+        Event::Close => false,
+        Event::AddUser { user: _user } => false,
+        Event::AddFloor { floor: _floor } => false,
+        Event::SetChair {
+            floor: _floor,
+            chair: _chair,
+        } => false,
+        Event::Say {
+            user: _user,
+            frame: _frame,
+        } => false,
     }
 }
 
@@ -59,22 +76,47 @@ fn is_leave(event: &Event) -> bool
 fn is_same(event: &Event, other: &Event) -> bool
     ensures value { IsTrue result → event.now ≡ other.now }
 {
-    match (event, other) {
-        (Event::Join { user: a }, Event::Join { user: b }) => *a == *b,
-        (Event::Message { n: m, frame: a }, Event::Message { n, frame: b }) => {
-            *m == *n && a.bytes() == b.bytes()
-        }
-        (Event::Took { n: m, k: a }, Event::Took { n, k: b }) => *m == *n && *a == *b,
-        (Event::Leave { n: m }, Event::Leave { n }) => *m == *n,
-        (Event::Revoke { request: a }, Event::Revoke { request: b }) => *a == *b,
-        (Event::Close, Event::Close) => true,
-        (Event::AddUser { user: a }, Event::AddUser { user: b }) => {
-            is_same_user(a.as_user(), b.as_user())
-        }
-        (Event::AddFloor { floor: a }, Event::AddFloor { floor: b }) => *a == *b,
-        (Event::SetChair { floor: a, chair: c }, Event::SetChair { floor: b, chair: d }) => *a == *b
-            && *c == *d,
-        _ => false,
+    match event {
+        Event::Join { user: a } => match other {
+            Event::Join { user: b } => *a == *b,
+            _ => false,
+        },
+        Event::Message { n: m, frame: a } => match other {
+            Event::Message { n, frame: b } => *m == *n && a.bytes() == b.bytes(),
+            _ => false,
+        },
+        Event::Took { n: m, k: a } => match other {
+            Event::Took { n, k: b } => *m == *n && *a == *b,
+            _ => false,
+        },
+        Event::Leave { n: m } => match other {
+            Event::Leave { n } => *m == *n,
+            _ => false,
+        },
+        Event::Revoke { request: a } => match other {
+            Event::Revoke { request: b } => *a == *b,
+            _ => false,
+        },
+        Event::Close => match other {
+            Event::Close => true,
+            _ => false,
+        },
+        Event::AddUser { user: a } => match other {
+            Event::AddUser { user: b } => is_same_user(a.as_user(), b.as_user()),
+            _ => false,
+        },
+        Event::AddFloor { floor: a } => match other {
+            Event::AddFloor { floor: b } => *a == *b,
+            _ => false,
+        },
+        Event::SetChair { floor: a, chair: c } => match other {
+            Event::SetChair { floor: b, chair: d } => *a == *b && *c == *d,
+            _ => false,
+        },
+        Event::Say { user: m, frame: a } => match other {
+            Event::Say { user: n, frame: b } => *m == *n && a.bytes() == b.bytes(),
+            _ => false,
+        },
     }
 }
 

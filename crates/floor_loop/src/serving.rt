@@ -4,20 +4,22 @@ ghost use Rattle.std.specs.Prelude.{◌≡◌, ◌≢◌, ◌≤◌, ◌<◌, �
 ghost use Rattle.floor_hub.specs.Connections.{connection_at};
 ghost use Rattle.floor_hub.specs.Hub.{is_forgotten, room_at};
 ghost use Rattle.floor_hub.specs.Members.{AreMembers, user_of};
-ghost use Rattle.floor_hub.specs.Rooms.{CutIs, Forgets, IsRemembered, OneRoom, Opens, admin_event, by_broken, refusal_in};
+ghost use Rattle.floor_hub.specs.Rooms.{CutIs, Forgets, IsRemembered, OneRoom, Opens, SameHub, admin_event, by_broken, refusal_in, say_event};
+ghost use Rattle.floor_hub.specs.World.{answer_said};
 ghost use Rattle.floor_hub.specs.declared.connection.Connection.{Connection};
-ghost use Rattle.floor_hub.specs.declared.step.Step.TheVariants.{Admin, Leave, Open, Serve, Took as Takes};
-ghost use Rattle.floor_room.specs.Room.{Room};
+ghost use Rattle.floor_hub.specs.declared.step.Step.TheVariants.{Admin, Leave, Open, Say, Serve, Took as Takes};
+ghost use Rattle.floor_room.specs.Room.{IsRoom, Room};
 ghost use Rattle.floor_room.specs.Standing.{backlog_of, config_of, shown_of};
 ghost use Rattle.floor_room.specs.Status.{IsStatus};
 ghost use Rattle.floor_loop.specs.Laws.{IsNew};
 ghost use Rattle.floor_loop.specs.Loop.{HasFailed, IsEnded, IsFilled, outgoing_at, over_at, parcels_at, ready_at, rest_at, stay_at, until_at};
 ghost use Rattle.floor_loop.specs.Done.{AtMost, Each, Hands, NoSteps, Reads, Returns, Serves, Steps};
-ghost use Rattle.floor_loop.specs.Returned.{IsKeptPlace, Returned, StaysAreOwn};
+ghost use Rattle.floor_loop.specs.Returned.{IsKeptPlace, IsRefusedAs, Returned, StaysAreOwn};
 ghost use Rattle.floor_loop.specs.Written.{Acknowledges, Follow, IsOver, IsServing, IsSparedOrOver, Spares, Took, TookNothing, Wakes, acknowledged_by};
 ghost use Rattle.floor_loop.specs.steps.Moved.{IsLoop, loop_of};
 
 mod away;
+mod keeping;
 
 use crate::attended::Attended;
 use crate::changing::MAX_WRITE;
@@ -26,7 +28,9 @@ use crate::grace::Grace;
 use crate::turn::{
     acknowledge, end, fail, fill, leave_from, read_turn, serve_turn, throw_away, wake,
 };
-use floor_hub::{Act, Config, ConnNo, Event, Hub, HubRefusal, Live, Place, SharedInfo, Status};
+use floor_hub::{
+    Act, Config, ConnNo, Event, Hub, HubRefusal, Live, Place, Said, SharedInfo, Status,
+};
 use std::alloc::Global;
 use std::marker::Model;
 
@@ -36,8 +40,10 @@ const MAX_LEFT: u32 = 4_294_967_295;
 /// A hub, and what is on its way to each of its connections. Times are milliseconds; one that is earlier
 /// than the last counts as the last.
 ///
-/// - Conferences: `open`, `admin`, `forget`; `status`, `journal`, `members`, `user_of`, `config`, `shown` and
+/// - Conferences: `open`, `admin`, `say`, `forget`; `status`, `journal`, `members`, `user_of`, `config`, `shown` and
 ///   `backlog` read.
+/// - Keeping: behind `begin_keeping` nothing is written of a conference while an event that told something isn't
+///   kept; `keep` says how many are, and `end_keeping` that none has to be. `is_kept` reads.
 /// - Connections: `attach`; `read` as bytes come, and again without bytes while it says that more
 ///   wait; `ended` and `failed` at the end of the stream and of the socket; `leave` once the
 ///   connection is shut down.
@@ -64,7 +70,8 @@ impl Model for Loop {
 
 impl Loop {
     ghost use Rattle.floor_hub.specs.StandsFor.{StandsFor};
-    ghost use Rattle.floor_hub.specs.World.{nothing};
+    ghost use Rattle.floor_hub.specs.World.{World, nothing};
+    ghost use Rattle.floor_hub.specs.Calls.{FailsSame};
 
     /// No conference, and no connection. Takes no memory.
     pub fn new(alloc: Global) -> Loop
@@ -89,6 +96,9 @@ impl Loop {
         ensures steps { Steps (AtMost 1 (Open config)) self.old.hub self.new.hub }
         ensures took { TookNothing self.old self.new }
         ensures opened { OnOk result (Opens config self.old.hub self.new.hub) }
+        ensures refused { (w : World) → StandsFor self.old.hub w
+            → IfErr result (FailsSame self.new.hub w (Open config)) }
+        ensures left { OnErr result (SameHub self.old.hub self.new.hub) }
         ensures attended { self.new.attended ≡ self.old.attended }
     {
         self.hub.open(alloc, config)
@@ -117,6 +127,8 @@ impl Loop {
         ensures full { (r : Room) → room_at self.old.hub conference ≡ Some r
             → IsKeptPlace conference user r self.old → OnOk result ⊥ }
         ensures left { OnErr result (self.new.attended.away.back ≡ []) }
+        ensures refused { IfErr result (IsRefusedAs conference user
+            self.old.attended.away.keeps_place self.old.hub self.new.hub) }
         ensures ready { IfOk result (λ number. IsSome (ready_at self.new number)) }
     {
         self.attended.pass(now);
@@ -146,6 +158,7 @@ impl Loop {
             → result ≡ Err HubRefusal.Forgotten }
         ensures found { (r : Room) → room_at self.now.hub conference ≡ Some r
             → MatchResult result (IsStatus r.ledger) (λ _. ⊥) }
+        ensures kept { (r : Room) → room_at self.now.hub conference ≡ Some r → IsRoom r }
     {
         self.hub.status(conference)
     }
@@ -319,6 +332,32 @@ impl Loop {
         done
     }
 
+    /// Says a message for a user, as the hub does.
+    pub fn say(
+        &mut self,
+        alloc: Global,
+        conference: u32,
+        user: u16,
+        message: &[u8],
+        now: u64,
+    ) -> Result<Said, HubRefusal>
+        ensures steps { Steps (AtMost 1 (Say conference user message.now))
+            self.old.hub self.new.hub }
+        ensures said { IfOk result (λ said. (r : Room)
+            × (room_at self.old.hub conference ≡ Some r)
+            × (said ≡ answer_said r.ledger user message.now)) }
+        ensures room { OneRoom by_broken (refusal_in result) (say_event user message.now)
+            conference self.old.hub self.new.hub }
+        ensures took { TookNothing self.old self.new }
+        ensures woke { Wakes self.old self.new }
+        ensures spares { Spares self.old self.new }
+    {
+        self.attended.pass(now);
+        let said = self.hub.say(alloc, conference, user, message);
+        wake(&self.hub, &mut self.attended);
+        said
+    }
+
     /// What is to be written to a connection next, 64 KiB at most: nothing where no live connection has the
     /// number.
     pub fn writing(&self, number: ConnNo) -> &[u8]
@@ -415,8 +454,8 @@ impl Loop {
         fail(&mut self.attended, number);
     }
 
-    /// A connection was shut down: its member leaves, and what waits for it is thrown away. Refused as the hub refuses
-    /// it.
+    /// A connection was shut down: its member leaves, and what waits for it is thrown away, but what isn't handed out
+    /// yet stays in its conference. Refused as the hub refuses it.
     pub fn leave(&mut self, number: ConnNo, now: u64) -> Result<(), HubRefusal>
         ensures steps { Steps (AtMost 1 (Leave number)) self.old.hub self.new.hub }
         ensures took { TookNothing self.old self.new }

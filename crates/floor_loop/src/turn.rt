@@ -1,16 +1,17 @@
 //! A turn of a connection: some of its messages are served, and whoever is concerned is woken.
 
-ghost use Rattle.std.specs.Prelude.{◌≡◌, ◌↔◌, ℕ, IfOk, IsSome, None, OnErr, OnOk, Some, false, nat_eq, option_and_then, true};
+ghost use Rattle.std.specs.Prelude.{◌≡◌, ◌↔◌, ℕ, Bool, IfErr, IfOk, IsSome, None, OnErr, OnOk, Some, false, nat_eq, option_and_then, true};
 ghost use Rattle.floor_room.specs.Room.{Room};
 ghost use Rattle.floor_hub.specs.Concerned.{is_shut};
 ghost use Rattle.floor_hub.specs.Connections.{connection_at};
 ghost use Rattle.floor_hub.specs.Hub.{room_at};
+ghost use Rattle.floor_hub.specs.Members.{Stands};
 ghost use Rattle.floor_hub.specs.Rooms.{Joins};
 ghost use Rattle.floor_hub.specs.declared.connection.Connection.{Connection};
 ghost use Rattle.floor_hub.specs.declared.step.Step.TheVariants.{Attach, Leave, Serve, Took};
 ghost use Rattle.floor_loop.specs.Away.{stay_of};
-ghost use Rattle.floor_loop.specs.Loop.{HasFailed, IsEnded, IsFilled, Outgoing as Way, outgoing_in};
-ghost use Rattle.floor_loop.specs.Returned.{StaysAreOwn};
+ghost use Rattle.floor_loop.specs.Loop.{HasFailed, IsEnded, IsFilled, IsHandedOut, Outgoing as Way, outgoing_in};
+ghost use Rattle.floor_loop.specs.Returned.{IsRefusedAs, StaysAreOwn};
 ghost use Rattle.floor_loop.specs.Done.{AtMost, Hands, NoSteps, Reads, Serves, Steps};
 ghost use Rattle.floor_loop.specs.Written.{Acknowledges, IsOver, IsServing, IsSparedOrOver, IsTimed, Spares, TookNothing, Wakes};
 ghost use Rattle.floor_loop.specs.steps.Found.{Finds};
@@ -19,7 +20,7 @@ ghost use Rattle.floor_loop.specs.steps.Thrown.{Thrown};
 
 use crate::attended::Attended;
 use crate::changing::MAX_PARCELS;
-use floor_hub::{ConnNo, Hub, HubRefusal, Served};
+use floor_hub::{ConnNo, Hub, HubRefusal, Live, Served};
 use floor_room::Phase;
 use std::alloc::Global;
 
@@ -51,6 +52,8 @@ pub(crate) fn attach(
         × (outgoing_in attended.new number ≡ Some o) × IsSome o.ready) }
     ensures others { (k : ℕ) (y : Connection) → connection_at hub.new.connections k ≡ Some y
         → nat_eq conference y.conference ≡ false → WasLive hub.old k y }
+    ensures refused { (keeps_place : Bool) → IfErr result
+        (IsRefusedAs conference user keeps_place hub.old hub.new) }
 {
     let joined = match attended.attach(hub, alloc, conference, user) {
         Ok(joined) => joined,
@@ -179,6 +182,47 @@ pub(crate) fn wake_one(hub: &Hub, attended: &mut Attended, number: ConnNo)
     attended.wake(number);
 }
 
+/// Wakes those of a conference to whom something is handed out that waits for them.
+pub(crate) fn wake_handed(hub: &Hub, attended: &mut Attended, conference: u32)
+    ensures kept { KeepsAll (outgoing_in attended.old) (outgoing_in attended.new) }
+    ensures woken { (number : ℕ) (x : Connection)
+        → connection_at hub.now.connections number ≡ Some x → x.conference ≡ conference
+        → IsHandedOut hub.now attended.new number }
+    ensures ends { SameEnds attended.old attended.new }
+    ensures away { attended.new.away ≡ attended.old.away }
+{
+    match hub.members(conference) {
+        Ok(live) => wake_each(hub, attended, live),
+        Err(_) => {}
+    }
+}
+
+/// Wakes those of these connections to whom something is handed out that waits for them.
+fn wake_each(hub: &Hub, attended: &mut Attended, live: &[Live])
+    ensures kept { KeepsAll (outgoing_in attended.old) (outgoing_in attended.new) }
+    ensures woken { (number n : ℕ) → Stands live.now number n
+        → IsHandedOut hub.now attended.new number }
+    ensures ends { SameEnds attended.old attended.new }
+    ensures away { attended.new.away ≡ attended.old.away }
+{
+    for one in live {
+        wake_first(hub, attended, one.number);
+    }
+}
+
+/// Wakes a connection to which something is handed out that waits for it.
+fn wake_first(hub: &Hub, attended: &mut Attended, number: ConnNo)
+    ensures kept { KeepsAll (outgoing_in attended.old) (outgoing_in attended.new) }
+    ensures woken { IsHandedOut hub.now attended.new number }
+    ensures ends { SameEnds attended.old attended.new }
+    ensures away { attended.new.away ≡ attended.old.away }
+{
+    match hub.first(number) {
+        Some(_) => attended.wake(number),
+        None => {}
+    }
+}
+
 /// Whether nothing more is told to a connection: its member is cut, or its conference is ended or broken
 /// off.
 pub(crate) fn is_over(hub: &Hub, attended: &Attended, number: ConnNo) -> bool
@@ -254,7 +298,7 @@ pub(crate) fn fail(attended: &mut Attended, number: ConnNo)
 }
 
 /// Throws away what is on its way to a connection that leaves and what waits for it, so that its conference's room
-/// keeps none of it.
+/// keeps none of it where all that was told is kept.
 pub(crate) fn throw_away(hub: &mut Hub, attended: &mut Attended, number: ConnNo)
     ensures thrown { Thrown number (loop_of hub.old attended.old) (loop_of hub.new attended.new) }
     ensures away { attended.new.away ≡ attended.old.away }

@@ -176,12 +176,13 @@ may_words q request verdicts may lasting = by (request_at q.ongoing request) may
     by (Some r) h = may_each r verdicts h.0 h.1 lasting
 
 -- so may what it comes to
-may_accept : (s : Conference) (n user : ℕ) (a : Ask) → MayServe s user a → MayChange s (accepted n user a).change
+may_accept : (s : Conference) (n : Option ℕ) (user : ℕ) (a : Ask) → MayServe s user a → MayChange s (accepted n user a).change
 may_accept s n user (FloorRequest beneficiary floors priority info) may = may
 may_accept s n user (FloorRelease request) may = (may, tt)
 may_accept s n user (FloorRequestQuery request) may = tt
 may_accept s n user (UserQuery beneficiary) may = tt
-may_accept s n user (FloorQuery floors) may = tt
+may_accept s None user (FloorQuery floors) may = tt
+may_accept s (Some n) user (FloorQuery floors) may = tt
 may_accept s n user (ChairAction request verdicts reason) may = by (list_any (λ v. is_final v.1) verdicts) refl
   where
     ongoing : (P : Request → Type 0) (o : Option Request) → IsSomeAnd o P → IsSome o
@@ -194,14 +195,14 @@ may_accept s n user (ChairAction request verdicts reason) may = by (list_any (λ
 may_accept s n user Hello may = tt
 
 -- what is asked comes to what may be done
-may_asked : (s : Conference) (n user : ℕ) (a : Ask) → FitsButForCounts a → MayChange s (asked s n user a).change
+may_asked : (s : Conference) (n : Option ℕ) (user : ℕ) (a : Ask) → FitsButForCounts a → MayChange s (asked s n user a).change
 may_asked s n user a fits = by (refusal s user a) refl
   where
     by : (o : Option ErrorCode) → o ≡ refusal s user a → MayChange s (option_map_or refused_by o (accepted n user a)).change
     by None free = may_accept s n user a (may_serve s user a fits free)
     by (Some code) free = tt
 
-details_accepted : (n user : ℕ) (a : Ask) → DetailsFit (accepted n user a).reply
+details_accepted : (n : Option ℕ) (user : ℕ) (a : Ask) → DetailsFit (accepted n user a).reply
 details_accepted n user (FloorRequest beneficiary floors priority info) = tt
 details_accepted n user (FloorRelease request) = tt
 details_accepted n user (FloorRequestQuery request) = tt
@@ -211,7 +212,7 @@ details_accepted n user (ChairAction request verdicts reason) = tt
 details_accepted n user Hello = tt
 
 -- and the details of its Error, if it is answered by one, fit
-details_asked : (s : Conference) (n user : ℕ) (a : Ask) → DetailsFit (asked s n user a).reply
+details_asked : (s : Conference) (n : Option ℕ) (user : ℕ) (a : Ask) → DetailsFit (asked s n user a).reply
 details_asked s n user a = by (refusal s user a)
   where
     by : (o : Option ErrorCode) → DetailsFit (option_map_or refused_by o (accepted n user a)).reply
@@ -223,9 +224,9 @@ if_same P d (Ok x) h same = subst P (sym same) h
 if_same P d (Err e) h same = tt
 
 -- what is decided of what is asked may be done
-pub may_decided : {E : Type 0} (s : Conference) (n user : ℕ) (a : Ask) (r : Result Decision E) → FitsButForCounts a → IfOk r (λ d. d ≡ asked s n user a) → IfOk r (λ d. MayChange s d.change)
+pub may_decided : {E : Type 0} (s : Conference) (n : Option ℕ) (user : ℕ) (a : Ask) (r : Result Decision E) → FitsButForCounts a → IfOk r (λ d. d ≡ asked s n user a) → IfOk r (λ d. MayChange s d.change)
 may_decided s n user a r fits same = if_same (λ d. MayChange s d.change) (asked s n user a) r (may_asked s n user a fits) same
 
 -- and the details of its Error fit
-pub details_decided : {E : Type 0} (s : Conference) (n user : ℕ) (a : Ask) (r : Result Decision E) → IfOk r (λ d. d ≡ asked s n user a) → IfOk r (λ d. DetailsFit d.reply)
+pub details_decided : {E : Type 0} (s : Conference) (n : Option ℕ) (user : ℕ) (a : Ask) (r : Result Decision E) → IfOk r (λ d. d ≡ asked s n user a) → IfOk r (λ d. DetailsFit d.reply)
 details_decided s n user a r same = if_same (λ d. DetailsFit d.reply) (asked s n user a) r (details_asked s n user a) same

@@ -11,30 +11,31 @@ use Rattle.floor_message.specs.Ask.{Answer, asks, refused, unanswered, ask}
 use Rattle.floor_message.specs.declared.code.ErrorCode.{ErrorCode}
 use Rattle.floor_message.specs.declared.tell.Tell.TheVariants.{FloorRequestStatus}
 use Rattle.floor_machine.specs.declared.event.Event.{Event}
-use Rattle.floor_machine.specs.declared.event.Event.TheVariants.{Message}
+use Rattle.floor_machine.specs.declared.event.Event.TheVariants.{Message, Say}
 use Rattle.floor_machine.specs.declared.decision.Change.TheVariants as to
 use Rattle.floor_machine.specs.declared.member.Member.{Member}
-use Rattle.floor_machine.specs.Conference.{Conference, binding, member_with, opening, user_of}
+use Rattle.floor_machine.specs.Conference.{Conference, binding, binding_for, member_with, opening, user_of}
 use Rattle.floor_machine.specs.Change.{change, no_change, settled}
 use Rattle.floor_machine.specs.Checks.{refusal}
+use Rattle.floor_machine.specs.Said.{said}
 use Rattle.floor_machine.specs.Journal.{parcel, told_from}
 use Rattle.floor_machine.specs.Outgoing.{Outgoing, notice, outgoing_bytes}
 use Rattle.floor_machine.specs.Parcel.{Parcel}
-use Rattle.floor_machine.specs.Reachable.{LeavesAlone, Sent, but_for, is_unaccepted, uncounted}
+use Rattle.floor_machine.specs.Reachable.{LeavesAll, LeavesAlone, Sent, but_for, is_unaccepted, uncounted}
 use Rattle.floor_machine.specs.Reply.{floor_status_tell, reply}
 use Rattle.floor_machine.specs.steps.Deciding.{accepted, change_by, decision_of, refused_by}
 use Rattle.floor_machine.specs.Told.{Changed, changed_floors, changed_requests, is_told, reply_to, due, due_to}
 use Rattle.floor_machine.proofs.Found.{and_left}
 use Rattle.floor_machine.proofs.Kept.{kept-nothing, next-kept, still-kept}
-use Rattle.floor_machine.proofs.Quiet.{IsStill, floors-kept, requests-kept}
-use Rattle.floor_machine.proofs.Served.{change-decided}
-use Rattle.floor_machine.proofs.Counted.{counted-quiet}
+use Rattle.floor_machine.proofs.Quiet.{IsStill, due-unsent, floors-kept, requests-kept}
+use Rattle.floor_machine.proofs.Served.{change-decided, change-message, change-said}
+use Rattle.floor_machine.proofs.Counted.{counted-quiet, next-quiet}
 use Rattle.floor_machine.proofs.Sent.{sent_is_told, told-nothing}
 use Rattle.floor_machine.specs.Next.{counted, next}
 use Rattle.floor_machine.proofs.Telling.{due-member}
 
 -- what isn't accepted changes nothing
-unaccepted : (s : Conference) (n user : ℕ) (a : Answer) → is_unaccepted s user a ≡ true → (decision_of s n user a).change ≡ to.Nothing
+unaccepted : (s : Conference) (n : Option ℕ) (user : ℕ) (a : Answer) → is_unaccepted s user a ≡ true → (decision_of s n user a).change ≡ to.Nothing
 unaccepted s n user unanswered h = refl
 unaccepted s n user (refused code details) h = refl
 unaccepted s n user (asks a) h = by (refusal s user a) h
@@ -95,7 +96,7 @@ pub leaves_alone : (s : Conference) (n : ℕ) (bytes : List ℕ) → settle s.co
 leaves_alone s n bytes is_settled ascending refused_is =
     let e : Event = Message n bytes in
     let nothing : change s e ≡ no_change s =
-    change-decided s n bytes (ask bytes (binding s n)) refl ∙ ap (change_by s) (unaccepted s n (user_of s n) (ask bytes (binding s n)) refused_is) in
+    change-message s n bytes ∙ change-decided s (Some n) (user_of s n) (ask bytes (binding s n)) ∙ ap (change_by s) (unaccepted s (Some n) (user_of s n) (ask bytes (binding s n)) refused_is) in
     let kept : IsStill s e = still-kept s e (no_change s) s nothing (kept-nothing s is_settled) in
     let unmoved : settled s e ≡ s = sym (next-kept s e (no_change s) s nothing (kept-nothing s is_settled)) in
     let silent : (i : ℕ) → i ≢ n → due s e i ≡ [] = λ i other. due-member s e i refl
@@ -113,6 +114,21 @@ leaves_alone s n bytes is_settled ascending refused_is =
     due-found s n bytes i None is other requests floors = refl
     due-found s n bytes i (Some m) is other requests floors =
         due-other s n bytes m (apart n m.n i (found_number (settled s (Message n bytes)).members i m is) other) requests floors
+
+-- one that is said leaves all
+pub leaves_all : (s : Conference) (user : ℕ) (bytes : List ℕ) → settle s.config.floors s.ongoing ≡ s.ongoing → is_ascending s.ongoing ≡ true →
+    is_unaccepted s user (said bytes (binding_for s user)) ≡ true → LeavesAll s user bytes
+leaves_all s user bytes is_settled ascending refused_is =
+    let e : Event = Say user bytes in
+    let nothing : change s e ≡ no_change s =
+    change-said s user bytes ∙ change-decided s None user (said bytes (binding_for s user)) ∙ ap (change_by s) (unaccepted s None user (said bytes (binding_for s user)) refused_is) in
+    let kept : IsStill s e = still-kept s e (no_change s) s nothing (kept-nothing s is_settled) in
+    let unmoved : settled s e ≡ s = sym (next-kept s e (no_change s) s nothing (kept-nothing s is_settled)) in
+    let silent : (i : ℕ) → due s e i ≡ [] = due-unsent s e refl (λ k. refl) kept ascending in
+    record {
+      next = sym (next-quiet s e silent) ∙ unmoved;
+      told = λ i. told-nothing s e i (silent i);
+    }
 
 -- the bytes of parcels to n
 bytes-parcels : (n : ℕ) (ms : List Outgoing) → map (λ (p : Parcel). p.bytes) (map (parcel n) ms) ≡ map outgoing_bytes ms

@@ -81,10 +81,10 @@ found : (o : Option Ask) (a : Ask) → asks_if_any o ≡ asks a → o ≡ Some a
 found None a e = cc
 found (Some b) a e = cc
 
-once_wanted : (p : Option Primitive) (attrs : Option Attributes) (a : Ask) → asks_if_any (wanted p attrs) ≡ asks a → AreOnce a
+once_wanted : (p : Option Primitive) (attrs : Option Attributes) (a : Ask) → wanted p attrs ≡ Some a → AreOnce a
 once_wanted None attrs a e = cc
 once_wanted (Some p) None a e = cc
-once_wanted (Some p) (Some attrs) a e = once_fields p (items attrs) a (found (fields p (items attrs)) a e)
+once_wanted (Some p) (Some attrs) a e = once_fields p (items attrs) a e
 
 -- a check that refuses doesn't apply where something is asked
 passed : (b : Bool) (kind : ErrorCode) (details : List ℕ) (checks : List Check) (other : Answer) (a : Ask) →
@@ -97,9 +97,10 @@ answered : (b : Bool) (checks : List Check) (other : Answer) (a : Ask) → first
 answered true checks other a e = cc
 answered false checks other a e = e
 
-once_answer : (h : CommonHeader) (b : Binding) (p : Option Primitive) (attrs : Option Attributes) (a : Ask) →
-    first_of (checks h b p attrs) (asks_if_any (wanted p attrs)) ≡ asks a → AreOnce a
-once_answer h b p attrs a e =
+-- what is asked is what the attributes ask
+pub asked-wanted : (h : CommonHeader) (b : Binding) (p : Option Primitive) (attrs : Option Attributes) (a : Ask) →
+    first_of (checks h b p attrs) (asks_if_any (wanted p attrs)) ≡ asks a → wanted p attrs ≡ Some a
+asked-wanted h b p attrs a e =
     let types = unknown_types attrs in
     let other = asks_if_any (wanted p attrs) in
     let nothing : List Check = [] in
@@ -119,7 +120,11 @@ once_answer h b p attrs a e =
     let e7 = passed (not (is_served p)) code.UnknownPrimitive [] unparsed other a e6 in
     let e8 = passed (not (is_some attrs)) code.UnableToParseMessage [] unknown other a e7 in
     let e9 = passed (has_any types) code.UnknownMandatoryAttribute (map (λ k. 2 * k) types) unread other a e8 in
-    once_wanted p attrs a (passed (not (is_some (wanted p attrs))) code.UnableToParseMessage [] nothing other a e9)
+    found (wanted p attrs) a (passed (not (is_some (wanted p attrs))) code.UnableToParseMessage [] nothing other a e9)
+
+once_answer : (h : CommonHeader) (b : Binding) (p : Option Primitive) (attrs : Option Attributes) (a : Ask) →
+    first_of (checks h b p attrs) (asks_if_any (wanted p attrs)) ≡ asks a → AreOnce a
+once_answer h b p attrs a e = once_wanted p attrs a (asked-wanted h b p attrs a e)
 
 -- the floors that a FloorQuery asks about differ
 pub asked_once : (bytes : List ℕ) (b : Binding) (floors : List ℕ) → ask bytes b ≡ asks (FloorQuery floors) → IsOnceBy (λ n. n) floors

@@ -13,12 +13,13 @@ use Rattle.floor_queue.specs.Queue.{is_ascending}
 use Rattle.floor_message.specs.Ask.{Answer, asks, refused, unanswered, ask}
 use Rattle.floor_message.specs.declared.ask.Ask.{Ask}
 use Rattle.floor_message.specs.declared.ask.Ask.TheVariants.{FloorRequest, FloorRelease, FloorRequestQuery, UserQuery, FloorQuery, ChairAction, Hello}
+use Rattle.floor_machine.specs.Said.{said}
 use Rattle.floor_machine.specs.declared.event.Event.{Event}
-use Rattle.floor_machine.specs.declared.event.Event.TheVariants.{Join, Message, Took, Leave, Revoke, Close, AddUser, AddFloor, SetChair}
+use Rattle.floor_machine.specs.declared.event.Event.TheVariants.{Join, Message, Took, Leave, Revoke, Close, AddUser, AddFloor, SetChair, Say}
 use Rattle.floor_machine.specs.declared.member.Member.{Member}
 use Rattle.floor_machine.specs.Parcel.{Parcel}
 use Rattle.floor_machine.specs.Outgoing.{Outgoing, outgoing_bytes}
-use Rattle.floor_machine.specs.Conference.{Conference, backlog, binding, is_cut, is_numbered_from, joining, opening, user_of}
+use Rattle.floor_machine.specs.Conference.{Conference, backlog, binding, binding_for, is_cut, is_numbered_from, joining, opening, user_of}
 use Rattle.floor_machine.specs.Checks.{refusal}
 use Rattle.floor_machine.specs.Events.{acknowledged_by}
 use Rattle.floor_machine.specs.Change.{IsLawful, acknowledging, asked_change, change, leaving, members_after, message_change, no_change, settled, watching}
@@ -115,28 +116,29 @@ n-leaving n m = by (m.n == n)
     by true = refl
     by false = refl
 
-said-asked : {B : Type 0} (g : Member → B) (d : B) → IsSteady g d → (s : Conference) (k n : ℕ) (a : Ask) → said_of g d n (members_after s k a) ≡ said_of g d n s.members
+said-asked : {B : Type 0} (g : Member → B) (d : B) → IsSteady g d → (s : Conference) (k : Option ℕ) (n : ℕ) (a : Ask) → said_of g d n (members_after s k a) ≡ said_of g d n s.members
 said-asked g d steady s k n (FloorRequest beneficiary floors priority info) = refl
 said-asked g d steady s k n (FloorRelease request) = refl
 said-asked g d steady s k n (FloorRequestQuery request) = refl
 said-asked g d steady s k n (UserQuery beneficiary) = refl
-said-asked g d steady s k n (FloorQuery floors) = said-map g d (watching k floors) (n-watching k floors) (steady.watch k floors) n s.members
+said-asked g d steady s None n (FloorQuery floors) = refl
+said-asked g d steady s (Some k) n (FloorQuery floors) = said-map g d (watching k floors) (n-watching k floors) (steady.watch k floors) n s.members
 said-asked g d steady s k n (ChairAction request verdicts reason) = refl
 said-asked g d steady s k n Hello = refl
 
-said-message : {B : Type 0} (g : Member → B) (d : B) → IsSteady g d → (s : Conference) (k n : ℕ) (a : Answer) → said_of g d n (message_change s k a).members ≡ said_of g d n s.members
-said-message g d steady s k n unanswered = refl
-said-message g d steady s k n (refused code details) = refl
-said-message {B = B} g d steady s k n (asks a) = by (is_some (refusal s (user_of s k) a))
+said-message : {B : Type 0} (g : Member → B) (d : B) → IsSteady g d → (s : Conference) (k : Option ℕ) (user n : ℕ) (a : Answer) → said_of g d n (message_change s k user a).members ≡ said_of g d n s.members
+said-message g d steady s k user n unanswered = refl
+said-message g d steady s k user n (refused code details) = refl
+said-message {B = B} g d steady s k user n (asks a) = by (is_some (refusal s user a))
   where
-    by : (b : Bool) → said_of g d n (cond b (no_change s) (asked_change s k a)).members ≡ said_of g d n s.members
+    by : (b : Bool) → said_of g d n (cond b (no_change s) (asked_change s k user a)).members ≡ said_of g d n s.members
     by true = refl
     by false = said-asked g d steady s k n a
 
 said-change : {B : Type 0} (g : Member → B) (d : B) → IsSteady g d → (s : Conference) (e : Event) (n : ℕ) → is_untaking e ≡ true → said_of g d n (change s e).members ≡ said_of g d n s.members
 unfolding change
 said-change g d steady s (Join user) n h = said-push g d (joining (length s.members + 1) user) (steady.join (length s.members + 1) user) n s.members
-said-change g d steady s (Message k bytes) n h = said-message g d steady s k n (ask bytes (binding s k))
+said-change g d steady s (Message k bytes) n h = said-message g d steady s (Some k) (user_of s k) n (ask bytes (binding s k))
 said-change g d steady s (Took k many) n h = cc
 said-change g d steady s (Leave k) n h = said-map g d (leaving k) (n-leaving k) (steady.leave k) n s.members
 said-change g d steady s (Revoke request) n h = refl
@@ -144,6 +146,7 @@ said-change g d steady s Close n h = refl
 said-change g d steady s (AddUser user) n h = refl
 said-change g d steady s (AddFloor floor) n h = refl
 said-change g d steady s (SetChair floor chair) n h = refl
+said-change g d steady s (Say user bytes) n h = said-message g d steady s None user n (said bytes (binding_for s user))
 
 said-settled : {B : Type 0} (g : Member → B) (d : B) → IsSteady g d → (s : Conference) (e : Event) (n : ℕ) → is_untaking e ≡ true → said_of g d n (settled s e).members ≡ said_of g d n s.members
 unfolding settled
@@ -307,28 +310,29 @@ within-taken many m h = by m.is_cut (nat_le (m.backlog + many) 1024) refl
     by false true is = below (m.backlog + many) is
     by false false is = h
 
-within-asked : (s : Conference) (n : ℕ) (a : Ask) → AreWithin s.members → AreWithin (members_after s n a)
+within-asked : (s : Conference) (n : Option ℕ) (a : Ask) → AreWithin s.members → AreWithin (members_after s n a)
 within-asked s n (FloorRequest beneficiary floors priority info) h = h
 within-asked s n (FloorRelease request) h = h
 within-asked s n (FloorRequestQuery request) h = h
 within-asked s n (UserQuery beneficiary) h = h
-within-asked s n (FloorQuery floors) h = within-map (watching n floors) (within-watching n floors) s.members h
+within-asked s None (FloorQuery floors) h = h
+within-asked s (Some n) (FloorQuery floors) h = within-map (watching n floors) (within-watching n floors) s.members h
 within-asked s n (ChairAction request verdicts reason) h = h
 within-asked s n Hello h = h
 
-within-message : (s : Conference) (n : ℕ) (a : Answer) → AreWithin s.members → AreWithin (message_change s n a).members
-within-message s n unanswered h = h
-within-message s n (refused code details) h = h
-within-message s n (asks a) h = by (is_some (refusal s (user_of s n) a))
+within-message : (s : Conference) (n : Option ℕ) (user : ℕ) (a : Answer) → AreWithin s.members → AreWithin (message_change s n user a).members
+within-message s n user unanswered h = h
+within-message s n user (refused code details) h = h
+within-message s n user (asks a) h = by (is_some (refusal s user a))
   where
-    by : (b : Bool) → AreWithin (cond b (no_change s) (asked_change s n a)).members
+    by : (b : Bool) → AreWithin (cond b (no_change s) (asked_change s n user a)).members
     by true = h
     by false = within-asked s n a h
 
 within-change : (s : Conference) (e : Event) → AreWithin s.members → AreWithin (change s e).members
 unfolding change
 within-change s (Join user) h = All-push IsWithin s.members (joining (length s.members + 1) user) h (omega arith)
-within-change s (Message n bytes) h = within-message s n (ask bytes (binding s n)) h
+within-change s (Message n bytes) h = within-message s (Some n) (user_of s n) (ask bytes (binding s n)) h
 within-change s (Took n k) h = within-map (acknowledging n k) (within-acknowledging n k) s.members h
 within-change s (Leave n) h = within-map (leaving n) (within-leaving n) s.members h
 within-change s (Revoke request) h = h
@@ -336,6 +340,7 @@ within-change s Close h = h
 within-change s (AddUser user) h = h
 within-change s (AddFloor floor) h = h
 within-change s (SetChair floor chair) h = h
+within-change s (Say user bytes) h = within-message s None user (said bytes (binding_for s user)) h
 
 within-settled : (s : Conference) (e : Event) → AreWithin s.members → AreWithin (settled s e).members
 unfolding settled
@@ -359,6 +364,7 @@ within-next s Close is_settled ascending numbered h = within-untaking s Close re
 within-next s (AddUser user) is_settled ascending numbered h = within-untaking s (AddUser user) refl numbered h
 within-next s (AddFloor floor) is_settled ascending numbered h = within-untaking s (AddFloor floor) refl numbered h
 within-next s (SetChair floor chair) is_settled ascending numbered h = within-untaking s (SetChair floor chair) refl numbered h
+within-next s (Say user bytes) is_settled ascending numbered h = within-untaking s (Say user bytes) refl numbered h
 
 -- what is told to n is added to its backlog, where it is a member
 said-counted : (s : Conference) (e : Event) (n : ℕ) (ms : List Member) →
@@ -436,6 +442,7 @@ backlog-settled s Close n lawful = omega (arith, said-settled backlog_of 0 backl
 backlog-settled s (AddUser user) n lawful = omega (arith, said-settled backlog_of 0 backlog-steady s (AddUser user) n refl)
 backlog-settled s (AddFloor floor) n lawful = omega (arith, said-settled backlog_of 0 backlog-steady s (AddFloor floor) n refl)
 backlog-settled s (SetChair floor chair) n lawful = omega (arith, said-settled backlog_of 0 backlog-steady s (SetChair floor chair) n refl)
+backlog-settled s (Say user bytes) n lawful = omega (arith, said-settled backlog_of 0 backlog-steady s (Say user bytes) n refl)
 
 -- what lawful events tell n is what they acknowledge, and what is added to its backlog
 counted-run : (s : Conference) (es : List Event) (n : ℕ) → IsLawfulFrom s es →
@@ -495,6 +502,7 @@ cut-settled s Close n = said-settled cut_of false cut-steady s Close n refl
 cut-settled s (AddUser user) n = said-settled cut_of false cut-steady s (AddUser user) n refl
 cut-settled s (AddFloor floor) n = said-settled cut_of false cut-steady s (AddFloor floor) n refl
 cut-settled s (SetChair floor chair) n = said-settled cut_of false cut-steady s (SetChair floor chair) n refl
+cut-settled s (Say user bytes) n = said-settled cut_of false cut-steady s (Say user bytes) n refl
 
 pub cut-next : (s : Conference) (e : Event) (n : ℕ) → is_cut s n ≡ true → is_cut (next s e) n ≡ true
 unfolding next

@@ -34,12 +34,15 @@ use Rattle.floor_message.specs.declared.tell.Tell.{Tell}
 use Rattle.floor_message.specs.declared.tell.Tell.TheVariants.{FloorRequestStatus, Error}
 use Rattle.floor_message.specs.declared.status.RequestStatus.{RequestStatus}
 use Rattle.floor_message.specs.Head.{response_head}
+use Rattle.floor_machine.proofs.Speaking.{said-asks}
+use Rattle.floor_machine.proofs.Spoken.{MaySay, said-may}
+use Rattle.floor_machine.specs.Said.{said}
 use Rattle.floor_machine.specs.declared.event.Event.{Event}
-use Rattle.floor_machine.specs.declared.event.Event.TheVariants.{Join, Message, Took, Leave, Revoke, Close, AddUser, AddFloor, SetChair}
+use Rattle.floor_machine.specs.declared.event.Event.TheVariants.{Join, Message, Took, Leave, Revoke, Close, AddUser, AddFloor, SetChair, Say}
 use Rattle.floor_machine.specs.declared.decision.Decision.{Decision}
 use Rattle.floor_machine.specs.declared.member.Member.{Member}
 use Rattle.floor_machine.specs.Amount.{MessageIsShort}
-use Rattle.floor_machine.specs.Conference.{Conference, binding, member_with, opening, user_of}
+use Rattle.floor_machine.specs.Conference.{Conference, binding, binding_for, member_with, opening, user_of}
 use Rattle.floor_machine.specs.Shown.{Entry, entry_of, info_of, ongoing_of}
 use Rattle.floor_machine.specs.Checks.{first_of, refusal, when}
 use Rattle.floor_machine.specs.Change.{Change, asked_change, change, decided_at, dismissed, ending, ends_at, ends_without, entries_after, is_final, leaving, IsLawful, message_change, queue_of, settled, no_change, reasoned, reasoned_among, released, shown}
@@ -60,7 +63,7 @@ use Rattle.floor_machine.proofs.Changing.{numbers-added, numbers_in-decided, ris
 use Rattle.floor_machine.proofs.Entries.{entry_with, filter-number, numbers_in-entries, numbers_in-settled}
 use Rattle.floor_machine.proofs.Found.{and_left, and_right}
 use Rattle.floor_machine.proofs.Quiet.{floors-kept, requests-kept, still}
-use Rattle.floor_machine.proofs.Served.{change-decided}
+use Rattle.floor_machine.proofs.Served.{change-decided, change-message}
 use Rattle.floor_machine.proofs.Reachable.{Keeps, SettlesOnce, keeps-after, keeps-next, keeps-opening}
 use Rattle.floor_machine.proofs.Reasoned.{numbers-reasoned}
 use Rattle.floor_machine.proofs.Telling.{due-member}
@@ -118,19 +121,21 @@ few-asked s user (ChairAction request verdicts reason) k may = by (list_any (λ 
     by false = of_ongoing s _ k (numbers_in-decided request verdicts qs ∙ numbers-reasoned request reason s.ongoing)
 few-asked s user Hello k may = of_ongoing s _ k (numbers_in-entries s.ongoing)
 
-few-message : (s : Conference) (n : ℕ) (a : Answer) → ((x : Ask) → a ≡ asks x → FitsButForCounts x) → Keeps s → AreFew (message_change s n a).entries
-few-message s n unanswered fits k = of_ongoing s _ k (numbers_in-entries s.ongoing)
-few-message s n (refused code details) fits k = of_ongoing s _ k (numbers_in-entries s.ongoing)
-few-message s n (asks a) fits k = by (refusal s (user_of s n) a) refl
+few-message : (s : Conference) (n : Option ℕ) (user : ℕ) (a : Answer) → ((x : Ask) → a ≡ asks x → FitsButForCounts x) → Keeps s → AreFew (message_change s n user a).entries
+few-message s n user unanswered fits k = of_ongoing s _ k (numbers_in-entries s.ongoing)
+few-message s n user (refused code details) fits k = of_ongoing s _ k (numbers_in-entries s.ongoing)
+few-message s n user (asks a) fits k = by (refusal s user a) refl
   where
-    by : (o : Option ErrorCode) → o ≡ refusal s (user_of s n) a → AreFew (cond (is_some o) (no_change s) (asked_change s n a)).entries
-    by None is = few-asked s (user_of s n) a k (may_serve s (user_of s n) a (fits a refl) is)
+    by : (o : Option ErrorCode) → o ≡ refusal s user a → AreFew (cond (is_some o) (no_change s) (asked_change s n user a)).entries
+    by None is = few-asked s user a k (may_serve s user a (fits a refl) is)
     by (Some code) is = of_ongoing s _ k (numbers_in-entries s.ongoing)
 
 few-change : (s : Conference) (e : Event) → WhatIsAskedFits → Keeps s → AreFew (change s e).entries
 unfolding change
 few-change s (Join user) law k = of_ongoing s _ k (numbers_in-entries s.ongoing)
-few-change s (Message n bytes) law k = few-message s n (ask bytes (binding s n)) (λ x is. law bytes (binding s n) x is) k
+few-change s (Message n bytes) law k = few-message s (Some n) (user_of s n) (ask bytes (binding s n)) (λ x is. law bytes (binding s n) x is) k
+few-change s (Say user bytes) law k =
+    few-message s None user (said bytes (binding_for s user)) (λ x is. law bytes (binding_for s user) x (said-asks bytes (binding_for s user) x is)) k
 few-change s (Took n j) law k = of_ongoing s _ k (numbers_in-entries s.ongoing)
 few-change s (Leave n) law k = of_ongoing s _ k (numbers_in-ends (ends_without (map (leaving n) s.members) (user_of s n)) s.ongoing)
 few-change s (Revoke request) law k = of_ongoing s _ k (numbers_in-ends (ends_at request dismissed) s.ongoing)
@@ -246,11 +251,11 @@ sum-queried : (s : Conference) (n : ℕ) (bytes : List ℕ) (floors : List ℕ) 
     Keeps s → length s.config.floors ≤ 32 → Sum s (Message n bytes) (length (floor_answers (settled s (Message n bytes)) floors))
 sum-queried s n bytes floors is none k most =
     let e : Event = Message n bytes in
-    let j : Decision = accepted n (user_of s n) (FloorQuery floors) in
-    let heard : j ≡ decision_of s n (user_of s n) (ask bytes (binding s n)) =
-    ap (λ (o : Option ErrorCode). option_map_or refused_by o j) none ∙ ap (decision_of s n (user_of s n)) (sym is) in
+    let j : Decision = accepted (Some n) (user_of s n) (FloorQuery floors) in
+    let heard : j ≡ decision_of s (Some n) (user_of s n) (ask bytes (binding s n)) =
+    ap (λ (o : Option ErrorCode). option_map_or refused_by o j) none ∙ ap (decision_of s (Some n) (user_of s n)) (sym is) in
     let entries : (change s e).entries ≡ map entry_of s.ongoing =
-    ap (λ (c : Change). c.entries) (change-decided s n bytes (ask bytes (binding s n)) refl ∙ ap (λ (d : Decision). change_by s d.change) (sym heard)) in
+    ap (λ (c : Change). c.entries) (change-message s n bytes ∙ change-decided s (Some n) (user_of s n) (ask bytes (binding s n)) ∙ ap (λ (d : Decision). change_by s d.change) (sym heard)) in
     let no_requests : length (changed_requests s e) ≡ 0 = ap (λ (cs : List Changed). length cs) (requests-kept s e (still s e refl entries k.settled) k.queue.ascending) in
     let no_floors : length (changed_floors s e) ≡ 0 = ap (λ (fs : List Floor). length fs) (floors-kept s e (still s e refl entries k.settled)) in
     let known : list_all (is_floor s.config.floors) floors ≡ true = queried-floors s (user_of s n) floors none in
@@ -294,8 +299,40 @@ headed-length : (head : Head) (tells : List Tell) → length (headed head tells)
 headed-length head [] = refl
 headed-length head (tell ∷ tells) = omega (arith, length-map tells (notice head.conference head.user))
 
+-- what is said is answered by one message at most
+answer-once : (s : Conference) (e : Event) (user : ℕ) (a : Ask) → MaySay a → AreFew (shown s e) → length (answer_tells s e user a) ≤ 1
+answer-once s e user (FloorRequest beneficiary floors priority info) may few = status-few s.config (shown s e) (s.given + 1) few
+answer-once s e user (FloorRelease request) may few = status-few s.config (shown s e) request few
+answer-once s e user (FloorRequestQuery request) may few = absurd may
+answer-once s e user (UserQuery beneficiary) may few = absurd may
+answer-once s e user (FloorQuery floors) may few = absurd may
+answer-once s e user (ChairAction request verdicts reason) may few = omega arith
+answer-once s e user Hello may few = absurd may
+
+reply-once : (s : Conference) (e : Event) (user : ℕ) (a : Answer) → ((x : Ask) → a ≡ asks x → MaySay x) → AreFew (shown s e) → length (reply_tells s e user a) ≤ 1
+reply-once s e user unanswered may few = omega arith
+reply-once s e user (refused code details) may few = omega arith
+reply-once s e user (asks a) may few = by (refusal s user a)
+  where
+    by : (o : Option ErrorCode) → length (option_map_or (λ code. Error (code_number code) [] ∷ []) o (answer_tells s e user a)) ≤ 1
+    by None = answer-once s e user a (may a refl) few
+    by (Some code) = omega arith
+
+pub said-once : (s : Conference) (user : ℕ) (bytes : List ℕ) → WhatIsAskedFits → Keeps s → length (reply s (Say user bytes)) ≤ 1
+unfolding reply
+said-once s user bytes law k =
+    let e : Event = Say user bytes in
+    let a : Answer = said bytes (binding_for s user) in
+    let once : length (reply_tells s e user a) ≤ 1 = reply-once s e user a (λ x is. said-may bytes (binding_for s user) x is) (few-shown s e law k) in
+    omega (arith, headed-length (response_head bytes) (reply_tells s e user a), once)
+
+-- the answer that a member is told
+abbrev reply_told : Conference → Event → List Outgoing
+reply_told s (Message n bytes) = reply s (Message n bytes)
+reply_told s _ = []
+
 -- any event
-sum-few : (s : Conference) (e : Event) → WhatIsAskedFits → IsLawful s e → Keeps s → Sum s e (length (reply s e))
+sum-few : (s : Conference) (e : Event) → WhatIsAskedFits → IsLawful s e → Keeps s → Sum s e (length (reply_told s e))
 unfolding reply
 sum-few s (Join user) law lawful k = let e : Event = Join user in omega (arith, requests-few s e law k, floors-few s e refl, k.limits.floors_count)
 sum-few s (Message n bytes) law lawful k =
@@ -308,15 +345,25 @@ sum-few s Close law lawful k = omega (arith, requests-few s Close law k, floors-
 sum-few s (AddUser user) law lawful k = let e : Event = AddUser user in omega (arith, requests-few s e law k, floors-bound s e lawful k)
 sum-few s (AddFloor floor) law lawful k = let e : Event = AddFloor floor in omega (arith, requests-few s e law k, floors-bound s e lawful k)
 sum-few s (SetChair floor chair) law lawful k = let e : Event = SetChair floor chair in omega (arith, requests-few s e law k, floors-bound s e lawful k)
+sum-few s (Say user bytes) law lawful k = let e : Event = Say user bytes in omega (arith, requests-few s e law k, floors-few s e refl, k.limits.floors_count)
 
-replied-few : (s : Conference) (e : Event) (n : ℕ) → length (reply_to s e n) ≤ length (reply s e)
-replied-few s e n = by (is_sender e n)
+replied-few : (s : Conference) (e : Event) (n : ℕ) → length (reply_to s e n) ≤ length (reply_told s e)
+replied-few s (Join user) n = omega arith
+replied-few s (Message k bytes) n = by (k == n)
   where
-    by : (b : Bool) → length (cond b (reply s e) []) ≤ length (reply s e)
+    by : (b : Bool) → length (cond b (reply s (Message k bytes)) []) ≤ length (reply s (Message k bytes))
     by true = omega arith
     by false = omega arith
+replied-few s (Took j k) n = omega arith
+replied-few s (Leave k) n = omega arith
+replied-few s (Revoke request) n = omega arith
+replied-few s Close n = omega arith
+replied-few s (AddUser user) n = omega arith
+replied-few s (AddFloor floor) n = omega arith
+replied-few s (SetChair floor chair) n = omega arith
+replied-few s (Say user bytes) n = omega arith
 
-due_to-few : (s : Conference) (e : Event) (m : Member) → Sum s e (length (reply s e)) → length (due_to s e m) ≤ 289
+due_to-few : (s : Conference) (e : Event) (m : Member) → Sum s e (length (reply_told s e)) → length (due_to s e m) ≤ 289
 due_to-few s e m sum =
     omega (
       arith,
@@ -340,6 +387,7 @@ due-silent s Close n h = refl
 due-silent s (AddUser user) n h = cc
 due-silent s (AddFloor floor) n h = cc
 due-silent s (SetChair floor chair) n h = cc
+due-silent s (Say user bytes) n h = cc
 
 -- what is due to anyone
 due-few : (s : Conference) (e : Event) (n : ℕ) → WhatIsAskedFits → IsLawful s e → Keeps s → length (due s e n) ≤ 289

@@ -16,15 +16,16 @@ use Rattle.floor_machine.specs.Conference.{Conference, is_numbered_from}
 use Rattle.floor_machine.specs.Change.{change, settled}
 use Rattle.floor_machine.specs.Machine.{infos_changed}
 use Rattle.floor_machine.specs.Parcel.{Parcel}
+use Rattle.floor_machine.specs.Reply.{said_reply}
 use Rattle.floor_machine.specs.steps.Counting.{counted_all, due_parcels, told_of_all}
 use Rattle.floor_machine.specs.steps.Deciding.{ComesTo, change_by, is_closing}
 use Rattle.floor_machine.specs.steps.Fitting.{AreFit, AreFloorsShown, AreUpdatesShown, IsReplyShown}
 use Rattle.floor_machine.specs.steps.Frame.{IsServed, IsUnderWay}
 use Rattle.floor_machine.specs.steps.Marks.{mark_of}
 use Rattle.floor_machine.specs.steps.Serving.{IsAtRest, IsChanged, IsMade, conference_of, is_rising, replied_by, with_requests}
-use Rattle.floor_machine.specs.steps.Telling.{floors_changed, infos_told, is_watched_by, parcels_to_all, updates}
+use Rattle.floor_machine.specs.steps.Telling.{floors_changed, infos_told, is_watched_by, parcels_to_all, said_of, updates}
 use Rattle.floor_machine.proofs.Bounds.{served-shown}
-use Rattle.floor_machine.proofs.Comes.{answered-comes, change-comes, telling-comes, untaking-comes}
+use Rattle.floor_machine.proofs.Comes.{answered-comes, change-comes, said-comes, telling-comes, untaking-comes}
 use Rattle.floor_machine.proofs.Counted.{counted-all, told-all}
 use Rattle.floor_machine.proofs.Courses.{course-changed, course-marked}
 use Rattle.floor_machine.proofs.Handed.{handed-told}
@@ -84,6 +85,18 @@ course-called S before after sender d course changes o numbered way to updates i
           served-shown s e t course o telling next ended numbers way.made.rising way.before answered shown
           (subst AreUpdatesShown to.updates updates) (floors-shown before after course changes to floors);
     }
+
+-- who says the message is handed what it calls for
+pub course-said : (S before after : State) (sender : Option Sender) (d : Decision) (course : Course) (changes : Changes) (o : Option Replied) → IsUnderWay S d.change before course → IsSettledTo before after course changes →
+    o ≡ option_map (replied_by (conference_of after) course.ended.items d.reply) sender → (e : Event) → ComesTo (conference_of S) e sender d → said_of o ≡ said_reply (conference_of S) e
+course-said S before after sender d course changes o way to is e h =
+    let s : Conference = conference_of S in
+    let same : change s e ≡ change_by s d.change = change-comes s e sender d h in
+    let next : with_requests (conference_of before) (after_settle before.requests) ≡ settled s e = settled-state s e (change_by s d.change) before course (after_settle before.requests) same way.made refl in
+    let ended = ended-shown s e (change_by s d.change) (conference_of before) course same way.made in
+    let numbers = numbers-shown s e (change_by s d.change) (conference_of before) course same way.made in
+    said-comes s e sender d course.ended.items o h ended (ap is_rising (sym numbers) ∙ way.made.rising)
+    (is ∙ ap (λ (x : Conference). option_map (replied_by x course.ended.items d.reply) sender) (to.next ∙ next))
 
 -- the statuses of what gives a course show what the event changed
 pub course-handed : (S before after : State) (sender : Option Sender) (d : Decision) (course : Course) (changes : Changes) → IsUnderWay S d.change before course → IsSettledTo before after course changes →

@@ -17,7 +17,7 @@ use Rattle.floor_queue.proofs.Added.{position-more, settle-more}
 use Rattle.floor_queue.proofs.Places.{have_rooms, queue_has_rooms}
 use Rattle.floor_message.specs.declared.information.Info.{Info}
 use Rattle.floor_machine.specs.declared.event.Event.{Event}
-use Rattle.floor_machine.specs.declared.event.Event.TheVariants.{Join, Message, Took, Leave, Revoke, Close, AddUser, AddFloor, SetChair}
+use Rattle.floor_machine.specs.declared.event.Event.TheVariants.{Join, Message, Took, Leave, Revoke, Close, AddUser, AddFloor, SetChair, Say}
 use Rattle.floor_machine.specs.declared.member.Member.{Member}
 use Rattle.floor_machine.specs.Conference.{Conference}
 use Rattle.floor_machine.specs.Shown.{entry_of, floor_shown, info, info_of}
@@ -184,3 +184,4 @@ grows_alone s Close grows lawful k = cc
 grows_alone s (AddUser user) grows lawful k = alone-user s user k
 grows_alone s (AddFloor floor) grows lawful k = alone-floor s floor lawful.1 k
 grows_alone s (SetChair floor chair) grows lawful k = cc
+grows_alone s (Say user bytes) grows lawful k = cc

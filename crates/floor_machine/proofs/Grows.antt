@@ -20,10 +20,11 @@ use Rattle.floor_message.specs.declared.ask.Ask.{Ask}
 use Rattle.floor_message.specs.declared.ask.Ask.TheVariants.{FloorRequest, FloorRelease, FloorRequestQuery, UserQuery, FloorQuery, ChairAction, Hello}
 use Rattle.floor_message.specs.declared.code.ErrorCode.{ErrorCode}
 use Rattle.floor_message.specs.declared.verdicts.Verdict.{Verdict}
+use Rattle.floor_machine.specs.Said.{said}
 use Rattle.floor_machine.specs.declared.event.Event.{Event}
-use Rattle.floor_machine.specs.declared.event.Event.TheVariants.{Join, Message, Took, Leave, Revoke, Close, AddUser, AddFloor, SetChair}
+use Rattle.floor_machine.specs.declared.event.Event.TheVariants.{Join, Message, Took, Leave, Revoke, Close, AddUser, AddFloor, SetChair, Say}
 use Rattle.floor_machine.specs.declared.member.Member.{Member}
-use Rattle.floor_machine.specs.Conference.{Conference, binding, is_live, is_present, joining, member_with, user_of}
+use Rattle.floor_machine.specs.Conference.{Conference, binding, binding_for, is_live, is_present, joining, member_with, user_of}
 use Rattle.floor_machine.specs.Shown.{Entry, entry_of, ongoing_of}
 use Rattle.floor_machine.specs.Checks.{Check, beneficiary_of, first_of, refusal, request_checks, when}
 use Rattle.floor_machine.specs.Change.{IsLawful, acknowledging, asked_change, change, decided, decided_at, dismissed, ending, ends_at, ends_without, entries_after, is_final, leaving, members_after, message_change, no_change, queue_of, reasoned, reasoned_among, released, settled, shown, watching}
@@ -52,6 +53,7 @@ limits-change s Close lawful h = h
 limits-change s (AddUser user) lawful h = user_kept s.config user h lawful.1
 limits-change s (AddFloor floor) lawful h = floor_kept s.config floor h lawful.1
 limits-change s (SetChair floor chair) lawful h = chair_kept s.config floor chair h lawful.1
+limits-change s (Say user bytes) lawful h = limits-same s (Say user bytes) refl h
 
 -- growing ---------------------------------------------------------------------------------------
 
@@ -88,6 +90,7 @@ pub grown-change : (config : Configuration) (s : Conference) (e : Event) → Has
 unfolding change
 grown-change config s (Join user) h = h
 grown-change config s (Message n bytes) h = grown-same config s (Message n bytes) refl h
+grown-change config s (Say user bytes) h = grown-same config s (Say user bytes) refl h
 grown-change config s (Took n k) h = h
 grown-change config s (Leave n) h = h
 grown-change config s (Revoke request) h = h
@@ -173,12 +176,13 @@ are_known-more config user r h =
 abbrev is_member_known : Configuration → Member → Bool
 is_member_known config m = is_user config m.user
 
-user-asked : (s : Conference) (n : ℕ) (a : Ask) → list_all (is_member_known s.config) s.members ≡ true → list_all (is_member_known s.config) (members_after s n a) ≡ true
+user-asked : (s : Conference) (n : Option ℕ) (a : Ask) → list_all (is_member_known s.config) s.members ≡ true → list_all (is_member_known s.config) (members_after s n a) ≡ true
 user-asked s n (FloorRequest beneficiary floors priority info) h = h
 user-asked s n (FloorRelease request) h = h
 user-asked s n (FloorRequestQuery request) h = h
 user-asked s n (UserQuery beneficiary) h = h
-user-asked s n (FloorQuery floors) h = all-map (is_member_known s.config) (is_member_known s.config) (watching n floors) (λ m. by m (m.n == n)) s.members ∙ h
+user-asked s None (FloorQuery floors) h = h
+user-asked s (Some n) (FloorQuery floors) h = all-map (is_member_known s.config) (is_member_known s.config) (watching n floors) (λ m. by m (m.n == n)) s.members ∙ h
   where
     by : (m : Member) (b : Bool) → is_member_known s.config (cond b (record m { watched = floors }) m) ≡ is_member_known s.config m
     by m true = refl
@@ -186,12 +190,12 @@ user-asked s n (FloorQuery floors) h = all-map (is_member_known s.config) (is_me
 user-asked s n (ChairAction request verdicts reason) h = h
 user-asked s n Hello h = h
 
-user-message : (s : Conference) (n : ℕ) (a : Answer) → list_all (is_member_known s.config) s.members ≡ true → list_all (is_member_known s.config) (message_change s n a).members ≡ true
-user-message s n unanswered h = h
-user-message s n (refused code details) h = h
-user-message s n (asks a) h = by (is_some (refusal s (user_of s n) a))
+user-message : (s : Conference) (n : Option ℕ) (user : ℕ) (a : Answer) → list_all (is_member_known s.config) s.members ≡ true → list_all (is_member_known s.config) (message_change s n user a).members ≡ true
+user-message s n user unanswered h = h
+user-message s n user (refused code details) h = h
+user-message s n user (asks a) h = by (is_some (refusal s user a))
   where
-    by : (b : Bool) → list_all (is_member_known s.config) (cond b (no_change s) (asked_change s n a)).members ≡ true
+    by : (b : Bool) → list_all (is_member_known s.config) (cond b (no_change s) (asked_change s n user a)).members ≡ true
     by true = h
     by false = user-asked s n a h
 
@@ -201,7 +205,7 @@ users-same s e keeps h = let P : Configuration → Type 0 = λ config. list_all 
 users-change : (s : Conference) (e : Event) → IsLawful s e → list_all (is_member_known s.config) s.members ≡ true → list_all (is_member_known (change s e).config) (change s e).members ≡ true
 unfolding change
 users-change s (Join user) lawful h = all-push (is_member_known s.config) s.members (joining (length s.members + 1) user) h lawful.1
-users-change s (Message n bytes) lawful h = users-same s (Message n bytes) refl (user-message s n (ask bytes (binding s n)) h)
+users-change s (Message n bytes) lawful h = users-same s (Message n bytes) refl (user-message s (Some n) (user_of s n) (ask bytes (binding s n)) h)
 users-change s (Took n k) lawful h = all-map (is_member_known s.config) (is_member_known s.config) (acknowledging n k) (λ m. by m (m.n == n)) s.members ∙ h
   where
     by : (m : Member) (b : Bool) → is_member_known s.config (cond b (record m { backlog = m.backlog - k }) m) ≡ is_member_known s.config m
@@ -218,6 +222,7 @@ users-change s (AddUser user) lawful h =
     list_all_mono (is_member_known s.config) (is_member_known (with_user s.config user)) (λ m k. is_user-more s.config user m.user k) s.members h
 users-change s (AddFloor floor) lawful h = h
 users-change s (SetChair floor chair) lawful h = h
+users-change s (Say user bytes) lawful h = users-same s (Say user bytes) refl (user-message s None user (said bytes (binding_for s user)) h)
 
 -- each member's user is a user after the event
 pub users-next : (s : Conference) (e : Event) → IsLawful s e → list_all (λ m. is_user s.config m.user) s.members ≡ true → list_all (λ m. is_user (next s e).config m.user) (next s e).members ≡ true
@@ -280,14 +285,14 @@ known-asked s user (ChairAction request verdicts reason) free mine h = by (list_
         (known-decided s.config request verdicts t.ongoing stays)
 known-asked s user Hello free mine h = known-entries s.config (map entry_of s.ongoing) s.ongoing (ongoing_of-entries s.ongoing) h
 
-known-message : (s : Conference) (n : ℕ) (a : Answer) → is_user s.config (user_of s n) ≡ true → list_all (are_known s.config) s.ongoing ≡ true →
-    list_all (are_known s.config) (ongoing_of (message_change s n a).entries) ≡ true
-known-message s n unanswered mine h = known-entries s.config (map entry_of s.ongoing) s.ongoing (ongoing_of-entries s.ongoing) h
-known-message s n (refused code details) mine h = known-entries s.config (map entry_of s.ongoing) s.ongoing (ongoing_of-entries s.ongoing) h
-known-message s n (asks a) mine h = by (refusal s (user_of s n) a) refl
+known-message : (s : Conference) (n : Option ℕ) (user : ℕ) (a : Answer) → is_user s.config user ≡ true → list_all (are_known s.config) s.ongoing ≡ true →
+    list_all (are_known s.config) (ongoing_of (message_change s n user a).entries) ≡ true
+known-message s n user unanswered mine h = known-entries s.config (map entry_of s.ongoing) s.ongoing (ongoing_of-entries s.ongoing) h
+known-message s n user (refused code details) mine h = known-entries s.config (map entry_of s.ongoing) s.ongoing (ongoing_of-entries s.ongoing) h
+known-message s n user (asks a) mine h = by (refusal s user a) refl
   where
-    by : (o : Option ErrorCode) → o ≡ refusal s (user_of s n) a → list_all (are_known s.config) (ongoing_of (cond (is_some o) (no_change s) (asked_change s n a)).entries) ≡ true
-    by None is = known-asked s (user_of s n) a is mine h
+    by : (o : Option ErrorCode) → o ≡ refusal s user a → list_all (are_known s.config) (ongoing_of (cond (is_some o) (no_change s) (asked_change s n user a)).entries) ≡ true
+    by None is = known-asked s user a is mine h
     by (Some code) is = known-entries s.config (map entry_of s.ongoing) s.ongoing (ongoing_of-entries s.ongoing) h
 
 -- the sender of a message is a user
@@ -309,7 +314,8 @@ known-change : (s : Conference) (e : Event) → IsLawful s e → list_all (is_me
     list_all (are_known (change s e).config) (ongoing_of (change s e).entries) ≡ true
 unfolding change
 known-change s (Join user) lawful users h = known-entries s.config (map entry_of s.ongoing) s.ongoing (ongoing_of-entries s.ongoing) h
-known-change s (Message n bytes) lawful users h = known-same s (Message n bytes) refl (known-message s n (ask bytes (binding s n)) (sender-known s n lawful.1 users) h)
+known-change s (Message n bytes) lawful users h = known-same s (Message n bytes) refl (known-message s (Some n) (user_of s n) (ask bytes (binding s n)) (sender-known s n lawful.1 users) h)
+known-change s (Say user bytes) lawful users h = known-same s (Say user bytes) refl (known-message s None user (said bytes (binding_for s user)) lawful.1 h)
 known-change s (Took n k) lawful users h = known-entries s.config (map entry_of s.ongoing) s.ongoing (ongoing_of-entries s.ongoing) h
 known-change s (Leave n) lawful users h =
     let members : List Member = map (leaving n) s.members in

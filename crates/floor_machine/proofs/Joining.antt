@@ -9,10 +9,10 @@ use Rattle.floor_config.specs.Lookup.{is_user}
 use Rattle.floor_machine.specs.declared.machine.Refusal.TheVariants.{Broken, Ended, NoMember, NoUser, Full, Cut, BadCount}
 use Rattle.floor_machine.specs.declared.member.Member.{Member}
 use Rattle.floor_machine.specs.Conference.{Conference, backlog, is_cut, is_live, is_numbered_from, joining}
-use Rattle.floor_machine.specs.declared.event.Event.TheVariants.{Join, Message, Took}
+use Rattle.floor_machine.specs.declared.event.Event.TheVariants.{Join, Message, Took, Say}
 use Rattle.floor_machine.specs.Shown.{entry_of}
 use Rattle.floor_machine.specs.Change.{change, shown, settled, IsLawful}
-use Rattle.floor_machine.specs.Machine.{Machine, is_backlog, join_refusal, message_refusal, took_refusal}
+use Rattle.floor_machine.specs.Machine.{Machine, is_backlog, join_refusal, message_refusal, say_refusal, took_refusal}
 use Rattle.floor_machine.proofs.Entries.{ongoing_of-entries, ongoing_of-settled}
 use Rattle.floor_machine.proofs.Found.{and_left, and_right}
 
@@ -48,6 +48,15 @@ message_lawful m n bytes h whole = by m.is_broken m.conference.is_open (is_live 
     by false true false f h = cc
     by false true true true h = cc
     by false true true false h = (refl, refl, refl, whole)
+
+pub say_lawful : (m : Machine) (user : ℕ) (bytes : List ℕ) → None ≡ say_refusal m user → IsMessage bytes → IsLawful m.conference (Say user bytes)
+say_lawful m user bytes h whole = by m.is_broken m.conference.is_open (is_user m.conference.config user) h
+  where
+    by : (a b d : Bool) → None ≡ cond a (Some Broken) (cond (not b) (Some Ended) (cond (not d) (Some NoUser) None)) → (b ≡ true) × (d ≡ true) × IsMessage bytes
+    by true b d h = cc
+    by false false d h = cc
+    by false true false h = cc
+    by false true true h = (refl, refl, whole)
 
 pub took_lawful : (m : Machine) (n k : ℕ) → None ≡ took_refusal m n k → IsLawful m.conference (Took n k)
 took_lawful m n k h = by m.is_broken m.conference.is_open (is_live m.conference n) (is_backlog m.conference n k) refl h

@@ -22,7 +22,7 @@ use Rattle.floor_machine.specs.Journal.{parcel}
 use Rattle.floor_machine.specs.Machine.{infos_changed}
 use Rattle.floor_machine.specs.Outgoing.{Outgoing}
 use Rattle.floor_machine.specs.Parcel.{Parcel}
-use Rattle.floor_machine.specs.Reply.{infos}
+use Rattle.floor_machine.specs.Reply.{infos, said_reply}
 use Rattle.floor_machine.specs.Told.{Changed, due, reply_to}
 use Rattle.floor_machine.specs.steps.Counting.{due_parcels}
 use Rattle.floor_machine.specs.steps.Deciding.{ComesTo, change_by, is_closing}
@@ -30,10 +30,10 @@ use Rattle.floor_machine.specs.steps.Fitting.{AreFloorsShown, AreUpdatesShown, I
 use Rattle.floor_machine.specs.steps.Frame.{IsKept, IsQuiet}
 use Rattle.floor_machine.specs.steps.Outcomes.{FloorUpdate}
 use Rattle.floor_machine.specs.steps.Serving.{conference_of, ended_of, is_rising, is_telling, numbers_in, replied_by}
-use Rattle.floor_machine.specs.steps.Telling.{answered_to, floor_update, is_watched_by, parcels_to, parcels_to_all}
+use Rattle.floor_machine.specs.steps.Telling.{answered_to, floor_update, is_watched_by, parcels_to, parcels_to_all, said_of}
 use Rattle.floor_machine.proofs.Bounds.{close-shown, due-shown}
 use Rattle.floor_machine.proofs.Changing.{rising-numbers}
-use Rattle.floor_machine.proofs.Comes.{answered-comes, change-comes, telling-or-close, unclosing-comes}
+use Rattle.floor_machine.proofs.Comes.{answered-comes, change-comes, said-comes, telling-or-close, unclosing-comes}
 use Rattle.floor_machine.proofs.Entries.{ended_of-entries, numbers_in-entries}
 use Rattle.floor_machine.proofs.Handed.{handed-close, none-handed}
 use Rattle.floor_machine.proofs.Quiet.{IsStill, due_of-close, floors-kept, parcels-kept, requests-kept, settled-still, shown-kept}
@@ -107,6 +107,29 @@ quiet-handed S T sender d ascending q =
 
     closes : ComesTo s Close sender d → infos_changed s Close ≡ []
     closes h = handed-close s
+
+-- who says a message that gives no course is handed what it calls for
+pub quiet-said : (S T : State) (sender : Option Sender) (d : Decision) (o : Option Replied) → is_ascending S.requests.ongoing ≡ true → IsQuiet S d.change T →
+    o ≡ option_map (replied_by (conference_of T) [] d.reply) sender → (e : Event) → ComesTo (conference_of S) e sender d → said_of o ≡ said_reply (conference_of S) e
+quiet-said S T sender d o ascending q is =
+    telling-or-close (λ e. ComesTo (conference_of S) e sender d → said_of o ≡ said_reply (conference_of S) e) tells closes
+  where
+    s : Conference
+    s = conference_of S
+
+    tells : (e : Event) → is_telling e ≡ true → ComesTo s e sender d → said_of o ≡ said_reply s e
+    tells e telling h =
+        let c : Change = change_by s d.change in
+        let same : change s e ≡ c = change-comes s e sender d h in
+        let k : IsKept s c (conference_of T) = q.kept (unclosing-comes s e sender d h telling) in
+        let next : conference_of T ≡ settled s e = next-kept s e c (conference_of T) same k in
+        let entries = shown-kept s e (still-kept s e c (conference_of T) same k) in
+        said-comes s e sender d [] o h (sym (ap ended_of entries ∙ ended_of-entries s.ongoing))
+        (ap (λ (es : List Entry). is_rising (numbers_in es)) entries ∙ ap is_rising (numbers_in-entries s.ongoing) ∙ rising-numbers s.ongoing ∙ ascending)
+        (is ∙ ap (λ (x : Conference). option_map (replied_by x [] d.reply) sender) next)
+
+    closes : ComesTo s Close sender d → said_of o ≡ said_reply s Close
+    closes h = ap said_of (is ∙ ap (option_map (replied_by (conference_of T) [] d.reply)) h.0)
 
 -- what gives no course is told its sender alone
 pub quiet-called : (S T : State) (sender : Option Sender) (d : Decision) (o : Option Replied) → is_ascending S.requests.ongoing ≡ true → is_numbered_from 1 S.members ≡ true →

@@ -13,14 +13,14 @@ use Rattle.floor_config.specs.Lookup.{is_floor, is_user}
 use Rattle.floor_queue.specs.Queue.{request_at}
 use Rattle.floor_machine.specs.declared.act.Act.{Act}
 use Rattle.floor_machine.specs.declared.event.Event.{Event}
-use Rattle.floor_machine.specs.declared.event.Event.TheVariants.{Join, Message, Took, Leave, Revoke, Close, AddUser, AddFloor, SetChair}
+use Rattle.floor_machine.specs.declared.event.Event.TheVariants.{Join, Message, Took, Leave, Revoke, Close, AddUser, AddFloor, SetChair, Say}
 use Rattle.floor_machine.specs.declared.machine.Refusal.{Refusal}
 use Rattle.floor_machine.specs.declared.machine.Refusal.TheVariants.{Broken, Ended, NoMember, NoUser, Full, NoRequest, Cut, BadCount, Memory}
 use Rattle.floor_machine.specs.Conference.{Conference, backlog, is_cut, is_live}
 use Rattle.floor_machine.specs.Change.{IsLawful}
 use Rattle.floor_machine.specs.Laws.{IsWhole, TakenIsLawful}
 use Rattle.floor_machine.specs.Machine.{Machine, whole, act_refusal, fault_refusal, refusal_of_fault, event_of_act, event_refusal, is_backlog, leave_refusal}
-use Rattle.floor_machine.proofs.Joining.{join_lawful, message_lawful, took_lawful}
+use Rattle.floor_machine.proofs.Joining.{join_lawful, message_lawful, say_lawful, took_lawful}
 
 -- where no refusal applies, the event is lawful
 pub leave_lawful : (m : Machine) (n : ℕ) → None ≡ leave_refusal m n → IsLawful m.conference (Leave n)
@@ -70,6 +70,7 @@ lawful_of-taken s Close framed h = act_lawful (whole s) Act.Close (sym h)
 lawful_of-taken s (AddUser user) framed h = act_lawful (whole s) (Act.AddUser user) (sym h)
 lawful_of-taken s (AddFloor floor) framed h = act_lawful (whole s) (Act.AddFloor floor) (sym h)
 lawful_of-taken s (SetChair floor chair) framed h = act_lawful (whole s) (Act.SetChair floor chair) (sym h)
+lawful_of-taken s (Say user bytes) framed h = say_lawful (whole s) user bytes (sym h) framed
 
 few : (n : ℕ) → n < 64 → nat_le 64 n ≡ false
 few n h = grind (arith, nat_tests)
@@ -107,6 +108,7 @@ taken_of-lawful s Close h = by s.is_open h
 taken_of-lawful s (AddUser user) h = no_fault s.is_open (user_fault s.config user) h.0 h.1
 taken_of-lawful s (AddFloor floor) h = no_fault s.is_open (floor_fault s.config floor) h.0 h.1
 taken_of-lawful s (SetChair floor chair) h = no_fault s.is_open (chair_fault s.config floor chair) h.0 h.1
+taken_of-lawful s (Say user bytes) h = two_hold NoUser s.is_open (is_user s.config user) h.0 h.1
 
 -- of three refusals none is Memory
 never_third : (refusal : Refusal) (a b d : Bool) → (refusal ≡ Memory → ⊥) →
@@ -136,6 +138,7 @@ lawful_event m Close framed h = act_lawful m Act.Close h
 lawful_event m (AddUser user) framed h = act_lawful m (Act.AddUser user) h
 lawful_event m (AddFloor floor) framed h = act_lawful m (Act.AddFloor floor) h
 lawful_event m (SetChair floor chair) framed h = act_lawful m (Act.SetChair floor chair) h
+lawful_event m (Say user bytes) framed h = say_lawful m user bytes h framed
 
 pub broken_refuses : (m : Machine) (e : Event) → m.is_broken ≡ true → event_refusal m e ≡ Some Broken
 broken_refuses m (Join user) h = rw h refl
@@ -147,6 +150,7 @@ broken_refuses m Close h = rw h refl
 broken_refuses m (AddUser user) h = rw h refl
 broken_refuses m (AddFloor floor) h = rw h refl
 broken_refuses m (SetChair floor chair) h = rw h refl
+broken_refuses m (Say user bytes) h = rw h refl
 
 -- what a machine that isn't broken refuses isn't lawful
 pub unlawful_event : (m : Machine) (e : Event) (why : Refusal) → Some why ≡ event_refusal m e → why ≢ Broken → ¬ IsLawful m.conference e
@@ -221,6 +225,7 @@ never_memory m Close h = by m.is_broken m.conference.is_open h
 never_memory m (AddUser user) h = never_fault m (user_fault m.conference.config user) (never_user m.conference.config user) h
 never_memory m (AddFloor floor) h = never_fault m (floor_fault m.conference.config floor) (never_floor m.conference.config floor) h
 never_memory m (SetChair floor chair) h = never_fault m (chair_fault m.conference.config floor chair) (never_chair m.conference.config floor chair) h
+never_memory m (Say user bytes) h = never_third NoUser m.is_broken m.conference.is_open (is_user m.conference.config user) (λ e. cc) h
 
 pub taken_is_lawful : TakenIsLawful
 taken_is_lawful = λ s e framed. (lawful_of-taken s e framed, taken_of-lawful s e)

@@ -3,6 +3,7 @@ pub mod Filtered
 pub mod Found
 pub mod Shows
 pub mod Concerned
+pub mod Speaking
 pub mod Configs
 pub mod Entries
 pub mod Telling
@@ -27,6 +28,7 @@ pub mod Comes
 pub mod Kept
 pub mod Framed
 pub mod Tried
+pub mod Done
 pub mod Lawful
 pub mod Runs
 pub mod Bounds
@@ -45,6 +47,7 @@ pub mod Reasoned
 pub mod Together
 pub mod Alone
 pub mod AskedOnce
+pub mod Spoken
 pub mod Few
 pub mod Places
 pub mod Noting

@@ -22,10 +22,12 @@ use Rattle.floor_message.specs.declared.ask.Ask.{Ask}
 use Rattle.floor_message.specs.declared.ask.Ask.TheVariants.{FloorRequest, FloorRelease, FloorRequestQuery, UserQuery, FloorQuery, ChairAction, Hello}
 use Rattle.floor_message.specs.declared.verdicts.Verdict.{Verdict}
 use Rattle.floor_message.specs.declared.code.ErrorCode.{ErrorCode}
+use Rattle.floor_machine.proofs.Speaking.{said-asks}
+use Rattle.floor_machine.specs.Said.{said}
 use Rattle.floor_machine.specs.declared.event.Event.{Event}
-use Rattle.floor_machine.specs.declared.event.Event.TheVariants.{Join, Message, Took, Leave, Revoke, Close, AddUser, AddFloor, SetChair}
+use Rattle.floor_machine.specs.declared.event.Event.TheVariants.{Join, Message, Took, Leave, Revoke, Close, AddUser, AddFloor, SetChair, Say}
 use Rattle.floor_machine.specs.declared.member.Member.{Member}
-use Rattle.floor_machine.specs.Conference.{Conference, binding, is_numbered_from, is_present, joining, opening, user_of}
+use Rattle.floor_machine.specs.Conference.{Conference, binding, binding_for, is_numbered_from, is_present, joining, opening, user_of}
 use Rattle.floor_machine.specs.Shown.{Entry, entry_of, ongoing_of}
 use Rattle.floor_machine.specs.Checks.{refusal}
 use Rattle.floor_machine.specs.Change.{Change, IsLawful, asked_change, change, decided_at, dismissed, ending, ends_at, ends_without, entries_after, given_after, is_final, leaving, members_after, message_change, queue_of, settled, no_change, reasoned, released, shown, acknowledging, watching, word_of}
@@ -96,15 +98,15 @@ queue-asked s user (ChairAction request verdicts reason) may h = by (list_any (�
 queue-asked s user Hello may h = queue-unchanged s h
 
 -- after a message
-queue-message : (s : Conference) (n : ℕ) (a : Answer) → ((x : Ask) → a ≡ asks x → FitsButForCounts x) → IsQueue (queue_of s) →
-    IsQueue (queue_changed s (message_change s n a).given (ongoing_of (message_change s n a).entries))
-queue-message s n unanswered fits h = queue-unchanged s h
-queue-message s n (refused code details) fits h = queue-unchanged s h
-queue-message s n (asks a) fits h = by (refusal s (user_of s n) a) refl
+queue-message : (s : Conference) (n : Option ℕ) (user : ℕ) (a : Answer) → ((x : Ask) → a ≡ asks x → FitsButForCounts x) → IsQueue (queue_of s) →
+    IsQueue (queue_changed s (message_change s n user a).given (ongoing_of (message_change s n user a).entries))
+queue-message s n user unanswered fits h = queue-unchanged s h
+queue-message s n user (refused code details) fits h = queue-unchanged s h
+queue-message s n user (asks a) fits h = by (refusal s user a) refl
   where
-    by : (o : Option ErrorCode) → o ≡ refusal s (user_of s n) a →
-        (let c : Change = cond (is_some o) (no_change s) (asked_change s n a) in IsQueue (queue_changed s c.given (ongoing_of c.entries)))
-    by None is = queue-asked s (user_of s n) a (may_serve s (user_of s n) a (fits a refl) is) h
+    by : (o : Option ErrorCode) → o ≡ refusal s user a →
+        (let c : Change = cond (is_some o) (no_change s) (asked_change s n user a) in IsQueue (queue_changed s c.given (ongoing_of c.entries)))
+    by None is = queue-asked s user a (may_serve s user a (fits a refl) is) h
     by (Some code) is = queue-unchanged s h
 
 -- after a leave
@@ -118,7 +120,7 @@ queue-left s members user h =
 queue-kept : (s : Conference) (e : Event) → keeps_config e ≡ true → WhatIsAskedFits → IsQueue (queue_of s) → IsQueue (queue_changed s (change s e).given (ongoing_of (change s e).entries))
 unfolding change
 queue-kept s (Join user) keeps law h = queue-unchanged s h
-queue-kept s (Message n bytes) keeps law h = queue-message s n (ask bytes (binding s n)) (λ x is. law bytes (binding s n) x is) h
+queue-kept s (Message n bytes) keeps law h = queue-message s (Some n) (user_of s n) (ask bytes (binding s n)) (λ x is. law bytes (binding s n) x is) h
 queue-kept s (Took n k) keeps law h = queue-unchanged s h
 queue-kept s (Leave n) keeps law h = queue-left s (map (leaving n) s.members) (user_of s n) h
 queue-kept s (Revoke request) keeps law h =
@@ -136,6 +138,8 @@ queue-kept s Close keeps law h =
 queue-kept s (AddUser user) keeps law h = cc
 queue-kept s (AddFloor floor) keeps law h = cc
 queue-kept s (SetChair floor chair) keeps law h = cc
+queue-kept s (Say user bytes) keeps law h =
+    queue-message s None user (said bytes (binding_for s user)) (λ x is. law bytes (binding_for s user) x (said-asks bytes (binding_for s user) x is)) h
 
 -- the queue that an event leaves, before it is settled
 abbrev queue_left : Conference → Event → Queue
@@ -160,6 +164,7 @@ queue-change : (s : Conference) (e : Event) → WhatIsAskedFits → IsLawful s e
 unfolding change
 queue-change s (Join user) law lawful h = queue-config s (Join user) refl law h
 queue-change s (Message n bytes) law lawful h = queue-config s (Message n bytes) refl law h
+queue-change s (Say user bytes) law lawful h = queue-config s (Say user bytes) refl law h
 queue-change s (Took n k) law lawful h = queue-config s (Took n k) refl law h
 queue-change s (Leave n) law lawful h = queue-config s (Leave n) refl law h
 queue-change s (Revoke request) law lawful h = queue-config s (Revoke request) refl law h
@@ -199,22 +204,23 @@ live-leaving n (m ∷ ms) =
     by true = omega arith
     by false = omega arith
 
-live-asked : (s : Conference) (n : ℕ) (a : Ask) → count_by (λ m. m.is_live) s.members ≤ 64 → count_by (λ m. m.is_live) (members_after s n a) ≤ 64
+live-asked : (s : Conference) (n : Option ℕ) (a : Ask) → count_by (λ m. m.is_live) s.members ≤ 64 → count_by (λ m. m.is_live) (members_after s n a) ≤ 64
 live-asked s n (FloorRequest beneficiary floors priority info) h = h
 live-asked s n (FloorRelease request) h = h
 live-asked s n (FloorRequestQuery request) h = h
 live-asked s n (UserQuery beneficiary) h = h
-live-asked s n (FloorQuery floors) h =
+live-asked s None (FloorQuery floors) h = h
+live-asked s (Some n) (FloorQuery floors) h =
     omega (arith, count_by-map (λ (m : Member). m.is_live) (λ (m : Member). m.is_live) (watching n floors) (is_live-watching n floors) s.members, h)
 live-asked s n (ChairAction request verdicts reason) h = h
 live-asked s n Hello h = h
 
-live-message : (s : Conference) (n : ℕ) (a : Answer) → count_by (λ m. m.is_live) s.members ≤ 64 → count_by (λ m. m.is_live) (message_change s n a).members ≤ 64
-live-message s n unanswered h = h
-live-message s n (refused code details) h = h
-live-message s n (asks a) h = by (is_some (refusal s (user_of s n) a))
+live-message : (s : Conference) (n : Option ℕ) (user : ℕ) (a : Answer) → count_by (λ m. m.is_live) s.members ≤ 64 → count_by (λ m. m.is_live) (message_change s n user a).members ≤ 64
+live-message s n user unanswered h = h
+live-message s n user (refused code details) h = h
+live-message s n user (asks a) h = by (is_some (refusal s user a))
   where
-    by : (b : Bool) → count_by (λ m. m.is_live) (cond b (no_change s) (asked_change s n a)).members ≤ 64
+    by : (b : Bool) → count_by (λ m. m.is_live) (cond b (no_change s) (asked_change s n user a)).members ≤ 64
     by true = h
     by false = live-asked s n a h
 
@@ -222,7 +228,7 @@ live-change : (s : Conference) (e : Event) → IsLawful s e → count_by (λ m. 
 unfolding change
 live-change s (Join user) lawful h =
     omega (arith, sum_by_push (λ (m : Member). cond m.is_live 1 0) s.members (joining (length s.members + 1) user), lawful.2)
-live-change s (Message n bytes) lawful h = live-message s n (ask bytes (binding s n)) h
+live-change s (Message n bytes) lawful h = live-message s (Some n) (user_of s n) (ask bytes (binding s n)) h
 live-change s (Took n k) lawful h =
     omega (arith, count_by-map (λ (m : Member). m.is_live) (λ (m : Member). m.is_live) (acknowledging n k) (is_live-acknowledging n k) s.members, h)
 live-change s (Leave n) lawful h = omega (arith, live-leaving n s.members, h)
@@ -231,6 +237,7 @@ live-change s Close lawful h = h
 live-change s (AddUser user) lawful h = h
 live-change s (AddFloor floor) lawful h = h
 live-change s (SetChair floor chair) lawful h = h
+live-change s (Say user bytes) lawful h = live-message s None user (said bytes (binding_for s user)) h
 
 live-next : (s : Conference) (e : Event) → IsLawful s e → count_by (λ m. m.is_live) s.members ≤ 64 → count_by (λ m. m.is_live) (next s e).members ≤ 64
 unfolding next settled

@@ -1,14 +1,15 @@
 -- A run of events, one after another.
 use Rattle.std.proofs.Common.{◌≡◌, ℕ, ◌+◌, ◌<◌, ◌≤◌, Bool, true, false, cond, List, [], ◌∷◌, ◌++◌, length, get_or, take, append_assoc, append-nil, length-append, refl, sym, ap, subst, ◌∙◌, arith}
-use Rattle.std.specs.Prelude.{is_some, not, Option, Some, Ok}
+use Rattle.std.specs.Prelude.{is_some, not, None, Option, Some, Ok}
 use Rattle.std.proofs.lemmas.List.{take_more, length-map, length-take-le}
 use Rattle.floor_message.specs.Ask.{Answer, asks, refused, unanswered, ask}
 use Rattle.floor_message.specs.declared.ask.Ask.{Ask}
 use Rattle.floor_message.specs.declared.ask.Ask.TheVariants.{FloorRequest, FloorRelease, FloorRequestQuery, UserQuery, FloorQuery, ChairAction, Hello}
+use Rattle.floor_machine.specs.Said.{said}
 use Rattle.floor_machine.specs.declared.event.Event.{Event}
-use Rattle.floor_machine.specs.declared.event.Event.TheVariants.{Join, Message, Took, Leave, Revoke, Close, AddUser, AddFloor, SetChair}
+use Rattle.floor_machine.specs.declared.event.Event.TheVariants.{Join, Message, Took, Leave, Revoke, Close, AddUser, AddFloor, SetChair, Say}
 use Rattle.floor_machine.specs.Parcel.{Parcel}
-use Rattle.floor_machine.specs.Conference.{Conference, joining, user_of, binding}
+use Rattle.floor_machine.specs.Conference.{Conference, binding, binding_for, joining, user_of}
 use Rattle.floor_machine.specs.Checks.{refusal}
 use Rattle.floor_machine.specs.Change.{change, settled, no_change, asked_change, message_change, members_after, watching, acknowledging, leaving, IsLawful}
 use Rattle.floor_machine.specs.declared.machine.Refusal.{Refusal}
@@ -33,28 +34,29 @@ lawful-more s [] e h k = (k, tt)
 lawful-more s (x ∷ es) e h k = (h.0, lawful-more (next s x) es e h.1 k)
 
 -- an event adds one member at most
-members-asked : (s : Conference) (n : ℕ) (a : Ask) → length (members_after s n a) ≤ length s.members + 1
+members-asked : (s : Conference) (n : Option ℕ) (a : Ask) → length (members_after s n a) ≤ length s.members + 1
 members-asked s n (FloorRequest beneficiary floors priority info) = omega arith
 members-asked s n (FloorRelease request) = omega arith
 members-asked s n (FloorRequestQuery request) = omega arith
 members-asked s n (UserQuery beneficiary) = omega arith
-members-asked s n (FloorQuery floors) = omega (arith, length-map s.members (watching n floors))
+members-asked s None (FloorQuery floors) = omega arith
+members-asked s (Some n) (FloorQuery floors) = omega (arith, length-map s.members (watching n floors))
 members-asked s n (ChairAction request verdicts reason) = omega arith
 members-asked s n Hello = omega arith
 
-members-message : (s : Conference) (n : ℕ) (a : Answer) → length (message_change s n a).members ≤ length s.members + 1
-members-message s n unanswered = omega arith
-members-message s n (refused code details) = omega arith
-members-message s n (asks a) = by (is_some (refusal s (user_of s n) a))
+members-message : (s : Conference) (n : Option ℕ) (user : ℕ) (a : Answer) → length (message_change s n user a).members ≤ length s.members + 1
+members-message s n user unanswered = omega arith
+members-message s n user (refused code details) = omega arith
+members-message s n user (asks a) = by (is_some (refusal s user a))
   where
-    by : (b : Bool) → length (cond b (no_change s) (asked_change s n a)).members ≤ length s.members + 1
+    by : (b : Bool) → length (cond b (no_change s) (asked_change s n user a)).members ≤ length s.members + 1
     by true = omega arith
     by false = members-asked s n a
 
 members-change : (s : Conference) (e : Event) → length (change s e).members ≤ length s.members + 1
 unfolding change
 members-change s (Join user) = omega (arith, length-append s.members (joining (length s.members + 1) user ∷ []))
-members-change s (Message n bytes) = members-message s n (ask bytes (binding s n))
+members-change s (Message n bytes) = members-message s (Some n) (user_of s n) (ask bytes (binding s n))
 members-change s (Took n k) = omega (arith, length-map s.members (acknowledging n k))
 members-change s (Leave n) = omega (arith, length-map s.members (leaving n))
 members-change s (Revoke request) = omega arith
@@ -62,6 +64,7 @@ members-change s Close = omega arith
 members-change s (AddUser user) = omega arith
 members-change s (AddFloor floor) = omega arith
 members-change s (SetChair floor chair) = omega arith
+members-change s (Say user bytes) = members-message s None user (said bytes (binding_for s user))
 
 members-next : (s : Conference) (e : Event) → length (next s e).members ≤ length s.members + 1
 unfolding next settled
@@ -93,6 +96,7 @@ whole-event v m Close h = whole-taken v m _ h
 whole-event v m (AddUser user) h = whole-taken v m _ h
 whole-event v m (AddFloor floor) h = whole-taken v m _ h
 whole-event v m (SetChair floor chair) h = whole-taken v m _ h
+whole-event v m (Say user bytes) h = whole-taken v m _ h
 
 -- the machine after one more event
 pub run-next : {T : Type 0} (v : T) (m now new : Machine) (es : List Event) (i : ℕ) (e : Event) → i < length es → e ≡ get_or es i e → now ≡ machine_after m (take i es) →

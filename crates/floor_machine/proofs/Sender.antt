@@ -1,6 +1,6 @@
 -- What is due to the sender alone is told and counted at its number: whoever isn't the sender is told nothing, and counted as before.
 use Rattle.std.proofs.Common.{◌≡◌, ℕ, ◌+◌, ◌<◌, Bool, true, false, cond, List, [], ◌∷◌, ◌++◌, length, map, Option, Some, None, refl, sym, ap, ◌∙◌, arith, append-nil}
-use Rattle.std.specs.Prelude.{◌==◌, ◌&&◌, find}
+use Rattle.std.specs.Prelude.{◌==◌, ◌&&◌, find, option_and_then}
 use Rattle.std.specs.List.{flat_map}
 use Rattle.std.specs.Option.{option_map_or}
 use Rattle.std.proofs.lemmas.Bool.Decides.{nat_tests}
@@ -20,11 +20,19 @@ abbrev pub IsAlone : (Member → List Parcel) → ℕ → Type 0
 IsAlone to n = (m : Member) → (m.n == n) ≡ false → to m ≡ []
 
 -- a reply is due to its sender alone
-pub reply-alone : (conference : ℕ) (reply : Replied) → IsAlone (noticed_to conference (Some reply) [] []) reply.n
-reply-alone conference reply m other = ap (λ (b : Bool). (map (parcel m.n) (cond b (answered reply.head reply.tells) []) ++ []) ++ []) (turned reply.n m.n other)
+pub reply-alone : (conference : ℕ) (reply : Replied) (n : ℕ) → reply.n ≡ Some n → IsAlone (noticed_to conference (Some reply) [] []) n
+reply-alone conference reply n sent m other =
+    ap (λ (o : Option ℕ). (map (parcel m.n) (cond (option_map_or (λ k. k == m.n) o false) (answered reply.head reply.tells) []) ++ []) ++ []) sent
+    ∙ ap (λ (b : Bool). (map (parcel m.n) (cond b (answered reply.head reply.tells) []) ++ []) ++ []) (turned n m.n other)
   where
     turned : (a b : ℕ) → (b == a) ≡ false → (a == b) ≡ false
     turned a b e = grind (arith, nat_tests)
+
+-- a reply that no member sent for is due to nobody
+pub reply-nobody : (conference : ℕ) (o : Option Replied) → option_and_then (λ r. r.n) o ≡ None → (m : Member) → noticed_to conference o [] [] m ≡ []
+reply-nobody conference None unsent m = refl
+reply-nobody conference (Some reply) unsent m =
+    ap (λ (o : Option ℕ). (map (parcel m.n) (cond (option_map_or (λ k. k == m.n) o false) (answered reply.head reply.tells) []) ++ []) ++ []) unsent
 
 module _ (to : Member → List Parcel) (n : ℕ) (alone : IsAlone to n) where
   -- so nothing is due to another number

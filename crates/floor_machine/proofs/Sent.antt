@@ -9,11 +9,12 @@ use Rattle.std.proofs.lemmas.List.Elements.{filter-append}
 use Rattle.floor_message.specs.Ask.{Answer, asks, refused, unanswered, ask}
 use Rattle.floor_message.specs.declared.ask.Ask.{Ask}
 use Rattle.floor_message.specs.declared.ask.Ask.TheVariants.{FloorRequest, FloorRelease, FloorRequestQuery, UserQuery, FloorQuery, ChairAction, Hello}
+use Rattle.floor_machine.specs.Said.{said}
 use Rattle.floor_machine.specs.declared.member.Member.{Member}
 use Rattle.floor_machine.specs.Parcel.{Parcel}
-use Rattle.floor_machine.specs.Conference.{Conference, backlog, is_cut, joining, opening, member_with, user_of, binding, is_numbered_from}
+use Rattle.floor_machine.specs.Conference.{Conference, backlog, binding, binding_for, is_cut, is_numbered_from, joining, member_with, opening, user_of}
 use Rattle.floor_machine.specs.declared.event.Event.{Event}
-use Rattle.floor_machine.specs.declared.event.Event.TheVariants.{Join, Message, Took, Leave, Revoke, Close, AddUser, AddFloor, SetChair}
+use Rattle.floor_machine.specs.declared.event.Event.TheVariants.{Join, Message, Took, Leave, Revoke, Close, AddUser, AddFloor, SetChair, Say}
 use Rattle.floor_machine.specs.Checks.{refusal}
 use Rattle.floor_machine.specs.Change.{change, settled, no_change, asked_change, message_change, members_after, watching, acknowledging, leaving}
 use Rattle.floor_machine.specs.Outgoing.{Outgoing}
@@ -100,6 +101,7 @@ due-absent s Close n h = refl
 due-absent s (AddUser user) n h = ap (λ (o : Option Member). option_map_or (due_to s (AddUser user)) o []) (absent (settled s (AddUser user)).members n h)
 due-absent s (AddFloor floor) n h = ap (λ (o : Option Member). option_map_or (due_to s (AddFloor floor)) o []) (absent (settled s (AddFloor floor)).members n h)
 due-absent s (SetChair floor chair) n h = ap (λ (o : Option Member). option_map_or (due_to s (SetChair floor chair)) o []) (absent (settled s (SetChair floor chair)).members n h)
+due-absent s (Say user bytes) n h = ap (λ (o : Option Member). option_map_or (due_to s (Say user bytes)) o []) (absent (settled s (Say user bytes)).members n h)
 
 -- of all that is due after an event, what is due to n
 pub sent_to-due : (s : Conference) (e : Event) (n : ℕ) → is_numbered_from 1 (settled s e).members ≡ true → sent_to n (due_parcels s e) ≡ map (parcel n) (due s e n)
@@ -169,28 +171,29 @@ live-acknowledging j k m = by (m.n == j)
     by true = refl
     by false = refl
 
-numbered-asked : (s : Conference) (n : ℕ) (a : Ask) → is_numbered_from 1 s.members ≡ true → is_numbered_from 1 (members_after s n a) ≡ true
+numbered-asked : (s : Conference) (n : Option ℕ) (a : Ask) → is_numbered_from 1 s.members ≡ true → is_numbered_from 1 (members_after s n a) ≡ true
 numbered-asked s n (FloorRequest beneficiary floors priority info) h = h
 numbered-asked s n (FloorRelease request) h = h
 numbered-asked s n (FloorRequestQuery request) h = h
 numbered-asked s n (UserQuery beneficiary) h = h
-numbered-asked s n (FloorQuery floors) h = numbered-watching n floors 1 s.members h
+numbered-asked s None (FloorQuery floors) h = h
+numbered-asked s (Some n) (FloorQuery floors) h = numbered-watching n floors 1 s.members h
 numbered-asked s n (ChairAction request verdicts reason) h = h
 numbered-asked s n Hello h = h
 
-numbered-message : (s : Conference) (n : ℕ) (a : Answer) → is_numbered_from 1 s.members ≡ true → is_numbered_from 1 (message_change s n a).members ≡ true
-numbered-message s n unanswered h = h
-numbered-message s n (refused code details) h = h
-numbered-message s n (asks a) h = by (is_some (refusal s (user_of s n) a))
+numbered-message : (s : Conference) (n : Option ℕ) (user : ℕ) (a : Answer) → is_numbered_from 1 s.members ≡ true → is_numbered_from 1 (message_change s n user a).members ≡ true
+numbered-message s n user unanswered h = h
+numbered-message s n user (refused code details) h = h
+numbered-message s n user (asks a) h = by (is_some (refusal s user a))
   where
-    by : (b : Bool) → is_numbered_from 1 (cond b (no_change s) (asked_change s n a)).members ≡ true
+    by : (b : Bool) → is_numbered_from 1 (cond b (no_change s) (asked_change s n user a)).members ≡ true
     by true = h
     by false = numbered-asked s n a h
 
 numbered-change : (s : Conference) (e : Event) → is_numbered_from 1 s.members ≡ true → is_numbered_from 1 (change s e).members ≡ true
 unfolding change
 numbered-change s (Join user) h = numbered-push 1 s.members (joining (length s.members + 1) user) refl h
-numbered-change s (Message n bytes) h = numbered-message s n (ask bytes (binding s n)) h
+numbered-change s (Message n bytes) h = numbered-message s (Some n) (user_of s n) (ask bytes (binding s n)) h
 numbered-change s (Took n k) h = numbered-map (acknowledging n k) (n-acknowledging n k) 1 s.members h
 numbered-change s (Leave n) h = numbered-leaving n 1 s.members h
 numbered-change s (Revoke request) h = h
@@ -198,6 +201,7 @@ numbered-change s Close h = h
 numbered-change s (AddUser user) h = h
 numbered-change s (AddFloor floor) h = h
 numbered-change s (SetChair floor chair) h = h
+numbered-change s (Say user bytes) h = numbered-message s None user (said bytes (binding_for s user)) h
 
 -- the members stay numbered
 pub numbered-settled : (s : Conference) (e : Event) → is_numbered_from 1 s.members ≡ true → is_numbered_from 1 (settled s e).members ≡ true

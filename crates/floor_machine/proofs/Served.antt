@@ -27,11 +27,12 @@ use Rattle.floor_machine.specs.declared.replied.Replied.{Replied}
 use Rattle.floor_machine.specs.declared.conference.State.{State}
 use Rattle.floor_machine.specs.declared.tell.changed.Update.{Update}
 use Rattle.floor_machine.specs.steps.Outcomes.{FloorUpdate}
-use Rattle.floor_machine.specs.Conference.{Conference, user_of, binding, is_numbered_from}
+use Rattle.floor_machine.specs.Conference.{Conference, binding, binding_for, is_numbered_from, user_of}
 use Rattle.floor_machine.specs.declared.event.Event.{Event}
-use Rattle.floor_machine.specs.declared.event.Event.TheVariants.{Message}
+use Rattle.floor_machine.specs.declared.event.Event.TheVariants.{Message, Say}
 use Rattle.floor_machine.specs.Shown.{Entry, entry_of, ongoing_of, settle_entries, info_of, described}
 use Rattle.floor_machine.specs.Checks.{refusal}
+use Rattle.floor_machine.specs.Said.{said}
 use Rattle.floor_machine.specs.Change.{Change, asked_change, change, decided_at, dismissed, ending, ends_at, given_after, is_final, message_change, no_change, reasoned, settled, shown}
 use Rattle.floor_machine.specs.Outgoing.{Outgoing}
 use Rattle.floor_machine.specs.Reply.{infos, infos_of_user, request_answer, answer_tells, reply_tells, headed, reply}
@@ -46,13 +47,14 @@ use Rattle.floor_machine.proofs.Sent.{numbered-settled}
 use Rattle.floor_machine.proofs.Telling.{finds, update_for, updates-changed, headed-answered, parcels-told}
 
 -- what is asked, and no check refuses, changes what its decision does
-accepts : (s : Conference) (n : ℕ) (a : Ask) → asked_change s n a ≡ change_by s (accepted n (user_of s n) a).change
-accepts s n (FloorRequest beneficiary floors priority info) = refl
-accepts s n (FloorRelease request) = refl
-accepts s n (FloorRequestQuery request) = refl
-accepts s n (UserQuery beneficiary) = refl
-accepts s n (FloorQuery floors) = refl
-accepts s n (ChairAction request verdicts reason) = by (list_any (λ v. is_final v.1) verdicts)
+accepts : (s : Conference) (n : Option ℕ) (user : ℕ) (a : Ask) → asked_change s n user a ≡ change_by s (accepted n user a).change
+accepts s n user (FloorRequest beneficiary floors priority info) = refl
+accepts s n user (FloorRelease request) = refl
+accepts s n user (FloorRequestQuery request) = refl
+accepts s n user (UserQuery beneficiary) = refl
+accepts s None user (FloorQuery floors) = refl
+accepts s (Some n) user (FloorQuery floors) = refl
+accepts s n user (ChairAction request verdicts reason) = by (list_any (λ v. is_final v.1) verdicts)
   where
     t : Conference
     t = reasoned s request reason
@@ -61,27 +63,31 @@ accepts s n (ChairAction request verdicts reason) = by (list_any (λ v. is_final
         ≡ change_by s (cond b (to.End request Chair reason) (to.Words request verdicts reason))
     by true = refl
     by false = refl
-accepts s n Hello = refl
+accepts s n user Hello = refl
 
 -- a message changes what its decision does
-pub change-decided : (s : Conference) (n : ℕ) (bytes : List ℕ) (a : Answer) → a ≡ ask bytes (binding s n) → change s (Message n bytes) ≡ change_by s (decision_of s n (user_of s n) a).change
-unfolding change
-change-decided s n bytes a same = ap (message_change s n) (sym same) ∙ by a
+pub change-decided : (s : Conference) (n : Option ℕ) (user : ℕ) (a : Answer) → message_change s n user a ≡ change_by s (decision_of s n user a).change
+change-decided s n user unanswered = refl
+change-decided s n user (refused code details) = refl
+change-decided s n user (asks a) = by (refusal s user a)
   where
-    by_code : (a : Ask) (o : Option ErrorCode) → cond (is_some o) (no_change s) (asked_change s n a) ≡ change_by s (option_map_or refused_by o (accepted n (user_of s n) a)).change
-    by_code a None = accepts s n a
-    by_code a (Some code) = refl
+    by : (o : Option ErrorCode) → cond (is_some o) (no_change s) (asked_change s n user a) ≡ change_by s (option_map_or refused_by o (accepted n user a)).change
+    by None = accepts s n user a
+    by (Some code) = refl
 
-    by : (a : Answer) → message_change s n a ≡ change_by s (decision_of s n (user_of s n) a).change
-    by unanswered = refl
-    by (refused code details) = refl
-    by (asks a) = by_code a (refusal s (user_of s n) a)
+-- one of a member
+pub change-message : (s : Conference) (n : ℕ) (bytes : List ℕ) → change s (Message n bytes) ≡ message_change s (Some n) (user_of s n) (ask bytes (binding s n))
+unfolding change
+change-message s n bytes = refl
+
+-- and one that is said
+pub change-said : (s : Conference) (user : ℕ) (bytes : List ℕ) → change s (Say user bytes) ≡ message_change s None user (said bytes (binding_for s user))
+unfolding change
+change-said s user bytes = refl
 
 -- what is asked, and no check refuses, is changed
-change-accepted : (s : Conference) (n : ℕ) (bytes : List ℕ) (a : Ask) → asks a ≡ ask bytes (binding s n) → None ≡ refusal s (user_of s n) a → change s (Message n bytes) ≡ asked_change s n a
-unfolding change
-change-accepted s n bytes a read accepted =
-    ap (message_change s n) (sym read) ∙ ap (λ (o : Option ErrorCode). cond (is_some o) (no_change s) (asked_change s n a)) (sym accepted)
+change-accepted : (s : Conference) (n : Option ℕ) (user : ℕ) (a : Ask) → None ≡ refusal s user a → message_change s n user (asks a) ≡ asked_change s n user a
+change-accepted s n user a accepted = ap (λ (o : Option ErrorCode). cond (is_some o) (no_change s) (asked_change s n user a)) (sym accepted)
 
 -- the entries after the event are the changed ones, settled
 pub shown-changed : (s : Conference) (e : Event) (c : Change) → change s e ≡ c → shown s e ≡ settle_entries c.config.floors c.entries
@@ -141,63 +147,67 @@ status-shown config all ended k same rising =
     by None = refl
     by (Some e) = refl
 
-status-settled : (s : Conference) (n : ℕ) (bytes : List ℕ) (ended : List Ended) (k : ℕ) →
-    option_map_or (λ shown. FloorRequestStatus shown.info ∷ []) (option_map (shown_of s.config (ongoing_of (shown s (Message n bytes)))) (entry_at ended (ongoing_of (shown s (Message n bytes))) k)) []
-    ≡ status_tells (settled s (Message n bytes)) ended k
-status-settled s n bytes ended k =
+status-settled : (s : Conference) (e : Event) (ended : List Ended) (k : ℕ) → keeps_config e ≡ true →
+    option_map_or (λ shown. FloorRequestStatus shown.info ∷ []) (option_map (shown_of s.config (ongoing_of (shown s e))) (entry_at ended (ongoing_of (shown s e)) k)) []
+    ≡ status_tells (settled s e) ended k
+status-settled s e ended k keeps =
     let told : Configuration → List Request → List Tell = λ config rs. option_map_or (λ shown. FloorRequestStatus shown.info ∷ []) (option_map (shown_of config rs) (entry_at ended rs k)) [] in
-    ap (told s.config) (sym (settled-ongoing s (Message n bytes))) ∙ ap (λ (config : Configuration). told config (settled s (Message n bytes)).ongoing) (sym (settled-config s (Message n bytes) refl))
+    ap (told s.config) (sym (settled-ongoing s e)) ∙ ap (λ (config : Configuration). told config (settled s e).ongoing) (sym (settled-config s e keeps))
 
 -- the answer to an accepted message, as the steps make it
-pub tells-accepted : (s : Conference) (n : ℕ) (bytes : List ℕ) (user : ℕ) (a : Ask) (ended : List Ended) →
-    map entry_of_ended ended ≡ ended_of (shown s (Message n bytes)) → is_rising (numbers_in (shown s (Message n bytes))) ≡ true →
-    (settled s (Message n bytes)).given ≡ given_after s a →
-    answer_tells s (Message n bytes) user a ≡ tells_by (settled s (Message n bytes)) ended user (accepted n user a).reply
-tells-accepted s n bytes user (FloorRequest beneficiary floors priority info) ended same rising given =
-    status-shown s.config (shown s (Message n bytes)) ended (s.given + 1) same rising
-    ∙ status-settled s n bytes ended (s.given + 1)
-    ∙ ap (status_tells (settled s (Message n bytes)) ended) (sym given)
-tells-accepted s n bytes user (FloorRelease request) ended same rising given =
-    status-shown s.config (shown s (Message n bytes)) ended request same rising ∙ status-settled s n bytes ended request
-tells-accepted s n bytes user (FloorRequestQuery request) ended same rising given =
-    status-shown s.config (shown s (Message n bytes)) ended request same rising ∙ status-settled s n bytes ended request
-tells-accepted s n bytes user (UserQuery beneficiary) ended same rising given =
-    ap (λ (config : Configuration). UserStatus (option_map (described config) beneficiary) (infos_of_user (unwrap_or beneficiary user) (settled s (Message n bytes))) ∷ []) (sym (settled-config s (Message n bytes) refl))
-tells-accepted s n bytes user (FloorQuery floors) ended same rising given = refl
-tells-accepted s n bytes user (ChairAction request verdicts reason) ended same rising given = refl
-tells-accepted s n bytes user Hello ended same rising given = refl
+pub tells-accepted : (s : Conference) (e : Event) (n : Option ℕ) (user : ℕ) (a : Ask) (ended : List Ended) → keeps_config e ≡ true →
+    map entry_of_ended ended ≡ ended_of (shown s e) → is_rising (numbers_in (shown s e)) ≡ true →
+    (settled s e).given ≡ given_after s a →
+    answer_tells s e user a ≡ tells_by (settled s e) ended user (accepted n user a).reply
+tells-accepted s e n user (FloorRequest beneficiary floors priority info) ended keeps same rising given =
+    status-shown s.config (shown s e) ended (s.given + 1) same rising
+    ∙ status-settled s e ended (s.given + 1) keeps
+    ∙ ap (status_tells (settled s e) ended) (sym given)
+tells-accepted s e n user (FloorRelease request) ended keeps same rising given =
+    status-shown s.config (shown s e) ended request same rising ∙ status-settled s e ended request keeps
+tells-accepted s e n user (FloorRequestQuery request) ended keeps same rising given =
+    status-shown s.config (shown s e) ended request same rising ∙ status-settled s e ended request keeps
+tells-accepted s e n user (UserQuery beneficiary) ended keeps same rising given =
+    ap (λ (config : Configuration). UserStatus (option_map (described config) beneficiary) (infos_of_user (unwrap_or beneficiary user) (settled s e)) ∷ []) (sym (settled-config s e keeps))
+tells-accepted s e n user (FloorQuery floors) ended keeps same rising given = refl
+tells-accepted s e n user (ChairAction request verdicts reason) ended keeps same rising given = refl
+tells-accepted s e n user Hello ended keeps same rising given = refl
 
 -- the answer to a message, as the steps make it
-pub tells-decided : (s : Conference) (n : ℕ) (bytes : List ℕ) (a : Answer) (ended : List Ended) → a ≡ ask bytes (binding s n) →
-    map entry_of_ended ended ≡ ended_of (shown s (Message n bytes)) → is_rising (numbers_in (shown s (Message n bytes))) ≡ true →
-    reply_tells s (Message n bytes) (user_of s n) a ≡ tells_by (settled s (Message n bytes)) ended (user_of s n) (decision_of s n (user_of s n) a).reply
-tells-decided s n bytes unanswered ended read same rising = refl
-tells-decided s n bytes (refused code details) ended read same rising = refl
-tells-decided s n bytes (asks a) ended read same rising = by (refusal s (user_of s n) a) refl
+pub tells-decided : (s : Conference) (e : Event) (n : Option ℕ) (user : ℕ) (a : Answer) (ended : List Ended) → keeps_config e ≡ true → change s e ≡ message_change s n user a →
+    map entry_of_ended ended ≡ ended_of (shown s e) → is_rising (numbers_in (shown s e)) ≡ true →
+    reply_tells s e user a ≡ tells_by (settled s e) ended user (decision_of s n user a).reply
+tells-decided s e n user unanswered ended keeps changed same rising = refl
+tells-decided s e n user (refused code details) ended keeps changed same rising = refl
+tells-decided s e n user (asks a) ended keeps changed same rising = by (refusal s user a) refl
   where
-    given : None ≡ refusal s (user_of s n) a → (settled s (Message n bytes)).given ≡ given_after s a
+    given : None ≡ refusal s user a → (settled s e).given ≡ given_after s a
     given accepted =
-        ap (λ (t : Conference). t.given) (settled-made s (Message n bytes))
-        ∙ ap (λ (c : Change). c.given) (change-accepted s n bytes a read accepted)
+        ap (λ (t : Conference). t.given) (settled-made s e)
+        ∙ ap (λ (c : Change). c.given) (changed ∙ change-accepted s n user a accepted)
 
-    by : (o : Option ErrorCode) → o ≡ refusal s (user_of s n) a →
-        option_map_or (λ code. Error (code_number code) [] ∷ []) o (answer_tells s (Message n bytes) (user_of s n) a)
-        ≡ tells_by (settled s (Message n bytes)) ended (user_of s n) (option_map_or refused_by o (accepted n (user_of s n) a)).reply
-    by None free = tells-accepted s n bytes (user_of s n) a ended same rising (given free)
+    by : (o : Option ErrorCode) → o ≡ refusal s user a →
+        option_map_or (λ code. Error (code_number code) [] ∷ []) o (answer_tells s e user a)
+        ≡ tells_by (settled s e) ended user (option_map_or refused_by o (accepted n user a)).reply
+    by None free = tells-accepted s e n user a ended keeps same rising (given free)
     by (Some code) free = refl
 
--- the reply that the steps put is the reply to the message
-pub reply-answered : (s : Conference) (n : ℕ) (bytes : List ℕ) (r : Replied) (a : Answer) (ended : List Ended) → a ≡ ask bytes (binding s n) →
-    map entry_of_ended ended ≡ ended_of (shown s (Message n bytes)) → is_rising (numbers_in (shown s (Message n bytes))) ≡ true →
-    r.n ≡ n → r.head ≡ response_head bytes → r.tells ≡ tells_by (settled s (Message n bytes)) ended (user_of s n) (decision_of s n (user_of s n) a).reply →
-    (k : ℕ) → answered_to (Some r) k ≡ reply_to s (Message n bytes) k
+-- the reply that the steps make is the answer to the message
+pub reply-made : (s : Conference) (e : Event) (n : Option ℕ) (user : ℕ) (head : Head) (a : Answer) (ended : List Ended) → keeps_config e ≡ true → change s e ≡ message_change s n user a →
+    map entry_of_ended ended ≡ ended_of (shown s e) → is_rising (numbers_in (shown s e)) ≡ true →
+    answered head (tells_by (settled s e) ended user (decision_of s n user a).reply) ≡ headed head (reply_tells s e user a)
+reply-made s e n user head a ended keeps changed same rising =
+    ap (answered head) (sym (tells-decided s e n user a ended keeps changed same rising)) ∙ sym (headed-answered head (reply_tells s e user a))
+
+-- the answer to a message of a member
+pub reply-message : (s : Conference) (n : ℕ) (bytes : List ℕ) → headed (response_head bytes) (reply_tells s (Message n bytes) (user_of s n) (ask bytes (binding s n))) ≡ reply s (Message n bytes)
 unfolding reply
-reply-answered s n bytes r a ended read same rising to head tells k =
-    ap (λ (m : ℕ). cond (m == k) (answered r.head r.tells) []) to
-    ∙ ap (λ (h : Head). cond (n == k) (answered h r.tells) []) head
-    ∙ ap (λ (ts : List Tell). cond (n == k) (answered (response_head bytes) ts) []) (tells ∙ sym (tells-decided s n bytes a ended read same rising))
-    ∙ ap (λ (ms : List Outgoing). cond (n == k) ms []) (sym (headed-answered (response_head bytes) (reply_tells s (Message n bytes) (user_of s n) a)))
-    ∙ ap (λ (x : Answer). cond (n == k) (headed (response_head bytes) (reply_tells s (Message n bytes) (user_of s n) x)) []) read
+reply-message s n bytes = refl
+
+-- and to one that is said
+pub reply-said : (s : Conference) (user : ℕ) (bytes : List ℕ) → headed (response_head bytes) (reply_tells s (Say user bytes) user (said bytes (binding_for s user))) ≡ reply s (Say user bytes)
+unfolding reply
+reply-said s user bytes = refl
 
 pub updates-message : (s : Conference) (e : Event) (course : Course) → map entry_of_ended course.ended.items ≡ ended_of (shown s e) → course.numbers.items ≡ numbers_in (shown s e) →
     is_rising course.numbers.items ≡ true → course.before.items ≡ infos s →

@@ -19,7 +19,7 @@ use Rattle.floor_machine.specs.declared.replied.Replied.{Replied}
 use Rattle.floor_machine.specs.declared.tell.changed.Update.{Update}
 use Rattle.floor_machine.specs.Conference.{Conference, member_with, is_numbered_from}
 use Rattle.floor_machine.specs.declared.event.Event.{Event}
-use Rattle.floor_machine.specs.declared.event.Event.TheVariants.{Join, Message, Took, Leave, Revoke, Close, AddUser, AddFloor, SetChair}
+use Rattle.floor_machine.specs.declared.event.Event.TheVariants.{Join, Message, Took, Leave, Revoke, Close, AddUser, AddFloor, SetChair, Say}
 use Rattle.floor_machine.specs.Shown.{Entry, ongoing_of, info_of}
 use Rattle.floor_machine.specs.Change.{settled}
 use Rattle.floor_machine.specs.Outgoing.{Outgoing, notice}
@@ -201,6 +201,7 @@ due-member s Close n h = cc
 due-member s (AddUser user) n h = refl
 due-member s (AddFloor floor) n h = refl
 due-member s (SetChair floor chair) n h = refl
+due-member s (Say user bytes) n h = refl
 
 -- what an event calls for, member by member
 pub due_parcels-members : (s : Conference) (e : Event) → is_telling e ≡ true → is_numbered_from 1 (settled s e).members ≡ true →

@@ -7,7 +7,7 @@ use Rattle.floor_queue.specs.declared.request.Request.{Request}
 use Rattle.floor_queue.specs.Queue.{request_at}
 use Rattle.floor_machine.specs.declared.decision.Decision.{Decision}
 use Rattle.floor_machine.specs.declared.event.Event.{Event}
-use Rattle.floor_machine.specs.declared.event.Event.TheVariants.{Join, Message, Took, Leave, Revoke, Close, AddUser, AddFloor, SetChair}
+use Rattle.floor_machine.specs.declared.event.Event.TheVariants.{Join, Message, Took, Leave, Revoke, Close, AddUser, AddFloor, SetChair, Say}
 use Rattle.floor_machine.specs.declared.machine.Refusal.{Refusal}
 use Rattle.floor_machine.specs.declared.machine.Refusal.TheVariants.{Broken, Memory}
 use Rattle.floor_machine.specs.Conference.{Conference}
@@ -85,3 +85,4 @@ may_unsent s Close d lawful h = subst (λ (x : Decision). MayChange s x.change) 
 may_unsent s (AddUser user) d lawful h = subst (λ (x : Decision). MayChange s x.change) (sym h.1) lawful.1
 may_unsent s (AddFloor floor) d lawful h = subst (λ (x : Decision). MayChange s x.change) (sym h.1) lawful.1
 may_unsent s (SetChair floor chair) d lawful h = subst (λ (x : Decision). MayChange s x.change) (sym h.1) lawful.1
+may_unsent s (Say user bytes) d lawful h = absurd (let no = h.0 in cc)

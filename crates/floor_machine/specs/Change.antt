@@ -20,11 +20,12 @@ use Rattle.floor_message.specs.declared.verdicts.Verdict.TheVariants.{Accepted, 
 use Rattle.floor_message.specs.declared.status.RequestStatus.{RequestStatus}
 use Rattle.floor_message.specs.declared.status.RequestStatus.TheVariants as status
 use Rattle.floor_machine.specs.declared.member.Member.{Member}
-use Rattle.floor_machine.specs.Conference.{Conference, backlog, is_cut, is_live, is_present, joining, user_of, binding}
+use Rattle.floor_machine.specs.Conference.{Conference, backlog, is_cut, is_live, is_present, joining, user_of, binding, binding_for}
 use Rattle.floor_machine.specs.declared.event.Event.{Event}
-use Rattle.floor_machine.specs.declared.event.Event.TheVariants.{Join, Message, Took, Leave, Revoke, Close, AddUser, AddFloor, SetChair}
+use Rattle.floor_machine.specs.declared.event.Event.TheVariants.{Join, Message, Took, Leave, Revoke, Close, AddUser, AddFloor, SetChair, Say}
 use Rattle.floor_machine.specs.Shown.{Entry, entry_of, ongoing_of, settle_entries}
 use Rattle.floor_machine.specs.Checks.{beneficiary_of, refusal}
+use Rattle.floor_machine.specs.Said.{said}
 
 -- what an event makes of a conference before it is settled, with the requests that ended still among the others
 pub record Change : Type 0 where
@@ -117,27 +118,27 @@ given_after s _ = s.given
 abbrev pub watching : ℕ → List ℕ → Member → Member
 watching n floors m = if m.n == n then record m { watched = floors } else m
 
--- the members after an accepted message: a FloorQuery replaces the sender's watched floors (section 13.5)
-abbrev pub members_after : Conference → ℕ → Ask → List Member
-members_after s n (FloorQuery floors) = map (watching n floors) s.members
+-- the members after an accepted message: a FloorQuery replaces the watched floors of the member that sent it (section 13.5)
+abbrev pub members_after : Conference → Option ℕ → Ask → List Member
+members_after s n (FloorQuery floors) = option_map_or (λ k. map (watching k floors) s.members) n s.members
 members_after s n _ = s.members
 
--- an accepted message of n
-abbrev pub asked_change : Conference → ℕ → Ask → Change
-asked_change s n a =
+-- an accepted message of this user, which a member sent, or nobody
+abbrev pub asked_change : Conference → Option ℕ → ℕ → Ask → Change
+asked_change s n user a =
     record {
       config = s.config;
       given = given_after s a;
-      entries = entries_after s (user_of s n) a;
+      entries = entries_after s user a;
       members = members_after s n a;
       is_open = s.is_open;
     }
 
--- a message of n, as it is read: what is refused or left unanswered changes nothing
-abbrev pub message_change : Conference → ℕ → Answer → Change
-message_change s n unanswered = no_change s
-message_change s n (refused code details) = no_change s
-message_change s n (asks a) = if is_some (refusal s (user_of s n) a) then no_change s else asked_change s n a
+-- such a message, as it is read: what is refused or left unanswered changes nothing
+abbrev pub message_change : Conference → Option ℕ → ℕ → Answer → Change
+message_change s n user unanswered = no_change s
+message_change s n user (refused code details) = no_change s
+message_change s n user (asks a) = if is_some (refusal s user a) then no_change s else asked_change s n user a
 
 -- k of the messages that were told to n are acknowledged, and all others stay as they were
 abbrev pub acknowledging : ℕ → ℕ → Member → Member
@@ -161,7 +162,7 @@ change s (Join user) =
     record (no_change s) {
       members = s.members ++ joining (length s.members + 1) user ∷ [];
     }
-change s (Message n bytes) = message_change s n (ask bytes (binding s n))
+change s (Message n bytes) = message_change s (Some n) (user_of s n) (ask bytes (binding s n))
 change s (Took n k) = record (no_change s) { members = map (acknowledging n k) s.members }
 change s (Leave n) =
     let members = map (leaving n) s.members in
@@ -175,6 +176,7 @@ change s (SetChair floor chair) =
       config = with_chair s.config floor chair;
       entries = map entry_of (after_set_chair (queue_of s) floor chair).ongoing;
     }
+change s (Say user bytes) = message_change s None user (said bytes (binding_for s user))
 
 -- the requests after an event: settled, with those that ended kept aside among them
 unfoldable pub shown : Conference → Event → List Entry
@@ -193,7 +195,7 @@ settled s e =
 
 -- the event may happen now: an open conference is joined by its users, 64 live members at most; a live member that isn't cut sends
 -- one whole message; a live member acknowledges some of its backlog, or leaves; an ongoing request is revoked; the conference is
--- closed; and a user, a floor or a chair is one that the configuration may get
+-- closed; a user, a floor or a chair is one that the configuration may get; and one whole message is said for a user
 abbrev pub IsLawful : Conference → Event → Type 0
 IsLawful s (Join user) = (s.is_open ≡ true) × (is_user s.config user ≡ true) × (count_by (λ m. m.is_live) s.members < 64)
 IsLawful s (Message n bytes) = (s.is_open ≡ true) × (is_live s n ≡ true) × (is_cut s n ≡ false) × IsMessage bytes
@@ -204,3 +206,4 @@ IsLawful s Close = s.is_open ≡ true
 IsLawful s (AddUser user) = (s.is_open ≡ true) × (user_fault s.config user ≡ None)
 IsLawful s (AddFloor floor) = (s.is_open ≡ true) × (floor_fault s.config floor ≡ None)
 IsLawful s (SetChair floor chair) = (s.is_open ≡ true) × (chair_fault s.config floor chair ≡ None)
+IsLawful s (Say user bytes) = (s.is_open ≡ true) × (is_user s.config user ≡ true) × IsMessage bytes

@@ -61,6 +61,10 @@ backlog s n = option_map_or (λ m. m.backlog) (find (λ m. m.n == n) s.members) 
 abbrev pub is_cut : Conference → ℕ → Bool
 is_cut s n = option_map_or (λ m. m.is_cut) (find (λ m. m.n == n) s.members) false
 
--- whom n asks for: the conference, n's user, and the users of the conference
+-- whom a connection of this user asks for: the conference, the user, and the users of the conference
+abbrev pub binding_for : Conference → ℕ → Binding
+binding_for s user = record { conference = s.config.conference; user = user; users = user_ids s.config.users }
+
+-- whom n asks for
 abbrev pub binding : Conference → ℕ → Binding
-binding s n = record { conference = s.config.conference; user = user_of s n; users = user_ids s.config.users }
+binding s n = binding_for s (user_of s n)

@@ -3,6 +3,7 @@ pub mod Conference
 pub mod Events
 pub mod Shown
 pub mod Checks
+pub mod Said
 pub mod Change
 pub mod Parcel
 pub mod Outgoing
@@ -21,5 +22,6 @@ pub mod Returning
 pub mod Amount
 pub mod Examples
 pub mod ActExamples
+pub mod SayExamples
 -- the steps of the proofs
 pub mod steps

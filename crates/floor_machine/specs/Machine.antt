@@ -95,6 +95,10 @@ act_refusal m (Act.AddUser user) = fault_refusal m (user_fault m.conference.conf
 act_refusal m (Act.AddFloor floor) = fault_refusal m (floor_fault m.conference.config floor)
 act_refusal m (Act.SetChair floor chair) = fault_refusal m (chair_fault m.conference.config floor chair)
 
+-- why nothing is said for a user: it is no user of the conference
+abbrev pub say_refusal : Machine → ℕ → Option Refusal
+say_refusal m user = refusal_of m (if not (is_user m.conference.config user) then Some NoUser else None)
+
 -- why an event is not taken
 abbrev pub event_refusal : Machine → Event → Option Refusal
 event_refusal m (Event.Join user) = join_refusal m user
@@ -106,6 +110,7 @@ event_refusal m Event.Close = act_refusal m Act.Close
 event_refusal m (Event.AddUser user) = act_refusal m (Act.AddUser user)
 event_refusal m (Event.AddFloor floor) = act_refusal m (Act.AddFloor floor)
 event_refusal m (Event.SetChair floor chair) = act_refusal m (Act.SetChair floor chair)
+event_refusal m (Event.Say user bytes) = say_refusal m user
 
 -- The call is refused exactly by this refusal; where there is none it is done, or memory was refused.
 abbrev pub IsRefusedBy : {T : Type 0} → Option Refusal → Result T Refusal → Type 0

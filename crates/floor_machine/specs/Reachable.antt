@@ -8,12 +8,13 @@ use Rattle.floor_queue.specs.Queue.{is_ascending}
 use Rattle.floor_message.specs.Ask.{Answer, asks, refused, unanswered, ask}
 use Rattle.floor_machine.specs.declared.member.Member.{Member}
 use Rattle.floor_machine.specs.Parcel.{Parcel}
-use Rattle.floor_machine.specs.Conference.{Conference, backlog, binding, is_cut, is_numbered_from, opening, user_of}
+use Rattle.floor_machine.specs.Conference.{Conference, backlog, binding, binding_for, is_cut, is_numbered_from, opening, user_of}
 use Rattle.floor_machine.specs.declared.event.Event.{Event}
-use Rattle.floor_machine.specs.declared.event.Event.TheVariants.{AddFloor, AddUser, Message}
+use Rattle.floor_machine.specs.declared.event.Event.TheVariants.{AddFloor, AddUser, Message, Say}
 use Rattle.floor_machine.specs.Events.{acknowledged_by}
 use Rattle.floor_machine.specs.Change.{IsLawful}
 use Rattle.floor_machine.specs.Checks.{refusal}
+use Rattle.floor_machine.specs.Said.{said}
 use Rattle.floor_machine.specs.Journal.{IsJournal, after, parcels, parcels_from, sent_to}
 use Rattle.floor_machine.specs.Next.{MAX_BACKLOG, next, told}
 
@@ -75,6 +76,16 @@ pub record LeavesAlone (s : Conference) (n : ℕ) (bytes : List ℕ) : Type 0 wh
 abbrev pub Quiet : Type 0
 Quiet = (config : Configuration) (es : List Event) (n : ℕ) (bytes : List ℕ) → IsConfiguration config → IsJournal config es →
     (let s = after config es in is_unaccepted s (user_of s n) (ask bytes (binding s n)) ≡ true → LeavesAlone s n bytes)
+
+-- such a message that is said leaves the whole conference as it is, and tells nobody anything
+pub record LeavesAll (s : Conference) (user : ℕ) (bytes : List ℕ) : Type 0 where
+  pub next : next s (Say user bytes) ≡ s
+  pub told : (k : ℕ) → told s (Say user bytes) k ≡ []
+
+-- after each journal, a message that is said and isn't accepted leaves all as it is
+abbrev pub SaidQuiet : Type 0
+SaidQuiet = (config : Configuration) (es : List Event) (user : ℕ) (bytes : List ℕ) → IsConfiguration config → IsJournal config es →
+    (let s = after config es in is_unaccepted s user (said bytes (binding_for s user)) ≡ true → LeavesAll s user bytes)
 
 -- the event adds a user or a floor
 abbrev pub is_growth : Event → Bool

@@ -1,5 +1,5 @@
 -- What a message is answered by (RFC 8855, section 13).
-use Rattle.std.specs.Prelude.{ℕ, ◌+◌, ◌==◌, List, [], ◌∷◌, map, filter, Some, None, option_map, unwrap_or}
+use Rattle.std.specs.Prelude.{ℕ, ◌+◌, ◌==◌, List, [], ◌∷◌, map, filter, Option, Some, None, option_map, unwrap_or}
 use Rattle.std.specs.List.{list_any}
 use Rattle.std.specs.Option.{option_map_or}
 use Rattle.floor_config.specs.Configuration.{Configuration}
@@ -13,13 +13,15 @@ use Rattle.floor_message.specs.declared.information.Info.{Info}
 use Rattle.floor_message.specs.declared.tell.Tell.{Tell}
 use Rattle.floor_message.specs.declared.tell.Tell.TheVariants.{FloorRequestStatus, UserStatus, FloorStatus, ChairActionAck, HelloAck, Error}
 use Rattle.floor_message.specs.Head.{response_head}
-use Rattle.floor_machine.specs.Conference.{Conference, user_of, binding}
+use Rattle.floor_message.specs.Picked.{first}
+use Rattle.floor_machine.specs.Conference.{Conference, user_of, binding, binding_for}
 use Rattle.floor_machine.specs.declared.event.Event.{Event}
-use Rattle.floor_machine.specs.declared.event.Event.TheVariants.{Message}
+use Rattle.floor_machine.specs.declared.event.Event.TheVariants.{Message, Say}
 use Rattle.floor_machine.specs.Shown.{Entry, ongoing_of, info, info_of, described}
 use Rattle.floor_machine.specs.Checks.{refusal}
+use Rattle.floor_machine.specs.Said.{said}
 use Rattle.floor_machine.specs.Change.{shown, settled}
-use Rattle.floor_machine.specs.Outgoing.{Outgoing, notice}
+use Rattle.floor_machine.specs.Outgoing.{Outgoing, notice, outgoing_bytes}
 
 -- the primitives that the server supports: all that are sent over a reliable transport
 abbrev pub supported_primitives : List ℕ
@@ -77,8 +79,15 @@ abbrev pub headed : Head → List Tell → List Outgoing
 headed head [] = []
 headed head (tell ∷ tells) = record { head = head; tell = tell } ∷ map (notice head.conference head.user) tells
 
--- the answer to an event: none, unless it is a message
+-- the answer to an event: none, unless it is a message, of a member or said for a user
 unfoldable pub reply : Conference → Event → List Outgoing
 reply s (Message n bytes) =
     headed (response_head bytes) (reply_tells s (Message n bytes) (user_of s n) (ask bytes (binding s n)))
+reply s (Say user bytes) =
+    headed (response_head bytes) (reply_tells s (Say user bytes) user (said bytes (binding_for s user)))
 reply s _ = []
+
+-- what is handed to who says a message for a user: the answer, which is one message
+abbrev pub said_reply : Conference → Event → Option (List ℕ)
+said_reply s (Say user bytes) = first (map outgoing_bytes (reply s (Say user bytes)))
+said_reply s _ = None

@@ -1,6 +1,6 @@
 //! The state of one conference (RFC 8855, sections 10 to 13).
 
-ghost use Rattle.std.specs.Prelude.{◌≡◌, IfOk, is_some};
+ghost use Rattle.std.specs.Prelude.{◌≡◌, IfOk, Some, is_some};
 ghost use Rattle.floor_config.specs.Configuration.{user_ids};
 
 use crate::decision::Sender;
@@ -82,13 +82,13 @@ impl State {
     /// Who sent this message of the member with this number.
     pub(crate) fn sender(&self, n: u32, frame: &Frame) -> Sender
         ensures { result ≡ record {
-          n = n;
+          n = Some n;
           user = user_of (conference_of self.now) n;
           head = response_head frame.now;
         } }
     {
         Sender {
-            n,
+            n: Some(n),
             user: self.user_of(n),
             head: Head::response(frame),
         }

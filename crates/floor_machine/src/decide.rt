@@ -1,17 +1,18 @@
-//! What the message of a member comes to: it is read, and each primitive has its own checks (RFC 8855,
+//! What a message comes to: it is read, and each primitive has its own checks (RFC 8855,
 //! section 13).
 
 ghost use Rattle.std.specs.Prelude.{◌≡◌, IfOk};
 ghost use Rattle.floor_config.specs.Configuration.{user_ids};
-ghost use Rattle.floor_message.specs.Ask.{Answer, ask};
+ghost use Rattle.floor_message.specs.Ask.{Answer};
 ghost use Rattle.floor_message.specs.Laws.{FitsButForCounts};
-ghost use Rattle.floor_machine.specs.steps.Deciding.{MayChange, asked, decision_of};
+ghost use Rattle.floor_machine.specs.steps.Deciding.{MayChange, asked, decision_of, heard};
 ghost use Rattle.floor_machine.specs.steps.Fitting.{DetailsFit};
 ghost use Rattle.floor_machine.specs.steps.Serving.{conference_of};
 
 use crate::conference::State;
 use crate::decision::{Change, Decision, Reply, Sender};
-use floor_message::{Ask, AskFault, Binding, read_ask, what_is_asked_fits};
+use crate::said::hear;
+use floor_message::{Ask, AskFault, Binding, what_is_asked_fits};
 use floor_wire::Frame;
 use std::alloc::{AllocError, Global};
 
@@ -24,7 +25,7 @@ impl State {
         frame: &Frame,
     ) -> Result<Decision, AllocError>
         ensures value { IfOk result (λ decision. (a : Answer)
-            → a ≡ ask frame.now record {
+            → a ≡ heard sender.now.n frame.now record {
               conference = self.now.config.conference;
               user = sender.now.user;
               users = user_ids self.now.config.users;
@@ -40,7 +41,7 @@ impl State {
             user: sender.user,
             users: self.users.as_slice(),
         };
-        match read_ask(alloc, frame, &binding) {
+        match hear(alloc, sender.n, frame, &binding) {
             Err(AskFault::Memory) => Err(AllocError),
             Err(AskFault::Error { code, details }) => Ok(Decision {
                 change: Change::Nothing,

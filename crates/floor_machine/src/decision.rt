@@ -65,12 +65,12 @@ pub(crate) enum Reply {
     Error(ErrorCode, Octets),
 }
 
-/// Who sent the message that an event is.
+/// Who sent the message that an event is: a member, or nobody, where it is said for a user.
 #[derive(Clone, Copy, Debug)]
 pub(crate) struct Sender {
-    /// The number of the member.
-    pub n: u32,
-    /// The user whose connection it is.
+    /// The number of the member, where one sent it.
+    pub n: Option<u32>,
+    /// The user whose connection the member is, or for whom the message is said.
     pub user: u16,
     /// The head of what answers the message.
     pub head: Head,

@@ -6,6 +6,7 @@ ghost use Rattle.std.specs.Prelude.{◌≡◌, ◌<◌, [], IfErr, IfOk, OnErr, 
 ghost use Rattle.floor_machine.specs.Events as events;
 ghost use Rattle.floor_machine.specs.Laws.{IsWhole};
 ghost use Rattle.floor_machine.specs.Machine.{Applied, IsRefusedBy, Left, event_of_act, event_refusal, infos_changed};
+ghost use Rattle.floor_machine.specs.Reply.{said_reply};
 
 use crate::act::Act;
 use crate::added::AddedUser;
@@ -13,7 +14,7 @@ use crate::machine::{Machine, Refusal};
 use crate::parcel::Parcel;
 use floor_config::Floor;
 use floor_message::SharedInfo;
-use floor_wire::{Copies, Frame};
+use floor_wire::{Copies, Frame, SharedFrame};
 use std::alloc::{AllocError, Global};
 
 /// How many events the journal of a conference has at most: our choice, so that what is kept of a
@@ -72,6 +73,13 @@ pub enum Event {
         /// The User ID of the chair, if there is one.
         chair: Option<u16>,
     },
+    /// The administrator says a message for a user.
+    Say {
+        /// The user.
+        user: u16,
+        /// The message.
+        frame: Frame,
+    },
 }
 
 impl Event {
@@ -108,8 +116,8 @@ impl Event {
         }
     }
 
-    /// The message, where the event is one: it is one whole message, as each frame is. Takes no
-    /// memory.
+    /// The message, where the event is one of a member. Each message of an event is one whole message,
+    /// as each frame is. Takes no memory.
     pub fn message(&self) -> Option<&Frame>
         ensures value { option_copied result ≡ events.message self.now }
         ensures whole { IsWhole self.now }
@@ -118,6 +126,10 @@ impl Event {
             Event::Message { frame, .. } => {
                 let _bytes = frame.bytes();
                 Some(frame)
+            }
+            Event::Say { frame, .. } => {
+                let _bytes = frame.bytes();
+                None
             }
             _ => None,
         }
@@ -156,6 +168,10 @@ impl Event {
                 floor: *floor,
                 chair: *chair,
             }),
+            Event::Say { user, frame } => {
+                let frame = frame.copy(alloc)?;
+                Ok(Event::Say { user: *user, frame })
+            }
         }
     }
 
@@ -169,6 +185,10 @@ impl Event {
                 let frame = copies.copy(&frame)?;
                 Ok(Event::Message { n, frame })
             }
+            Event::Say { user, frame } => {
+                let frame = copies.copy(&frame)?;
+                Ok(Event::Say { user, frame })
+            }
             other => Ok(other),
         }
     }
@@ -176,17 +196,19 @@ impl Event {
 
 impl Machine {
     /// Takes an event, appends what it tells the members to `out`, by ascending member, and puts what is
-    /// shown of the floor requests that it changed into `changed`. After a refusal nothing has changed, but
-    /// that `Memory` leaves the machine broken.
+    /// shown of the floor requests that it changed into `changed`. It gives what answers a message that is
+    /// said for a user. After a refusal nothing has changed, but that `Memory` leaves the machine broken.
     pub fn apply(
         &mut self,
         event: &Event,
         out: &mut Vec<Parcel>,
         changed: &mut Vec<SharedInfo>,
-    ) -> Result<(), Refusal>
+    ) -> Result<Option<SharedFrame>, Refusal>
         requires { length self.old.conference.members < 4294967295 }
         ensures took { OnOk result
             (Applied self.old event.now self.new out.old.items out.new.items) }
+        ensures reply { IfOk result (λ reply. reply
+            ≡ said_reply self.old.conference event.now) }
         ensures changed { OnOk result
             (changed.new.items ≡ infos_changed self.old.conference event.now) }
         ensures unchanged { OnErr result (changed.new.items ≡ []) }
@@ -198,16 +220,41 @@ impl Machine {
         match event {
             Event::Join { user } => {
                 self.join(*user)?;
-                Ok(())
+                Ok(None)
             }
-            Event::Message { n, frame } => self.message(*n, frame, out, changed),
-            Event::Took { n, k } => self.took(*n, *k),
-            Event::Leave { n } => self.leave(*n, out, changed),
-            Event::Revoke { request } => self.revoke(*request, out, changed),
-            Event::Close => self.close(out, changed),
-            Event::AddUser { user } => self.add_user(user, out, changed),
-            Event::AddFloor { floor } => self.add_floor(*floor, out, changed),
-            Event::SetChair { floor, chair } => self.set_chair(*floor, *chair, out, changed),
+            Event::Message { n, frame } => {
+                self.message(*n, frame, out, changed)?;
+                Ok(None)
+            }
+            Event::Took { n, k } => {
+                self.took(*n, *k)?;
+                Ok(None)
+            }
+            Event::Leave { n } => {
+                self.leave(*n, out, changed)?;
+                Ok(None)
+            }
+            Event::Revoke { request } => {
+                self.revoke(*request, out, changed)?;
+                Ok(None)
+            }
+            Event::Close => {
+                self.close(out, changed)?;
+                Ok(None)
+            }
+            Event::AddUser { user } => {
+                self.add_user(user, out, changed)?;
+                Ok(None)
+            }
+            Event::AddFloor { floor } => {
+                self.add_floor(*floor, out, changed)?;
+                Ok(None)
+            }
+            Event::SetChair { floor, chair } => {
+                self.set_chair(*floor, *chair, out, changed)?;
+                Ok(None)
+            }
+            Event::Say { user, frame } => self.say(*user, frame, out, changed),
         }
     }
 }

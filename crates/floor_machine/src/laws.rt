@@ -1,9 +1,9 @@
 //! Laws of the floor machine. Each is the contract of a function that does nothing.
 
-ghost use Rattle.floor_machine.specs.Amount.{CalledForIsFew, MessageIsShort, ToldIsFew};
-ghost use Rattle.floor_machine.specs.Laws.{InfosSameIsEqual, SameIsEqual, SentIsTold, TakenIsLawful};
+ghost use Rattle.floor_machine.specs.Amount.{CalledForIsFew, MessageIsShort, SaidIsAnsweredOnce, ToldIsFew};
+ghost use Rattle.floor_machine.specs.Laws.{InfosSameIsEqual, SaidIsSent, SameIsEqual, SentIsTold, TakenIsLawful};
 ghost use Rattle.floor_machine.specs.Membership.{AfterBoth, BothLawful, JoinsAdd, JoinsLive, ParcelsOfBoth, SentToMembers, SettlesAsQueue, StaysLive, ToldByBoth, ToldOnceJoined, WasLive};
-ghost use Rattle.floor_machine.specs.Reachable.{Counted, Grown, Kept, Quiet, Sent, Silent, StaysCut};
+ghost use Rattle.floor_machine.specs.Reachable.{Counted, Grown, Kept, Quiet, SaidQuiet, Sent, Silent, StaysCut};
 ghost use Rattle.floor_machine.specs.Returning.{LeaveEndsNothing, RequestsStay};
 
 use floor_message::what_is_asked_fits;
@@ -56,13 +56,21 @@ pub fn additions_grow_alone()
 }
 
 /// A message that is refused or left unanswered leaves the conference as it is, but for its sender's
-/// backlog and whether its sender is cut, and tells nobody but its sender anything.
+/// backlog and whether its sender is cut, and tells nobody but its sender anything. One that is said for
+/// a user leaves all as it is then, and tells nobody anything.
 pub fn refusals_are_quiet()
-    ensures { Quiet }
+    ensures sent { Quiet }
+    ensures said { SaidQuiet }
 {
     what_is_asked_fits();
     settles_once();
 }
+
+/// A FloorRequest, a FloorRelease or a ChairAction that is said for a user changes what the same message
+/// of a connection of the user would, and is answered the same.
+pub fn said_is_sent()
+    ensures { SaidIsSent }
+{}
 
 /// The backlog of a member is what a journal calls for there, less what the journal acknowledges.
 pub fn backlogs_are_counted()
@@ -96,11 +104,12 @@ pub fn returns_end_nothing()
 }
 
 /// Whatever may happen after a journal, it tells a member at most 289 messages, so that a journal calls
-/// for at most 289 at a member for each of its events. A message that can be written has at most
-/// 262,152 bytes.
+/// for at most 289 at a member for each of its events. Whatever is said for a user is answered by one
+/// message at most. A message that can be written has at most 262,152 bytes.
 pub fn events_tell_few()
     ensures told { ToldIsFew }
     ensures called { CalledForIsFew }
+    ensures answered { SaidIsAnsweredOnce }
     ensures bytes { MessageIsShort }
 {
     what_is_asked_fits();

@@ -7,19 +7,20 @@ ghost use Rattle.floor_machine.specs.declared.event.Event.{Event};
 ghost use Rattle.floor_machine.specs.declared.event.Event.TheVariants.{Join, Leave, Message, Took};
 ghost use Rattle.floor_machine.specs.declared.machine.Refusal.TheVariants.{Memory};
 ghost use Rattle.floor_machine.specs.Machine.{Applied, IsRefusedBy, Left, event_refusal, infos_changed, is_backlog, join_refusal, leave_refusal, member_refusal, message_refusal, refusal_of, took_refusal, unless_refused, whole};
-ghost use Rattle.floor_machine.specs.Reply.{infos};
-ghost use Rattle.floor_machine.specs.steps.Deciding.{ComesTo, MayChange};
+ghost use Rattle.floor_machine.specs.Reply.{infos, said_reply};
+ghost use Rattle.floor_machine.specs.steps.Deciding.{ComesTo, IsMessageOf, MayChange};
 ghost use Rattle.floor_machine.specs.steps.Fitting.{DetailsFit};
-ghost use Rattle.floor_machine.specs.steps.Frame.{IsTried};
+ghost use Rattle.floor_machine.specs.steps.Frame.{IsTried, done};
 
 mod administrator;
+mod saying;
 
 use crate::conference::State;
 use crate::decision::{Change, Decision, Sender};
 use crate::parcel::Parcel;
 use floor_config::Config;
 use floor_message::{SharedInfo, what_is_shown_fits};
-use floor_wire::Frame;
+use floor_wire::{Frame, SharedFrame};
 use std::alloc::{AllocError, Global};
 use std::marker::Model;
 
@@ -101,11 +102,11 @@ impl From<AllocError> for Refusal {
 ///
 /// Readers, which take no memory: `config`, `joins`, `live_members`, `live_numbers`, `cut_numbers`,
 /// `ongoing_requests`, `shown`, `is_open`, `is_broken`, `is_cut`, `user_of`, `backlog`. Changes: `join`,
-/// `message`, `took`, `leave` and `admin`, each an event; `apply` takes any event by the one of its kind,
-/// and `run` many. A refused call changes nothing, but that `Memory` leaves the machine broken, and from
+/// `message`, `took`, `leave`, `admin` and `say`, each an event; `apply` takes any event by the one of its
+/// kind, and `run` many. A refused call changes nothing, but that `Memory` leaves the machine broken, and from
 /// then on it answers `Broken`.
 ///
-/// `message`, `leave`, `admin` and `apply` put into their last argument, in place of what stood there, what
+/// `message`, `leave`, `admin`, `say` and `apply` put into their last argument, in place of what stood there, what
 /// is shown now of each floor request that the event changed, ascending: of a new one, of one that ended
 /// with its status, and of one that is shown otherwise than before. After a refusal that is none.
 #[derive(Debug, Drop)]
@@ -377,8 +378,31 @@ impl Machine {
         // A frame is one message, which makes the event a lawful one.
         let _bytes = frame.bytes();
         let sender = self.state.sender(n, frame);
+        match self.take_sent(sender, frame, out, changed) {
+            Ok(_answer) => Ok(()),
+            Err(refusal) => Err(refusal),
+        }
+    }
+
+    /// Takes a message, whoever sent it, and gives the answer to one that no member sent.
+    fn take_sent(
+        &mut self,
+        sender: Sender,
+        frame: &Frame,
+        out: &mut Vec<Parcel>,
+        changed: &mut Vec<SharedInfo>,
+    ) -> Result<Option<SharedFrame>, Refusal>
+        requires whole { self.old.is_broken ≡ false }
+        requires empty { changed.old.items ≡ [] }
+        ensures tried { (e : Event) → IsMessageOf self.old.conference e sender frame.now
+            → IsWhole e → None ≡ event_refusal self.old e
+            → IsTried self.old e self.new out.old.items out.new.items changed.new.items
+            (done result) }
+        ensures said { (e : Event) → IsMessageOf self.old.conference e sender frame.now
+            → IfOk result (λ said. said ≡ said_reply self.old.conference e) }
+    {
         match self.state.decide(self.allocator(), &sender, frame) {
-            Ok(decision) => self.take(Some(sender), decision, out, changed),
+            Ok(decision) => self.take_answered(Some(sender), decision, out, changed),
             Err(refused) => Err(self.break_off(refused)),
         }
     }
@@ -461,13 +485,38 @@ impl Machine {
             → None ≡ event_refusal self.old e
             → IsTried self.old e self.new out.old.items out.new.items changed.new.items result }
     {
+        match self.take_answered(sender, decision, out, changed) {
+            Ok(_answer) => Ok(()),
+            Err(refusal) => Err(refusal),
+        }
+    }
+
+    /// Does the same, and gives the answer to a message that no member sent.
+    fn take_answered(
+        &mut self,
+        sender: Option<Sender>,
+        decision: Decision,
+        out: &mut Vec<Parcel>,
+        changed: &mut Vec<SharedInfo>,
+    ) -> Result<Option<SharedFrame>, Refusal>
+        requires whole { self.old.is_broken ≡ false }
+        requires empty { changed.old.items ≡ [] }
+        requires may { MayChange self.old.conference decision.change }
+        requires details { DetailsFit decision.reply }
+        ensures tried { (e : Event) → ComesTo self.old.conference e sender decision → IsWhole e
+            → None ≡ event_refusal self.old e
+            → IsTried self.old e self.new out.old.items out.new.items changed.new.items
+            (done result) }
+        ensures said { (e : Event) → ComesTo self.old.conference e sender decision
+            → IfOk result (λ said. said ≡ said_reply self.old.conference e) }
+    {
         what_is_shown_fits();
         // Whatever breaks the event off leaves it so.
         self.is_broken = true;
         match self.state.serve(sender, decision, out, changed) {
-            Ok(()) => {
+            Ok(answer) => {
                 self.is_broken = false;
-                Ok(())
+                Ok(answer)
             }
             Err(refused) => {
                 changed.clear();

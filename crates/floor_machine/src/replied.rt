@@ -1,4 +1,4 @@
-//! What the sender of a message is answered (RFC 8855, section 13).
+//! What a message is answered (RFC 8855, section 13).
 
 ghost use Rattle.std.specs.Prelude.{◌≡◌, ◌∷◌, []};
 
@@ -49,11 +49,11 @@ impl Messages {
     }
 }
 
-/// What the sender of a message is answered. Each message shows no more than a conference has.
+/// What a message is answered. Each message of the answer shows no more than a conference has.
 #[derive(Debug, Drop)]
 pub(crate) struct Replied {
-    /// The number of the member that sent it.
-    pub n: u32,
+    /// The number of the member that sent it, where one did.
+    pub n: Option<u32>,
     /// The head of the first message.
     pub head: Head,
     /// The messages.
@@ -74,4 +74,18 @@ impl Model for Replied {
     } };
 
     ghost invariant = { λ r. All IsShown r.tells };
+}
+
+impl Replied {
+    ghost use Rattle.floor_machine.specs.steps.Telling.{is_to};
+
+    /// Whether it is to the member with this number.
+    pub(crate) fn is_to(&self, n: u32) -> bool
+        ensures { result ≡ is_to n self.now }
+    {
+        match self.n {
+            Some(sender) => sender == n,
+            None => false,
+        }
+    }
 }

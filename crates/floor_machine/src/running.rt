@@ -30,7 +30,7 @@ impl Machine {
         let mut changed = Vec::new(*out.allocator());
         for (done, event) in events.iter().enumerate() {
             match self.apply(event, out, &mut changed) {
-                Ok(()) => {}
+                Ok(_) => {}
                 Err(refusal) => return Err(Stopped { done, refusal }),
             }
         }

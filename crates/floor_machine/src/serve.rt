@@ -5,6 +5,7 @@ ghost use Rattle.std.specs.Prelude.{◌≡◌, ◌++◌, [], All, IfOk, OnErr, O
 ghost use Rattle.floor_queue.specs.Order.{settle};
 ghost use Rattle.floor_queue.specs.Queue.{after_settle};
 ghost use Rattle.floor_message.specs.Shown.{IsShownInfo};
+ghost use Rattle.floor_machine.specs.Reply.{said_reply};
 ghost use Rattle.floor_machine.specs.declared.event.Event.{Event};
 ghost use Rattle.floor_machine.specs.steps.Counting.{counted_all, told_of_all};
 ghost use Rattle.floor_machine.specs.steps.Deciding.{ComesTo, MayChange};
@@ -22,25 +23,28 @@ use crate::marks::mark_granted;
 use crate::outcome::Outcome;
 use crate::parcel::Parcel;
 use crate::replied::Replied;
+use crate::said::handed;
 use crate::tell::changed::{Updates, put_shown};
 use crate::tell::due::Due;
 use crate::tell::notices::floor_notices;
 use crate::tell::renewing::{Changes, renew};
 use crate::tell::watching::watched_floors;
 use floor_message::SharedInfo;
+use floor_wire::SharedFrame;
 use std::alloc::{AllocError, Global};
 use std::mem;
 
 impl State {
     /// Does what an event comes to, answers its sender, where it is a message, tells each member, and
-    /// hands out what is shown of the requests that it changed. After an error `out` is as it was.
+    /// hands out what is shown of the requests that it changed. It gives the answer to a message that
+    /// no member sent. After an error `out` is as it was.
     pub(crate) fn serve(
         &mut self,
         sender: Option<Sender>,
         decision: Decision,
         out: &mut Vec<Parcel>,
         changed: &mut Vec<SharedInfo>,
-    ) -> Result<(), AllocError>
+    ) -> Result<Option<SharedFrame>, AllocError>
         requires empty { changed.old.items ≡ [] }
         requires may { MayChange (conference_of self.old) decision.change }
         requires details { DetailsFit decision.reply }
@@ -48,6 +52,8 @@ impl State {
         ensures served { (e : Event) → ComesTo (conference_of self.old) e sender decision
             → OnOk result (IsServed (conference_of self.old) e (conference_of self.new)
             out.old.items out.new.items changed.new.items) }
+        ensures said { (e : Event) → ComesTo (conference_of self.old) e sender decision
+            → IfOk result (λ said. said ≡ said_reply (conference_of self.old) e) }
         ensures rest { OnOk result (IsAtRest self.new) }
         ensures left { OnErr result (out.new.items ≡ out.old.items) }
     {
@@ -64,7 +70,9 @@ impl State {
                     updates: &changes.updates,
                 };
                 let reply = outcome.answer(alloc, sender, decision.reply)?;
-                self.tell(alloc, &changes, &reply, out)
+                let said = handed(alloc, &reply)?;
+                self.tell(alloc, &changes, &reply, out)?;
+                Ok(said)
             }
             // Its sender alone is told anything, and nothing that is shown is looked at.
             None => {
@@ -75,7 +83,9 @@ impl State {
                     updates: &none,
                 };
                 let reply = outcome.answer(alloc, sender, decision.reply)?;
-                self.tell_reply(alloc, &reply, out)
+                let said = handed(alloc, &reply)?;
+                self.tell_reply(alloc, &reply, out)?;
+                Ok(said)
             }
         }
     }

@@ -25,7 +25,7 @@ use Rattle.floor_meetings.specs.Joined.{Joins, LeftBy}
 use Rattle.floor_meetings.specs.Laws.{JoinsAreApart, OthersStay}
 use Rattle.floor_meetings.specs.Meetings.{member_at}
 use Rattle.floor_meetings.specs.Members.{IsPaired, Members, member_in, slot_of}
-use Rattle.floor_meetings.specs.Runs.{Call, Calls, Does, Open, Forget, Acts, MakeRoom, Join, Refused, Came, Ended, Failed, Left, Took, Ready, Due, Discard, LeaveAway}
+use Rattle.floor_meetings.specs.Runs.{Call, Calls, Does, Open, Forget, Acts, Says, MakeRoom, Join, Refused, Came, Ended, Failed, Left, Took, Ready, Due, Discard, LeaveAway}
 use Rattle.floor_meetings.proofs.Pairing.{Tells, one_member}
 
 -- arrivals don't get fewer
@@ -42,6 +42,7 @@ grows-by ps c (answer.Attached n) = longer ps (record { conference = c; n = n })
 grows-by ps c answer.Done = same-length ps
 grows-by ps c answer.Nothing = same-length ps
 grows-by ps c answer.Served = same-length ps
+grows-by ps c (answer.Said said) = same-length ps
 grows-by ps c (answer.Refused r) = same-length ps
 
 grows-at : (w : World) (a : Option Aim) → length w.places ≤ length (turn_at w a).world.places
@@ -117,6 +118,7 @@ went : (c : Call) (old new : Meetings) → Does c old new → Went old.hub new.h
 went (Open config) old new d = went-by (AtMost 1 (step.Open config)) old.hub new.hub d.1.steps
 went Forget old new d = went-by NoSteps old.hub new.hub d.1.steps
 went (Acts conference act) old new d = went-by (AtMost 1 (step.Admin conference act)) old.hub new.hub d.1.steps
+went (Says conference user bytes) old new d = went-by (AtMost 1 (step.Say conference user bytes)) old.hub new.hub d.1.steps
 went (MakeRoom who) old new d = went-by (LeavesIf who) old.hub new.hub d.1.steps
 went (Join k conference user) old new d = went-by (Returns conference user new.hub.attended.away.back) old.hub new.hub d.quiet.steps
 went (Refused conference user r) old new d = refused conference user r old.hub new.hub d.1
@@ -195,6 +197,7 @@ keeps : (c : Call) (w v : World) (old new : Meetings) → IsWithin w old → IsP
 keeps (Open config) w v old new i paired stands d = keeps-all v old new d.0
 keeps Forget w v old new i paired stands d = keeps-all v old new d.0
 keeps (Acts conference act) w v old new i paired stands d = keeps-all v old new d.0
+keeps (Says conference user bytes) w v old new i paired stands d = keeps-all v old new d.0
 keeps (MakeRoom who) w v old new i paired stands d = keeps-all v old new d.0
 keeps (Join k conference user) w v old new i paired stands d = joins v k conference user old new d (nobodys w old d.member.number i paired d.returned.next) stands
 keeps (Refused conference user r) w v old new i paired stands d = kept v old new d.0.slots

@@ -5,10 +5,10 @@ ghost use Rattle.floor_room.specs.Room.{Room};
 ghost use Rattle.floor_hub.specs.Connections.{connection_at};
 ghost use Rattle.floor_hub.specs.Hub.{room_at};
 ghost use Rattle.floor_hub.specs.declared.connection.Connection.{Connection};
-ghost use Rattle.floor_hub.specs.Rooms.{Forgets, IsRemembered, OneRoom, Opens, admin_event, by_broken, refusal_in};
+ghost use Rattle.floor_hub.specs.Rooms.{Forgets, IsRemembered, OneRoom, Opens, admin_event, by_broken, refusal_in, say_event};
 ghost use Rattle.floor_hub.specs.StandsFor.{StandsFor};
-ghost use Rattle.floor_hub.specs.World.{nothing};
-ghost use Rattle.floor_hub.specs.declared.step.Step.TheVariants.{Admin, Open};
+ghost use Rattle.floor_hub.specs.World.{answer_said, nothing};
+ghost use Rattle.floor_hub.specs.declared.step.Step.TheVariants.{Admin, Open, Say};
 ghost use Rattle.floor_loop.specs.Done.{AtMost, LeavesIf, NoSteps};
 ghost use Rattle.floor_loop.specs.Loop.{IsFilled, outgoing_at, over_at, ready_at};
 ghost use Rattle.floor_loop.specs.Returned.{IsKeptPlace, IsOldestOf};
@@ -24,7 +24,7 @@ use crate::counting::{count_in_slots, count_of_user};
 use crate::members::{Member, Members};
 use crate::refusal::JoinRefusal;
 use crate::turn::{come, drop_waiting, end, fail, leave, part, take};
-use floor_loop::{Act, Config, ConnNo, Grace, HubRefusal, Loop};
+use floor_loop::{Act, Config, ConnNo, Grace, HubRefusal, Loop, Said};
 use std::alloc::Global;
 
 /// How many messages of a socket are served in a turn at most: our choice. One may take a hundred thousand times as
@@ -52,7 +52,7 @@ pub enum Due {
 /// Conferences, and which socket is which member of them. Times are milliseconds; one that is earlier than the last
 /// counts as the last.
 ///
-/// - Conferences: `open`, `act`, `forget`; `hub` lends the loop, by which they are read.
+/// - Conferences: `open`, `act`, `say`, `forget`; `hub` lends the loop, by which they are read.
 /// - A socket's life: `join`, behind `make_room`; `came` as bytes come, and `serve` while that says that more may wait;
 ///   `ended` and `failed` at the end of the stream and of the socket; `left` once the socket was shut.
 /// - Writing: `ready` names who has something to be written, `lent` lends it, and `took` takes it that the socket took
@@ -133,6 +133,31 @@ impl Meetings {
         ensures bounds { self.new.bounds ≡ self.old.bounds }
     {
         self.hub.admin(conference, act, now)
+    }
+
+    /// Says a message for a user, who needs no socket, as the hub does: gives its place in the journal and what answers
+    /// it, which no member is told.
+    pub fn say(
+        &mut self,
+        alloc: Global,
+        conference: u32,
+        user: u16,
+        message: &[u8],
+        now: u64,
+    ) -> Result<Said, HubRefusal>
+        ensures quiet { Quiet (AtMost 1 (Say conference user message.now))
+            self.old.hub self.new.hub }
+        ensures said { IfOk result (λ said. (r : Room)
+            × (room_at self.old.hub.hub conference ≡ Some r)
+            × (said ≡ answer_said r.ledger user message.now)) }
+        ensures room { OneRoom by_broken (refusal_in result) (say_event user message.now)
+            conference self.old.hub.hub self.new.hub.hub }
+        ensures woke { Wakes self.old.hub self.new.hub }
+        ensures spares { Spares self.old.hub self.new.hub }
+        ensures members { self.new.members ≡ self.old.members }
+        ensures bounds { self.new.bounds ≡ self.old.bounds }
+    {
+        self.hub.say(alloc, conference, user, message, now)
     }
 
     /// Lends the loop, by which conferences are read.

@@ -28,6 +28,9 @@ const OTHER_ANSWER: &str =
     "20 0c 00 09 00 00 00 02 00 01 00 0a 16 0f 01 02 03 04 05 06 07 08 09 0a 0b 0c 0d 00 \
     14 14 02 04 06 08 0a 0c 0e 10 12 14 16 18 1a 1c 1e 20 22 24";
 
+/// User 11 asks for floor 1 of conference 1 (section 5.3.1).
+const REQUEST: [u8; 16] = [0x20, 1, 0, 1, 0, 0, 0, 1, 0, 1, 0, 11, 4, 4, 0, 1];
+
 const BOUNDS: Bounds = Bounds {
     of_user: 2,
     of_conference: 3,
@@ -236,6 +239,55 @@ fn whoever_is_over_is_named(rt: HostRuntime) -> Result<(), AllocError> {
     assert_eq!(rt; meetings.act(1, Act::Close, 10_700).is_ok(), true);
     assert_eq!(rt; meetings.forget(1), Ok(()));
     assert_eq!(rt; meetings.forget(2).is_err(), true);
+    Ok(())
+}
+
+/// What saying a message comes to: its place and the length of its answer, or the refusal's name.
+fn said(
+    meetings: &mut Meetings,
+    alloc: Global,
+    user: u16,
+    message: &[u8],
+) -> Result<String, AllocError> {
+    match meetings.say(alloc, 1, user, message, 0) {
+        Ok(said) => {
+            let len = match &said.reply {
+                Some(reply) => reply.len(),
+                None => 0,
+            };
+            format!(in alloc; "{} {len}", said.place)
+        }
+        Err(refusal) => String::from_str(alloc, refusal.name()),
+    }
+}
+
+#[test]
+fn what_is_said_for_a_user_is_answered_to_who_says_it(rt: HostRuntime) -> Result<(), AllocError> {
+    let alloc = rt.alloc();
+    let mut meetings = two(alloc)?;
+    let found = said(&mut meetings, alloc, 11, &REQUEST)?;
+    assert_eq!(rt; found.as_str(), "1 40");
+    assert_eq!(rt; meetings.get(0).is_some(), false);
+    assert_eq!(rt; join(&mut meetings, alloc, 5, 1, 11), "Ok");
+    let _named = ready(&mut meetings, alloc)?;
+    let found = said(&mut meetings, alloc, 11, &REQUEST)?;
+    assert_eq!(rt;
+        found
+            .as_str()
+            .split_once(' ')
+            .map_or("", |(place, _)| place),
+        "3"
+    );
+    // The user's own socket is told as of another's event, in transaction 0.
+    assert_eq!(rt; ready(&mut meetings, alloc)?.as_str(), "5 ");
+    assert_eq!(rt; meetings.lent(5).get(8..10), Some(&[0u8, 0][..]));
+    for (user, message, refused) in [
+        (99, &REQUEST[..], "NoUser"),
+        (11, &REQUEST[..15], "BadMessage"),
+    ] {
+        let found = said(&mut meetings, alloc, user, message)?;
+        assert_eq!(rt; found.as_str(), refused);
+    }
     Ok(())
 }
 

@@ -23,6 +23,7 @@ departure_at (end.Refused hub.NoConference) = left.Memory
 departure_at (end.Refused hub.Forgotten) = left.Memory
 departure_at (end.Refused hub.Running) = left.Memory
 departure_at (end.Refused hub.NoConnection) = left.Memory
+departure_at (end.Refused hub.BadMessage) = left.Memory
 departure_at (end.Refused hub.Memory) = left.Memory
 departure_at end.Removed = left.Removed
 
@@ -45,6 +46,7 @@ refused_by hub.NoConference = refused.NoConference
 refused_by hub.Forgotten = refused.NoConference
 refused_by hub.Running = refused.NoConference
 refused_by hub.NoConnection = refused.NoConference
+refused_by hub.BadMessage = refused.NoConference
 refused_by hub.Memory = refused.Memory
 refused_by (hub.ByRoom refusal) = refused.ByRoom refusal
 

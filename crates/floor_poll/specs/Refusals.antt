@@ -15,6 +15,7 @@ abbrev pub refusal_of : HubRefusal → ControlRefusal
 refusal_of hub.Used = control.ByBoard board.Used
 refusal_of hub.NoConference = control.ByBoard board.NoConference
 refusal_of hub.NoConnection = control.ByBoard board.NoConference
+refusal_of hub.BadMessage = control.ByBoard board.NoConference
 refusal_of hub.Forgotten = control.Forgotten
 refusal_of hub.Running = control.Running
 refusal_of hub.Memory = control.ByBoard board.Memory
@@ -46,6 +47,7 @@ refusal_of_act hub.Forgotten = ended
 refusal_of_act hub.Used = refusal_of hub.Used
 refusal_of_act hub.NoConference = refusal_of hub.NoConference
 refusal_of_act hub.NoConnection = refusal_of hub.NoConnection
+refusal_of_act hub.BadMessage = refusal_of hub.BadMessage
 refusal_of_act hub.Running = refusal_of hub.Running
 refusal_of_act hub.Memory = refusal_of hub.Memory
 refusal_of_act (hub.ByRoom refusal) = refusal_of (hub.ByRoom refusal)

@@ -65,6 +65,7 @@ pub fn refused_by(refusal: HubRefusal) -> Refused
         | HubRefusal::Forgotten
         | HubRefusal::Running
         | HubRefusal::NoConnection
+        | HubRefusal::BadMessage
         | HubRefusal::Used => Refused::NoConference,
     }
 }

@@ -13,7 +13,8 @@ pub fn refusal_of(refusal: HubRefusal) -> ControlRefusal
 {
     match refusal {
         HubRefusal::Used => ControlRefusal::ByBoard(BoardRefusal::Used),
-        HubRefusal::NoConference | HubRefusal::NoConnection => {
+        // No line asks for what a connection or a message that is said is refused by.
+        HubRefusal::NoConference | HubRefusal::NoConnection | HubRefusal::BadMessage => {
             ControlRefusal::ByBoard(BoardRefusal::NoConference)
         }
         HubRefusal::Forgotten => ControlRefusal::Forgotten,

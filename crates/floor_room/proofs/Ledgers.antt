@@ -1,14 +1,18 @@
 -- One more event of a ledger, and how it stands.
 use Rattle.std.proofs.Common.{◌≡◌, ℕ, ◌<◌, ◌≤◌, Bool, true, false, cond, List, [], ◌∷◌, ◌++◌, length, Option, Some, None, refl, sym, ap, subst, ◌∙◌, arith, length-append}
 use Rattle.std.specs.Prelude.{not, nat_le, count_by}
+use Rattle.std.specs.Option.{option_map}
+use Rattle.floor_config.specs.Configuration.{Configuration}
+use Rattle.floor_config.specs.Lookup.{is_user}
 use Rattle.std.proofs.lemmas.Bool.Decides.{nat_tests}
 use Rattle.std.proofs.lemmas.List.Sums.{count_by-le-length}
 use Rattle.floor_machine.specs.declared.event.Event.{Event}
-use Rattle.floor_machine.specs.declared.machine.Refusal.TheVariants.{Broken, Ended}
+use Rattle.floor_machine.specs.declared.event.Event.TheVariants.{Say}
+use Rattle.floor_machine.specs.declared.machine.Refusal.TheVariants.{Broken, Ended, NoUser}
 use Rattle.floor_machine.specs.Conference.{opening}
 use Rattle.floor_machine.specs.Change.{IsLawful}
 use Rattle.floor_machine.specs.Journal.{IsJournal}
-use Rattle.floor_machine.specs.Machine.{Machine, whole}
+use Rattle.floor_machine.specs.Machine.{Machine, event_refusal, whole}
 use Rattle.floor_machine.specs.Next.{next}
 use Rattle.floor_machine.proofs.Runs.{after_from-more, lawful-more, members-after}
 use Rattle.floor_room.specs.declared.refusal.RoomRefusal.{RoomRefusal}
@@ -16,7 +20,9 @@ use Rattle.floor_room.specs.declared.refusal.RoomRefusal.TheVariants.{JournalFul
 use Rattle.floor_room.specs.declared.status.Phase.{Phase}
 use Rattle.floor_room.specs.steps.Kept.{IsLedger}
 use Rattle.floor_room.specs.Ledger.{Ledger, broken_off, closed, conference_of, first_of, refusal}
+use Rattle.floor_room.specs.Standing.{config_of}
 use Rattle.floor_room.specs.Status.{IsStatus, phase_of}
+use Rattle.floor_room.proofs.Standing.{unbroken}
 
 -- a ledger that isn't closed is not broken, is open, and its journal has room
 pub record IsOpen (l : Ledger) : Type 0 where
@@ -44,6 +50,20 @@ allowed-open l e h = opened l (sym (by (closed l) _ h))
     by : (a b : Option RoomRefusal) → first_of a b ≡ None → a ≡ None
     by None b h = refl
     by (Some r) b h = cc
+
+-- why nothing is said for a user by a ledger that isn't closed
+pub unsaid : (l : Ledger) (user : ℕ) (bytes : List ℕ) → None ≡ closed l →
+    refusal l (Say user bytes) ≡ cond (not (is_user (config_of l) user)) (Some (Refused NoUser)) None
+unsaid l user bytes h =
+    let o : IsOpen l = opened l h in
+    ap (λ (x : Option RoomRefusal). first_of x (option_map Refused (event_refusal (whole (conference_of l)) (Say user bytes)))) (sym h)
+    ∙ ap (λ (b : Bool). option_map Refused (cond (not b) (Some Ended) (cond (not (is_user (conference_of l).config user)) (Some NoUser) None))) o.open_now
+    ∙ by (is_user (conference_of l).config user)
+    ∙ ap (λ (c : Configuration). cond (not (is_user c user)) (Some (Refused NoUser)) None) (unbroken l.is_broken l.config (conference_of l).config o.unbroken)
+  where
+    by : (b : Bool) → option_map Refused (cond (not b) (Some NoUser) None) ≡ cond (not b) (Some (Refused NoUser)) None
+    by true = refl
+    by false = refl
 
 -- the journal with one more event
 pub journal-more : (l : Ledger) (e : Event) → IsJournal l.config l.journal → length l.journal < 2000000 → IsLawful (conference_of l) e → IsJournal l.config (l.journal ++ e ∷ [])

@@ -1,5 +1,6 @@
 -- A parcel is taken.
-use Rattle.std.proofs.Common.{◌≡◌, ℕ, zero, suc, ◌+◌, ◌*◌, ◌<◌, ◌≤◌, Bool, List, [], ◌∷◌, ◌++◌, length, get_or, Option, Some, None, refl, sym, ap, subst, ◌∙◌, arith, append_assoc, length-append}
+use Rattle.std.proofs.Common.{◌≡◌, ℕ, zero, suc, ◌+◌, ◌*◌, ◌<◌, ◌≤◌, inl, inr, Bool, true, false, nat_le, List, [], ◌∷◌, ◌++◌, length, take, get_or, Option, Some, None, refl, sym, ap, subst, ◌∙◌, arith, append_assoc, length-append}
+use Rattle.std.proofs.lemmas.Bool.Decides.{leb_tells}
 use Rattle.std.specs.Prelude.{Result, Ok, Err, slice_get, slice_set}
 use Rattle.floor_config.specs.Configuration.{Configuration}
 use Rattle.floor_machine.specs.declared.event.Event.{Event}
@@ -9,7 +10,8 @@ use Rattle.floor_machine.proofs.Runs.{members-after}
 use Rattle.floor_room.specs.declared.outbox.NoMember.{NoMember}
 use Rattle.floor_room.specs.steps.Kept.{AreCounted, Keeps}
 use Rattle.floor_room.specs.Outbox.{Outbox, GaveHeld}
-use Rattle.floor_room.specs.Room.{Room, IsSent, AreSent, parcels_to}
+use Rattle.floor_room.specs.Room.{Room, IsSent, AreSent, AreHanded, parcels_to}
+use Rattle.floor_room.proofs.Adding.{counted-fewer}
 use Rattle.floor_room.specs.Taking.{Gives, GivesFrom, GivesHeld, after_take}
 
 get_at : (os : List Outbox) (i : ℕ) (o : Outbox) → i < length os → o ≡ get_or os i o → slice_get os i ≡ Some o
@@ -90,13 +92,35 @@ length-set_at [] i o = refl
 length-set_at (x ∷ os) zero o = refl
 length-set_at (x ∷ os) (suc i) o = ap (λ (k : ℕ). suc k) (length-set_at os i o)
 
+-- one more parcel was taken of what the kept events call for
+taken-within : (r : Room) (n : ℕ) (o : Outbox) (p : Parcel) (rest : List Parcel) → o.held ≡ p ∷ rest → r.told ≤ r.kept
+    → parcels_to r.ledger.config r.ledger.journal n ≡ parcels_to r.ledger.config (take r.told r.ledger.journal) n
+    → IsSent (parcels_to r.ledger.config r.ledger.journal n) o r.ledger.is_broken → o.taken + 1 ≤ length (parcels_to r.ledger.config (take r.kept r.ledger.journal) n)
+taken-within r n o p rest e kept quiet s =
+    let more = counted-fewer r.ledger.config r.ledger.journal r.told r.kept n kept in
+    let all = ap length s.sent in
+    let some = ap length e in
+    let same = ap length quiet in
+    let count = s.count in
+    omega (arith, more, all, some, same, count, length-append (s.taken ++ o.held) s.rest, length-append s.taken o.held)
+
+are_handed-taken : (r : Room) (i : ℕ) (o : Outbox) (p : Parcel) (rest : List Parcel) → o.held ≡ p ∷ rest → r.told ≤ r.kept
+    → ((n : ℕ) → parcels_to r.ledger.config r.ledger.journal n ≡ parcels_to r.ledger.config (take r.told r.ledger.journal) n) → (n : ℕ) (os : List Outbox) → slice_get os i ≡ Some o
+    → AreSent r.ledger.config r.ledger.journal r.ledger.is_broken n os → AreHanded r.ledger.config (take r.kept r.ledger.journal) n os
+    → AreHanded r.ledger.config (take r.kept r.ledger.journal) n (slice_set os i (after_take o rest))
+are_handed-taken r i o p rest e kept quiet n [] is s h = tt
+are_handed-taken r zero o p rest e kept quiet n (x ∷ os) is s h =
+    let same : x ≡ o = cc in
+    (taken-within r n o p rest e kept (quiet n) (subst (λ (y : Outbox). IsSent (parcels_to r.ledger.config r.ledger.journal n) y r.ledger.is_broken) same s.0), h.1)
+are_handed-taken r (suc i) o p rest e kept quiet n (x ∷ os) is s h = (h.0, are_handed-taken r i o p rest e kept quiet (n + 1) os is s.1 h.1)
+
 keeps-same : (r : Room) (new : List Outbox) (room_for : ℕ) → Keeps r room_for → new ≡ r.outboxes → Keeps (record r { outboxes = new }) room_for
 keeps-same r new room_for k e = subst (λ (os : List Outbox). Keeps (record r { outboxes = os }) room_for) (sym e) k
 
-keeps-held : (r : Room) (new : List Outbox) (room_for i : ℕ) (o : Outbox) (held : List Parcel) (result : Result (Option Parcel) NoMember) → Keeps r room_for → slice_get r.outboxes i ≡ Some o → o.held ≡ held →
+keeps-held : (r : Room) (new : List Outbox) (room_for i : ℕ) (o : Outbox) (held : List Parcel) (result : Result (Option Parcel) NoMember) → Keeps r room_for → r.told ≤ r.kept → slice_get r.outboxes i ≡ Some o → o.held ≡ held →
     GivesHeld r.outboxes new (suc i) o held result → Keeps (record r { outboxes = new }) room_for
-keeps-held r new room_for i o [] result k is e g = keeps-same r new room_for k g.1
-keeps-held r new room_for i o (p ∷ rest) result k is e g =
+keeps-held r new room_for i o [] result k kept is e g = keeps-same r new room_for k g.1
+keeps-held r new room_for i o (p ∷ rest) result k kept is e g =
     let same_length : length (slice_set r.outboxes i (after_take o rest)) ≡ length r.outboxes = length-set_at r.outboxes i (after_take o rest) in
     subst (λ (os : List Outbox). Keeps (record r { outboxes = os }) room_for) (sym g.1)
     (record {
@@ -104,20 +128,30 @@ keeps-held r new room_for i o (p ∷ rest) result k is e g =
         journal = k.room.journal;
         members = same_length ∙ k.room.members;
         sent = are_sent-taken r.ledger.config r.ledger.journal r.ledger.is_broken 1 i r.outboxes o p rest is e k.room.sent;
+        within = k.room.within;
+        quiet = k.room.quiet;
+        handed = are_handed-taken r i o p rest e kept k.room.quiet 1 r.outboxes is k.room.sent k.room.handed;
       };
       counted = counted-taken (length r.ledger.journal) i r.outboxes o p rest is e k.counted;
       spare = λ h. subst (λ (x : ℕ). x < room_for) (sym same_length) (k.spare h);
     })
 
 -- what a room keeps after a parcel was taken
-pub keeps-given : (r : Room) (new : List Outbox) (room_for n : ℕ) (result : Result (Option Parcel) NoMember) → Keeps r room_for → Gives r.outboxes new n result → Keeps (record r { outboxes = new }) room_for
-keeps-given r new room_for zero result k g = keeps-same r new room_for k g.1
-keeps-given r new room_for (suc i) result k g = by (slice_get r.outboxes i) refl g
+pub keeps-given : (r : Room) (new : List Outbox) (room_for n : ℕ) (result : Result (Option Parcel) NoMember) → Keeps r room_for → r.told ≤ r.kept → Gives r.outboxes new n result → Keeps (record r { outboxes = new }) room_for
+keeps-given r new room_for zero result k kept g = keeps-same r new room_for k g.1
+keeps-given r new room_for (suc i) result k kept g = by (slice_get r.outboxes i) refl g
   where
     by : (x : Option Outbox) → slice_get r.outboxes i ≡ x → GivesFrom r.outboxes new (suc i) x result → Keeps (record r { outboxes = new }) room_for
     by None is h = keeps-same r new room_for k h.1
-    by (Some o) is h = keeps-held r new room_for i o o.held result k is refl h
+    by (Some o) is h = keeps-held r new room_for i o o.held result k kept is refl h
 
 -- the members are at most as many as the events
 pub outboxes-few : (r : Room) (room_for : ℕ) → Keeps r room_for → length r.outboxes ≤ 2000000
 outboxes-few r room_for k = omega (arith, k.room.members, members-after (opening r.ledger.config) r.ledger.journal, k.room.journal.count)
+
+-- all that was told is kept
+pub le-of : (a b : ℕ) → nat_le a b ≡ true → a ≤ b
+le-of a b h = elim (leb_tells a b) [ inl w ↦ w.1 | inr w ↦ absurd (no-truth (sym h ∙ w.0)) ]
+  where
+    no-truth : true ≡ false → ⊥
+    no-truth e = cc

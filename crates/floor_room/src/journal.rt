@@ -96,6 +96,10 @@ fn add_line(alloc: Global, text: &mut String, place: usize, event: &Event) -> Re
             let chair = number_word(alloc, *chair)?;
             write!(text, "{place} chair {floor} {chair}\n")
         }
+        Event::Say { user, frame } => {
+            let bytes = hex::encode(alloc, frame.bytes())?;
+            write!(text, "{place} say {user} {bytes}\n")
+        }
     }
 }
 

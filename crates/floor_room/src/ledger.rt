@@ -1,25 +1,38 @@
 //! One conference with its journal.
 
-ghost use Rattle.std.specs.Prelude.{◌≡◌, ◌++◌, ◌∷◌, [], true, false, IfErr, IfOk, OnErr, OnOk};
+ghost use Rattle.std.specs.Prelude.{◌≡◌, ◌++◌, ◌∷◌, [], true, false, IfErr, IfOk, OnErr, OnOk, length};
 ghost use Rattle.floor_machine.specs.Conference.{AreCut, is_cut, live_numbers};
 ghost use Rattle.floor_machine.specs.Journal.{IsJournal};
 ghost use Rattle.floor_machine.specs.Machine.{infos_changed};
+ghost use Rattle.floor_machine.specs.Reply.{said_reply};
+ghost use Rattle.floor_machine.specs.declared.event.Event.TheVariants.{Say, Took};
 ghost use Rattle.floor_room.specs.Ledger.{Added, IsRefusedBy, Unadded, broken_off, closed, conference_of, new_ledger, refusal};
 ghost use Rattle.floor_room.specs.Standing.{backlog_of, config_of, shown_of};
 ghost use Rattle.floor_room.specs.Status.{IsStatus};
 
 use crate::refusal::RoomRefusal;
 use crate::status::{Status, narrowed, phase_of};
-use floor_machine::{Config, Event, MAX_EVENTS, Machine, Parcel, Refusal, SharedInfo};
+use floor_machine::{
+    Config, Event, Frame, MAX_EVENTS, Machine, Parcel, Refusal, SharedFrame, SharedInfo,
+};
 use floor_wire::Copies;
 use std::alloc::{AllocError, Global};
 use std::marker::Model;
 
+/// What an event calls for.
+#[derive(Debug, Drop)]
+pub struct Called {
+    /// The parcels to the members, by ascending member.
+    pub parcels: Vec<Parcel>,
+    /// What answers a message that is said for a user, which no member is told.
+    pub reply: Option<SharedFrame>,
+}
+
 /// One conference with its journal: it hands the parcels of each event to its caller.
 ///
 /// Readers: `journal`, `closed` (why no event is taken), `status`, `config`, `shown`, `backlog`, `is_cut`,
-/// `live_numbers`, `cut_numbers`. Changes: `add`, which changes nothing where it refuses, but that `Memory` breaks the
-/// ledger off, and `break_off`.
+/// `live_numbers`, `cut_numbers`. Changes: `add` and `say`, which change nothing where they refuse, but that `Memory`
+/// breaks the ledger off, and `break_off`.
 #[derive(Debug, Drop)]
 pub struct Ledger {
     config: Config,
@@ -73,6 +86,13 @@ impl Ledger {
         ensures kept { IsJournal self.now.config self.now.journal }
     {
         self.journal.as_slice()
+    }
+
+    /// How many events stand in the journal. Takes no memory.
+    pub(crate) fn events(&self) -> u32
+        ensures value { result ≡ length self.now.journal }
+    {
+        self.journal.len() as u32
     }
 
     /// Why no event is taken, whichever it is. Takes no memory.
@@ -193,6 +213,55 @@ impl Ledger {
         ensures refused { IsRefusedBy (refusal self.old event) result }
         ensures left { IfErr result (Unadded self.old self.new) }
     {
+        match self.call(event, changed) {
+            Ok(called) => {
+                let Called {
+                    parcels,
+                    reply: _reply,
+                } = called;
+                Ok(parcels)
+            }
+            Err(refusal) => Err(refusal),
+        }
+    }
+
+    /// Adds a message that the administrator says for a user, as `add` adds an event, and gives what
+    /// answers it beside the parcels: no member is told that.
+    pub fn say(
+        &mut self,
+        user: u16,
+        frame: Frame,
+        changed: &mut Vec<SharedInfo>,
+    ) -> Result<Called, RoomRefusal>
+        ensures took { IfOk result (λ called.
+            Added self.old self.new (Say user frame) called.parcels.items) }
+        ensures reply { IfOk result (λ called.
+            called.reply ≡ said_reply (conference_of self.old) (Say user frame)) }
+        ensures changed { OnOk result
+            (changed.new.items ≡ infos_changed (conference_of self.old) (Say user frame)) }
+        ensures unchanged { OnErr result (changed.new.items ≡ []) }
+        ensures refused { IsRefusedBy (refusal self.old (Say user frame)) result }
+        ensures left { IfErr result (Unadded self.old self.new) }
+    {
+        self.call(Event::Say { user, frame }, changed)
+    }
+
+    /// Adds an event, and gives all that it calls for.
+    pub(crate) fn call(
+        &mut self,
+        event: Event,
+        changed: &mut Vec<SharedInfo>,
+    ) -> Result<Called, RoomRefusal>
+        ensures took { IfOk result (λ called.
+            Added self.old self.new event called.parcels.items) }
+        ensures reply { IfOk result (λ called.
+            called.reply ≡ said_reply (conference_of self.old) event) }
+        ensures changed { OnOk result
+            (changed.new.items ≡ infos_changed (conference_of self.old) event) }
+        ensures unchanged { OnErr result (changed.new.items ≡ []) }
+        ensures refused { IsRefusedBy (refusal self.old event) result }
+        ensures left { IfErr result (Unadded self.old self.new) }
+    {
         changed.clear();
         match self.closed() {
             Some(refusal) => return Err(refusal),
@@ -200,26 +269,59 @@ impl Ledger {
         }
         let alloc = *self.journal.allocator();
         let mut out = Vec::new(alloc);
-        match self.machine.apply(&event, &mut out, changed) {
-            Ok(()) => {}
+        let reply = match self.machine.apply(&event, &mut out, changed) {
+            Ok(reply) => reply,
             Err(Refusal::Memory) => {
                 self.is_broken = true;
                 return Err(RoomRefusal::Refused(Refusal::Memory));
             }
             Err(refusal) => return Err(RoomRefusal::Refused(refusal)),
-        }
+        };
         // Whatever breaks the event off leaves it so.
         self.is_broken = true;
         match put(&mut self.journal, &mut self.copies, event) {
             Ok(()) => {
                 self.is_broken = false;
-                Ok(out)
+                Ok(Called {
+                    parcels: out,
+                    reply,
+                })
             }
             Err(refused) => {
                 changed.clear();
                 Err(RoomRefusal::from(refused))
             }
         }
+    }
+
+    /// Adds it that so many of the parcels to a member were brought to their end, as `add` adds an event. Nobody is
+    /// told, and each floor request is shown as before, so that nothing is handed on.
+    pub(crate) fn took(&mut self, n: u32, k: u32) -> Result<(), RoomRefusal>
+        ensures took { OnOk result (Added self.old self.new (Took n k) []) }
+        ensures still { OnOk result (infos_changed (conference_of self.old) (Took n k) ≡ []) }
+        ensures refused { IsRefusedBy (refusal self.old (Took n k)) result }
+        ensures left { IfErr result (Unadded self.old self.new) }
+    {
+        match self.closed() {
+            Some(refusal) => return Err(refusal),
+            None => {}
+        }
+        match self.machine.took(n, k) {
+            Ok(()) => {}
+            Err(Refusal::Memory) => {
+                self.break_off();
+                return Err(RoomRefusal::Refused(Refusal::Memory));
+            }
+            Err(refusal) => return Err(RoomRefusal::Refused(refusal)),
+        }
+        // Whatever breaks the event off leaves it so.
+        self.is_broken = true;
+        match push(&mut self.journal, Event::Took { n, k }) {
+            Ok(()) => {}
+            Err(refused) => return Err(RoomRefusal::from(refused)),
+        }
+        self.is_broken = false;
+        Ok(())
     }
 
     /// Breaks the conference off for good: no event is taken any more. Takes no memory.
@@ -237,7 +339,15 @@ fn put(journal: &mut Vec<Event>, copies: &mut Copies, event: Event) -> Result<()
     ensures left { OnErr result (journal.new.items ≡ journal.old.items) }
 {
     let kept = event.exact(copies)?;
+    push(journal, kept)
+}
+
+/// Puts an event behind those of a journal. After an error the journal is as it was.
+fn push(journal: &mut Vec<Event>, event: Event) -> Result<(), AllocError>
+    ensures next { OnOk result (journal.new.items ≡ journal.old.items ++ event ∷ []) }
+    ensures left { OnErr result (journal.new.items ≡ journal.old.items) }
+{
     journal.reserve(1)?;
-    journal.push_reserved(kept);
+    journal.push_reserved(event);
     Ok(())
 }

@@ -12,16 +12,19 @@ mod outbox;
 mod refusal;
 mod replaying;
 mod room;
+mod said;
 mod status;
 
 pub use effects::Effects;
 pub use floor_machine::{
-    Act, AddedUser, Config, Event, Floor, Frame, Info, Parcel, Refusal, SharedInfo, User,
+    Act, AddedUser, Config, Event, Floor, Frame, Info, Parcel, Refusal, SharedFrame, SharedInfo,
+    User,
 };
 pub use journal::{Place, add_end, add_lines, journal_text};
-pub use ledger::Ledger;
+pub use ledger::{Called, Ledger};
 pub use outbox::NoMember;
 pub use refusal::RoomRefusal;
 pub use replaying::{ReplayFault, replay};
 pub use room::Room;
+pub use said::Said;
 pub use status::{Phase, Status};

@@ -103,7 +103,7 @@ fn step(
     let _message = event.message();
     let mut out = Vec::new(*bytes.allocator());
     match machine.apply(event, &mut out, changed) {
-        Ok(()) => {}
+        Ok(_answer) => {}
         Err(Refusal::Memory) => return Err(StepFault::Memory),
         Err(_) => return Err(StepFault::Unlawful),
     }

@@ -1,12 +1,14 @@
 //! One conference with its journal and its outboxes.
 
-ghost use Rattle.std.specs.Prelude.{◌≡◌, ◌+◌, [], true, false, IfErr, IfOk, OnErr, OnOk, length, option_map};
-ghost use Rattle.floor_machine.specs.declared.event.Event.TheVariants.{Join, Leave, Message, Took};
+ghost use Rattle.std.specs.Prelude.{◌≡◌, ◌+◌, [], true, false, IfErr, IfOk, List, OnErr, OnOk, length, max, min, option_map, ℕ};
+ghost use Rattle.floor_machine.specs.declared.event.Event.TheVariants.{Join, Leave, Message, Say, Took};
 ghost use Rattle.floor_machine.specs.Conference.{AreCut, is_cut};
 ghost use Rattle.floor_machine.specs.Machine.{event_of_act, infos_changed};
+ghost use Rattle.floor_machine.specs.Reply.{said_reply};
 ghost use Rattle.floor_room.specs.Calls.{Applied, Left};
 ghost use Rattle.floor_room.specs.Ledger.{IsRefusedBy, closed, conference_of, refusal};
-ghost use Rattle.floor_room.specs.Room.{IsRoom, broken_room, new_room};
+ghost use Rattle.floor_machine.specs.Journal.{MAX_EVENTS};
+ghost use Rattle.floor_room.specs.Room.{IsRoom, broken_room, is_kept, new_room};
 ghost use Rattle.floor_room.specs.Standing.{backlog_of, config_of, shown_of};
 ghost use Rattle.floor_room.specs.Status.{IsStatus};
 ghost use Rattle.floor_room.specs.Taking.{Gave, held_of};
@@ -15,11 +17,14 @@ ghost use Rattle.std.specs.Option.{option_copied};
 
 use crate::effects::Effects;
 use crate::journal::Place;
-use crate::ledger::Ledger;
+use crate::ledger::{Called, Ledger};
 use crate::outbox::{NoMember, Outbox, held_of, outbox_for, queue, take};
 use crate::refusal::RoomRefusal;
+use crate::said::Said;
 use crate::status::Status;
-use floor_machine::{Act, Config, Event, Frame, Parcel, Refusal, SharedInfo};
+use floor_machine::{
+    Act, Config, Event, Frame, MAX_EVENTS, Parcel, Refusal, SharedFrame, SharedInfo,
+};
 use std::alloc::{AllocError, Global};
 use std::collections::VecDeque;
 use std::marker::Model;
@@ -27,17 +32,23 @@ use std::marker::Model;
 /// One conference with its journal and its outboxes: whole messages of its members in, and what
 /// waits for each member out.
 ///
-/// Readers: `journal`, `closed` (why no event is taken), `status`, `config`, `shown`, `backlog`, `held`, `is_cut`,
-/// `cut_numbers`.
-/// Events: `join`, `serve`, `took`, `leave` and `admin`, each of which changes nothing where it refuses,
-/// but that `Memory` breaks the room off. Each puts into its last argument, in place of what stood there,
+/// Readers: `journal`, `closed` (why no event is taken), `say_refusal` (why nothing is said for a user),
+/// `status`, `config`, `shown`, `backlog`, `held`, `is_cut`, `cut_numbers`.
+/// Events: `join`, `serve`, `took`, `leave`, `admin` and `say`, each of which changes nothing where it
+/// refuses, but that `Memory` breaks the room off. Each puts into its last argument, in place of what stood there,
 /// the numbers of the members to whom it queued something and what is shown of the floor requests that it
 /// changed, and none where it refuses. `take` gives what waits, also in a room that takes no event.
+/// Keeping: behind `begin_keeping` nothing is handed out while an event that told something isn't kept;
+/// `keep` says how many are, and `end_keeping` that none has to be.
 /// `break_off` is for a caller that meets want of memory itself.
 #[derive(Debug, Drop)]
 pub struct Room {
     ledger: Ledger,
     outboxes: Vec<Outbox>,
+    // Behind so many events none has told anything.
+    told: u32,
+    // So many events are kept.
+    kept: u32,
 }
 
 impl Model for Room {
@@ -48,10 +59,20 @@ impl Model for Room {
 
     ghost use Rattle.floor_room.specs.steps.Kept.{Keeps};
 
-    ghost view = { λ r. record { ledger = r.ledger; outboxes = r.outboxes.items } };
+    ghost view = { λ r. record {
+      ledger = r.ledger;
+      outboxes = r.outboxes.items;
+      told = r.told;
+      kept = r.kept;
+    } };
 
     ghost invariant = { λ r. Keeps
-        record { ledger = r.ledger; outboxes = r.outboxes.items }
+        record {
+          ledger = r.ledger;
+          outboxes = r.outboxes.items;
+          told = r.told;
+          kept = r.kept;
+        }
         (vec_capacity r.outboxes) };
 }
 
@@ -62,7 +83,12 @@ impl Room {
     {
         let outboxes = Vec::with_capacity(alloc, 1)?;
         let ledger = Ledger::new(alloc, config)?;
-        Ok(Room { ledger, outboxes })
+        Ok(Room {
+            ledger,
+            outboxes,
+            told: 0,
+            kept: MAX_EVENTS as u32,
+        })
     }
 
     /// What happened so far. Takes no memory.
@@ -78,6 +104,23 @@ impl Room {
         ensures value { result ≡ closed self.now.ledger }
     {
         self.ledger.closed()
+    }
+
+    /// Why nothing is said for this user, whatever the message is: in this order `Broken`, `Ended`,
+    /// `JournalFull` and `NoUser`. Takes no memory.
+    pub fn say_refusal(&self, user: u16) -> Option<RoomRefusal>
+        ensures value { (bytes : List ℕ) → result ≡ refusal self.now.ledger (Say user bytes) }
+    {
+        match self.ledger.closed() {
+            Some(refusal) => Some(refusal),
+            None => {
+                if self.ledger.config().is_user(user) {
+                    None
+                } else {
+                    Some(RoomRefusal::Refused(Refusal::NoUser))
+                }
+            }
+        }
     }
 
     /// How the room stands. Takes no memory.
@@ -141,10 +184,16 @@ impl Room {
         held_of(self.outboxes.as_slice(), n)
     }
 
-    /// Adds an event, where nothing refuses it, queues what it tells, and says whom it told and what it
-    /// changed.
-    fn add(&mut self, event: Event, effects: &mut Effects) -> Result<(), RoomRefusal>
+    /// Adds an event, where nothing refuses it, queues what it tells, says whom it told and what it
+    /// changed, and gives what answers a message that is said.
+    fn add(
+        &mut self,
+        event: Event,
+        effects: &mut Effects,
+    ) -> Result<Option<SharedFrame>, RoomRefusal>
         ensures took { OnOk result (Applied self.old self.new event) }
+        ensures reply { IfOk result (λ reply. reply
+            ≡ said_reply (conference_of self.old.ledger) event) }
         ensures told { OnOk result
             (AreTold self.old.outboxes self.new.outboxes effects.new.told.items) }
         ensures changed { OnOk result (effects.new.changed.items
@@ -156,16 +205,28 @@ impl Room {
     {
         effects.clear();
         let outbox = outbox_for(*self.outboxes.allocator(), &event);
-        match self.ledger.add(event, &mut effects.changed) {
+        match self.ledger.call(event, &mut effects.changed) {
             Err(refusal) => Err(refusal),
-            Ok(out) => match queue(&mut self.outboxes, outbox, out, &mut effects.told) {
-                Ok(()) => Ok(()),
-                Err(_) => {
-                    effects.clear();
-                    self.ledger.break_off();
-                    Err(RoomRefusal::Refused(Refusal::Memory))
+            Ok(called) => {
+                let Called { parcels, reply } = called;
+                let tells = !parcels.is_empty();
+                match queue(&mut self.outboxes, outbox, parcels, &mut effects.told) {
+                    Ok(()) => {
+                        if tells {
+                            self.told = self.ledger.events();
+                            Ok(reply)
+                        } else {
+                            Ok(reply)
+                        }
+                    }
+                    Err(_) => {
+                        effects.clear();
+                        self.told = self.ledger.events();
+                        self.ledger.break_off();
+                        Err(RoomRefusal::Refused(Refusal::Memory))
+                    }
                 }
-            },
+            }
         }
     }
 
@@ -233,7 +294,9 @@ impl Room {
         ensures refused { IsRefusedBy (refusal self.old.ledger (Took n k)) result }
         ensures left { IfErr result (Left self.old self.new (Took n k)) }
     {
-        self.add(Event::Took { n, k }, effects)
+        effects.clear();
+        self.ledger.took(n, k)?;
+        Ok(())
     }
 
     /// Takes it that a member has left. What waits for it stays until it is taken. Refused are, in this
@@ -250,7 +313,8 @@ impl Room {
         ensures refused { IsRefusedBy (refusal self.old.ledger (Leave n)) result }
         ensures left { IfErr result (Left self.old self.new (Leave n)) }
     {
-        self.add(Event::Leave { n }, effects)
+        self.add(Event::Leave { n }, effects)?;
+        Ok(())
     }
 
     /// Does what the administrator does. What waits for the members stays, also after a Close. Refused
@@ -268,7 +332,36 @@ impl Room {
         ensures refused { IsRefusedBy (refusal self.old.ledger (event_of_act act)) result }
         ensures left { IfErr result (Left self.old self.new (event_of_act act)) }
     {
-        self.add(Event::of(act), effects)
+        self.add(Event::of(act), effects)?;
+        Ok(())
+    }
+
+    /// Takes a message that the administrator says for a user, and gives its place in the journal and
+    /// what answers it, which no member is told. What waits for the members grows by what the message
+    /// tells them. Refused are, in this order, `Broken`, `Ended`, `JournalFull` and `NoUser`, and nothing
+    /// has changed; after a `Memory` the room is broken off.
+    pub fn say(
+        &mut self,
+        user: u16,
+        frame: Frame,
+        effects: &mut Effects,
+    ) -> Result<Said, RoomRefusal>
+        ensures place { IfOk result (λ said. said.place ≡ length self.new.ledger.journal) }
+        ensures reply { IfOk result (λ said. said.reply
+            ≡ said_reply (conference_of self.old.ledger) (Say user frame)) }
+        ensures took { OnOk result (Applied self.old self.new (Say user frame)) }
+        ensures told { OnOk result
+            (AreTold self.old.outboxes self.new.outboxes effects.new.told.items) }
+        ensures changed { OnOk result (effects.new.changed.items
+            ≡ infos_changed (conference_of self.old.ledger) (Say user frame)) }
+        ensures untold { OnErr result (effects.new.told.items ≡ []) }
+        ensures unchanged { OnErr result (effects.new.changed.items ≡ []) }
+        ensures refused { IsRefusedBy (refusal self.old.ledger (Say user frame)) result }
+        ensures left { IfErr result (Left self.old self.new (Say user frame)) }
+    {
+        let reply = self.add(Event::Say { user, frame }, effects)?;
+        let place = self.status().events;
+        Ok(Said { place, reply })
     }
 
     /// How many members ever joined. Takes no memory.
@@ -278,12 +371,49 @@ impl Room {
         self.outboxes.len() as u32
     }
 
-    /// Takes the first parcel that waits for a member, also for one that left. Refused by `NoMember`
-    /// where nobody has joined under the number, and by nothing else. Takes no memory.
+    /// Takes the first parcel that waits for a member, also for one that left; none where not all that was
+    /// told is kept. Refused by `NoMember` where nobody has joined under the number, and by nothing else.
+    /// Takes no memory.
     pub fn take(&mut self, n: u32) -> Result<Option<Parcel>, NoMember>
         ensures took { Gave self.old self.new n result }
     {
-        take(&mut self.outboxes, n)
+        if self.is_kept() {
+            return take(&mut self.outboxes, n);
+        }
+        match held_of(self.outboxes.as_slice(), n) {
+            Some(_) => Ok(None),
+            None => Err(NoMember),
+        }
+    }
+
+    /// Whether all that was told is kept, so that it is handed out. Takes no memory.
+    pub fn is_kept(&self) -> bool
+        ensures value { result ≡ is_kept self.now }
+    {
+        self.told <= self.kept
+    }
+
+    /// From now on what an event tells is handed out once the event is kept; those so far are. Takes no memory.
+    pub fn begin_keeping(&mut self)
+        ensures next { self.new ≡ record self.old { kept = length self.old.ledger.journal } }
+    {
+        self.kept = self.ledger.events();
+    }
+
+    /// Takes it that so many of the events are kept, if fewer were before. Takes no memory.
+    pub fn keep(&mut self, events: u32)
+        ensures next { self.new ≡ record self.old {
+          kept = max self.old.kept (min events (length self.old.ledger.journal));
+        } }
+    {
+        self.kept = self.kept.max(events.min(self.ledger.events()));
+    }
+
+    /// What an event tells is handed out at once again: its events are kept no more. Takes no memory.
+    pub fn end_keeping(&mut self)
+        ensures next { self.new ≡ record self.old { kept = MAX_EVENTS } }
+    {
+        self.kept = MAX_EVENTS as u32;
     }
 
     /// Breaks the room off for good: no event is taken any more, and what waits stays. Takes no

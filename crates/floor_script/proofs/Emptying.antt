@@ -1,18 +1,19 @@
 -- What waits for connections is taken, of one after another, and its lines are the text.
 use Rattle.std.proofs.Common.{◌≡◌, ◌≢◌, ◌⊎◌, ℕ, zero, suc, ◌+◌, ◌<◌, ◌≤◌, get_or, Bool, true, false, List, [], ◌∷◌, ◌++◌, length, take, drop, map, inl, inr, length-append, refl, sym, ◌∙◌, ap, subst, append_assoc, append-nil, arith, Some, None}
-use Rattle.std.specs.Prelude.{filter, if◌then◌else◌, ◌==◌, ◌&&◌, Option, slice_get}
+use Rattle.std.specs.Prelude.{nat_le, filter, if◌then◌else◌, ◌==◌, ◌&&◌, Option, slice_get}
 use Rattle.std.specs.List.{flat_map}
 use Rattle.std.specs.Option.{option_map, option_map_or}
+use Rattle.std.proofs.lemmas.Bool.{le-leb}
 use Rattle.std.proofs.lemmas.List.{map-append, take_all, take_more}
 use Rattle.std.proofs.lemmas.List.Concat.{flat_map-append}
 use Rattle.std.proofs.lemmas.List.Elements.{filter-append}
 use Rattle.std.proofs.lemmas.Option.{none-some}
 use Rattle.floor_config.specs.Configuration.{Configuration}
 use Rattle.floor_machine.specs.declared.event.Event.{Event}
+use Rattle.floor_machine.specs.Journal.{MAX_EVENTS}
 use Rattle.floor_machine.specs.Parcel.{Parcel}
-use Rattle.floor_room.specs.Ledger.{Ledger}
 use Rattle.floor_room.specs.Outbox.{Outbox}
-use Rattle.floor_room.specs.Room.{AreSent, IsRoom, IsSent, Room, parcels_to}
+use Rattle.floor_room.specs.Room.{AreSent, IsRoom, IsSent, Room, is_kept, parcels_to}
 use Rattle.floor_room.specs.Taking.{outbox_of}
 use Rattle.floor_hub.specs.declared.connection.Connection.{Connection}
 use Rattle.floor_hub.specs.Connections.{connection_at}
@@ -25,8 +26,8 @@ use Rattle.floor_script.specs.declared.attached.Live.{Live}
 use Rattle.floor_script.specs.declared.attached.Pace.{Pace}
 use Rattle.floor_script.specs.declared.attached.Pace.TheVariants.{Slow, Fast}
 use Rattle.floor_script.specs.declared.waiting.Taken.{Taken}
-use Rattle.floor_script.specs.steps.Holding.{Holds, IsWhole, outbox_in, taken_in}
-use Rattle.floor_script.specs.steps.Taking.{ArePlaced, Empties, EmptiesAll, EmptiesLive, HasOutbox, IsPlaceOf, TakenAll, TakenOff, TakenOne, count_for, held, held_for}
+use Rattle.floor_script.specs.steps.Holding.{Holds, IsAtOnce, IsWhole, outbox_in, taken_in}
+use Rattle.floor_script.specs.steps.Taking.{ArePlaced, Empties, EmptiesAll, EmptiesLive, HandsOut, HasOutbox, IsKeptIn, IsPlaceOf, TakenAll, TakenOff, TakenOne, TakesAll, bare, count_for, held, held_for}
 use Rattle.floor_script.proofs.Most.{most_is}
 use Rattle.floor_script.proofs.Taking.{off_more, off_none}
 
@@ -72,12 +73,30 @@ taken_all connection count parcels begun now was is e count_is off there text = 
   text = text ∙ ap (λ (l : List Parcel). was ++ sent_lines connection l) e;
 }
 
+same_bare : (r s : Room) → ◌≡◌ {A = Option Room} (Some (bare r)) (Some (bare s)) → bare r ≡ bare s
+same_bare r s e = by (bare r) (bare s) e
+  where
+    by : (x y : Room) → ◌≡◌ {A = Option Room} (Some x) (Some y) → x ≡ y
+    by x y e = cc
+
+kept_still : (a b : Option Room) → option_map bare a ≡ option_map bare b → IsKeptIn b → IsKeptIn a
+kept_still None b e k = tt
+kept_still (Some r) None e k = absurd (none-some (bare r) (sym e))
+kept_still (Some r) (Some s) e k = ap (λ (x : Room). is_kept x) (same_bare r s e) ∙ k
+
+hands_still : (connection : ℕ) (parcels : List Parcel) (begun now : Hub) → TakenOff connection parcels begun now → HandsOut begun (connection_at begun.connections connection) → HandsOut now (connection_at now.connections connection)
+hands_still connection parcels begun now off k = subst (HandsOut now) (sym (off.connections connection)) (by (connection_at begun.connections connection) k)
+  where
+    by : (x : Option Connection) → HandsOut begun x → HandsOut now x
+    by None k = tt
+    by (Some x) k = kept_still (room_at now x.conference) (room_at begun x.conference) (off.rooms x.conference) k
+
 -- nothing waits any more
-pub far_end : (connection count : ℕ) (begun now next : Hub) (was is : List ℕ) → SoFar connection count begun now was is → count < most_at_once → TakenOne connection [] now next → TakenAll connection count begun next was is
-far_end connection count begun now next was is far few one =
+pub far_end : (connection count : ℕ) (begun now next : Hub) (was is : List ℕ) → SoFar connection count begun now was is → count < most_at_once → TakenOne connection [] now next → TakesAll connection count begun next was is
+far_end connection count begun now next was is far few one k =
     let off : TakenOff connection far.parcels begun next =
     subst (λ (l : List Parcel). TakenOff connection l begun next) (append-nil far.parcels) (off_more connection far.parcels [] begun now next far.off one.off) in
-    let whole : held begun connection ≡ far.parcels = off.waited ∙ ap (λ (l : List Parcel). far.parcels ++ l) (one.none refl) ∙ append-nil far.parcels in
+    let whole : held begun connection ≡ far.parcels = off.waited ∙ ap (λ (l : List Parcel). far.parcels ++ l) (one.none (hands_still connection far.parcels begun now far.off k) refl) ∙ append-nil far.parcels in
     let all : far.parcels ≡ take most_at_once (held begun connection) =
     sym (ap (λ (l : List Parcel). take most_at_once l) whole ∙ take_all most_at_once far.parcels (omega (arith, few, far.count_is))) in
     taken_all connection count far.parcels begun next was is all far.count_is off (there_still connection count begun now far.there one.there) far.text
@@ -185,13 +204,32 @@ counts_alike hub w x (Some p) parcels conference n st empty = by x (live_at w.pa
         ap (λ (c : ℕ). if (c == conference) && (y.n == n) then length parcels else 0) st.0
         ∙ ap (λ (m : ℕ). if (p.conference == conference) && (m == n) then length parcels else 0) st.1
 
-whole_still : (a b : Option Room) → option_map (λ (room : Room). room.ledger) a ≡ option_map (λ (room : Room). room.ledger) b → IsWhole b → IsWhole a
+whole_still : (a b : Option Room) → option_map bare a ≡ option_map bare b → IsWhole b → IsWhole a
 whole_still None b e w = tt
-whole_still (Some r) None e w = absurd (none-some r.ledger (sym e))
-whole_still (Some r) (Some s) e w = ap (λ (l : Ledger). l.is_broken) (same r.ledger s.ledger e) ∙ w
+whole_still (Some r) None e w = absurd (none-some (bare r) (sym e))
+whole_still (Some r) (Some s) e w = ap (λ (x : Room). x.ledger.is_broken) (same_bare r s e) ∙ w
+
+at_once_still : (a b : Option Room) → option_map bare a ≡ option_map bare b → IsAtOnce b → IsAtOnce a
+at_once_still None b e w = tt
+at_once_still (Some r) None e w = absurd (none-some (bare r) (sym e))
+at_once_still (Some r) (Some s) e w = ap (λ (x : Room). x.kept) (same_bare r s e) ∙ w
+
+-- a room none of whose events has to be kept first hands out what it tells
+room_hands : (r : Option Room) → IsAtOnce r → ((s : Room) → r ≡ Some s → IsRoom s) → IsKeptIn r
+room_hands None once is_room = tt
+room_hands (Some r) once is_room =
+    let room = is_room r refl in
+    ap (λ (k : ℕ). nat_le r.told k) once ∙ le-leb r.told MAX_EVENTS (omega (arith, room.within, room.journal.count))
+
+hands_out : (hub : Hub) (w : World) (printed : ℕ → ℕ → ℕ) (conference : ℕ) (x : Option Connection) (p : Option Place) → Holds hub w printed → NumberStands (room_at hub) w.parts x p →
+    ((s : Room) → room_at hub conference ≡ Some s → IsRoom s) → IsPlaceOf conference p → HandsOut hub x
+hands_out hub w printed conference x None h st is_room placed = absurd placed
+hands_out hub w printed conference x (Some p) h st is_room placed = by x (live_at w.parts p) st
   where
-    same : (x y : Ledger) → ◌≡◌ {A = Option Ledger} (Some x) (Some y) → x ≡ y
-    same x y e = cc
+    by : (x : Option Connection) (a : Option Arrival) → ArrivalStands (room_at hub) p x a → HandsOut hub x
+    by None a st = tt
+    by (Some y) None st = absurd st
+    by (Some y) (Some a) st = subst (λ (c : ℕ). IsKeptIn (room_at hub c)) (sym (st.0 ∙ placed)) (room_hands (room_at hub conference) (h.at_once conference) is_room)
 
 due_is : (connection count other : ℕ) → count ≡ other → due_of connection count ≡ due_of connection other
 due_is connection count other e = ap (due_of connection) e
@@ -201,19 +239,21 @@ take_none zero = refl
 take_none (suc n) = refl
 
 -- what waits for one connection
-pub empties_one : (conference connection count : ℕ) (old new : Hub) (noted now : List Taken) (was is : List ℕ) → ((s : Room) → room_at old conference ≡ Some s → IsRoom s) → TakenAll connection count old new was is →
+pub empties_one : (conference connection count : ℕ) (old new : Hub) (noted now : List Taken) (was is : List ℕ) → ((s : Room) → room_at old conference ≡ Some s → IsRoom s) → TakesAll connection count old new was is →
     now ≡ noted ++ due_of connection count → EmptiesAll conference (connection ∷ []) old new noted now was is
-empties_one conference connection count old new noted now was is is_room all noted_is = record { empties = λ w printed h placed. one w printed h placed.0 }
+empties_one conference connection count old new noted now was is is_room takes noted_is = record { empties = λ w printed h placed. one w printed h placed.0 }
   where
     one : (w : World) (printed : ℕ → ℕ → ℕ) → Holds old w printed → IsPlaceOf conference (place w.places connection) → Empties w (connection ∷ []) printed new noted now was is
     one w printed h placed =
         let stands : NumberStands (room_at old) w.parts (connection_at old.connections connection) (place w.places connection) = h.stands.stands.numbers connection in
+        let all : TakenAll connection count old new was is = takes (hands_out old w printed conference (connection_at old.connections connection) (place w.places connection) h stands is_room placed) in
         let waiting : held old connection ≡ waits w printed connection = held_waits old w printed conference (connection_at old.connections connection) (place w.places connection) h stands is_room placed all.there in
         let printed_is : take most_at_once (held old connection) ≡ printable w printed connection = ap (λ (l : List Parcel). take most_at_once l) waiting in
         let empty : connection_at old.connections connection ≡ None → take most_at_once (held old connection) ≡ [] = λ e. ap (λ (y : Option Connection). take most_at_once (held_for old y)) e ∙ take_none most_at_once in record {
           holds = record {
             stands = all.off.stands w h.stands;
-            whole = λ c. whole_still (room_at new c) (room_at old c) (all.off.ledgers c) (h.whole c);
+            whole = λ c. whole_still (room_at new c) (room_at old c) (all.off.rooms c) (h.whole c);
+            at_once = λ c. at_once_still (room_at new c) (room_at old c) (all.off.rooms c) (h.at_once c);
             taken = λ c n. all.off.counted c n
                 ∙ ap (λ (k : ℕ). k + count_for (connection_at old.connections connection) (length (take most_at_once (held old connection))) c n) (h.taken c n)
                 ∙ ap (λ (k : ℕ). printed c n + k) (counts_alike old w (connection_at old.connections connection) (place w.places connection) (take most_at_once (held old connection)) c n stands empty

@@ -27,14 +27,15 @@ use Rattle.floor_hub.specs.StandsFor.{ConferenceStands, RoomStands, StandsFor}
 use Rattle.floor_hub.specs.World.{Part, Place, World, numbered, offer, turn}
 use Rattle.floor_script.specs.Printed.{acknowledged}
 use Rattle.floor_script.specs.declared.waiting.Taken.{Taken}
-use Rattle.floor_script.specs.steps.Holding.{Acknowledges, AcknowledgesOne, Answers, Holds, IsOpened, IsWhole, taken_in}
+use Rattle.floor_script.specs.steps.Holding.{Acknowledges, AcknowledgesOne, Answers, Holds, IsAtOnce, IsOpened, IsWhole, taken_in}
 
 true_false : true ≡ false → ⊥
 true_false e = cc
 
--- what a room keeps in a call: it is whole if it was, and nothing was taken of its outboxes
+-- what a room keeps in a call: it is whole if it was, hands out at once what it tells if it did, and nothing was taken of its outboxes
 record Stays (old new : Option Room) : Type 0 where
   whole : IsWhole old → IsWhole new
+  at_once : IsAtOnce old → IsAtOnce new
   taken : (n : ℕ) → taken_in new n ≡ taken_in old n
 
 abbrev AllStay : Hub → Hub → Type 0
@@ -53,7 +54,7 @@ taken_same os ps q zero = refl
 taken_same os ps q (suc k) = queued_same os ps q k
 
 stays_same : (old new : Option Room) → new ≡ old → Stays old new
-stays_same old new e = record { whole = λ w. subst IsWhole (sym e) w; taken = λ n. ap (λ (r : Option Room). taken_in r n) e }
+stays_same old new e = record { whole = λ w. subst IsWhole (sym e) w; at_once = λ w. subst IsAtOnce (sym e) w; taken = λ n. ap (λ (r : Option Room). taken_in r n) e }
 
 -- a room that wasn't broken by want of memory stays
 unbroken : (why : Option HubRefusal) (was : Bool) → why ≢ by_memory → was ≡ false → (was ≡ true) ⊎ (why ≡ by_memory) → ⊥
@@ -63,7 +64,7 @@ unbroken why was calm whole (inr memory) = calm memory
 stays_after : (shut_by why : Option HubRefusal) (own : Room → List Event) (old new : Option Room) → why ≢ by_memory → RoomAfterIn shut_by why own old new → Stays old new
 stays_after shut_by why own None new calm a = stays_same None new a.0
 stays_after shut_by why own (Some r) None calm a = absurd a
-stays_after shut_by why own (Some r) (Some s) calm a = record { whole = λ w. by w s.ledger.is_broken refl; taken = taken_same r.outboxes s.outboxes a.outboxes }
+stays_after shut_by why own (Some r) (Some s) calm a = record { whole = λ w. by w s.ledger.is_broken refl; at_once = λ w. a.kept ∙ w; taken = taken_same r.outboxes s.outboxes a.outboxes }
   where
     by : r.ledger.is_broken ≡ false → (b : Bool) → s.ledger.is_broken ≡ b → s.ledger.is_broken ≡ false
     by w false e = e
@@ -118,7 +119,7 @@ turned_gone new w s r calm (inr t) = t
 turned_gone new w s r calm (inl want) = absurd (true_false (sym (ap is_memory want.0.0) ∙ calm))
 
 holds_next : (old new : Hub) (w then_w : World) (printed : ℕ → ℕ → ℕ) → AllStay old new → StandsFor new then_w → Holds old w printed → Holds new then_w printed
-holds_next old new w then_w printed stay stands h = record { stands = stands; whole = λ c. (stay c).whole (h.whole c); taken = λ c n. (stay c).taken n ∙ h.taken c n }
+holds_next old new w then_w printed stay stands h = record { stands = stands; whole = λ c. (stay c).whole (h.whole c); at_once = λ c. (stay c).at_once (h.at_once c); taken = λ c n. (stay c).taken n ∙ h.taken c n }
 
 -- the hub did the step of each world that it holds
 answers_by : (s : Step) (a : Answer) (old new : Hub) → AllStay old new → ((w : World) (printed : ℕ → ℕ → ℕ) → Holds old w printed → Turns new w s a) → Answers (λ w. turn w s) a old new
@@ -197,6 +198,10 @@ opened_did config old new turns opens = record { next = λ w printed h. next w p
     whole printed w h d true e = subst (λ (i : ℕ). IsWhole (room_at new i)) (eqb-true config.conference d e) (subst IsWhole (sym opens.room) refl)
     whole printed w h d false e = subst IsWhole (sym (opens.others d e)) (h.whole d)
 
+    at_once : (printed : ℕ → ℕ → ℕ) (w : World) → Holds old w printed → (d : ℕ) (b : Bool) → nat_eq config.conference d ≡ b → IsAtOnce (room_at new d)
+    at_once printed w h d true e = subst (λ (i : ℕ). IsAtOnce (room_at new i)) (eqb-true config.conference d e) (subst IsAtOnce (sym opens.room) refl)
+    at_once printed w h d false e = subst IsAtOnce (sym (opens.others d e)) (h.at_once d)
+
     was_none : (printed : ℕ → ℕ → ℕ) (w : World) → Holds old w printed → room_at old config.conference ≡ None
     was_none printed w h =
         no_room (is_forgotten old config.conference) (room_at old config.conference) (w.parts config.conference) (unopened w.places config (w.parts config.conference) (turns w h.stands).1) (h.stands.stands.conferences config.conference)
@@ -212,6 +217,7 @@ opened_did config old new turns opens = record { next = λ w printed h. next w p
     next w printed h = record {
       stands = (turns w h.stands).0;
       whole = λ d. whole printed w h d (nat_eq config.conference d) refl;
+      at_once = λ d. at_once printed w h d (nat_eq config.conference d) refl;
       taken = λ d n. taken printed w h d n (nat_eq config.conference d) refl;
     }
 

@@ -7,11 +7,12 @@ use Rattle.floor_machine.specs.declared.event.Event.{Event}
 use Rattle.floor_machine.specs.declared.event.Event.TheVariants.{Message}
 use Rattle.floor_machine.specs.declared.machine.Refusal.TheVariants.{Ended}
 use Rattle.floor_room.specs.declared.refusal.RoomRefusal.TheVariants.{Refused as ByMachine}
+use Rattle.floor_hub.specs.declared.refusal.HubRefusal.{HubRefusal}
 use Rattle.floor_hub.specs.declared.refusal.HubRefusal.TheVariants.{ByRoom}
 use Rattle.floor_hub.specs.declared.step.Answer.{Answer}
-use Rattle.floor_hub.specs.declared.step.Answer.TheVariants.{Done, Attached as HasAttached, Nothing, Served, Refused}
+use Rattle.floor_hub.specs.declared.step.Answer.TheVariants.{Done, Attached as HasAttached, Nothing, Served, Said, Refused}
 use Rattle.floor_hub.specs.declared.step.Step.{Step}
-use Rattle.floor_hub.specs.declared.step.Step.TheVariants.{Open, Attach, Piece, Serve, Took, Leave, Admin}
+use Rattle.floor_hub.specs.declared.step.Step.TheVariants.{Open, Attach, Piece, Serve, Took, Leave, Admin, Say}
 use Rattle.floor_hub.specs.World as world
 use Rattle.floor_hub.specs.World.{Aim, Arrival, Part, Place, Turn, World, add_event, aim, aimed, arrival, if_live, numbered, offer, piece, place, places_after, refused, serve, serve_message, state_of, take_message, turn, turn_at, unserved}
 use Rattle.floor_script.specs.Answered.{send, serve_all, serves_on, serves_taken}
@@ -28,6 +29,7 @@ IsOther (Serve number) = Unit {0}
 IsOther (Took number k) = Unit {0}
 IsOther (Leave number) = Unit {0}
 IsOther (Admin conference act) = Unit {0}
+IsOther (Say conference user bytes) = Unit {0}
 
 abbrev IsOtherAim : Option Aim → Type 0
 IsOtherAim None = Unit {0}
@@ -39,6 +41,7 @@ IsOtherAnswer Done = Unit {0}
 IsOtherAnswer (HasAttached number) = ⊥
 IsOtherAnswer Nothing = Unit {0}
 IsOtherAnswer Served = Unit {0}
+IsOtherAnswer (Said said) = Unit {0}
 IsOtherAnswer (Refused r) = Unit {0}
 
 other_add : (p : Part) (e : Event) (r : Option RoomRefusal) → IsOtherAnswer (add_event p e r).answer
@@ -73,6 +76,10 @@ other_leave : (p : Part) (n : ℕ) (a : Option Arrival) → IsOtherAnswer (world
 other_leave p n None = tt
 other_leave p n (Some a) = tt
 
+other_say : (p : Part) (user : ℕ) (bytes : List ℕ) (r : Option HubRefusal) → IsOtherAnswer (world.say p user bytes r).answer
+other_say p user bytes None = tt
+other_say p user bytes (Some r) = tt
+
 other_offer : (q : Option Part) (s : Step) → IsOther s → IsOtherAnswer (offer q s).answer
 other_offer None (Open config) h = tt
 other_offer None (Attach c user) h = absurd h
@@ -81,6 +88,7 @@ other_offer None (Serve n) h = tt
 other_offer None (Took n k) h = tt
 other_offer None (Leave n) h = tt
 other_offer None (Admin c act) h = tt
+other_offer None (Say c user bytes) h = tt
 other_offer (Some p) (Open config) h = tt
 other_offer (Some p) (Attach c user) h = absurd h
 other_offer (Some p) (Piece n bytes) h = other_piece p n bytes (if_live (arrival p n))
@@ -88,6 +96,7 @@ other_offer (Some p) (Serve n) h = other_serve p n (if_live (arrival p n))
 other_offer (Some p) (Took n k) h = other_took p n k (if_live (arrival p n))
 other_offer (Some p) (Leave n) h = other_leave p n (if_live (arrival p n))
 other_offer (Some p) (Admin c act) h = other_add p _ _
+other_offer (Some p) (Say c user bytes) h = other_say p user bytes _
 
 other_place : (make : ℕ → Step) (p : Option Place) → ((n : ℕ) → IsOther (make n)) → IsOtherAim (aim make p)
 other_place make None h = tt
@@ -101,12 +110,14 @@ other_aim w (Serve number) h = other_place (λ n. Serve n) (place w.places numbe
 other_aim w (Took number k) h = other_place (λ n. Took n k) (place w.places number) (λ n. tt)
 other_aim w (Leave number) h = other_place (λ n. Leave n) (place w.places number) (λ n. tt)
 other_aim w (Admin c act) h = tt
+other_aim w (Say c user bytes) h = tt
 
 places_unadded : (ps : List Place) (c : ℕ) (a : Answer) → IsOtherAnswer a → places_after ps c a ≡ ps
 places_unadded ps c Done h = refl
 places_unadded ps c (HasAttached n) h = absurd h
 places_unadded ps c Nothing h = refl
 places_unadded ps c Served h = refl
+places_unadded ps c (Said said) h = refl
 places_unadded ps c (Refused r) h = refl
 
 places_at : (w : World) (a : Option Aim) → IsOtherAim a → (turn_at w a).world.places ≡ w.places
@@ -122,6 +133,7 @@ serves_on_places Served w next ps e h = h w e
 serves_on_places Nothing w next ps e h = e
 serves_on_places Done w next ps e h = e
 serves_on_places (HasAttached number) w next ps e h = e
+serves_on_places (Said said) w next ps e h = e
 serves_on_places (Refused r) w next ps e h = e
 
 serve_all_places : (fuel connection : ℕ) (w : World) (ps : List Place) → w.places ≡ ps → (serve_all fuel connection w).world.places ≡ ps
@@ -136,6 +148,7 @@ serves_taken_places Done connection w = serve_all_places most_at_once connection
 serves_taken_places (HasAttached number) connection w = refl
 serves_taken_places Nothing connection w = refl
 serves_taken_places Served connection w = refl
+serves_taken_places (Said said) connection w = refl
 serves_taken_places (Refused r) connection w = refl
 
 -- nor do bytes that come and are served
@@ -162,6 +175,7 @@ place_added ps c number (HasAttached n) e = record { added = record { conference
 place_added ps c number Done e = cc
 place_added ps c number Nothing e = cc
 place_added ps c number Served e = cc
+place_added ps c number (Said said) e = cc
 place_added ps c number (Refused r) e = cc
 
 pub attach_adds : (w : World) (conference user number : ℕ) → (turn w (Attach conference user)).answer ≡ HasAttached number → AddsPlace conference number w.places (turn w (Attach conference user)).world.places
@@ -172,6 +186,7 @@ other_numbered ps Done h = tt
 other_numbered ps (HasAttached n) h = h
 other_numbered ps Nothing h = tt
 other_numbered ps Served h = tt
+other_numbered ps (Said said) h = tt
 other_numbered ps (Refused r) h = tt
 
 -- one that isn't answered by a number adds none
@@ -214,4 +229,5 @@ other_answer Done h = tt
 other_answer (HasAttached number) h = h number refl
 other_answer Nothing h = tt
 other_answer Served h = tt
+other_answer (Said said) h = tt
 other_answer (Refused r) h = tt

@@ -9,7 +9,8 @@ use Rattle.floor_config.specs.Configuration.{Configuration}
 use Rattle.floor_machine.specs.declared.act.Act.{Act}
 use Rattle.floor_hub.specs.declared.refusal.HubRefusal.{HubRefusal}
 use Rattle.floor_hub.specs.declared.step.Answer.{Answer}
-use Rattle.floor_hub.specs.declared.step.Answer.TheVariants.{Done, Attached as HasAttached, Nothing, Served, Refused}
+use Rattle.floor_hub.specs.declared.step.Answer.TheVariants.{Done, Attached as HasAttached, Nothing, Served, Said, Refused}
+use Rattle.floor_room.specs.declared.said.Said as room
 use Rattle.floor_hub.specs.declared.step.Step.{Step}
 use Rattle.floor_hub.specs.declared.step.Step.TheVariants as step
 use Rattle.floor_hub.specs.StandsFor.{ConferenceStands, StandsFor}
@@ -27,9 +28,9 @@ use Rattle.floor_script.specs.declared.attached.Pace.{Pace}
 use Rattle.floor_script.specs.declared.attached.Pace.TheVariants as pace
 use Rattle.floor_script.specs.declared.conferences.Conferences.{Conferences}
 use Rattle.floor_script.specs.declared.line.Command.{Command}
-use Rattle.floor_script.specs.declared.line.Command.TheVariants.{Attach, Piece, Serve, Send, Leave, Slow, Fast, Admin}
+use Rattle.floor_script.specs.declared.line.Command.TheVariants.{Attach, Piece, Serve, Send, Leave, Slow, Fast, Admin, Say}
 use Rattle.floor_script.specs.declared.waiting.Taken.{Taken}
-use Rattle.floor_script.specs.steps.Holding.{Acknowledges, Answers, Holds, IsOpened, IsWhole, taken_in}
+use Rattle.floor_script.specs.steps.Holding.{Acknowledges, Answers, Holds, IsAtOnce, IsOpened, IsWhole, taken_in}
 use Rattle.floor_script.specs.steps.Standing.{Carries, Does, Leads, Prints, SetsPace, Stands, opened}
 use Rattle.floor_script.specs.steps.Taking.{ArePlaced, Empties, EmptiesAll, IsPlaceOf}
 use Rattle.floor_script.proofs.Most.{most_is}
@@ -70,6 +71,12 @@ carries_admin conference act answer old new a kept = record {
   answered = λ s h. a.answered s.world s.printed h.holds;
 }
 
+pub carries_say : (conference user : ℕ) (bytes : List ℕ) (answer : Answer) (old new : Conferences) → Answers (λ w. turn w (step.Say conference user bytes)) answer old.hub new.hub → new.attached ≡ old.attached → Carries (Say conference user bytes) answer old new
+carries_say conference user bytes answer old new a kept = record {
+  leads = λ s h. stands_moved old new s (turn s.world (step.Say conference user bytes)).world h (a.next s.world s.printed h.holds) (places_kept s.world (step.Say conference user bytes) tt) kept;
+  answered = λ s h. a.answered s.world s.printed h.holds;
+}
+
 pub carries_send : (connection : ℕ) (bytes : List ℕ) (answer : Answer) (old new : Conferences) → Answers (send connection bytes) answer old.hub new.hub → new.attached ≡ old.attached → Carries (Send connection bytes) answer old new
 carries_send connection bytes answer old new a kept = record {
   leads = λ s h. stands_moved old new s (send connection bytes s.world).world h (a.next s.world s.printed h.holds) (send_places connection bytes s.world) kept;
@@ -88,6 +95,7 @@ untaken_world Done connection w ne = absurd (ne refl)
 untaken_world (HasAttached number) connection w ne = refl
 untaken_world Nothing connection w ne = refl
 untaken_world Served connection w ne = refl
+untaken_world (Said said) connection w ne = refl
 untaken_world (Refused r) connection w ne = refl
 
 untaken_answer : (d : Answer) (connection : ℕ) (w : World) → d ≢ Done → (serves_taken d connection w).answer ≡ d
@@ -95,6 +103,7 @@ untaken_answer Done connection w ne = absurd (ne refl)
 untaken_answer (HasAttached number) connection w ne = refl
 untaken_answer Nothing connection w ne = refl
 untaken_answer Served connection w ne = refl
+untaken_answer (Said said) connection w ne = refl
 untaken_answer (Refused r) connection w ne = refl
 
 -- or they weren't taken
@@ -137,12 +146,14 @@ stops_with Done = Done
 stops_with Nothing = Done
 stops_with Served = Done
 stops_with (HasAttached number) = Done
+stops_with (Said said) = Done
 
 stopped_is : (d : Answer) (w : World) (next : World → Turn) → d ≢ Served → serves_on d w next ≡ record { world = w; answer = stops_with d }
 stopped_is Served w next ne = absurd (ne refl)
 stopped_is Nothing w next ne = refl
 stopped_is Done w next ne = refl
 stopped_is (HasAttached number) w next ne = refl
+stopped_is (Said said) w next ne = refl
 stopped_is (Refused r) w next ne = refl
 
 pub serves_stop : (fuel whole connection : ℕ) (answer : Answer) (a b c : Hub) → ServesOn (suc fuel) whole connection a b → answer ≢ Served → Answers (λ w. turn w (step.Serve connection)) answer b c → Answers (serve_all whole connection) (stops_with answer) a c
@@ -258,6 +269,7 @@ unattached s conference user Done h = refl
 unattached s conference user (HasAttached number) h = absurd h
 unattached s conference user Nothing h = refl
 unattached s conference user Served h = refl
+unattached s conference user (Said said) h = refl
 unattached s conference user (Refused r) h = refl
 
 -- or none was
@@ -302,6 +314,7 @@ unleft s connection Done ne = absurd (ne refl)
 unleft s connection (HasAttached number) ne = refl
 unleft s connection Nothing ne = refl
 unleft s connection Served ne = refl
+unleft s connection (Said said) ne = refl
 unleft s connection (Refused r) ne = refl
 
 -- or not
@@ -451,13 +464,17 @@ done_served e = cc
 attached_served : (number : ℕ) → ◌≡◌ {A = Answer} (HasAttached number) Served → ⊥
 attached_served number e = cc
 
+said_served : (said : room.Said) → ◌≡◌ {A = Answer} (Said said) Served → ⊥
+said_served said e = cc
+
 pub stops_refused : (d : Answer) (r : HubRefusal) → d ≡ Refused r → (d ≢ Served) × (stops_with d ≡ Refused r)
 stops_refused d r is = (λ e. refused_served r (sym is ∙ e), ap stops_with is)
 
-pub stops_done : (d : Answer) → (d ≡ Nothing) ⊎ ((d ≡ Done) ⊎ ((number : ℕ) × (d ≡ HasAttached number))) → (d ≢ Served) × (stops_with d ≡ Done)
+pub stops_done : (d : Answer) → (d ≡ Nothing) ⊎ ((d ≡ Done) ⊎ (((number : ℕ) × (d ≡ HasAttached number)) ⊎ ((said : room.Said) × (d ≡ Said said)))) → (d ≢ Served) × (stops_with d ≡ Done)
 stops_done d (inl is) = (λ e. nothing_served (sym is ∙ e), ap stops_with is)
 stops_done d (inr (inl is)) = (λ e. done_served (sym is ∙ e), ap stops_with is)
-stops_done d (inr (inr is)) = (λ e. attached_served is.0 (sym is.1 ∙ e), ap stops_with is.1)
+stops_done d (inr (inr (inl is))) = (λ e. attached_served is.0 (sym is.1 ∙ e), ap stops_with is.1)
+stops_done d (inr (inr (inr is))) = (λ e. said_served is.0 (sym is.1 ∙ e), ap stops_with is.1)
 
 -- one way or another
 pub split : {P Q R : Type 0} → P ⊎ Q → (P → R) → (Q → R) → R
@@ -479,6 +496,7 @@ stands_new c stands unattached unlive = record {
   holds = record {
     stands = stands;
     whole = λ d. subst IsWhole (sym (empty_room (is_forgotten c.hub d) (room_at c.hub d) (stands.stands.conferences d))) tt;
+    at_once = λ d. subst IsAtOnce (sym (empty_room (is_forgotten c.hub d) (room_at c.hub d) (stands.stands.conferences d))) tt;
     taken = λ d n. ap (λ (r : Option Room). taken_in r n) (empty_room (is_forgotten c.hub d) (room_at c.hub d) (stands.stands.conferences d));
   };
   conferences_are = no_items c.attached.conferences.items (unattached 1);

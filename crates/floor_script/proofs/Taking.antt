@@ -1,15 +1,14 @@
 -- What is taken of a connection, parcel by parcel.
 use Rattle.std.proofs.Common.{◌≡◌, ◌≢◌, ℕ, zero, suc, ◌+◌, ◌<◌, Bool, true, false, List, [], ◌∷◌, ◌++◌, length, length-append, refl, sym, ◌∙◌, ap, subst, append_assoc, append-nil, arith, Some, None}
-use Rattle.std.specs.Prelude.{◌==◌, ◌&&◌, if◌then◌else◌, Option, option_to_list, Result, Ok, Err, nat_eq, slice_get, slice_set}
+use Rattle.std.specs.Prelude.{◌==◌, ◌&&◌, if◌then◌else◌, IsErr, MatchOption, Option, option_to_list, Result, Ok, Err, nat_eq, slice_get, slice_set}
 use Rattle.std.specs.Option.{option_map, option_map_or}
 use Rattle.std.proofs.lemmas.Bool.{eqb-false, eqb-true}
 use Rattle.std.proofs.lemmas.Option.{none-some}
 use Rattle.floor_machine.specs.Parcel.{Parcel}
-use Rattle.floor_room.specs.Ledger.{Ledger}
 use Rattle.floor_room.specs.declared.outbox.NoMember.{NoMember}
 use Rattle.floor_room.specs.Outbox.{Outbox}
-use Rattle.floor_room.specs.Room.{Room}
-use Rattle.floor_room.specs.Taking.{Gave, GivesFrom, GivesHeld, after_take, outbox_of, with_outbox}
+use Rattle.floor_room.specs.Room.{Room, is_kept}
+use Rattle.floor_room.specs.Taking.{Gave, GivesFrom, GivesHeld, GivesIf, after_take, outbox_of, with_outbox}
 use Rattle.floor_hub.specs.declared.refusal.HubRefusal.{HubRefusal}
 use Rattle.floor_hub.specs.declared.connection.Connection.{Connection}
 use Rattle.floor_hub.specs.Connections.{connection_at}
@@ -18,7 +17,7 @@ use Rattle.floor_hub.specs.Rooms.{SameHub, TakenFrom, TakenOf}
 use Rattle.floor_hub.specs.StandsFor.{StandsFor}
 use Rattle.floor_hub.specs.World.{World}
 use Rattle.floor_script.specs.steps.Holding.{outbox_in, taken_in}
-use Rattle.floor_script.specs.steps.Taking.{HasOutbox, TakenOff, TakenOne, count_for, held, held_for}
+use Rattle.floor_script.specs.steps.Taking.{HandsOut, HasOutbox, IsKeptIn, TakenOff, TakenOne, bare, count_for, held, held_for}
 
 -- an outbox that was written is read
 set_same : (os : List Outbox) (k : ℕ) (o q : Outbox) → slice_get os k ≡ Some o → slice_get (slice_set os k q) k ≡ Some q
@@ -53,7 +52,8 @@ record FromRoom (old new : Room) (n : ℕ) (parcel : Option Parcel) : Type 0 whe
   waited : held_in (outbox_of old.outboxes n) ≡ option_to_list parcel ++ held_in (outbox_of new.outboxes n)
   counted : count_in (outbox_of new.outboxes n) ≡ count_in (outbox_of old.outboxes n) + length (option_to_list parcel)
   there : (outbox : Outbox) × (outbox_of old.outboxes n ≡ Some outbox)
-  none : option_to_list parcel ≡ [] → held_in (outbox_of new.outboxes n) ≡ []
+  none : is_kept old ≡ true → option_to_list parcel ≡ [] → held_in (outbox_of new.outboxes n) ≡ []
+  rest : bare new ≡ bare old
   others : (m : ℕ) → n ≢ m → outbox_of new.outboxes m ≡ outbox_of old.outboxes m
 
 ok_is : (p q : Option Parcel) → ◌≡◌ {A = Result (Option Parcel) NoMember} (Ok p) (Ok q) → p ≡ q
@@ -65,9 +65,15 @@ one_none p e = cc
 not_ok : false ≡ true → ⊥
 not_ok e = cc
 
+true_false : true ≡ false → ⊥
+true_false e = cc
+
 from_room : (old new : Room) (n : ℕ) (parcel : Option Parcel) → Gave old new n (Ok parcel) → FromRoom old new n parcel
-from_room old new n parcel gave = by (outbox_of old.outboxes n) refl gave.given
+from_room old new n parcel gave = split (is_kept old) refl gave.given
   where
+    still : bare new ≡ bare old
+    still = ap (λ (r : Room). bare r) gave.same
+
     holds : (o : Outbox) (waiting : List Parcel) → outbox_of old.outboxes n ≡ Some o → o.held ≡ waiting → GivesHeld old.outboxes new.outboxes n o waiting (Ok parcel) → FromRoom old new n parcel
     holds o [] is has h =
         let same : (m : ℕ) → outbox_of new.outboxes m ≡ outbox_of old.outboxes m = λ m. ap (λ (os : List Outbox). outbox_of os m) h.1 in
@@ -78,8 +84,9 @@ from_room old new n parcel gave = by (outbox_of old.outboxes n) refl gave.given
           waited = empty ∙ sym now ∙ ap (λ (l : List Parcel). l ++ held_in (outbox_of new.outboxes n)) (sym nothing);
           counted = ap count_in (same n) ∙ sum ∙ ap (λ (l : List Parcel). count_in (outbox_of old.outboxes n) + length l) (sym nothing);
           there = (o, is);
-          none = λ e. now;
+          none = λ k e. now;
           others = λ m ne. same m;
+          rest = still;
         }
     holds o (p ∷ rest) is has h =
         let is_now : outbox_of new.outboxes n ≡ Some (after_take o rest) =
@@ -91,13 +98,34 @@ from_room old new n parcel gave = by (outbox_of old.outboxes n) refl gave.given
           counted = ap count_in is_now ∙ ap (λ (k : ℕ). k + 1) (sym (ap count_in is))
               ∙ ap (λ (l : List Parcel). count_in (outbox_of old.outboxes n) + length l) (sym one);
           there = (o, is);
-          none = λ e. absurd (one_none p (sym one ∙ e));
+          none = λ k e. absurd (one_none p (sym one ∙ e));
           others = λ m ne. ap (λ (os : List Outbox). outbox_of os m) h.1 ∙ box_other old.outboxes n m (after_take o rest) ne;
+          rest = still;
         }
 
     by : (b : Option Outbox) → outbox_of old.outboxes n ≡ b → GivesFrom old.outboxes new.outboxes n b (Ok parcel) → FromRoom old new n parcel
     by None is given = absurd (not_ok given.0)
     by (Some o) is given = holds o o.held is refl given
+
+    -- where not all that was told is kept, nothing is given
+    back : (b : Option Outbox) → outbox_of old.outboxes n ≡ b → MatchOption b (IsErr {T = Option Parcel} {E = NoMember} (Ok parcel)) (λ (o : Outbox). ◌≡◌ {A = Result (Option Parcel) NoMember} (Ok parcel) (Ok None)) →
+        new.outboxes ≡ old.outboxes → is_kept old ≡ false → FromRoom old new n parcel
+    back None is m kept unkept = absurd (not_ok m)
+    back (Some o) is m kept unkept =
+        let same : (m : ℕ) → outbox_of new.outboxes m ≡ outbox_of old.outboxes m = λ m. ap (λ (os : List Outbox). outbox_of os m) kept in
+        let nothing : option_to_list parcel ≡ [] = ap (λ (p : Option Parcel). option_to_list p) (ok_is parcel None m) in
+        let sum : count_in (outbox_of old.outboxes n) ≡ count_in (outbox_of old.outboxes n) + 0 = omega arith in record {
+          waited = sym (ap held_in (same n)) ∙ ap (λ (l : List Parcel). l ++ held_in (outbox_of new.outboxes n)) (sym nothing);
+          counted = ap count_in (same n) ∙ sum ∙ ap (λ (l : List Parcel). count_in (outbox_of old.outboxes n) + length l) (sym nothing);
+          there = (o, is);
+          none = λ k e. absurd (true_false (sym k ∙ unkept));
+          others = λ m ne. same m;
+          rest = still;
+        }
+
+    split : (b : Bool) → is_kept old ≡ b → GivesIf b old.outboxes new.outboxes n (Ok parcel) → FromRoom old new n parcel
+    split true is given = by (outbox_of old.outboxes n) refl given
+    split false is given = back (outbox_of old.outboxes n) refl given.0 given.1 is
 
 plus_none : (a b : ℕ) → a ≡ b → a ≡ b + 0
 plus_none a b e = omega (arith, e)
@@ -117,7 +145,7 @@ nothing_off connection old new same stands = record {
   counted = λ conference n.
       plus_none _ _ (ap (λ (r : Option Room). taken_in r n) (same.rooms conference))
       ∙ ap (λ (k : ℕ). taken_in (room_at old conference) n + k) (sym (count-none (connection_at old.connections connection) conference n));
-  ledgers = λ conference. ap (λ (r : Option Room). option_map (λ room. room.ledger) r) (same.rooms conference);
+  rooms = λ conference. ap (λ (r : Option Room). option_map bare r) (same.rooms conference);
   connections = same.connections;
   stands = stands;
 }
@@ -147,12 +175,12 @@ from_hub connection x parcel old new is t stands =
         waited = was_is ∙ room.waited ∙ ap (λ (l : List Parcel). option_to_list parcel ++ l) (sym then_is);
         counted = λ conference n. subst (λ (y : Option Connection). taken_in (room_at new conference) n ≡ taken_in (room_at old conference) n + count_for y (length (option_to_list parcel)) conference n) (sym is)
             (counts conference n (nat_eq x.conference conference) refl (nat_eq x.n n) refl);
-        ledgers = λ conference. ledger conference (nat_eq x.conference conference) refl;
+        rooms = λ conference. rest conference (nat_eq x.conference conference) refl;
         connections = t.connections;
         stands = stands;
       };
       there = subst (HasOutbox old) (sym is) (room.there.0, ap (λ (r : Option Room). outbox_in r x.n) t.was ∙ room.there.1);
-      none = λ e. then_is ∙ room.none e;
+      none = λ k e. then_is ∙ room.none (subst IsKeptIn t.was (subst (HandsOut old) is k)) e;
     }
   where
     counts : (conference n : ℕ) (b : Bool) → nat_eq x.conference conference ≡ b → (d : Bool) → nat_eq x.n n ≡ d →
@@ -174,14 +202,14 @@ from_hub connection x parcel old new is t stands =
         ∙ ap (λ (k : ℕ). k + length (option_to_list parcel))
         (sym (ap (λ (r : Option Room). taken_in r x.n) (ap (room_at old) (sym same) ∙ t.was)) ∙ ap (taken_in (room_at old conference)) same_n)
 
-    ledger : (conference : ℕ) (b : Bool) → nat_eq x.conference conference ≡ b → option_map (λ room. room.ledger) (room_at new conference) ≡ option_map (λ room. room.ledger) (room_at old conference)
-    ledger conference false e = ap (λ (r : Option Room). option_map (λ room. room.ledger) r) (t.others conference e)
-    ledger conference true e =
+    rest : (conference : ℕ) (b : Bool) → nat_eq x.conference conference ≡ b → option_map bare (room_at new conference) ≡ option_map bare (room_at old conference)
+    rest conference false e = ap (λ (r : Option Room). option_map bare r) (t.others conference e)
+    rest conference true e =
         let same : x.conference ≡ conference = eqb-true x.conference conference e in
-        let kept : t.after.ledger ≡ t.before.ledger = ap (λ (r : Room). r.ledger) t.gave.same in
-        ap (λ (r : Option Room). option_map (λ room. room.ledger) r) (ap (room_at new) (sym same) ∙ t.now)
-        ∙ ap (λ (l : Ledger). Some l) kept
-        ∙ sym (ap (λ (r : Option Room). option_map (λ room. room.ledger) r) (ap (room_at old) (sym same) ∙ t.was))
+        let room = from_room t.before t.after x.n parcel t.gave in
+        ap (λ (r : Option Room). option_map bare r) (ap (room_at new) (sym same) ∙ t.now)
+        ∙ ap (λ (r : Room). Some r) room.rest
+        ∙ sym (ap (λ (r : Option Room). option_map bare r) (ap (room_at old) (sym same) ∙ t.was))
 
 -- what a taking gave
 pub taken_one : (connection : ℕ) (parcel : Option Parcel) (old new : Hub) → TakenOf (connection_at old.connections connection) (Ok parcel) old new →
@@ -202,7 +230,7 @@ taken_none connection refusal old new t stands = by (connection_at old.connectio
     by None is t = record {
       off = nothing_off connection old new t.1 stands;
       there = subst (HasOutbox old) (sym is) tt;
-      none = λ e. ap (held_for new) (t.1.connections connection ∙ is);
+      none = λ k e. ap (held_for new) (t.1.connections connection ∙ is);
     }
     by (Some x) is t = absurd (err_ok t.0 refusal (sym t.1))
 
@@ -230,7 +258,7 @@ off_more connection some more a b c p q = record {
       (ap (λ (x : Option Connection). count_for (connection_at a.connections connection) (length some) conference n + count_for x (length more) conference n) (p.connections connection)
       ∙ count-more (connection_at a.connections connection) (length some) (length more) conference n
       ∙ ap (λ (k : ℕ). count_for (connection_at a.connections connection) k conference n) (sym (length-append some more)));
-  ledgers = λ conference. q.ledgers conference ∙ p.ledgers conference;
+  rooms = λ conference. q.rooms conference ∙ p.rooms conference;
   connections = λ number. q.connections number ∙ p.connections number;
   stands = λ w s. q.stands w (p.stands w s);
 }

@@ -1,9 +1,10 @@
 -- What the command of a line does, what it is answered, and what is printed behind it.
 use Rattle.std.specs.Prelude.{ℕ, zero, suc, Bool, not, List, [], ◌∷◌, ◌++◌, map, filter, codes, Option, Some, None, if◌then◌else◌}
 use Rattle.std.specs.Fmt.{decimal}
+use Rattle.hex.specs.Hex.{encode_lower}
 use Rattle.floor_hub.specs.declared.refusal.HubRefusal.TheVariants.{NoConnection}
 use Rattle.floor_hub.specs.declared.step.Answer.{Answer}
-use Rattle.floor_hub.specs.declared.step.Answer.TheVariants.{Done, Attached as HasAttached, Nothing, Served, Refused}
+use Rattle.floor_hub.specs.declared.step.Answer.TheVariants.{Done, Attached as HasAttached, Nothing, Served, Said, Refused}
 use Rattle.floor_hub.specs.declared.step.Step.TheVariants as step
 use Rattle.floor_hub.specs.Names.{name_of}
 use Rattle.floor_hub.specs.World.{Turn, World, turn}
@@ -13,7 +14,7 @@ use Rattle.floor_script.specs.State.{State, changed_lives, conference_at, is_liv
 use Rattle.floor_script.specs.declared.attached.Live.{Live}
 use Rattle.floor_script.specs.declared.attached.Pace.TheVariants as pace
 use Rattle.floor_script.specs.declared.line.Command.{Command}
-use Rattle.floor_script.specs.declared.line.Command.TheVariants.{Attach, Piece, Serve, Send, Leave, Slow, Fast, Admin}
+use Rattle.floor_script.specs.declared.line.Command.TheVariants.{Attach, Piece, Serve, Send, Leave, Slow, Fast, Admin, Say}
 use Rattle.floor_script.specs.declared.waiting.Taken.{Taken}
 
 -- after a message that was served the next ones are; a refusal is the answer
@@ -22,6 +23,7 @@ serves_on Served w next = next w
 serves_on Nothing w next = record { world = w; answer = Done }
 serves_on Done w next = record { world = w; answer = Done }
 serves_on (HasAttached number) w next = record { world = w; answer = Done }
+serves_on (Said said) w next = record { world = w; answer = Done }
 serves_on (Refused refusal) w next = record { world = w; answer = Refused refusal }
 
 -- the messages of a connection that are whole are served, one after another, at most so many
@@ -52,6 +54,7 @@ turned s (Leave connection) = turn s.world (step.Leave connection)
 turned s (Slow connection) = record { world = s.world; answer = pace_answer (is_live_in s.lives (conference_at s connection) connection) }
 turned s (Fast connection) = record { world = s.world; answer = pace_answer (is_live_in s.lives (conference_at s connection) connection) }
 turned s (Admin conference act) = turn s.world (step.Admin conference act)
+turned s (Say conference user message) = turn s.world (step.Say conference user message)
 
 -- who is live behind a command with this answer: one that was attached is, and fast; one that has left is not
 abbrev pub lives_behind : State → Command → Answer → ℕ → List Live
@@ -66,6 +69,11 @@ lives_behind s command answer = s.lives
 abbrev pub carried : State → Command → State
 carried s command = record { world = (turned s command).world; printed = s.printed; lives = lives_behind s command (turned s command).answer }
 
+-- the line of a message that was said: what answers it, where something does
+abbrev pub said_line : Option (List ℕ) → List ℕ
+said_line None = []
+said_line (Some message) = codes "said " ++ (encode_lower message ++ codes "\n")
+
 -- the line of an answer, where it has one
 abbrev pub answer_line : Answer → List ℕ
 answer_line (HasAttached number) = codes "attached " ++ (decimal number ++ codes "\n")
@@ -73,11 +81,13 @@ answer_line Nothing = codes "nothing\n"
 answer_line (Refused refusal) = codes "refused " ++ (name_of refusal ++ codes "\n")
 answer_line Done = []
 answer_line Served = []
+answer_line (Said said) = said_line said.reply
 
 -- the conference that a command is about: no other one's connections are printed anything
 abbrev pub conference_of : State → Command → Option ℕ
 conference_of s (Attach conference user) = Some conference
 conference_of s (Admin conference act) = Some conference
+conference_of s (Say conference user message) = Some conference
 conference_of s (Piece connection bytes) = conference_at s connection
 conference_of s (Serve connection) = conference_at s connection
 conference_of s (Send connection bytes) = conference_at s connection

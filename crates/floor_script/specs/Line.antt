@@ -11,7 +11,7 @@ use Rattle.floor_acts.specs.declared.fault.ActFault.TheVariants as fault
 use Rattle.floor_machine.specs.declared.act.Act.{Act}
 use Rattle.floor_machine.specs.declared.act.Act.TheVariants.{Revoke, Close, AddUser, AddFloor, SetChair}
 use Rattle.floor_script.specs.declared.line.Command.{Command}
-use Rattle.floor_script.specs.declared.line.Command.TheVariants.{Attach, Piece, Serve, Send, Leave, Slow, Fast, Admin}
+use Rattle.floor_script.specs.declared.line.Command.TheVariants.{Attach, Piece, Serve, Send, Leave, Slow, Fast, Admin, Say}
 use Rattle.floor_script.specs.declared.line.LineFault.{LineFault}
 use Rattle.floor_script.specs.declared.line.LineFault.TheVariants.{UnknownCommand, BadNumber, BadHex, Memory}
 
@@ -46,6 +46,11 @@ abbrev pub of_parts : {A B : Type 0} → (A → B → Command) → Result A Line
 of_parts make (Ok part) other = of_part (make part) other
 of_parts make (Err fault) other = Err fault
 
+-- what three parts of a line make: the fault of the first counts
+abbrev pub of_three_parts : {A B C : Type 0} → (A → B → C → Command) → Result A LineFault → Result B LineFault → Result C LineFault → Result Command LineFault
+of_three_parts make (Ok part) other last = of_parts (make part) other last
+of_three_parts make (Err fault) other last = Err fault
+
 -- `serve <connection>`, `leave <connection>`, `slow <connection>`, `fast <connection>`
 abbrev pub two_words : List ℕ → List ℕ → Result Command LineFault
 two_words name word =
@@ -61,17 +66,24 @@ three_words name conference user =
     if bytes_eq name (codes "attach") then of_parts Attach (number_of (2 ^ 32) conference) (number_of (2 ^ 16) user)
     else Err UnknownCommand
 
+-- `say <conference> <user> <hex ..>`, by the words behind the name
+abbrev pub say_words : List ℕ → List (List ℕ) → Result Command LineFault
+say_words conference [] = Err UnknownCommand
+say_words conference (_ ∷ []) = Err UnknownCommand
+say_words conference (user ∷ digits ∷ more) = of_three_parts Say (number_of (2 ^ 32) conference) (number_of (2 ^ 16) user) (bytes_of (digits ∷ more))
+
 -- the line of three words, where there are no more
 abbrev pub three_words_alone : List ℕ → List ℕ → List (List ℕ) → Result Command LineFault
 three_words_alone name conference [] = Err UnknownCommand
 three_words_alone name conference (user ∷ []) = three_words name conference user
 three_words_alone name conference (_ ∷ _ ∷ _) = Err UnknownCommand
 
--- `piece <connection> <hex ..>`, `send <connection> <hex ..>`, or a line of three words
+-- `piece <connection> <hex ..>`, `send <connection> <hex ..>`, `say ..`, or a line of three words
 abbrev pub three_words_or_more : List ℕ → List ℕ → List (List ℕ) → Result Command LineFault
 three_words_or_more name word rest =
     if bytes_eq name (codes "piece") then of_parts Piece (number_of (10 ^ 10) word) (bytes_of rest)
     else if bytes_eq name (codes "send") then of_parts Send (number_of (10 ^ 10) word) (bytes_of rest)
+    else if bytes_eq name (codes "say") then say_words word rest
     else three_words_alone name word rest
 
 -- what words ask for, of which the first is no act's name

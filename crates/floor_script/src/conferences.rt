@@ -5,7 +5,7 @@ ghost use Rattle.floor_hub.specs.Names.{is_memory};
 ghost use Rattle.floor_hub.specs.World.{turn};
 ghost use Rattle.floor_hub.specs.declared.step.Answer.TheVariants.{Done, Refused};
 ghost use Rattle.floor_hub.specs.declared.step.Step.TheVariants as step;
-ghost use Rattle.floor_script.specs.Answered.{answer_line, serve_all};
+ghost use Rattle.floor_script.specs.Answered.{answer_line, said_line, serve_all};
 ghost use Rattle.floor_script.specs.State.{most_at_once};
 ghost use Rattle.floor_script.specs.steps.Holding.{Acknowledges, AcknowledgesOne, Answers, IsOpened};
 
@@ -13,7 +13,7 @@ use crate::attached::{Attached, Pace};
 use crate::line::Command;
 use crate::script::MAX_TURNS;
 use crate::waiting::{Taken, take_all};
-use floor_hub::{Act, Answer, Config, Hub, HubRefusal, Served};
+use floor_hub::{Act, Answer, Config, Hub, HubRefusal, Said, Served};
 use std::alloc::{AllocError, Global};
 
 /// The conferences of a script. Between two lines nothing waits for a live connection that isn't slow,
@@ -69,9 +69,9 @@ impl Conferences {
         ensures value { (s : State) → Stands self.now s → result ≡ conference_of s command.now }
     {
         match command {
-            Command::Attach { conference, .. } | Command::Admin { conference, .. } => {
-                Some(*conference)
-            }
+            Command::Attach { conference, .. }
+            | Command::Admin { conference, .. }
+            | Command::Say { conference, .. } => Some(*conference),
             Command::Piece { connection, .. }
             | Command::Serve { connection }
             | Command::Send { connection, .. }
@@ -94,6 +94,11 @@ impl Conferences {
             Command::Slow { connection } => Ok(self.set_pace(connection, Pace::Slow)),
             Command::Fast { connection } => Ok(self.set_pace(connection, Pace::Fast)),
             Command::Admin { conference, act } => self.admin(conference, act),
+            Command::Say {
+                conference,
+                user,
+                message,
+            } => self.say(conference, user, message.as_slice()),
         }
     }
 
@@ -153,6 +158,13 @@ impl Conferences {
             (λ answer. Carries (commands.Admin conference act) answer self.old self.new) }
     {
         admin_in(&mut self.hub, conference, act)
+    }
+
+    fn say(&mut self, conference: u32, user: u16, message: &[u8]) -> Result<Answer, AllocError>
+        ensures took { IfOk result
+            (λ answer. Carries (commands.Say conference user message.now) answer self.old self.new) }
+    {
+        say_in(self.alloc, &mut self.hub, conference, user, message)
     }
 
     /// Says whether what a connection is sent waits. Refused by `NoConnection`.
@@ -258,7 +270,9 @@ fn serve_all(hub: &mut Hub, connection: u64) -> Result<Answer, AllocError>
         match serve_in(hub, connection)? {
             Answer::Served => {}
             Answer::Refused(refusal) => return Ok(Answer::Refused(refusal)),
-            Answer::Nothing | Answer::Done | Answer::Attached(_) => return Ok(Answer::Done),
+            Answer::Nothing | Answer::Done | Answer::Attached(_) | Answer::Said(_) => {
+                return Ok(Answer::Done);
+            }
         }
     }
     Ok(Answer::Done)
@@ -280,6 +294,22 @@ fn admin_in(hub: &mut Hub, conference: u32, act: Act) -> Result<Answer, AllocErr
 {
     match hub.admin(conference, act) {
         Ok(()) => Ok(Answer::Done),
+        Err(refusal) => refused(refusal),
+    }
+}
+
+fn say_in(
+    alloc: Global,
+    hub: &mut Hub,
+    conference: u32,
+    user: u16,
+    message: &[u8],
+) -> Result<Answer, AllocError>
+    ensures took { IfOk result (λ answer.
+        Answers (λ w. turn w (step.Say conference user message.now)) answer hub.old hub.new) }
+{
+    match hub.say(alloc, conference, user, message) {
+        Ok(said) => Ok(Answer::Said(said)),
         Err(refusal) => refused(refusal),
     }
 }
@@ -326,6 +356,21 @@ fn answer_line(alloc: Global, answer: Answer) -> Result<String, AllocError>
             let name = refusal.name();
             format!(in alloc; "refused {name}\n")
         }
+        Answer::Said(said) => said_line(alloc, &said),
         Answer::Done | Answer::Served => Ok(String::new(alloc)),
+    }
+}
+
+/// The line of a message that was said, where something answers it.
+fn said_line(alloc: Global, said: &Said) -> Result<String, AllocError>
+    ensures { IfOk result (λ text. string_bytes text ≡ said_line said.now.reply) }
+{
+    match &said.reply {
+        Some(reply) => {
+            let header = hex::encode(alloc, reply.header())?;
+            let payload = hex::encode(alloc, reply.payload())?;
+            format!(in alloc; "said {header}{payload}\n")
+        }
+        None => Ok(String::new(alloc)),
     }
 }

@@ -1,7 +1,7 @@
 //! One line of a script.
 
 ghost use Rattle.std.specs.Prelude.{◌≡◌, ◌^◌, map};
-ghost use Rattle.floor_script.specs.Line.{bytes_of, command_of, number_of, of_act, of_words, three_words_or_more, two_words, without_port, Reads};
+ghost use Rattle.floor_script.specs.Line.{bytes_of, command_of, number_of, of_act, of_words, say_words, three_words_alone, three_words_or_more, two_words, without_port, Reads};
 
 use floor_acts::{ActFault, ActLine, read_act};
 use floor_hub::{Act, Octets};
@@ -12,21 +12,47 @@ use std::alloc::{AllocError, Global};
 #[derive(Debug, Drop)]
 pub enum Command {
     /// A connection of a user joins a conference.
-    Attach { conference: u32, user: u16 },
+    Attach {
+        conference: u32,
+        user: u16,
+    },
     /// Bytes come in on a connection.
-    Piece { connection: u64, bytes: Octets },
+    Piece {
+        connection: u64,
+        bytes: Octets,
+    },
     /// The next message of a connection is served.
-    Serve { connection: u64 },
+    Serve {
+        connection: u64,
+    },
     /// Bytes come in on a connection, and the messages that are whole are served.
-    Send { connection: u64, bytes: Octets },
+    Send {
+        connection: u64,
+        bytes: Octets,
+    },
     /// A connection leaves its conference.
-    Leave { connection: u64 },
+    Leave {
+        connection: u64,
+    },
     /// From now on what a connection is sent waits.
-    Slow { connection: u64 },
+    Slow {
+        connection: u64,
+    },
     /// From now on it is taken again behind each line.
-    Fast { connection: u64 },
+    Fast {
+        connection: u64,
+    },
     /// The administrator acts upon a conference. A user that is added has no port.
-    Admin { conference: u32, act: Act },
+    Admin {
+        conference: u32,
+        act: Act,
+    },
+    /// The administrator says a message for a user of a conference.
+    Say {
+        conference: u32,
+        user: u16,
+        message: Octets,
+    },
 }
 
 /// Why a line is bad: the first that applies.
@@ -187,13 +213,43 @@ fn of_three_or_more(
         let bytes = bytes_of(alloc, rest)?;
         return Ok(Command::Send { connection, bytes });
     }
+    if name == "say" {
+        return of_say(alloc, word, rest);
+    }
+    of_three(name, word, rest)
+}
+
+/// The line of three words, where there are no more.
+fn of_three(name: &str, conference: &str, rest: &[&str]) -> Result<Command, LineFault>
+    ensures { Reads (three_words_alone name.now conference.now (map (λ w. w.now) rest.now))
+        result }
+{
     match rest {
         [user] if name == "attach" => {
-            let conference = conference_of(word)?;
+            let conference = conference_of(conference)?;
             let user = user_of(user)?;
             Ok(Command::Attach { conference, user })
         }
         _ => Err(LineFault::UnknownCommand),
+    }
+}
+
+/// A message that is said, by the words behind the name.
+fn of_say(alloc: Global, conference: &str, rest: &[&str]) -> Result<Command, LineFault>
+    ensures { Reads (say_words conference.now (map (λ w. w.now) rest.now)) result }
+{
+    match rest {
+        [] | [_] => Err(LineFault::UnknownCommand),
+        [user, hex @ ..] => {
+            let conference = conference_of(conference)?;
+            let user = user_of(user)?;
+            let message = bytes_of(alloc, hex)?;
+            Ok(Command::Say {
+                conference,
+                user,
+                message,
+            })
+        }
     }
 }
 

@@ -2,7 +2,7 @@
 
 ghost use Rattle.std.specs.Prelude.{◌≡◌, ◌++◌, ◌∷◌, [], IfOk, OnOk, option_to_list, string_bytes};
 ghost use Rattle.floor_script.specs.Printed.{fast_of, sent_line};
-ghost use Rattle.floor_script.specs.steps.Taking.{EmptiesAll, EmptiesLive, TakenAll, TakenOne};
+ghost use Rattle.floor_script.specs.steps.Taking.{EmptiesAll, EmptiesLive, TakesAll, TakenOne};
 
 use crate::attached::{Live, Pace};
 use crate::script::MAX_TURNS;
@@ -87,7 +87,7 @@ fn take_parcels(
     connection: u64,
     text: &mut String,
 ) -> Result<u32, AllocError>
-    ensures took { IfOk result (λ count. TakenAll connection count hub.old hub.new
+    ensures took { IfOk result (λ count. TakesAll connection count hub.old hub.new
         (string_bytes text.old) (string_bytes text.new)) }
 {
     for taken in 0..MAX_TURNS {

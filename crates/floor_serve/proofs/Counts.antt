@@ -4,7 +4,7 @@ use Rattle.std.specs.Prelude.{◌==◌, nat_eq, nat_lt, if◌then◌else◌, sli
 use Rattle.std.specs.Option.{option_map_or}
 use Rattle.std.proofs.lemmas.Bool.Decides.{nat_tests}
 use Rattle.floor_machine.specs.declared.event.Event.{Event}
-use Rattle.floor_machine.specs.declared.event.Event.TheVariants.{Join, Message, Took, Leave, Revoke, Close, AddUser, AddFloor, SetChair}
+use Rattle.floor_machine.specs.declared.event.Event.TheVariants.{Join, Message, Took, Leave, Revoke, Close, AddUser, AddFloor, SetChair, Say}
 use Rattle.floor_serve.specs.Fits.{messages_of, sent_at, sent_from}
 use Rattle.floor_serve.specs.Seat.{Seat}
 use Rattle.floor_serve.specs.declared.seat.Sent.{Sent}
@@ -119,6 +119,7 @@ below-more (e ∷ es) b n place h = by e (below-more es b n (place + 1) h)
     by (AddUser user) r = none (messages_below b es) (messages_below (n + 1) es) (length (sent_from (place + 1) es n)) r
     by (AddFloor floor) r = none (messages_below b es) (messages_below (n + 1) es) (length (sent_from (place + 1) es n)) r
     by (SetChair floor chair) r = none (messages_below b es) (messages_below (n + 1) es) (length (sent_from (place + 1) es n)) r
+    by (Say user bytes) r = none (messages_below b es) (messages_below (n + 1) es) (length (sent_from (place + 1) es n)) r
 
 below-all : (es : List Event) (b : ℕ) → messages_below b es ≤ messages_in es
 below-all [] b = omega arith
@@ -144,6 +145,7 @@ below-all (e ∷ es) b = by e (below-all es b)
     by (AddUser user) r = none (messages_below b es) (messages_in es) r
     by (AddFloor floor) r = none (messages_below b es) (messages_in es) r
     by (SetChair floor chair) r = none (messages_below b es) (messages_in es) r
+    by (Say user bytes) r = none (messages_below b es) (messages_in es) r
 
 messages-few : (es : List Event) → messages_in es ≤ length es
 messages-few [] = omega arith
@@ -165,6 +167,7 @@ messages-few (e ∷ es) = by e (messages-few es)
     by (AddUser user) r = less (messages_in es) (length es) r
     by (AddFloor floor) r = less (messages_in es) (length es) r
     by (SetChair floor chair) r = less (messages_in es) (length es) r
+    by (Say user bytes) r = less (messages_in es) (length es) r
 
 pub counted-none : (es : List Event) (seats : List Seat) → IsCounted es seats 0 0 0
 counted-none es seats = record { few = omega arith; fit = λ e k l. absurd (omega arith) }

@@ -2,8 +2,9 @@
 //! until it has left.
 
 ghost use Rattle.std.specs.Prelude.{◌≡◌, ◌↔◌, ◌+◌, ◌-◌, ◌++◌, ◌⊎◌, [], None, IfErr, IfOk, IsSomeAnd, IsTrue, OnOk, OnErr, Err, length, slice_set};
-ghost use Rattle.floor_machine.specs.declared.event.Event.TheVariants.{Join, Leave, Message, Took};
+ghost use Rattle.floor_machine.specs.declared.event.Event.TheVariants.{Join, Leave, Message, Say, Took};
 ghost use Rattle.floor_machine.specs.Machine.{event_of_act};
+ghost use Rattle.floor_machine.specs.Reply.{said_reply};
 ghost use Rattle.floor_room.specs.declared.refusal.RoomRefusal.TheVariants.{Refused};
 ghost use Rattle.floor_machine.specs.declared.machine.Refusal.TheVariants.{Memory};
 ghost use Rattle.floor_room.specs.Ledger.{Added, IsRefusedBy, Unadded, broken_off, conference_of, refusal};
@@ -18,7 +19,8 @@ use crate::senders::{close, close_all, deliver};
 use crate::wakers::Wakers;
 use floor_outbox::{Outbox, Parcel, Sender, Taker, pair, rejoin};
 use floor_room::{
-    Act, Config, Event, Frame, Ledger, Phase, Place, Refusal, RoomRefusal, SharedInfo, Status,
+    Act, Called, Config, Event, Frame, Ledger, Phase, Place, Refusal, RoomRefusal, Said,
+    SharedFrame, SharedInfo, Status,
 };
 use std::alloc::{AllocError, Global};
 use std::marker::Model;
@@ -27,8 +29,8 @@ use std::sync::Wait;
 /// One conference with its journal, and a place for each member that ever joined, with its sender
 /// until it has left.
 ///
-/// Changes: `join`, `submit`, `took` and `leave` of a member, `admin` of the administrator, and `reclaim` or
-/// `release` of what is left of a member.
+/// Changes: `join`, `submit`, `took` and `leave` of a member, `admin` and `say` of the administrator, and
+/// `reclaim` or `release` of what is left of a member.
 /// What they put wakes nobody yet: after each of them, also after a refusal, `wakers` gives whom to
 /// wake, once a lock that is held is given back. Readers: `journal`, `status`, `fits`.
 #[derive(Drop)]
@@ -291,6 +293,56 @@ impl Booth {
         Ok(())
     }
 
+    /// Takes a message that the administrator says for a user, and gives its place in the journal and
+    /// what answers it, which no member is told. Refused are, in this order, `Broken`, `Ended`,
+    /// `JournalFull` and `NoUser`, and nothing has changed; after a `Memory` the conference is broken off,
+    /// with the message in its journal or without it.
+    pub fn say<R: Wait>(&mut self, rt: &R, user: u16, frame: Frame) -> Result<Said, RoomRefusal>
+        ensures place { IfOk result (λ said. said.place ≡ length self.new.ledger.journal) }
+        ensures reply { IfOk result (λ said. said.reply
+            ≡ said_reply (conference_of self.old.ledger) (Say user frame)) }
+        ensures took { OnOk result (Applied self.old self.new (Say user frame) []) }
+        ensures refused { IsRefusedBy (refusal self.old.ledger (Say user frame)) result }
+        ensures left { IfErr result (Left self.old self.new (Say user frame)) }
+    {
+        let reply = self.add_said(rt, user, frame)?;
+        self.close_cut();
+        let place = self.journal().len() as u32;
+        Ok(Said { place, reply })
+    }
+
+    /// Adds a message that is said for a user, where nothing refuses it, puts what it tells, and gives
+    /// what answers it.
+    fn add_said<R: Wait>(
+        &mut self,
+        rt: &R,
+        user: u16,
+        frame: Frame,
+    ) -> Result<Option<SharedFrame>, RoomRefusal>
+        ensures reply { IfOk result (λ reply. reply
+            ≡ said_reply (conference_of self.old.ledger) (Say user frame)) }
+        ensures took { OnOk result (Applied self.old self.new (Say user frame) []) }
+        ensures refused { IsRefusedBy (refusal self.old.ledger (Say user frame)) result }
+        ensures left { IfErr result (Left self.old self.new (Say user frame)) }
+    {
+        let called = say(
+            &mut self.ledger,
+            &self.senders,
+            &mut self.changed,
+            user,
+            frame,
+        )?;
+        let Called { parcels, reply } = called;
+        feed(
+            rt,
+            &mut self.ledger,
+            &mut self.senders,
+            parcels,
+            &mut self.wakers,
+        )?;
+        Ok(reply)
+    }
+
     /// Both ends of the outbox of a member that isn't live any more, or of any where the conference
     /// has ended or is broken off.
     pub fn reclaim<R: Wait>(&mut self, rt: &R, n: u32, taker: Taker) -> Outbox
@@ -362,6 +414,30 @@ fn add(
         Ok(_) | Err(_) => {}
     }
     added
+}
+
+/// Adds a message that is said for a user to the ledger, where nothing refuses it, and gives what it
+/// calls for. Where it is broken off, every closed mark is set.
+fn say(
+    ledger: &mut Ledger,
+    senders: &[Option<Sender>],
+    changed: &mut Vec<SharedInfo>,
+    user: u16,
+    frame: Frame,
+) -> Result<Called, RoomRefusal>
+    ensures took { IfOk result (λ called.
+        Added ledger.old ledger.new (Say user frame) called.parcels.items) }
+    ensures reply { IfOk result (λ called. called.reply
+        ≡ said_reply (conference_of ledger.old) (Say user frame)) }
+    ensures refused { IsRefusedBy (refusal ledger.old (Say user frame)) result }
+    ensures left { IfErr result (Unadded ledger.old ledger.new) }
+{
+    let said = ledger.say(user, frame, changed);
+    match &said {
+        Err(RoomRefusal::Refused(Refusal::Memory)) => close_all(senders),
+        Ok(_) | Err(_) => {}
+    }
+    said
 }
 
 /// Puts what an event tells, and adds whom to wake. Where memory is refused, the ledger is broken

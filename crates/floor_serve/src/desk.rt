@@ -12,7 +12,7 @@ use crate::booth::Booth;
 use crate::gate::Gate;
 use crate::member_taker::MemberTaker;
 use crate::seat::{Receipt, Seat};
-use floor_room::{Act, Frame, RoomRefusal, Status, add_end, add_lines};
+use floor_room::{Act, Frame, RoomRefusal, Said, Status, add_end, add_lines};
 use std::alloc::{AllocError, Global};
 use std::marker::Model;
 use std::sync::{Arc, Mutex, Wait};
@@ -23,7 +23,7 @@ const NOBODY: u32 = 0;
 /// One conference as threads share it. Each call but `journal_text` is one hold of the conference's
 /// lock, and wakes whom it told something once the lock is given back. Contracts see its number.
 ///
-/// Changes: `join`, `submit` and `leave` of a member, `admin` of the administrator. Readers:
+/// Changes: `join`, `submit` and `leave` of a member, `admin` and `say` of the administrator. Readers:
 /// `conference`, `status`, `journal_text`. What the calls do to the conference stands in the
 /// contracts of [`Booth`].
 #[derive(Drop)]
@@ -141,6 +141,12 @@ impl Desk {
     /// `Broken`, `Ended`, `JournalFull`, then what the act itself is refused by.
     pub fn admin<R: Wait>(&self, rt: &R, act: Act) -> Result<(), RoomRefusal> {
         self.hold(rt, NOBODY, |booth| booth.admin(rt, act))
+    }
+
+    /// Says a message for a user, and gives its place in the journal and what answers it. Refused as
+    /// [`Booth::say`]: `Broken`, `Ended`, `JournalFull`, `NoUser`.
+    pub fn say<R: Wait>(&self, rt: &R, user: u16, frame: Frame) -> Result<Said, RoomRefusal> {
+        self.hold(rt, NOBODY, |booth| booth.say(rt, user, frame))
     }
 
     /// Does this with the conference, in one hold of its lock. Whom it told something is woken once the

@@ -31,7 +31,8 @@ pub use end::finish::{Report, finish};
 pub use fault::{DeskRefusal, FinishFault, OpenRefusal, ReadFault, WriteFault};
 pub use floor_outbox::{ClosedMark, Outbox, Parcel, Sender, Taken, Taker};
 pub use floor_room::{
-    Act, AddedUser, Config, Event, Floor, Frame, Phase, Place, Refusal, RoomRefusal, Status, User,
+    Act, AddedUser, Config, Event, Floor, Frame, Phase, Place, Refusal, RoomRefusal, Said, Status,
+    User,
 };
 pub use floor_wire::Octets;
 pub use gate::{FreePass, Gate};

@@ -19,6 +19,7 @@ mod many;
 mod numbers;
 mod outboxes;
 mod registries;
+mod saying;
 mod threads;
 mod waking;
 mod writers;

@@ -35,7 +35,7 @@ pub struct Standing {
     pub last: Option<u16>,
     /// How many milliseconds ago it ended, or else took a request.
     pub ago: u64,
-    /// T2, in milliseconds.
+    /// How long an answer is kept, in milliseconds.
     pub t2: u32,
 }
 

@@ -9,8 +9,8 @@ use crate::lines::refused;
 use crate::task::{List, Step, Task, Then, Went};
 use floor_console::{BoardRefusal, Command};
 use floor_control::{
-    ConfigFault, ControlRefusal, Done, Line, Octets, Opening, Text, User, add_draining, add_end,
-    add_stopped, add_unwatched, add_word, add_word_kept,
+    ConfigFault, ControlRefusal, Done, Floor, Line, Octets, Opening, Text, User, add_draining,
+    add_end, add_stopped, add_unwatched, add_word, add_word_kept,
 };
 use floor_loop::Act;
 use floor_poll::{Asked, Asker, Question, ended, no_counts};
@@ -40,8 +40,7 @@ where
     pub fn begin(&mut self, number: u64, mut task: Task, line: Line) -> Result<Went, AllocError> {
         let begun = match line {
             Line::Command(Command::Empty) => return Ok(Went::Over),
-            Line::Command(command) => self.begin_command(number, &mut task, command),
-            line => self.begin_own(number, &mut task, line),
+            line => self.begin_asked(number, &mut task, line),
         };
         self.take_told(number);
         match begun {
@@ -66,82 +65,16 @@ where
         }
     }
 
-    /// Begins what the console asks for as well.
-    fn begin_command(
-        &mut self,
-        number: u64,
-        task: &mut Task,
-        command: Command,
-    ) -> Result<Step, ControlRefusal> {
-        match command {
-            Command::Empty => Ok(Step::End),
-            Command::Open { path } => self.read_file(number, path),
-            Command::AddUser { conference, user } => self.add_user(number, conference, user),
-            Command::Status { conference } => self.stand(number, conference, Then::Status),
-            Command::Journal { conference } => {
-                self.stand(number, conference, Then::Journal { from: None })
-            }
-            Command::Stop => self.stop_for(number, task),
-            act => self.begin_act(number, act),
-        }
-    }
-
-    /// Begins what is done to a conference alone.
-    fn begin_act(&mut self, number: u64, command: Command) -> Result<Step, ControlRefusal> {
-        match command {
-            Command::Close { conference } => self.act(number, conference, Act::Close, Done::Closed),
-            Command::Revoke {
-                conference,
-                request,
-            } => self.act(
-                number,
-                conference,
-                Act::Revoke(request),
-                Done::Revoked(request),
-            ),
-            Command::AddFloor { conference, floor } => {
-                let done = Done::FloorAdded(floor.id);
-                self.act(number, conference, Act::AddFloor(floor), done)
-            }
-            Command::SetChair {
-                conference,
-                floor,
-                chair,
-            } => {
-                let done = Done::ChairSet(floor);
-                self.act(number, conference, Act::SetChair(floor, chair), done)
-            }
-            _ => Ok(Step::End),
-        }
-    }
-
-    /// Begins what is asked at the socket alone.
-    fn begin_own(
+    /// Begins what a line asks for that isn't empty.
+    fn begin_asked(
         &mut self,
         number: u64,
         task: &mut Task,
         line: Line,
     ) -> Result<Step, ControlRefusal> {
         match line {
+            Line::Command(command) => self.begin_command(number, task, command),
             Line::OpenHere => Ok(Step::Gather(Opening::new(self.alloc))),
-            Line::Leave { conference, n } => self.leave(number, conference, n),
-            Line::Forget { conference } => self.stand(number, conference, Then::Forget),
-            Line::Watch { conference, from } => self.watch(number, conference, from),
-            Line::Unwatch { conference } => self.unwatch_for(number, task, conference),
-            Line::Word {
-                conference,
-                key,
-                value,
-            } => self.keep_word(number, task, conference, key, value),
-            Line::Words { conference } => self.tell_words(task, conference),
-            Line::Drain => self.drain(task),
-            reader => self.begin_reader(number, reader),
-        }
-    }
-
-    /// Begins what is asked of the loops and changes nothing.
-    fn begin_reader(&mut self, number: u64, line: Line) -> Result<Step, ControlRefusal> {
-        match line {
             Line::List => self.list(),
             Line::Users { conference } => {
                 self.question(number, conference, Question::Users { conference })
@@ -152,14 +85,51 @@ where
             Line::Floors { conference } => {
                 self.question(number, conference, Question::Floors { conference })
             }
+            Line::Leave { conference, n } => self.leave(number, conference, n),
+            Line::Forget { conference } => self.stand(number, conference, Then::Forget),
             Line::Journal { conference, from } => {
                 self.stand(number, conference, Then::Journal { from })
             }
-            Line::Metrics => Ok(Step::Count {
-                place: 0,
-                counts: no_counts(),
-            }),
-            _ => Ok(Step::End),
+            Line::Watch { conference, from } => self.watch(number, conference, from),
+            Line::Unwatch { conference } => self.unwatch_for(number, task, conference),
+            Line::Word {
+                conference,
+                key,
+                value,
+            } => self.keep_word(number, task, conference, key, value),
+            Line::Words { conference } => self.tell_words(task, conference),
+            Line::Metrics => Ok(count_all()),
+            Line::Drain => self.drain(task),
+        }
+    }
+
+    /// Begins what the console asks for as well.
+    fn begin_command(
+        &mut self,
+        number: u64,
+        task: &mut Task,
+        command: Command,
+    ) -> Result<Step, ControlRefusal> {
+        match command {
+            Command::Empty => Ok(Step::End),
+            Command::Open { path } => self.read_file(number, path),
+            Command::Close { conference } => self.act(number, conference, Act::Close, Done::Closed),
+            Command::Revoke {
+                conference,
+                request,
+            } => self.revoke(number, conference, request),
+            Command::AddUser { conference, user } => self.add_user(number, conference, user),
+            Command::AddFloor { conference, floor } => self.add_floor(number, conference, floor),
+            Command::SetChair {
+                conference,
+                floor,
+                chair,
+            } => self.set_chair(number, conference, floor, chair),
+            Command::Status { conference } => self.stand(number, conference, Then::Status),
+            Command::Journal { conference } => {
+                self.stand(number, conference, Then::Journal { from: None })
+            }
+            Command::Stop => self.stop_for(number, task),
         }
     }
 
@@ -211,6 +181,37 @@ where
     ) -> Result<Step, ControlRefusal> {
         self.ask(number, conference, Asked::Admin { conference, act })?;
         Ok(Step::Acting { conference, done })
+    }
+
+    fn revoke(
+        &mut self,
+        number: u64,
+        conference: u32,
+        request: u16,
+    ) -> Result<Step, ControlRefusal> {
+        let act = Act::Revoke(request);
+        self.act(number, conference, act, Done::Revoked(request))
+    }
+
+    fn add_floor(
+        &mut self,
+        number: u64,
+        conference: u32,
+        floor: Floor,
+    ) -> Result<Step, ControlRefusal> {
+        let done = Done::FloorAdded(floor.id);
+        self.act(number, conference, Act::AddFloor(floor), done)
+    }
+
+    fn set_chair(
+        &mut self,
+        number: u64,
+        conference: u32,
+        floor: u16,
+        chair: Option<u16>,
+    ) -> Result<Step, ControlRefusal> {
+        let act = Act::SetChair(floor, chair);
+        self.act(number, conference, act, Done::ChairSet(floor))
     }
 
     fn add_user(
@@ -375,6 +376,14 @@ where
         let outcome = self.stop(number);
         add_stopped(&mut task.text, outcome)?;
         Ok(Step::End)
+    }
+}
+
+/// The server's counts are asked of one loop behind another.
+fn count_all() -> Step {
+    Step::Count {
+        place: 0,
+        counts: no_counts(),
     }
 }
 

@@ -90,7 +90,17 @@ where
             Ok(Command::AddUser { conference, user }) => {
                 Prepared::User(self.listen_for(*conference, user))
             }
-            _ => Prepared::Nothing,
+            Ok(
+                Command::Empty
+                | Command::Close { .. }
+                | Command::Revoke { .. }
+                | Command::AddFloor { .. }
+                | Command::SetChair { .. }
+                | Command::Status { .. }
+                | Command::Journal { .. }
+                | Command::Stop,
+            )
+            | Err(_) => Prepared::Nothing,
         };
     }
 

@@ -209,7 +209,7 @@ fn due_of(session: &Session) -> Option<u64> {
     Some(due.map_or(forgotten, |due| due.min(forgotten)))
 }
 
-/// When a session that has ended is forgotten: T2 behind its end.
+/// When a session that has ended is forgotten: so long behind its end as an answer is kept.
 fn forgotten_at(session: &Session) -> u64 {
     session.ended().saturating_add(u64::from(session.t2()))
 }

@@ -93,7 +93,11 @@ impl Rerun {
             Event::AddUser { user } => self.user = Some(user.as_user().id),
             Event::AddFloor { floor } => self.floors.push(*floor)?,
             Event::SetChair { floor, chair } => self.put_chair(*floor, *chair),
-            _ => {}
+            Event::Message { .. }
+            | Event::Leave { .. }
+            | Event::Revoke { .. }
+            | Event::Close
+            | Event::Say { .. } => {}
         }
         Ok(())
     }

@@ -49,10 +49,12 @@ Lines of the script:
   floor <conference> <id> [room <room>] [chair <user>]
                                                the administrator adds a floor
   chair <conference> <floor> [<user>]          the administrator gives the floor this chair, or none
+  say <conference> <user> <hex ..>             the administrator says a message for the user
 
 What is printed:
   attached <connection>                        the number of a connection that joined
   <connection> <hex>                           a message that the connection is sent
+  said <hex>                                   what answers a message that is said for a user
   nothing                                      there is no whole message to serve
   refused <name>                               the line is refused, and the script goes on
   error <line> <name>                          the line is bad, or line 0: the configuration

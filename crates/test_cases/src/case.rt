@@ -150,13 +150,15 @@ fn push_script(alloc: Global, script: &mut String, line: &str) -> Result<(), Fau
 }
 
 /// Appends a printed line, or what goes on with the one above. Bytes, which stand behind a
-/// connection's number, are joined.
+/// connection's number or `said`, are joined.
 fn push_printed(printed: &mut String, line: &str) -> Result<(), Fault> {
     let goes_on = line.starts_with(' ');
     if goes_on {
         let _line_feed = printed.pop();
     }
-    let is_parcel = goes_on || line.starts_with(|c: char| c.is_ascii_digit());
+    let is_parcel = goes_on
+        || line.starts_with("said ")
+        || line.starts_with(|c: char| c.is_ascii_digit());
     for (place, word) in line.split(' ').enumerate() {
         if (place == 1 && !goes_on) || (1 < place && !is_parcel) {
             printed.push(' ')?;

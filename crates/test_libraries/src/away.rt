@@ -2,7 +2,7 @@
 
 use crate::cases::{assert_told, differing};
 use crate::hexadecimal::bytes;
-use crate::loops::{answer, push_number};
+use crate::loops::{SAID, answer, push_number};
 use floor_config::Config;
 use floor_loop::{Act, ConnNo, Event, Grace, HubRefusal, Loop, ResumeRefusal};
 use floor_words::read_u32;
@@ -261,6 +261,26 @@ fn cut(alloc: Global) -> Result<String, AllocError> {
     Ok(text)
 }
 
+/// A journal in which messages were said for a user: the conference goes on with what they changed.
+fn said(alloc: Global) -> Result<String, AllocError> {
+    let mut before = Loop::new(alloc);
+    for line in SAID.lines() {
+        let (call, _answered) = line.split_once(" > ").unwrap_or((line, ""));
+        let _answer = answer(alloc, &mut before, call)?;
+    }
+    let events = before.journal(1).unwrap_or(&[]);
+    let mut served = graced(alloc);
+    let mut text = resume(alloc, &mut served, events)?;
+    let members = served.status(1).map_or(0, |status| status.members);
+    write!(
+        text,
+        ", {members} member, {} request, {} events",
+        requests(&served),
+        events.len()
+    )?;
+    Ok(text)
+}
+
 /// Events that are no journal: what was opened ends, nobody is left, and its number is used.
 fn refused(alloc: Global) -> Result<String, AllocError> {
     let before = full(alloc)?;
@@ -324,6 +344,15 @@ fn a_full_conference_is_resumed(rt: HostRuntime) {
 #[test]
 fn who_was_cut_leaves_when_resumed(rt: HostRuntime) {
     assert_told(&rt, cut(rt.alloc()), "resumed, 1 member, away 5");
+}
+
+#[test]
+fn what_was_said_for_a_user_is_said_again_when_resumed(rt: HostRuntime) {
+    assert_told(
+        &rt,
+        said(rt.alloc()),
+        "resumed, 1 member, 1 request, 6 events",
+    );
 }
 
 #[test]

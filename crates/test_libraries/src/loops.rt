@@ -85,6 +85,69 @@ const EACH_CALL: &str = "\
 10008 ready > none
 10008 next_due > none";
 
+/// What is said for user 10, who has no connection: its place in the journal, and how many bytes its answer
+/// has. User 11 is told what it changes.
+pub(crate) const SAID: &str = "\
+0 say 10 20010001000000010001000a04040001 > NoConference
+0 open > ok
+0 say 99 20 > NoUser
+0 say 10 20 > BadMessage
+0 say 10 20010001000000010001000a04040001 > 1 40
+1 attach 11 > ok 1
+1 ready > 1
+1 ready > none
+1 read 1 20010001000000010001000b04040001 > ok false
+1 ready > 1
+1 writing 1 > 40
+1 wrote 1 40 > ok
+1 status > 1 members 4 events
+2 say 10 20020001000000010002000a06040001 > 5 40
+2 ready > 1
+2 ready > none
+2 writing 1 > 40
+2 say 10 200b0000000000010003000a > 6 16
+2 ready > none
+2 status > 1 members 6 events";
+
+/// What is told is handed out once its event is kept: `keep` says how many are, never fewer than before and never more
+/// than there are.
+const KEPT: &str = "\
+0 begin_keeping > NoConference
+0 keep 1 > NoConference
+0 end_keeping > NoConference
+0 is_kept > NoConference
+0 open > ok
+0 attach 10 > ok 1
+0 ready > 1
+0 is_kept > true
+0 begin_keeping > ok
+1 read 1 20010001000000010001000a04040001 > ok false
+1 is_kept > false
+1 ready > 1
+1 ready > none
+1 writing 1 > 0
+1 keep 1 > ok
+1 is_kept > false
+1 ready > none
+1 keep 2 > ok
+1 is_kept > true
+1 ready > 1
+1 writing 1 > 40
+1 wrote 1 40 > ok
+1 is_kept > true
+1 keep 1 > ok
+1 is_kept > true
+2 read 1 200b0000000000010002000a > ok false
+2 is_kept > false
+2 keep 9 > ok
+2 is_kept > true
+2 read 1 200b0000000000010003000a > ok false
+2 is_kept > false
+2 end_keeping > ok
+2 is_kept > true
+2 read 1 200b0000000000010004000a > ok false
+2 is_kept > true";
+
 /// What a call answers that gives nothing.
 pub(crate) fn push_done(text: &mut String, done: Result<(), HubRefusal>) -> Result<(), AllocError> {
     match done {
@@ -115,6 +178,26 @@ fn attach(
 ) -> Result<(), AllocError> {
     match served.attach(alloc, 1, user, now) {
         Ok(number) => write!(text, "ok {number}"),
+        Err(refusal) => text.push_str(refusal.name()),
+    }
+}
+
+fn say(
+    alloc: Global,
+    served: &mut Loop,
+    user: u16,
+    message: &[u8],
+    now: u64,
+    text: &mut String,
+) -> Result<(), AllocError> {
+    match served.say(alloc, 1, user, message, now) {
+        Ok(said) => {
+            let len = match said.reply {
+                Some(reply) => reply.len(),
+                None => 0,
+            };
+            write!(text, "{} {len}", said.place)
+        }
         Err(refusal) => text.push_str(refusal.name()),
     }
 }
@@ -160,9 +243,20 @@ pub(crate) fn answer(alloc: Global, served: &mut Loop, line: &str) -> Result<Str
         "ready" => push_number(&mut text, served.ready())?,
         "due" => push_number(&mut text, served.due(now))?,
         "next_due" => push_number(&mut text, served.next_due())?,
+        "is_kept" => is_kept(served, &mut text)?,
+        "begin_keeping" => push_done(&mut text, served.begin_keeping(1))?,
+        "keep" => push_done(&mut text, served.keep(1, read_u32(rest).unwrap_or(0)))?,
+        "end_keeping" => push_done(&mut text, served.end_keeping(1))?,
         _ => on(alloc, served, word, rest, now, &mut text)?,
     }
     Ok(text)
+}
+
+fn is_kept(served: &Loop, text: &mut String) -> Result<(), AllocError> {
+    match served.is_kept(1) {
+        Ok(kept) => write!(text, "{kept}"),
+        Err(refusal) => text.push_str(refusal.name()),
+    }
 }
 
 /// What a line answers that is for one connection.
@@ -178,6 +272,14 @@ fn on(
     let number = u64::from(read_u32(first).unwrap_or(0));
     match word {
         "read" => read(served, number, &bytes(alloc, last)?, now, text),
+        "say" => say(
+            alloc,
+            served,
+            read_u16(first).unwrap_or(0),
+            &bytes(alloc, last)?,
+            now,
+            text,
+        ),
         "writing" => write!(text, "{}", served.writing(number).len()),
         "wrote" => {
             wrote(
@@ -296,6 +398,16 @@ fn cut(alloc: Global) -> Result<String, AllocError> {
 #[test]
 fn each_call_answers_as_its_line_says(rt: HostRuntime) {
     assert_told(&rt, run(rt.alloc(), EACH_CALL), "61 cases");
+}
+
+#[test]
+fn what_is_said_for_a_user_is_answered_to_who_says_it(rt: HostRuntime) {
+    assert_told(&rt, run(rt.alloc(), SAID), "20 cases");
+}
+
+#[test]
+fn what_is_told_is_handed_out_once_it_is_kept(rt: HostRuntime) {
+    assert_told(&rt, run(rt.alloc(), KEPT), "35 cases");
 }
 
 #[test]

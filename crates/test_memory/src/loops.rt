@@ -123,6 +123,14 @@ fn carry_out(
             Ok(act) => serving.admin(*conference, act, 0),
             Err(_) => Err(HubRefusal::Memory),
         },
+        Command::Say {
+            conference,
+            user,
+            message,
+        } => match serving.say(alloc, *conference, *user, message.as_slice(), 0) {
+            Ok(_said) => Ok(()),
+            Err(refusal) => Err(refusal),
+        },
         _ => Ok(()),
     }
 }

@@ -59,6 +59,7 @@ leave 3
 attach % 12
 send 4 20010002 0000000% 0001 000c 04040002 08048000
 leave 1
+say % 12 20010002 0000000% 0002 000c 04040001 08046000
 close %
 ";
 
@@ -179,6 +180,14 @@ impl Meeting {
             Command::Admin { conference, act } => match act.copy(alloc) {
                 Ok(act) => hub.admin(*conference, act),
                 Err(_) => Err(HubRefusal::Memory),
+            },
+            Command::Say {
+                conference,
+                user,
+                message,
+            } => match hub.say(alloc, *conference, *user, message.as_slice()) {
+                Ok(_said) => Ok(()),
+                Err(refusal) => Err(refusal),
             },
             _ => Ok(()),
         }

@@ -17,7 +17,7 @@ pub const UNLUCKY: u32 = 2;
 const LONG_LINES: usize = 3;
 
 /// How many turns there are: a line of the long meeting is done in each.
-pub const TURNS: usize = 30;
+pub const TURNS: usize = 31;
 
 /// How many parcels wait for a connection after one line at most.
 const MAX_PARCELS: u32 = 1000;

@@ -4,12 +4,13 @@ use Rattle.floor_wire.specs.Message.{messages}
 use Rattle.floor_machine.specs.Parcel.{Parcel}
 use Rattle.floor_machine.specs.Conference.{is_cut}
 use Rattle.floor_machine.specs.declared.event.Event.{Event}
-use Rattle.floor_machine.specs.declared.event.Event.TheVariants.{Join, Message, Took as Takes, Leave as Leaves}
+use Rattle.floor_machine.specs.declared.event.Event.TheVariants.{Join, Message, Took as Takes, Leave as Leaves, Say as Says}
 use Rattle.floor_room.specs.declared.refusal.RoomRefusal.{RoomRefusal}
 use Rattle.floor_room.specs.Room.{Room, broken_room}
 use Rattle.floor_room.specs.Ledger.{IsRefusedBy, closed, conference_of, refusal}
 use Rattle.floor_room.specs.Taking.{Gave}
 use Rattle.floor_room.specs.declared.outbox.NoMember.{NoMember}
+use Rattle.floor_room.specs.declared.said.Said.{Said}
 use Rattle.floor_room.specs.Calls.{Applied, Left}
 use Rattle.floor_hub.specs.declared.connection.Connection.{Connection}
 use Rattle.floor_hub.specs.declared.step.Served.{Served}
@@ -17,7 +18,8 @@ use Rattle.floor_hub.specs.Connections.{Connections, Puts}
 use Rattle.floor_machine.specs.declared.machine.Refusal.TheVariants.{Cut, Memory}
 use Rattle.floor_room.specs.declared.refusal.RoomRefusal.TheVariants.{JournalFull, Refused as ByMachine}
 use Rattle.floor_hub.specs.declared.refusal.HubRefusal.{HubRefusal}
-use Rattle.floor_hub.specs.declared.refusal.HubRefusal.TheVariants.{ByRoom}
+use Rattle.floor_hub.specs.declared.refusal.HubRefusal.TheVariants.{BadMessage, ByRoom}
+use Rattle.floor_hub.specs.World.{answer_said, is_message}
 
 -- a room that may be served: neither broken nor ended
 abbrev pub IsServable : Option RoomRefusal → Type 0
@@ -65,6 +67,20 @@ abbrev pub EventIn : Event → Room → Room → Result (Unit {0}) HubRefusal �
 EventIn e old new result =
     OnOk result (Applied old new e)
     × IfErr result (λ x. (why : RoomRefusal) × (x ≡ ByRoom why) × IsRefusedBy {T = Unit {0}} (refusal old.ledger e) (Err why) × Left old new e why)
+
+-- why nothing was said for a user: the room refuses its event; or it isn't one message; or the room was asked, or memory was refused
+-- for the message
+abbrev pub SayFailsIn : ℕ → List ℕ → Room → Room → HubRefusal → Type 0
+SayFailsIn user bytes old new x =
+    ((why : RoomRefusal) × (x ≡ ByRoom why) × (refusal old.ledger (Says user bytes) ≡ Some why) × (new ≡ old))
+    ⊎ (((x ≡ BadMessage) × (is_message bytes ≡ false) × (refusal old.ledger (Says user bytes) ≡ None) × (new ≡ old))
+    ⊎ ((why : RoomRefusal) × (x ≡ ByRoom why) × (is_message bytes ≡ true)
+    × IsRefusedBy {T = Unit {0}} (refusal old.ledger (Says user bytes)) (Err why) × Left old new (Says user bytes) why))
+
+-- a room was asked to take a message that is said for a user
+pub record SaidIn (user : ℕ) (bytes : List ℕ) (old new : Room) (result : Result Said HubRefusal) : Type 0 where
+  pub said : IfOk result (λ v. Applied old new (Says user bytes) × (v ≡ answer_said old.ledger user bytes))
+  pub failed : IfErr result (SayFailsIn user bytes old new)
 
 -- a connection of a user was attached to this conference under this number
 abbrev pub AttachIn : ℕ → ℕ → ℕ → Connections → Connections → Room → Room → Result (Unit {0}) HubRefusal → Type 0

@@ -6,7 +6,7 @@ use Rattle.hex.specs.Hex.{decode_of}
 use Rattle.floor_words.specs.Words.{number}
 use Rattle.floor_wire.specs.Message.{message_len}
 use Rattle.floor_machine.specs.declared.event.Event.{Event}
-use Rattle.floor_machine.specs.declared.event.Event.TheVariants.{Join, Message, Took, Leave, Revoke, Close, AddUser, AddFloor, SetChair}
+use Rattle.floor_machine.specs.declared.event.Event.TheVariants.{Join, Message, Took, Leave, Revoke, Close, AddUser, AddFloor, SetChair, Say}
 use Rattle.std.specs.List.{list_all}
 use Rattle.floor_words.specs.Words.{is_space}
 use Rattle.floor_kept.specs.Entries.{entry_line, is_key, is_within}
@@ -70,6 +70,10 @@ abbrev pub message_words : List ℕ → List ℕ → Option Event
 message_words first second =
     and_then (number (2 ^ 32) first) (λ n. and_then (and_then (bytes_of second) message_of) (λ bytes. Some (Message n bytes)))
 
+abbrev pub say_words : List ℕ → List ℕ → Option Event
+say_words first second =
+    and_then (number (2 ^ 16) first) (λ user. and_then (and_then (bytes_of second) message_of) (λ bytes. Some (Say user bytes)))
+
 abbrev pub took_words : List ℕ → List ℕ → Option Event
 took_words first second = and_then (number (2 ^ 32) first) (λ n. and_then (number (2 ^ 32) second) (λ k. Some (Took n k)))
 
@@ -77,12 +81,13 @@ abbrev pub chair_words : List ℕ → List ℕ → Option Event
 chair_words first second =
     and_then (number (2 ^ 16) first) (λ floor. and_then (number_where second) (λ chair. Some (SetChair floor chair)))
 
--- `message <n> <bytes>`, `took <n> <k>`, `chair <floor> <user>`
+-- `message <n> <bytes>`, `took <n> <k>`, `chair <floor> <user>`, `say <user> <bytes>`
 abbrev pub three_words : List ℕ → List ℕ → List ℕ → Option Event
 three_words name first second =
     if bytes_eq name (codes "message") then message_words first second
     else if bytes_eq name (codes "took") then took_words first second
     else if bytes_eq name (codes "chair") then chair_words first second
+    else if bytes_eq name (codes "say") then say_words first second
     else None
 
 -- `floor <id> <room> <chair>`

@@ -18,6 +18,7 @@ const LINES: &str = "1 + 1 join 10
 10 + 10 floor 3 1 10
 11 + 11 chair 3 -
 12 + 12 chair 3 0
+13 + 13 say 65535 200100000000000100010001
 2000000 + 2000000 join 0
 2000001 - 2000001 join 0
 2000001 + end 2000000
@@ -52,6 +53,11 @@ const LINES: &str = "1 + 1 join 10
 1 - 1 user 11 1 4E -
 1 - 1 floor 2 255
 1 - 1 chair 3 --
+1 - 1 say 65536 200100000000000100010001
+1 - 1 say 10
+1 - 1 say 10 20010000000000010001000
+1 - 1 say 10 200100000000000100010001ff
+1 - 1 say 10 20010000000000010001000A
 1 - end 1
 2 - end 0
 1 - End 0
@@ -102,6 +108,6 @@ fn differing(alloc: Global) -> Result<String, AllocError> {
 #[test]
 fn a_line_has_one_spelling(rt: HostRuntime) -> Result<(), AllocError> {
     let found = differing(rt.alloc())?;
-    assert_eq!(rt; found.as_str(), "60 lines");
+    assert_eq!(rt; found.as_str(), "66 lines");
     Ok(())
 }

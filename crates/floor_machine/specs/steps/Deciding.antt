@@ -9,9 +9,11 @@ use Rattle.floor_queue.specs.Order.{names}
 use Rattle.floor_queue.specs.Queue.{IsAddable, IsReason, first_request, request_at}
 use Rattle.floor_message.specs.declared.verdicts.Verdict.{Verdict}
 use Rattle.floor_message.specs.Ask.{Answer, ask, asks, refused, unanswered}
+use Rattle.floor_message.specs.Binding.{Binding}
 use Rattle.floor_message.specs.declared.ask.Ask.{Ask}
 use Rattle.floor_message.specs.declared.ask.Ask.TheVariants.{FloorRequest, FloorRelease, FloorRequestQuery, UserQuery, FloorQuery, ChairAction, Hello}
 use Rattle.floor_message.specs.declared.code.ErrorCode.{ErrorCode}
+use Rattle.floor_message.specs.declared.code.ErrorCode.TheVariants.{ConferenceDoesNotExist, UnauthorizedOperation, UnknownPrimitive, UnsupportedVersion, UserDoesNotExist}
 use Rattle.floor_message.specs.Head.{response_head}
 use Rattle.floor_machine.specs.declared.decision.Change.{Change as Decided}
 use Rattle.floor_machine.specs.declared.decision.Change.TheVariants as to
@@ -20,10 +22,11 @@ use Rattle.floor_machine.specs.declared.decision.Decision.{Decision}
 use Rattle.floor_machine.specs.declared.decision.EndedBy.TheVariants.{Chair, Participant}
 use Rattle.floor_machine.specs.declared.decision.Sender.{Sender}
 use Rattle.floor_machine.specs.declared.event.Event.{Event}
-use Rattle.floor_machine.specs.declared.event.Event.TheVariants.{Join, Message, Took, Leave, Revoke, Close, AddUser, AddFloor, SetChair}
-use Rattle.floor_machine.specs.Conference.{Conference, binding, user_of}
+use Rattle.floor_machine.specs.declared.event.Event.TheVariants.{Join, Message, Took, Leave, Revoke, Close, AddUser, AddFloor, SetChair, Say}
+use Rattle.floor_machine.specs.Conference.{Conference, binding, binding_for, user_of}
 use Rattle.floor_machine.specs.Shown.{entry_of}
 use Rattle.floor_machine.specs.Checks.{refusal, beneficiary_of, is_allowed}
+use Rattle.floor_machine.specs.Said.{said}
 use Rattle.floor_machine.specs.Change.{Change, change, no_change, is_final, decided_at, reasoned, watching}
 use Rattle.floor_machine.specs.steps.Ending.{change_ending}
 
@@ -45,30 +48,58 @@ verdicts_change request verdicts reason =
 abbrev pub changing : Decided → Decision
 changing c = record { change = c; reply = say.Nothing }
 
--- what is asked by n of this user comes to this, where no check refuses it
-abbrev pub accepted : ℕ → ℕ → Ask → Decision
+-- a FloorQuery makes the member that sent it watch these floors
+abbrev pub watch_by : Option ℕ → List ℕ → Decided
+watch_by None floors = to.Nothing
+watch_by (Some n) floors = to.Watch n floors
+
+-- what is asked for this user, by n or by nobody, comes to this, where no check refuses it
+abbrev pub accepted : Option ℕ → ℕ → Ask → Decision
 accepted n user (FloorRequest beneficiary floors priority info) =
     record { change = to.Add (new_of_ask user beneficiary floors priority info); reply = say.Added }
 accepted n user (FloorRelease request) = record { change = to.End request Participant None; reply = say.Status request }
 accepted n user (FloorRequestQuery request) = record { change = to.Nothing; reply = say.Status request }
 accepted n user (UserQuery beneficiary) = record { change = to.Nothing; reply = say.User beneficiary }
-accepted n user (FloorQuery floors) = record { change = to.Watch n floors; reply = say.Floors floors }
+accepted n user (FloorQuery floors) = record { change = watch_by n floors; reply = say.Floors floors }
 accepted n user (ChairAction request verdicts reason) = record { change = verdicts_change request verdicts reason; reply = say.Ack }
 accepted n user Hello = record { change = to.Nothing; reply = say.Hello }
 
--- what is asked by n of this user comes to this, by the checks of its own
-abbrev pub asked : Conference → ℕ → ℕ → Ask → Decision
+-- what is asked for this user comes to this, by the checks of its own
+abbrev pub asked : Conference → Option ℕ → ℕ → Ask → Decision
 asked s n user a = option_map_or refused_by (refusal s user a) (accepted n user a)
 
--- what a message of n of this user comes to, as it is read
-abbrev pub decision_of : Conference → ℕ → ℕ → Answer → Decision
+-- what a message comes to that n sends for this user, or nobody, as it is read
+abbrev pub decision_of : Conference → Option ℕ → ℕ → Answer → Decision
 decision_of s n user unanswered = changing to.Nothing
 decision_of s n user (refused code details) = record { change = to.Nothing; reply = say.Error code details }
 decision_of s n user (asks a) = asked s n user a
 
--- what this message of n comes to
-abbrev pub IsDecided : Conference → ℕ → List ℕ → Decision → Type 0
-IsDecided s n bytes d = d ≡ decision_of s n (user_of s n) (ask bytes (binding s n))
+-- the error code answers what the header alone is refused for
+abbrev pub is_of_header : ErrorCode → Bool
+is_of_header UnsupportedVersion = true
+is_of_header ConferenceDoesNotExist = true
+is_of_header UserDoesNotExist = true
+is_of_header UnauthorizedOperation = true
+is_of_header _ = false
+
+-- the answer to a message whose primitive isn't said, by what it is answered as one of a connection
+abbrev pub barred : Answer → Answer
+barred (refused code details) = if is_of_header code then refused code [] else refused UnknownPrimitive []
+barred (asks a) = refused UnknownPrimitive []
+barred unanswered = refused UnknownPrimitive []
+
+-- how a message is read: of n as one of its connection, and of nobody as one that is said
+abbrev pub heard : Option ℕ → List ℕ → Binding → Answer
+heard (Some n) bytes b = ask bytes b
+heard None bytes b = said bytes b
+
+-- what this message for a user comes to, which n sends, or nobody
+abbrev pub IsDecided : Conference → Option ℕ → ℕ → List ℕ → Decision → Type 0
+IsDecided s n user bytes d = d ≡ decision_of s n user (heard n bytes (binding_for s user))
+
+-- who sent this message for a user, n or nobody, and what it comes to
+abbrev pub IsSent : Conference → Option ℕ → ℕ → List ℕ → Option Sender → Decision → Type 0
+IsSent s n user bytes sender d = (sender ≡ Some record { n = n; user = user; head = response_head bytes }) × IsDecided s n user bytes d
 
 -- nobody sent the event, which changes this
 abbrev pub IsUnsent : Option Sender → Decision → Decided → Type 0
@@ -77,8 +108,7 @@ IsUnsent sender d c = (sender ≡ None) × (d ≡ changing c)
 -- The event comes to this decision, and this is who sent it. Whoever joins or acknowledges is no decision's.
 abbrev pub ComesTo : Conference → Event → Option Sender → Decision → Type 0
 ComesTo s (Join user) sender d = ⊥
-ComesTo s (Message n bytes) sender d =
-    (sender ≡ Some record { n = n; user = user_of s n; head = response_head bytes }) × IsDecided s n bytes d
+ComesTo s (Message n bytes) sender d = IsSent s (Some n) (user_of s n) bytes sender d
 ComesTo s (Took n k) sender d = ⊥
 ComesTo s (Leave n) sender d = IsUnsent sender d (to.Leave n)
 ComesTo s (Revoke request) sender d = IsUnsent sender d (to.End request Chair None)
@@ -86,6 +116,11 @@ ComesTo s Close sender d = IsUnsent sender d to.Close
 ComesTo s (AddUser user) sender d = IsUnsent sender d (to.AddUser user)
 ComesTo s (AddFloor floor) sender d = IsUnsent sender d (to.AddFloor floor)
 ComesTo s (SetChair floor chair) sender d = IsUnsent sender d (to.SetChair floor chair)
+ComesTo s (Say user bytes) sender d = IsSent s None user bytes sender d
+
+-- the event is this message of that sender
+abbrev pub IsMessageOf : Conference → Event → Sender → List ℕ → Type 0
+IsMessageOf s e sender bytes = (d : Decision) → IsDecided s sender.n sender.user bytes d → ComesTo s e (Some sender) d
 
 -- this request is added
 abbrev pub change_adding : Conference → New → Change

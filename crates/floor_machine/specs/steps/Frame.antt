@@ -1,5 +1,5 @@
 -- The one way of an event: what a decision has made of a conference before it is settled, and what the event has done in the end.
-use Rattle.std.specs.Prelude.{◌≡◌, ◌++◌, true, false, List, [], All, Option, Some, None, Result, IfErr, OnErr, OnOk, map}
+use Rattle.std.specs.Prelude.{◌≡◌, ◌++◌, true, false, List, [], All, Option, Some, None, Result, Ok, Err, IfErr, OnErr, OnOk, map}
 use Rattle.floor_queue.specs.Order.{settle}
 use Rattle.floor_message.specs.Shown.{IsShownInfo}
 use Rattle.floor_message.specs.declared.information.Info.{Info}
@@ -58,6 +58,11 @@ pub record IsServed (s : Conference) (e : Event) (t : Conference) (before after 
   pub out : after ≡ before ++ parcels_of s e
   pub shown : IsToldShown s e
   pub changed : handed ≡ infos_changed s e
+
+-- a call that was done, or why it wasn't: of what it gave nothing is said
+abbrev pub done : {T E : Type 0} → Result T E → Result (Unit {0}) E
+done (Ok value) = Ok tt
+done (Err why) = Err why
 
 -- What a call made of an event: the machine took it, and has handed out what it changed, or refused it, and why.
 pub record IsTried (old : Machine) (e : Event) (new : Machine) (before after : List Parcel) (handed : List Info) (result : Result (Unit {0}) Refusal) : Type 0 where

@@ -1,5 +1,5 @@
 -- What an event has made of a conference, and what its sender is answered.
-use Rattle.std.specs.Prelude.{ℕ, List}
+use Rattle.std.specs.Prelude.{ℕ, List, Option}
 use Rattle.floor_message.specs.declared.head.Head.{Head}
 use Rattle.floor_message.specs.declared.information.Info.{Info}
 use Rattle.floor_message.specs.declared.tell.Tell.{Tell}
@@ -20,8 +20,8 @@ pub record FloorUpdate : Type 0 where
   pub floor : ℕ
   pub tell : Tell
 
--- what the sender of a message is answered: its number, the head of the first message, and the messages
+-- what a message is answered: the number of the member that sent it, if one did, the head of the first message, and the messages
 pub record Replied : Type 0 where
-  pub n : ℕ
+  pub n : Option ℕ
   pub head : Head
   pub tells : List Tell

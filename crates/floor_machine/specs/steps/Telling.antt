@@ -1,5 +1,5 @@
 -- What the steps of one event find, one after another, and the parcels that are made of it.
-use Rattle.std.specs.Prelude.{◌≡◌, All, ℕ, ◌==◌, ◌&&◌, ◌||◌, not, if◌then◌else◌, Bool, false, List, [], ◌∷◌, ◌++◌, map, filter, find, count_by, fold, max, Option, Some, None, option_map}
+use Rattle.std.specs.Prelude.{◌≡◌, All, ℕ, ◌==◌, ◌&&◌, ◌||◌, not, if◌then◌else◌, Bool, false, List, [], ◌∷◌, ◌++◌, map, filter, find, count_by, fold, max, Option, Some, None, is_none, option_map}
 use Rattle.std.specs.List.{list_any, flat_map}
 use Rattle.std.specs.Option.{option_map_or}
 use Rattle.floor_config.specs.Configuration.{Configuration}
@@ -15,6 +15,7 @@ use Rattle.floor_message.specs.declared.information.Info.{Info}
 use Rattle.floor_message.specs.declared.tell.Tell.{Tell}
 use Rattle.floor_message.specs.declared.tell.Tell.TheVariants.{FloorRequestStatus, FloorStatus}
 use Rattle.floor_message.specs.Head.{notice_head}
+use Rattle.floor_message.specs.Picked.{first}
 use Rattle.floor_machine.specs.declared.member.Member.{Member}
 use Rattle.floor_machine.specs.Parcel.{Parcel}
 use Rattle.floor_machine.specs.declared.course.Ended.{Ended}
@@ -25,7 +26,7 @@ use Rattle.floor_machine.specs.declared.tell.notices.FloorNotice.{FloorNotice}
 use Rattle.floor_machine.specs.steps.Outcomes.{FloorUpdate}
 use Rattle.floor_machine.specs.Shown.{Entry, entry_of, info, info_of, named}
 use Rattle.floor_machine.specs.Same.{same_infos}
-use Rattle.floor_machine.specs.Outgoing.{Outgoing, notice}
+use Rattle.floor_machine.specs.Outgoing.{Outgoing, notice, outgoing_bytes}
 use Rattle.floor_machine.specs.Reply.{infos_on}
 use Rattle.floor_machine.specs.Told.{is_changed, is_status_of}
 use Rattle.floor_machine.specs.Journal.{parcel}
@@ -178,11 +179,15 @@ answered head (tell ∷ tells) = record { head = head; tell = tell } ∷ answere
 
 -- the reply is to n
 abbrev pub is_to : ℕ → Replied → Bool
-is_to n reply = reply.n == n
+is_to n reply = option_map_or (λ k. k == n) reply.n false
 
 -- what the reply tells n
 abbrev pub answered_to : Option Replied → ℕ → List Outgoing
 answered_to reply n = option_map_or (λ r. if is_to n r then answered r.head r.tells else []) reply []
+
+-- what is handed to who says a message for a user: the first message of a reply that is to no member
+abbrev pub said_of : Option Replied → Option (List ℕ)
+said_of reply = option_map_or (λ r. if is_none r.n then first (map outgoing_bytes (answered r.head r.tells)) else None) reply None
 
 -- the reply to n is already the status of this request
 abbrev pub is_answered : Option Replied → ℕ → ℕ → Bool

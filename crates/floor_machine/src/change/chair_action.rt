@@ -2,7 +2,7 @@
 //! (RFC 8855, sections 11.1 and 13.6).
 
 ghost use Rattle.std.specs.List.{list_all, list_any};
-ghost use Rattle.std.specs.Prelude.{◌≡◌, ℕ, All, IfOk, IfSome, OnOk, false, map};
+ghost use Rattle.std.specs.Prelude.{◌≡◌, ℕ, All, IfOk, IfSome, OnOk, Option, false, map};
 ghost use Rattle.floor_config.specs.Lookup.{chair_is};
 ghost use Rattle.floor_queue.specs.Order.{names};
 ghost use Rattle.floor_queue.specs.Queue.{IsReason, MaySetFloor};
@@ -40,7 +40,7 @@ impl State {
         verdicts: Verdicts,
         reason: Option<Octets>,
     ) -> Decision
-        ensures value { (n : ℕ) → result
+        ensures value { (n : Option ℕ) → result
             ≡ asked (conference_of self.now) n user (ChairAction request verdicts reason) }
     {
         match self.chair_refusal(user, request, verdicts.as_slice()) {

@@ -1,6 +1,6 @@
 //! A FloorRelease: its own checks, and the decision that it comes to (RFC 8855, sections 10.2 and 13.4).
 
-ghost use Rattle.std.specs.Prelude.{◌≡◌, ℕ};
+ghost use Rattle.std.specs.Prelude.{◌≡◌, ℕ, Option};
 ghost use Rattle.floor_message.specs.declared.ask.Ask.TheVariants.{FloorRelease};
 ghost use Rattle.floor_machine.specs.Checks.{on_request, release_checks};
 ghost use Rattle.floor_machine.specs.steps.Deciding.{asked};
@@ -15,7 +15,7 @@ impl State {
     /// What a FloorRelease of this user comes to.
     #[tactic(auto, unfolding(crate::specs::Checks::refusal))]
     pub(crate) fn decide_release(&self, alloc: Global, user: u16, request: u16) -> Decision
-        ensures value { (n : ℕ)
+        ensures value { (n : Option ℕ)
             → result ≡ asked (conference_of self.now) n user (FloorRelease request) }
     {
         match self.release_refusal(user, request) {

@@ -2,7 +2,7 @@
 //! sections 10.1 and 13.1).
 
 ghost use Rattle.std.specs.List.{list_any};
-ghost use Rattle.std.specs.Prelude.{◌≡◌, ◌++◌, ◌+◌, ◌∷◌, [], ℕ, IfOk, OnOk, nat_le};
+ghost use Rattle.std.specs.Prelude.{◌≡◌, ◌++◌, ◌+◌, ◌∷◌, [], ℕ, IfOk, OnOk, Option, nat_le};
 ghost use Rattle.floor_queue.specs.Queue.{IsAddable, after_add};
 ghost use Rattle.floor_message.specs.declared.ask.Ask.TheVariants.{FloorRequest};
 ghost use Rattle.floor_machine.specs.Checks as checks;
@@ -34,7 +34,7 @@ impl State {
         priority: u8,
         info: Option<Octets>,
     ) -> Decision
-        ensures value { (n : ℕ) → result ≡ asked (conference_of self.now) n user
+        ensures value { (n : Option ℕ) → result ≡ asked (conference_of self.now) n user
             (FloorRequest beneficiary floors priority info) }
     {
         let whom = beneficiary.unwrap_or(user);

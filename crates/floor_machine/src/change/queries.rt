@@ -3,11 +3,11 @@
 
 ghost use Rattle.std.specs.List.{list_all};
 ghost use Rattle.std.specs.Option.{option_map_or};
-ghost use Rattle.std.specs.Prelude.{ℕ, ◌≡◌, ◌∷◌, [], IfOk, not, true};
+ghost use Rattle.std.specs.Prelude.{ℕ, ◌≡◌, ◌∷◌, [], IfOk, Option, not, true};
 ghost use Rattle.floor_config.specs.Lookup.{is_floor, is_user};
 ghost use Rattle.floor_message.specs.declared.ask.Ask.TheVariants.{FloorQuery, FloorRequestQuery, Hello, UserQuery};
 ghost use Rattle.floor_machine.specs.Checks.{first_of, on_request, when};
-ghost use Rattle.floor_machine.specs.steps.Deciding.{asked};
+ghost use Rattle.floor_machine.specs.steps.Deciding.{asked, watch_by};
 ghost use Rattle.floor_machine.specs.steps.Serving.{conference_of};
 
 use crate::conference::State;
@@ -20,7 +20,7 @@ impl State {
     /// What a FloorRequestQuery comes to.
     #[tactic(auto, unfolding(crate::specs::Checks::refusal))]
     pub(crate) fn decide_query(&self, alloc: Global, request: u16) -> Decision
-        ensures value { (n user : ℕ)
+        ensures value { (n : Option ℕ) (user : ℕ)
             → result ≡ asked (conference_of self.now) n user (FloorRequestQuery request) }
     {
         match self.query_refusal(request) {
@@ -35,7 +35,7 @@ impl State {
     /// What a UserQuery comes to.
     #[tactic(auto, unfolding(crate::specs::Checks::refusal))]
     pub(crate) fn decide_user(&self, alloc: Global, beneficiary: Option<u16>) -> Decision
-        ensures value { (n user : ℕ)
+        ensures value { (n : Option ℕ) (user : ℕ)
             → result ≡ asked (conference_of self.now) n user (UserQuery beneficiary) }
     {
         match self.user_refusal(beneficiary) {
@@ -47,12 +47,12 @@ impl State {
         }
     }
 
-    /// What a FloorQuery of the member with this number comes to.
+    /// What a FloorQuery comes to: the member with this number watches, where one sent it.
     #[tactic(auto, unfolding(crate::specs::Checks::refusal))]
     pub(crate) fn decide_floors(
         &self,
         alloc: Global,
-        n: u32,
+        n: Option<u32>,
         floors: Numbers,
     ) -> Result<Decision, AllocError>
         ensures value { IfOk result (λ decision. (user : ℕ)
@@ -61,9 +61,9 @@ impl State {
         match self.floors_refusal(floors.as_slice()) {
             Some(code) => Ok(Decision::refused(alloc, code)),
             None => {
-                let watched = floors.copy(alloc)?;
+                let change = watch_by(alloc, n, &floors)?;
                 Ok(Decision {
-                    change: Change::Watch(n, watched),
+                    change,
                     reply: Reply::Floors(floors),
                 })
             }
@@ -73,7 +73,7 @@ impl State {
     /// What a Hello comes to: it has no checks of its own. Takes no memory.
     #[tactic(auto, unfolding(crate::specs::Checks::refusal))]
     pub(crate) fn decide_hello(&self) -> Decision
-        ensures value { (n user : ℕ) → result ≡ asked (conference_of self.now) n user Hello }
+        ensures value { (n : Option ℕ) (user : ℕ) → result ≡ asked (conference_of self.now) n user Hello }
     {
         Decision {
             change: Change::Nothing,
@@ -120,5 +120,15 @@ impl State {
         } else {
             Some(ErrorCode::InvalidFloorId)
         }
+    }
+}
+
+/// The member with this number watches these floors, where one asked about them.
+fn watch_by(alloc: Global, n: Option<u32>, floors: &Numbers) -> Result<Change, AllocError>
+    ensures { IfOk result (λ change. change ≡ watch_by n floors.now) }
+{
+    match n {
+        None => Ok(Change::Nothing),
+        Some(n) => Ok(Change::Watch(n, floors.copy(alloc)?)),
     }
 }

@@ -2,7 +2,7 @@
 //! 1,024 messages behind, and then it is cut.
 
 ghost use Rattle.std.specs.Option.{option_map_or};
-ghost use Rattle.std.specs.Prelude.{ℕ, List, ◌≡◌, ◌++◌, ◌&&◌, OnOk, [], false, map, not, true};
+ghost use Rattle.std.specs.Prelude.{ℕ, List, ◌≡◌, ◌++◌, ◌&&◌, OnOk, [], false, map, not, option_and_then, true};
 ghost use Rattle.floor_machine.specs.Conference.{AreCut, live_numbers, member_with};
 ghost use Rattle.floor_machine.specs.steps.Counting.{AreWatching, counted_of, due_at, members_at, members_each, told_at, told_each, told_of_all};
 ghost use Rattle.floor_machine.specs.steps.Telling.{is_concerned, noticed_to, noticed_to_all};
@@ -33,8 +33,8 @@ impl Members {
         tell_each(alloc, out, &mut self.joined, &self.live, due)
     }
 
-    /// Tells the sender of a message what answers it, or cuts it. All others are told nothing, and
-    /// aren't looked at.
+    /// Tells the member that sent a message what answers it, or cuts it. All others are told nothing,
+    /// and aren't looked at.
     pub(crate) fn tell_sender(
         &mut self,
         alloc: Global,
@@ -47,10 +47,10 @@ impl Members {
         ensures counted { OnOk result (self.new ≡ map (counted_of
             (noticed_to_all conference reply.now [] [] self.old)) self.old) }
     {
-        match reply {
-            Some(sent) => {
+        match sender_of(reply) {
+            Some(n) => {
                 let none = Updates::new(alloc);
-                let sender = [sent.n];
+                let sender = [n];
                 let due = Due {
                     conference,
                     reply,
@@ -61,6 +61,16 @@ impl Members {
             }
             None => Ok(()),
         }
+    }
+}
+
+/// The number of the member that a reply is to.
+fn sender_of(reply: &Option<Replied>) -> Option<u32>
+    ensures { result ≡ option_and_then (λ r. r.n) reply.now }
+{
+    match reply {
+        Some(reply) => reply.n,
+        None => None,
     }
 }
 

@@ -22,7 +22,7 @@ use std::alloc::{AllocError, Global};
 pub(crate) struct Due<'a> {
     /// The conference.
     pub conference: u32,
-    /// What the sender of the message is answered, where the event is one.
+    /// What the message is answered, where the event is one.
     pub reply: &'a Option<Replied>,
     /// The statuses of the changed requests.
     pub updates: &'a Updates,
@@ -71,7 +71,7 @@ fn is_reply_to(reply: &Option<Replied>, n: u32) -> bool
     ensures { result ≡ option_map_or (is_to n) reply.now false }
 {
     match reply {
-        Some(reply) => reply.n == n,
+        Some(reply) => reply.is_to(n),
         None => false,
     }
 }
@@ -99,7 +99,7 @@ fn put_reply(
         ++ map (parcel n) (answered_to reply.now n)) }
 {
     if let Some(reply) = reply {
-        if reply.n == n {
+        if reply.is_to(n) {
             put_answer(alloc, out, n, reply.head, &reply.tells)?;
         }
     }
@@ -255,7 +255,7 @@ fn is_answered(reply: &Option<Replied>, n: u32, request: u16) -> bool
     ensures { result ≡ is_answered reply.now n request }
 {
     match reply {
-        Some(reply) => reply.n == n && has_status_of(&reply.tells, request),
+        Some(reply) => reply.is_to(n) && has_status_of(&reply.tells, request),
         None => false,
     }
 }

@@ -1,6 +1,7 @@
 -- What a hub holds while no room of it is broken off.
 use Rattle.std.specs.Prelude.{◌≡◌, ℕ, false, List, Option, Some, None}
 use Rattle.std.specs.Option.{option_map_or}
+use Rattle.floor_machine.specs.Journal.{MAX_EVENTS}
 use Rattle.floor_room.specs.Outbox.{Outbox}
 use Rattle.floor_room.specs.Room.{Room}
 use Rattle.floor_room.specs.Taking.{outbox_of}
@@ -27,10 +28,16 @@ abbrev pub IsWhole : Option Room → Type 0
 IsWhole None = Unit {0}
 IsWhole (Some room) = room.ledger.is_broken ≡ false
 
--- The hub stands for the world, no room is broken off, and so many parcels were taken of each member.
+-- what the room tells is handed out at once: none of its events has to be kept first
+abbrev pub IsAtOnce : Option Room → Type 0
+IsAtOnce None = Unit {0}
+IsAtOnce (Some room) = room.kept ≡ MAX_EVENTS
+
+-- The hub stands for the world, no room is broken off or has events that aren't kept, and so many parcels were taken of each member.
 pub record Holds (hub : Hub) (w : World) (printed : ℕ → ℕ → ℕ) : Type 0 where
   pub stands : StandsFor hub w
   pub whole : (conference : ℕ) → IsWhole (room_at hub conference)
+  pub at_once : (conference : ℕ) → IsAtOnce (room_at hub conference)
   pub taken : (conference n : ℕ) → taken_in (room_at hub conference) n ≡ printed conference n
 
 -- The hub did so and answered so, and nothing was taken of what waits.

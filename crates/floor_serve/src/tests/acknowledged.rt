@@ -182,6 +182,18 @@ fn a_revoke_closes_each_whom_it_cuts(rt: HostRuntime) -> Result<(), Fail> {
     Ok(())
 }
 
+/// User 10 gives floor request 1 back.
+const RELEASE: [u8; 16] = [0x20, 2, 0, 1, 0, 0, 0, 1, 0, 2, 0, 10, 6, 4, 0, 1];
+
+#[test]
+fn what_is_said_closes_each_whom_it_cuts(rt: HostRuntime) -> Result<(), Fail> {
+    let alloc = rt.alloc();
+    let (desk, _seat, takers) = watched(&rt, alloc)?;
+    assert!(rt; desk.say(&rt, 10, frame(alloc, &RELEASE)?).is_ok());
+    assert_eq!(rt; closed(&takers)?, 2);
+    Ok(())
+}
+
 /// A registry, a desk of its conference, and what takes the parcels of its two members.
 fn with_two<R: Wait>(rt: &R, alloc: Global) -> Result<(Registry, Desk, [MemberTaker; 2]), Fail> {
     let (registry, desk) = opened(rt, alloc)?;

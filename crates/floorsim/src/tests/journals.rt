@@ -23,7 +23,8 @@ id = 1
 ";
 
 /// The words behind the file, the journal, and behind `=>` the status, what is printed, and behind a line
-/// `!` what standard error is told. The messages are those of the example that passes a floor on.
+/// `!` what standard error is told. The messages are those of the example that passes a floor on; some
+/// are said for a user.
 const RUNS: &str = r#"== 
 1 join 10
 2 join 11
@@ -107,6 +108,28 @@ floorsim: the last line lacks its end and is left out
 => 2
 error 14 NotAJournal 2
 !
+== 
+1 say 10 20010001000000010001000a04040001
+2 join 11
+3 message 1 20010001000000010001000b04040001
+4 say 10 20020001000000010002000a06040001
+=> 0
+3 1 20040007000000010001000b1e1c0002240800020a040201220800010a0402011c04000b08044000
+4 1 20040007000000010000000b1e1c0002240800020a040300220800010a0403001c04000b08044000
+!
+== --status
+1 say 10 20010001000000010001000a04040001
+2 say 11 20010001000000010001000b04040001
+3 say 11 20020001000000010002000b06040001
+=> 0
+conference 1 members 0 ongoing 2 events 3 open
+floor 1 room 1 chair - holders 1:10 waiting 2:11
+!
+== --status
+1 say 99 20010001000000010001006304040001
+=> 2
+error 13 NotAJournal 1
+!
 == 1
 1 join 10
 # word title 4120
@@ -159,7 +182,7 @@ fn differing(alloc: Global) -> Result<String, AllocError> {
 #[test]
 fn a_journal_says_who_was_told_what_and_how_it_stood(rt: HostRuntime) -> Result<(), AllocError> {
     let found = differing(rt.alloc())?;
-    assert_eq!(rt; found.as_str(), "9 cases");
+    assert_eq!(rt; found.as_str(), "12 cases");
     Ok(())
 }
 

@@ -114,6 +114,7 @@ Usage: floorsim < script
   user <conference> <id> [proxy] [port <port>] [name <text to the end>]
   floor <conference> <id> [room <room>] [chair <user>]
   chair <conference> <floor> [<user>]
+  say <conference> <user> <hex ..>
   error <line> <name>";
     for piece in wanted.lines() {
         assert!(rt; help.as_str().contains(piece), "{piece}");

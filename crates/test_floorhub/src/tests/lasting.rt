@@ -244,6 +244,42 @@ fn a_conference_goes_on_from_its_file(rt: HostRuntime) -> Result<(), Fail> {
     Ok(())
 }
 
+/// User 10 never came, and floor 1 was asked for on its behalf.
+const SAID: &str = "1 say 10 20010001000000010001000a04040001\n";
+
+#[test]
+fn what_was_said_for_a_user_goes_on_from_the_file(rt: HostRuntime) -> Result<(), Fail> {
+    let alloc = rt.alloc();
+    let (path, port) = ("lasting-said", free_port(&rt)?);
+    let file = "lasting-said-folder/1.journal";
+    let _removed = fs::remove_dir_all(&rt, "lasting-said-folder");
+    fs::create_dir(&rt, "lasting-said-folder")?;
+    let words = ["--keep", "lasting-said-folder"];
+    let server = start(rt, path, port, &words)?;
+    let mut admin = control(&rt, path)?;
+    stop(&rt, &mut admin, server)?;
+    let head = fs::read_to_string(&rt, file)?;
+    let kept = format!(in alloc; "{head}{SAID}")?;
+    fs::write(&rt, file, kept.as_str())?;
+    let server = start(rt, path, port, &words)?;
+    let mut admin = control(&rt, path)?;
+    let held = "floor 1 room 1 chair - holders 1:10";
+    await_lines(&rt, alloc, &mut admin, "floors 1", held)?;
+    let members = ask_control(alloc, &mut admin, "members 1", 1)?;
+    assert!(rt; members.as_str().starts_with("end 0"), "{members}");
+    // Whoever comes as that user gives the floor back.
+    let mut client = come(&rt, port)?;
+    send(&rt, &mut client, "20020001 00000001 0002 000a 06040001").ok_or("sent")?;
+    let free = "floor 1 room 1 chair -,end 1 ";
+    await_lines(&rt, alloc, &mut admin, "floors 1", free)?;
+    stop(&rt, &mut admin, server)?;
+    let text = fs::read_to_string(&rt, file)?;
+    let behind = format!(in alloc; "{kept}2 join 10\n3 message 1 ")?;
+    assert!(rt; text.as_str().starts_with(behind.as_str()), "{text}");
+    fs::remove_dir_all(&rt, "lasting-said-folder")?;
+    Ok(())
+}
+
 #[test]
 fn without_a_control_socket_the_end_of_the_input_keeps_all(rt: HostRuntime) -> Result<(), Fail> {
     let alloc = rt.alloc();

@@ -30,8 +30,9 @@ send 1 20010001 00000001 0002 000a 04040001
 send 2 20010001 00000001 0001 000b 04040001
 leave 1";
 
-/// The same beside conference 2, which closes in the midst of a message.
+/// The same beside conference 2, in which a message is said for a user, and which closes in the midst of another.
 const BESIDE_ANOTHER: &str = "attach 2 10
+say 2 10 20010001 00000002 0003 000a 04040001
 attach 1 10
 send 1 20010001 00000002 0001 000a 04040001
 attach 1 11
@@ -67,6 +68,17 @@ fn push_steps(alloc: Global, steps: &mut Vec<Step>, line: &str) -> Result<(), Fa
         }
         Ok(Command::Leave { connection }) => steps.push(Step::Leave(connection))?,
         Ok(Command::Admin { conference, act }) => steps.push(Step::Admin { conference, act })?,
+        Ok(
+            Command::Say {
+                conference,
+                user,
+                message,
+            },
+        ) => steps.push(Step::Say {
+            conference,
+            user,
+            message,
+        })?,
         Ok(Command::Slow { .. } | Command::Fast { .. }) | Err(_) => {
             return Err(Fault::Layout("another line"));
         }

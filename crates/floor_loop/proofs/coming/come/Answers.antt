@@ -1,4 +1,4 @@
-use Rattle.std.proofs.Common.{◌≡◌, ◌⊎◌, inl, inr, ℕ, List, [], true, false, ap, subst, sym, ◌∙◌, Some, None}
+use Rattle.std.proofs.Common.{◌≡◌, ◌⊎◌, inl, inr, ℕ, List, [], true, false, ap, refl, subst, sym, ◌∙◌, Some, None}
 use Rattle.std.specs.List.{Contains}
 use Rattle.std.proofs.lemmas.Option.{none-some}
 use Rattle.floor_hub.specs.Connections.{connection_at}
@@ -32,6 +32,7 @@ returns-in-Err c =
       ready = λ l. tt;
       full = λ l r is k. tt;
       left = back;
+      refused = inl refl;
     }
 
 pub returns-then-is_kept_place : goal.returns-then-is_kept_place
@@ -52,6 +53,7 @@ returns-then-is_kept_place c =
       ready = λ l. tt;
       full = λ l r is k. tt;
       left = back;
+      refused = inr (inl (c.full.ensures.value, c.is_kept_place.ensures.keeps c.if-is_kept_place.true, c.is_kept_place.ensures.live c.if-is_kept_place.true));
     }
 
 not_both : false ≡ true → ⊥
@@ -107,4 +109,5 @@ returns c =
           let none = nobody-away c.args.hub.now c.args.attended.now.away c.args.conference c.args.user g.0 g.1 k.nobody in
           absurd (not_both (sym c.if-is_kept_place.false ∙ c.is_kept_place.ensures.value r is (c.as_slice.ensures.value ∙ g.2 ∙ none) k.keeps k.live));
       left = c.enter.ensures.left;
+      refused = c.enter.ensures.refused c.args.attended.now.away.keeps_place;
     }

@@ -40,6 +40,7 @@ returns-in-Ok c =
       fresh = enter-new conference user number xs a b e c.attach.ensures.steps moved behind c.in-Ok.ensures.joined;
       ready = enter-ready conference user number xs a b e c.attach.ensures.steps moved behind (λ l. last-wakes b hub c.leave_all.new.attended c.set_back.new.self kept (c.leave_all.ensures.woke l)) c.in-Ok.ensures.ready;
       left = tt;
+      refused = λ keeps_place. tt;
     }
 
 pub returns-in-Err : goal.returns-in-Err
@@ -63,4 +64,5 @@ returns-in-Err c =
       fresh = λ l. tt;
       ready = λ l. tt;
       left = back;
+      refused = c.in-Err.ensures.refused;
     }

@@ -1,4 +1,4 @@
-use Rattle.std.proofs.Common.{Some, ap, subst, ◌∙◌}
+use Rattle.std.proofs.Common.{Some, inl, inr, ap, refl, subst, ◌∙◌}
 use Rattle.std.specs.Prelude.{option_and_then}
 use Rattle.floor_loop.specs.Loop.{Attended, Outgoing, outgoing_in}
 use Rattle.floor_loop.specs.steps.Joined.{Adds, Attaches}
@@ -108,3 +108,11 @@ returns-in-Err-joined-clause-others c = λ k y is ne.
     let same = subst (Adds c.args.conference c.args.attended.now c.attach.new.self) c.in-Err-joined.is c.in-Ok.ensures.added in
     let keeps = keeps-both (outgoing_in c.args.attended.now) (outgoing_in c.attach.new.self) (outgoing_in c.wake.new.attended) (keeps-passed c.args.attended.now c.attach.new.self (ap (λ (z : Attended). z.outgoing) same)) c.wake.ensures.kept in
     (moved-refused c.args.conference c.args.user c.args.hub.now c.attach.new.hub c.args.attended.now c.wake.new.attended c.in-Err-joined.refusal t keeps (fewer c.args.attended.now c.wake.new.attended (c.wake.ensures.away ∙ ap (λ (z : Attended). z.away) same)) c.wake.ensures.woken).live k y is
+
+pub returns-in-Err-clause-refused : goal.returns-in-Err-clause-refused
+returns-in-Err-clause-refused c = λ keeps_place. inl refl
+
+pub returns-in-Err-joined-clause-refused : goal.returns-in-Err-joined-clause-refused
+returns-in-Err-joined-clause-refused c = λ keeps_place.
+    let t = subst (Attaches c.args.conference c.args.user c.args.hub.now c.attach.new.hub) c.in-Err-joined.is c.in-Ok.ensures.attached in
+    inr (inr (λ w st. t.next w st))

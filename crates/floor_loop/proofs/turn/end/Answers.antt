@@ -19,5 +19,5 @@ returns c =
       kept = keeps-both (outgoing_in old) (outgoing_in mid) (outgoing_in new) (keeps-marked Ends (deadline old.time) c.args.number old mid first) (keeps-marked Ready mid.time c.args.number mid new next);
       others = λ k ne. changed-beside (marked Ready mid.time) c.args.number mid new next k ne ∙ changed-beside (marked Ends (deadline old.time)) c.args.number old mid first k ne;
       away = ap (λ (z : Attended). z.away) c.wake.ensures.next ∙ ap (λ (z : Attended). z.away) c.end.ensures.next;
-      ended = ended-by (deadline old.time) mid.time c.args.number old mid new first next;
+      ended = ended-by mid.time c.args.number mid new next (ap (λ (z : Attended). z.time) c.wake.ensures.next) c.end.ensures.soon;
     }

@@ -3,7 +3,7 @@ use Rattle.floor_hub.specs.Connections.{connection_at}
 use Rattle.floor_loop.specs.declared.outgoing.Mark.TheVariants.{Ready}
 use Rattle.floor_loop.specs.Loop.{Attended, Outgoing, outgoing_in}
 use Rattle.floor_loop.specs.steps.Changed.{marked}
-use Rattle.floor_loop.proofs.Marking.{ends-until, keeps-marked, marked-some}
+use Rattle.floor_loop.proofs.Marking.{ends-some, ends-until, keeps-marked, marked-some}
 use Rattle.floor_loop.proofs.Stepping.{kept-back, some-out}
 use Rattle.floor_loop.proofs.Writing.{changed-at, changed-beside}
 use Rattle.floor_loop.proofs.Waking.{spared-at}
@@ -16,7 +16,7 @@ returns-then-is_over c =
       away = c.end.ensures.away;
       woken = record {
         ready = λ o is. (c.end.ensures.ended o is).0;
-        over = λ x r o is_x is_r is conference over. ends-until o (c.end.ensures.ended o is).1;
+        over = λ x r o is_x is_r is conference over. let e = (c.end.ensures.ended o is).1 in ends-until o (ends-some o (e.0, e.1));
       };
       spared = λ k x r o p is_x is_r is_o is_p conference. spared-at c.args.number k o p (outgoing_in c.end.new.attended) (λ ne. c.end.ensures.others k ne ∙ is_o) is_p
           (λ same. inr ((c.is_over.ensures x r o (ap (connection_at c.args.hub.now.connections) same ∙ is_x) is_r (ap (outgoing_in c.args.attended.now) same ∙ is_o) conference).0 c.if-is_over.true));

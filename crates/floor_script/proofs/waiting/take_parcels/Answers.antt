@@ -21,4 +21,4 @@ returns-in-None c =
 pub returns : goal.returns
 returns c =
     let full : c.loop-taken.taken ≡ most_at_once = omega (arith, most_is) in
-    record { took = subst (λ (n : ℕ). TakenAll c.args.connection n c.args.hub.now c.loop-taken.hub (string_bytes c.args.text.now) (string_bytes c.loop-taken.text)) most_is (far_full c.args.connection c.loop-taken.taken _ _ _ _ c.loop-taken.invariant full) }
+    record { took = λ k. subst (λ (n : ℕ). TakenAll c.args.connection n c.args.hub.now c.loop-taken.hub (string_bytes c.args.text.now) (string_bytes c.loop-taken.text)) most_is (far_full c.args.connection c.loop-taken.taken _ _ _ _ c.loop-taken.invariant full) }

@@ -1,4 +1,4 @@
-use Rattle.std.proofs.Common.{◌≡◌, ℕ, ◌+◌, ◌++◌, ◌∙◌, List, ap, false, subst}
+use Rattle.std.proofs.Common.{◌≡◌, ℕ, ◌+◌, ◌++◌, ◌∙◌, List, Option, ap, false, subst}
 use Rattle.std.specs.String.{string_bytes}
 use Rattle.floor_machine.specs.declared.event.Event.{Event}
 use Rattle.floor_machine.specs.Change.{IsLawful}
@@ -16,7 +16,7 @@ returns-in-Err-clause-refused c =
     let m : Machine = c.self.inside.machine in
     let unbroken : c.self.inside.is_broken ≡ false = ap (λ (x : spec.Watcher). x.is_broken) c.self.view_is ∙ (opened w c.in-None.ensures).unbroken in
     let is : m ≡ whole w.conference = whole-is m (c.self.invariant unbroken).whole ∙ ap (λ (x : spec.Watcher). whole x.conference) c.self.view_is in
-    refused-as w m c.args.event.now c.in-Err.refusal c.in-None.ensures is c.in-Err.ensures.refused
+    refused-as (Option (List ℕ)) w m c.args.event.now c.in-Err.refusal c.in-None.ensures is c.in-Err.ensures.refused
 
 pub returns-clause-took : goal.returns-clause-took
 returns-clause-took c =

@@ -1,4 +1,4 @@
-use Rattle.std.proofs.Common.{◌≡◌, ◌∙◌, ap, false}
+use Rattle.std.proofs.Common.{◌≡◌, ◌∙◌, List, Option, ap, false, ℕ}
 use Rattle.floor_machine.specs.Machine.{Machine, whole}
 use Rattle.floor_control.specs.Watcher as spec
 use Rattle.floor_control.proofs.Following.{opened, refused-as, whole-is}
@@ -10,4 +10,4 @@ returns-in-Err-clause-refused c =
     let m : Machine = c.self.inside.machine in
     let unbroken : c.self.inside.is_broken ≡ false = ap (λ (x : spec.Watcher). x.is_broken) c.self.view_is ∙ (opened w c.in-None.ensures).unbroken in
     let is : m ≡ whole w.conference = whole-is m (c.self.invariant unbroken).whole ∙ ap (λ (x : spec.Watcher). whole x.conference) c.self.view_is in
-    refused-as w m c.args.event.now c.in-Err.refusal c.in-None.ensures is c.in-Err.ensures.refused
+    refused-as (Option (List ℕ)) w m c.args.event.now c.in-Err.refusal c.in-None.ensures is c.in-Err.ensures.refused

@@ -5,6 +5,7 @@ use Rattle.floor_loop.specs.Loop.{Outgoing}
 use Rattle.floor_loop.specs.steps.Changed.{changed, marked}
 use Rattle.floor_loop.specs.steps.Listed.{AreListed, IsListed, deadline}
 use Rattle.floor_loop.proofs.Listing.{lacks-true, listed-beside, listed-marked, listed-unmarked, room-for}
+use Rattle.floor_loop.proofs.Marking.{soon-by}
 use Rattle.floor_loop.proofs.attended.Attended.end.Goals as goal
 
 pub push-requires : goal.push-requires
@@ -34,3 +35,11 @@ invariant_of-self-2 c =
       ending = (subst (IsListed Ends (changed (marked Ends c.saturating_add-until.result) c.args.number c.self.inside.outgoing.entries) (deadline c.self.inside.time)) (sym c.push.ensures.next) (listed-marked Ends c.saturating_add-until.result c.args.number c.self.inside.outgoing.entries (deadline c.self.inside.time) (deadline c.self.inside.time) c.self.inside.ending o.0 o.1 o.2 before after c.self.invariant.ending));
       failed = listed-beside Fails (marked Ends c.saturating_add-until.result) c.args.number c.self.inside.outgoing.entries c.self.inside.time c.self.inside.failed (λ p. refl) c.self.invariant.failed;
     })
+
+pub returns-then-not-mark_in-clause-soon : goal.returns-then-not-mark_in-clause-soon
+returns-then-not-mark_in-clause-soon c =
+    soon-by c.self.inside.outgoing.entries c.mark_in.new.outgoing.entries c.args.number c.saturating_add-until.result c.self.inside.time c.self.inside.ending c.mark_in.ensures.next (invariant_of-self c).ending
+
+pub returns-clause-soon : goal.returns-clause-soon
+returns-clause-soon c =
+    soon-by c.self.inside.outgoing.entries c.mark_in.new.outgoing.entries c.args.number c.saturating_add-until.result c.self.inside.time c.push.new.self c.mark_in.ensures.next (invariant_of-self-2 c).ending

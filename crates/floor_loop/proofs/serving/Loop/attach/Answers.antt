@@ -1,11 +1,12 @@
 use Rattle.std.proofs.Common.{◌≡◌, ℕ, List, ap, refl, subst, Some}
-use Rattle.std.specs.Prelude.{IfOk, OnOk}
+use Rattle.std.specs.Prelude.{Bool, IfErr, IfOk, OnOk}
+use Rattle.floor_loop.specs.Away.{Away}
 use Rattle.floor_room.specs.Room.{Room}
 use Rattle.floor_hub.specs.Hub.{room_at}
 use Rattle.floor_hub.specs.Runs.{run}
 use Rattle.floor_loop.specs.Done.{NoSteps, Returns, Steps}
 use Rattle.floor_loop.specs.Loop.{Attended, Loop, Outgoing}
-use Rattle.floor_loop.specs.Returned.{IsKeptPlace, Returned}
+use Rattle.floor_loop.specs.Returned.{IsKeptPlace, IsRefusedAs, Returned}
 use Rattle.floor_loop.specs.Written.{Spares, TookNothing, Wakes}
 use Rattle.floor_loop.specs.steps.Moved.{IsLoop, loop_of}
 use Rattle.floor_loop.proofs.Calls.{moved-kept}
@@ -79,3 +80,8 @@ returns-clause-fresh c = c.come.ensures.fresh (later c)
 
 pub returns-clause-own : goal.returns-clause-own
 returns-clause-own c = (invariant_of-self c).own
+
+pub returns-clause-refused : goal.returns-clause-refused
+returns-clause-refused c =
+    subst (λ (l : Loop). IfErr c.come.result (IsRefusedAs c.args.conference c.args.user l.attended.away.keeps_place l.hub (new c).hub)) c.self.view_is
+    (subst (λ (b : Bool). IfErr c.come.result (IsRefusedAs c.args.conference c.args.user b c.self.inside.hub (new c).hub)) (ap (λ (z : Away). z.keeps_place) (away c)) c.come.ensures.refused)

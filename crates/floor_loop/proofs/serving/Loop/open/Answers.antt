@@ -1,7 +1,12 @@
 use Rattle.std.proofs.Common.{ap, subst}
 use Rattle.floor_hub.specs.declared.step.Step.TheVariants.{Open}
-use Rattle.floor_hub.specs.Rooms.{Opens}
-use Rattle.std.specs.Prelude.{OnOk}
+use Rattle.floor_hub.specs.declared.refusal.HubRefusal.{HubRefusal}
+use Rattle.floor_hub.specs.declared.step.Answer.TheVariants.{Done}
+use Rattle.floor_hub.specs.Calls.{FailsSame, Turns}
+use Rattle.floor_hub.specs.Rooms.{Opens, SameHub}
+use Rattle.floor_hub.specs.StandsFor.{StandsFor}
+use Rattle.floor_hub.specs.World.{World}
+use Rattle.std.specs.Prelude.{Err, IfErr, MatchResult, Ok, OnErr, OnOk, Result}
 use Rattle.floor_loop.specs.Done.{AtMost, Steps}
 use Rattle.floor_loop.specs.Loop.{Loop, outgoing_in}
 use Rattle.floor_loop.specs.Written.{TookNothing}
@@ -34,3 +39,15 @@ returns-clause-attended c = ap (λ (l : Loop). l.attended) c.self.view_is
 
 pub returns-clause-opened : goal.returns-clause-opened
 returns-clause-opened c = subst (λ (l : Loop). OnOk c.open.result (Opens c.args.config l.hub (new c).hub)) c.self.view_is c.open.ensures.took
+
+if-err : {T : Type 0} (P : T → Type 0) (Q : HubRefusal → Type 0) (res : Result T HubRefusal) → MatchResult res P Q → IfErr res Q
+if-err P Q (Ok v) m = tt
+if-err P Q (Err r) m = m
+
+pub returns-clause-refused : goal.returns-clause-refused
+returns-clause-refused c =
+    subst (λ (l : Loop). (w : World) → StandsFor l.hub w → IfErr c.open.result (FailsSame (new c).hub w (Open c.args.config))) c.self.view_is
+    (λ w st. if-err (λ _. Turns (new c).hub w (Open c.args.config) Done) (FailsSame (new c).hub w (Open c.args.config)) c.open.result (c.open.ensures.next w st))
+
+pub returns-clause-left : goal.returns-clause-left
+returns-clause-left c = subst (λ (l : Loop). OnErr c.open.result (SameHub l.hub (new c).hub)) c.self.view_is c.open.ensures.left

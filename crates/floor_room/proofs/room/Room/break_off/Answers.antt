@@ -7,6 +7,6 @@ use Rattle.floor_room.proofs.room.Room.break_off.Goals as goal
 
 pub invariant_of-self : goal.invariant_of-self
 invariant_of-self c =
-    let r : spec.Room = record { ledger = c.self.inside.ledger; outboxes = c.self.inside.outboxes.items } in
-    subst (λ (x : ledgers.Ledger). Keeps (record { ledger = x; outboxes = c.self.inside.outboxes.items }) (vec_capacity c.self.inside.outboxes)) (sym c.break_off.ensures.next)
+    let r : spec.Room = record { ledger = c.self.inside.ledger; outboxes = c.self.inside.outboxes.items; told = c.self.inside.told; kept = c.self.inside.kept } in
+    subst (λ (x : ledgers.Ledger). Keeps (record { ledger = x; outboxes = c.self.inside.outboxes.items; told = c.self.inside.told; kept = c.self.inside.kept }) (vec_capacity c.self.inside.outboxes)) (sym c.break_off.ensures.next)
     (keeps-broken r (vec_capacity c.self.inside.outboxes) c.self.invariant)

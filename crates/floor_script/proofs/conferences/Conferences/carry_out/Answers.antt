@@ -1,5 +1,5 @@
 use Rattle.std.proofs.Common.{◌≡◌, List, ℕ, ap, sym, ◌∙◌}
-use Rattle.floor_script.specs.declared.line.Command.TheVariants.{Piece, Send}
+use Rattle.floor_script.specs.declared.line.Command.TheVariants.{Piece, Say, Send}
 use Rattle.floor_script.proofs.Holding.{ok_as}
 use Rattle.floor_script.proofs.Standing.{carries_as, carries_fast, carries_slow}
 use Rattle.floor_script.proofs.conferences.Conferences.carry_out.Goals as goal
@@ -31,3 +31,8 @@ returns-in-Slow c = record { took = carries_as _ _ _ _ _ c.in-Slow.is (carries_s
 
 pub returns-in-Fast : goal.returns-in-Fast
 returns-in-Fast c = record { took = carries_as _ _ _ _ _ c.in-Fast.is (carries_fast c.in-Fast.connection c.set_pace-in-Fast.result _ _ c.set_pace-in-Fast.ensures.took) }
+
+pub returns-in-Say : goal.returns-in-Say
+returns-in-Say c =
+    let is = c.in-Say.is ∙ ap (λ (bytes : List ℕ). Say c.in-Say.conference c.in-Say.user bytes) (sym c.as_slice-in-Say.ensures) in
+    record { took = ok_as c.say.result _ _ c.say.ensures.took (λ answer k. carries_as _ _ answer _ _ is k) }

@@ -5,7 +5,10 @@ use Rattle.floor_script.proofs.Standing.{conference_is, split}
 use Rattle.floor_script.proofs.conferences.Conferences.conference_of.Goals as goal
 
 pub returns-in-Attach : goal.returns-in-Attach
-returns-in-Attach c = record { value = λ s h. split c.in-Attach.is (λ p. sym (ap (conference_of s) p.1)) (λ p. sym (ap (conference_of s) p.1)) }
+returns-in-Attach c = record {
+  value = λ s h.
+      split c.in-Attach.is (λ p. sym (ap (conference_of s) p.1)) (λ q. split q (λ p. sym (ap (conference_of s) p.1)) (λ p. sym (ap (conference_of s) p.2)));
+}
 
 pub returns-in-Piece : goal.returns-in-Piece
 returns-in-Piece c = record {

@@ -1,0 +1,78 @@
+-- How many events of a conference are kept changes who is handed something, and nothing that is on its way.
+use Rattle.std.proofs.Common.{◌≡◌, ◌≢◌, ◌⊎◌, inl, inr, ℕ, true, false, List, [], ◌∷◌, ◌++◌, refl, sym, ◌∙◌, ap, append-nil, Some, None}
+use Rattle.std.specs.Prelude.{Option, Result, Ok, Err, IsSome, OnErr, OnOk, nat_eq}
+use Rattle.std.proofs.lemmas.Bool.Decides.{eqb_tells}
+use Rattle.floor_room.specs.Room.{Room}
+use Rattle.floor_hub.specs.declared.attached.Live.{Live}
+use Rattle.floor_hub.specs.declared.connection.Connection.{Connection}
+use Rattle.floor_hub.specs.declared.refusal.HubRefusal.{HubRefusal}
+use Rattle.floor_hub.specs.Connections.{connection_at}
+use Rattle.floor_hub.specs.Hub.{Hub, room_at}
+use Rattle.floor_hub.specs.Members.{Stands}
+use Rattle.floor_hub.specs.Rooms.{KeepsIn, SameHub, first_at, first_in}
+use Rattle.floor_hub.specs.StandsFor.{StandsFor}
+use Rattle.floor_hub.specs.World.{World}
+use Rattle.floor_loop.specs.Done.{NoSteps}
+use Rattle.floor_loop.specs.Loop.{Attended, IsHandedOut, Loop, outgoing_at, outgoing_in}
+use Rattle.floor_loop.specs.steps.Moved.{FewerStays, Grows, KeepsAll, Moved, Went}
+use Rattle.floor_loop.proofs.Calls.{same-timed}
+use Rattle.floor_loop.proofs.Moving.{grows-same, moved-on, steps-none, was-live}
+use Rattle.floor_loop.proofs.Stepping.{is_not_none, keeps-live, kept-back, stay-same, went-none}
+
+some_room : (r s : Room) → ◌≡◌ {A = Option Room} (Some r) (Some s) → r ≡ s
+some_room r s e = cc
+
+some-by : (z : Option ℕ) → (z ≡ None → ⊥) → IsSome z
+some-by None some = absurd (some refl)
+some-by (Some u) some = refl
+
+-- who is ready stays so
+pub handed-on : (hub : Hub) (a b : Attended) (number : ℕ) → KeepsAll (outgoing_in a) (outgoing_in b) → IsHandedOut hub a number → IsHandedOut hub b number
+handed-on hub a b number keeps f p is some =
+    let t = kept-back (outgoing_in a) (outgoing_in b) keeps number p is in
+    some-by p.ready (λ e. is_not_none t.0.ready (f t.0 t.1 some) (t.3 e))
+
+-- who stands among some and one more
+pub stands-split : (ls : List Live) (l : Live) (number n : ℕ) → Stands (ls ++ l ∷ []) number n → Stands ls number n ⊎ (l.number ≡ number)
+stands-split [] l number n (inl e) = inr e.0
+stands-split [] l number n (inr s) = absurd s
+stands-split (k ∷ ls) l number n (inl e) = inl (inl e)
+stands-split (k ∷ ls) l number n (inr s) = elim (stands-split ls l number n s) [ inl t ↦ inl (inr t) | inr e ↦ inr e ]
+
+-- in a conference without a room nothing is handed out
+pub nothing-first : (h : Hub) (c number : ℕ) (x : Connection) → connection_at h.connections number ≡ Some x → x.conference ≡ c → room_at h c ≡ None → first_at h (connection_at h.connections number) ≡ None
+nothing-first h c number x is conference none =
+    ap (first_at h) is ∙ ap (λ (d : ℕ). first_in (room_at h d) x.n) conference ∙ ap (λ (y : Option Room). first_in y x.n) none
+
+kept-grows : (r : Room) (n : ℕ) → Grows r (record r { kept = n })
+kept-grows r n = record { config = refl; more = []; journal = sym (append-nil r.ledger.journal); taken = λ k. refl; broken = λ h. h }
+
+module _ (count : Room → ℕ) (c : ℕ) (old new : Hub) where
+  rooms-in : KeepsIn count c old new → (d : ℕ) (r : Room) → room_at old d ≡ Some r → (s : Room) × (room_at new d ≡ Some s) × Grows r s × (s.ledger ≡ r.ledger)
+  rooms-in k d r is = by (eqb_tells c d)
+    where
+      by : (((nat_eq c d ≡ true) × (c ≡ d)) ⊎ ((nat_eq c d ≡ false) × (c ≢ d))) → (s : Room) × (room_at new d ≡ Some s) × Grows r s × (s.ledger ≡ r.ledger)
+      by (inl t) =
+          let same : k.before ≡ r = some_room k.before r (sym k.was ∙ ap (room_at old) t.1 ∙ is) in (
+            record r { kept = count r },
+            ap (room_at new) (sym t.1) ∙ k.now ∙ ap (λ (z : Room). Some (record z { kept = count z })) same,
+            kept-grows r (count r),
+            refl,
+          )
+      by (inr t) = (r, k.others d t.0 ∙ is, grows-same r r refl, refl)
+
+  pub went-kept : (res : Result (Unit {0}) HubRefusal) → OnOk res (KeepsIn count c old new) → OnErr res (SameHub old new) → Went old new
+  went-kept (Err e) done left = went-none old new left
+  went-kept (Ok v) done left = record { rooms = λ d r is. let t = rooms-in done d r is in (t.0, t.1, t.2); live = was-live old new (stay-same old new done.connections) }
+
+  pub ledgers-kept : (res : Result (Unit {0}) HubRefusal) → OnOk res (KeepsIn count c old new) → OnErr res (SameHub old new) → (d : ℕ) (r s : Room) → room_at old d ≡ Some r → room_at new d ≡ Some s → s.ledger ≡ r.ledger
+  ledgers-kept (Err e) done left d r s is_r is_s = ap (λ (z : Room). z.ledger) (some_room s r (sym is_s ∙ left.rooms d ∙ is_r))
+  ledgers-kept (Ok v) done left d r s is_r is_s = let t = rooms-in done d r is_r in ap (λ (z : Room). z.ledger) (some_room s t.0 (sym is_s ∙ t.1)) ∙ t.3
+
+-- a loop of whose hub some events are kept, and in which some are woken
+pub moved-released : (count : Room → ℕ) (c : ℕ) (old new : Loop) (res : Result (Unit {0}) HubRefusal) → OnOk res (KeepsIn count c old.hub new.hub) → OnErr res (SameHub old.hub new.hub) → ((w : World) → StandsFor old.hub w → StandsFor new.hub w) →
+    KeepsAll (outgoing_at old) (outgoing_at new) → FewerStays old.attended new.attended → Moved NoSteps old new
+moved-released count c old new res done left stands keeps few =
+    let went = went-kept count c old.hub new.hub res done left in
+    let live = keeps-live new.hub (outgoing_at old) (outgoing_at new) keeps in
+    moved-on NoSteps old new (steps-none NoSteps old.hub new.hub refl stands) went live few (same-timed old new went (ledgers-kept count c old.hub new.hub res done left) live)

@@ -1,0 +1,48 @@
+use Rattle.std.proofs.Common.{◌≡◌, subst, None}
+use Rattle.std.specs.Prelude.{IfErr, OnErr, OnOk}
+use Rattle.floor_hub.specs.Hub.{is_forgotten, room_at}
+use Rattle.floor_hub.specs.Rooms.{KeepsIn, SameHub, so_many, forgotten_or_none}
+use Rattle.floor_loop.specs.Done.{NoSteps, Steps}
+use Rattle.floor_loop.specs.Loop.{Loop}
+use Rattle.floor_loop.specs.Written.{Spares, TookNothing}
+use Rattle.floor_loop.specs.steps.Moved.{Moved, loop_of}
+use Rattle.floor_loop.proofs.Moving.{fewer, loop-moves}
+use Rattle.floor_loop.proofs.Released.{moved-released}
+use Rattle.floor_loop.proofs.Sparing.{spares-same}
+use Rattle.floor_loop.proofs.serving.Loop.keep.Goals as goal
+
+abbrev old : goal.After-wake_handed → Loop
+old c = loop_of c.self.inside.hub c.self.inside.attended
+
+abbrev new : goal.After-wake_handed → Loop
+new c = loop_of c.keep-done.new.self c.wake_handed.new.attended
+
+moved : (c : goal.After-wake_handed) → Moved NoSteps (old c) (new c)
+moved c =
+    moved-released (so_many c.args.events) c.args.conference (old c) (new c) c.keep-done.result c.keep-done.ensures.kept c.keep-done.ensures.left c.keep-done.ensures.stands c.wake_handed.ensures.kept
+    (fewer c.self.inside.attended c.wake_handed.new.attended c.wake_handed.ensures.away)
+
+pub invariant_of-self : goal.invariant_of-self
+invariant_of-self c = loop-moves NoSteps (old c) (new c) (moved c) c.self.invariant
+
+pub returns-clause-steps : goal.returns-clause-steps
+returns-clause-steps c = subst (λ (l : Loop). Steps NoSteps l.hub (new c).hub) c.self.view_is (moved c).steps
+
+pub returns-clause-took : goal.returns-clause-took
+returns-clause-took c = subst (λ (l : Loop). TookNothing l (new c)) c.self.view_is ((moved c).took c.self.invariant)
+
+pub returns-clause-spares : goal.returns-clause-spares
+returns-clause-spares c = subst (λ (l : Loop). Spares l (new c)) c.self.view_is (spares-same (old c) (new c) c.wake_handed.ensures.ends)
+
+pub returns-clause-ready : goal.returns-clause-ready
+returns-clause-ready c = λ number x is conference. c.wake_handed.ensures.woken number x is conference
+
+pub returns-clause-kept : goal.returns-clause-kept
+returns-clause-kept c = subst (λ (l : Loop). OnOk c.keep-done.result (KeepsIn (so_many c.args.events) c.args.conference l.hub (new c).hub)) c.self.view_is c.keep-done.ensures.kept
+
+pub returns-clause-refused : goal.returns-clause-refused
+returns-clause-refused c =
+    subst (λ (l : Loop). IfErr c.keep-done.result (λ refusal. (room_at l.hub c.args.conference ≡ None) × (refusal ≡ forgotten_or_none (is_forgotten l.hub c.args.conference)))) c.self.view_is c.keep-done.ensures.refused
+
+pub returns-clause-left : goal.returns-clause-left
+returns-clause-left c = subst (λ (l : Loop). OnErr c.keep-done.result (SameHub l.hub (new c).hub)) c.self.view_is c.keep-done.ensures.left
