@@ -1,0 +1,5 @@
+mod Searching
+mod Serving
+mod Running
+mod Watching
+mod Bounding

@@ -1,0 +1,5 @@
+pub mod Handing
+pub mod Moving
+pub mod Living
+pub mod Wanted
+pub mod Resting

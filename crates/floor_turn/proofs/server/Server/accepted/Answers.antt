@@ -1,0 +1,15 @@
+use Rattle.std.proofs.Common.{◌≡◌, Some, refl, subst}
+use Rattle.floor_turn.specs.declared.place.Place.TheVariants.{Port}
+use Rattle.floor_turn.specs.declared.table.Table.{Table}
+use Rattle.floor_turn.specs.Table.{listener_of, socket_at}
+use Rattle.floor_turn.proofs.Handing.{place_of}
+use Rattle.floor_turn.proofs.Moving.{moves_same}
+use Rattle.floor_turn.proofs.server.Server.accepted.Goals as goal
+
+pub returns-in-Ok-clause-joined : goal.returns-in-Ok-clause-joined
+returns-in-Ok-clause-joined c = λ l d u p at is. c.in-Ok.ensures.joined d u p
+    (place_of (listener_of (socket_at c.args.self.now.connections.table c.args.listener)) c.in-Some.known l (Port d u p)
+    (subst (λ (t : Table). listener_of (socket_at t c.args.listener) ≡ Some c.in-Some.known) c.pass.ensures.table c.in-Some.ensures.found) at is)
+
+pub returns-in_default-clause-moves : goal.returns-in_default-clause-moves
+returns-in_default-clause-moves c = moves_same c.args.self.now.meetings c.args.self.now.meetings refl

@@ -1,0 +1,7 @@
+use Rattle.std.proofs.Common.{refl}
+use Rattle.floor_meetings.specs.Runs.{Acts}
+use Rattle.floor_turn.proofs.Moving.{moves_one}
+use Rattle.floor_turn.proofs.server.Server.act.Goals as goal
+
+pub returns-clause-moves : goal.returns-clause-moves
+returns-clause-moves c = moves_one (Acts c.args.conference c.args.act) c.args.self.now.meetings c.act-done.new.self (c.act-done.ensures.members, c.act-done.ensures.quiet) (λ slot. refl)

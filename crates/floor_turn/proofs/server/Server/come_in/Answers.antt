@@ -1,0 +1,31 @@
+use Rattle.std.proofs.Common.{◌≡◌, ℕ, Some, refl, sym, ◌∙◌}
+use Rattle.floor_loop.specs.Laws.{IsNew}
+use Rattle.floor_meetings.specs.Meetings.{member_at}
+use Rattle.floor_meetings.specs.declared.members.Member.{Member}
+use Rattle.floor_turn.proofs.Handing.{at_port, no_port, not_door, not_health}
+use Rattle.floor_turn.proofs.Moving.{moves_same}
+use Rattle.floor_turn.proofs.server.Server.come_in.Goals as goal
+
+pub returns-in-Port-clause-joined : goal.returns-in-Port-clause-joined
+returns-in-Port-clause-joined c =
+    let new = c.enter_at_port.new.self.meetings in
+    at_port c.enter_at_port.result c.args.peer.place _ _ _
+    (λ s d u. (m : Member) × (member_at new s ≡ Some m) × (m.conference ≡ d) × (m.user ≡ u) × IsNew new.hub m.number) c.in-Port.is c.enter_at_port.ensures.joined
+
+pub returns-in-Door-clause-joined : goal.returns-in-Door-clause-joined
+returns-in-Door-clause-joined c =
+    let old = c.args.self.now.meetings in
+    no_port c.open_at_door.result c.args.peer.place (λ s d u. (m : Member) × (member_at old s ≡ Some m) × (m.conference ≡ d) × (m.user ≡ u) × IsNew old.hub m.number)
+    (λ d u p is. not_door _ _ d u p (sym c.in-Door.is ∙ is))
+
+pub returns-in-Health-clause-joined : goal.returns-in-Health-clause-joined
+returns-in-Health-clause-joined c =
+    let old = c.args.self.now.meetings in
+    no_port c.open_probe.result c.args.peer.place (λ s d u. (m : Member) × (member_at old s ≡ Some m) × (m.conference ≡ d) × (m.user ≡ u) × IsNew old.hub m.number)
+    (λ d u p is. not_health _ d u p (sym c.in-Health.is ∙ is))
+
+pub returns-in-Door-clause-moves : goal.returns-in-Door-clause-moves
+returns-in-Door-clause-moves c = moves_same c.args.self.now.meetings c.args.self.now.meetings refl
+
+pub returns-in-Health-clause-moves : goal.returns-in-Health-clause-moves
+returns-in-Health-clause-moves c = moves_same c.args.self.now.meetings c.args.self.now.meetings refl

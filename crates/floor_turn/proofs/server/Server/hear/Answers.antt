@@ -1,0 +1,19 @@
+use Rattle.std.proofs.Common.{◌≡◌, Bool, refl}
+use Rattle.std.specs.Prelude.{Result}
+use Rattle.floor_hub.specs.declared.refusal.HubRefusal.{HubRefusal}
+use Rattle.floor_meetings.specs.Calls.{Comes}
+use Rattle.floor_meetings.specs.Meetings.{member_at}
+use Rattle.floor_meetings.specs.declared.members.Member.{Member}
+use Rattle.floor_meetings.specs.Runs.{Came}
+use Rattle.floor_turn.proofs.Handing.{any_answer}
+use Rattle.floor_turn.proofs.Moving.{moves_one}
+use Rattle.floor_turn.proofs.server.Server.hear.Goals as goal
+
+pub returns-clause-took : goal.returns-clause-took
+returns-clause-took c =
+    let old = c.args.self.now.meetings in
+    let new = c.came-served.new.self in
+    any_answer (member_at old c.args.socket) (new.hub ≡ old.hub) (λ (m : Member) (r : Result Bool HubRefusal). Comes m.number c.args.bytes.now old.hub new.hub r) c.came-served.result c.came-served.ensures.took
+
+pub returns-clause-moves : goal.returns-clause-moves
+returns-clause-moves c = moves_one (Came c.args.socket c.args.bytes.now c.came-served.result) c.args.self.now.meetings c.came-served.new.self (c.came-served.ensures.members, c.came-served.ensures.took) (λ slot. refl)

@@ -1,0 +1,24 @@
+use Rattle.std.proofs.Common.{refl}
+use Rattle.floor_meetings.specs.Runs.{Join, MakeRoom, Refused}
+use Rattle.floor_turn.proofs.Moving.{moves_one, moves_same, moves_then}
+use Rattle.floor_turn.proofs.server.Server.join.Goals as goal
+
+pub returns-then-is_full_for-clause-moves : goal.returns-then-is_full_for-clause-moves
+returns-then-is_full_for-clause-moves c = moves_same c.args.self.now.meetings c.args.self.now.meetings refl
+
+pub returns-in-Ok-clause-moves : goal.returns-in-Ok-clause-moves
+returns-in-Ok-clause-moves c =
+    moves_then c.args.self.now.meetings c.make_room-gone.new.self c.join-joined.new.self
+    (moves_one (MakeRoom c.make_room-gone.result) c.args.self.now.meetings c.make_room-gone.new.self (c.make_room-gone.ensures.members, c.make_room-gone.ensures.quiet) (λ slot. refl))
+    (moves_one (Join c.args.socket c.args.conference c.args.user) c.make_room-gone.new.self c.join-joined.new.self c.in-Ok.ensures.took (λ slot. refl))
+
+pub returns-in-Err-clause-moves : goal.returns-in-Err-clause-moves
+returns-in-Err-clause-moves c =
+    moves_then c.args.self.now.meetings c.make_room-gone.new.self c.join-joined.new.self
+    (moves_one (MakeRoom c.make_room-gone.result) c.args.self.now.meetings c.make_room-gone.new.self (c.make_room-gone.ensures.members, c.make_room-gone.ensures.quiet) (λ slot. refl))
+    (moves_one (Refused c.args.conference c.args.user c.in-Err.refusal) c.make_room-gone.new.self c.join-joined.new.self (c.in-Err.ensures.slots, c.in-Err.ensures.left) (λ slot. refl))
+
+pub returns-in-Ok-clause-joined : goal.returns-in-Ok-clause-joined
+returns-in-Ok-clause-joined c =
+    let j = c.in-Ok.ensures.took in
+    (j.member, j.here, j.place.0, j.place.1, j.fresh)

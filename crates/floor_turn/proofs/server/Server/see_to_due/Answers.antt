@@ -1,0 +1,16 @@
+use Rattle.std.proofs.Common.{refl}
+use Rattle.floor_meetings.specs.Runs.{Due, LeaveAway}
+use Rattle.floor_turn.proofs.Moving.{moves_one, moves_then}
+use Rattle.floor_turn.proofs.server.Server.see_to_due.Goals as goal
+
+pub returns-in-Some-Member-clause-moves : goal.returns-in-Some-Member-clause-moves
+returns-in-Some-Member-clause-moves c = moves_one (Due c.millis-now.result) c.args.self.now.meetings c.due.new.self (c.due.ensures.members, c.due.ensures.hub, c.due.ensures.attended) (λ slot. refl)
+
+pub returns-in-None-clause-moves : goal.returns-in-None-clause-moves
+returns-in-None-clause-moves c = moves_one (Due c.millis-now.result) c.args.self.now.meetings c.due.new.self (c.due.ensures.members, c.due.ensures.hub, c.due.ensures.attended) (λ slot. refl)
+
+pub returns-in-Some-Away-clause-moves : goal.returns-in-Some-Away-clause-moves
+returns-in-Some-Away-clause-moves c =
+    moves_then c.args.self.now.meetings c.due.new.self c.leave_away-left.new.self
+    (moves_one (Due c.millis-now.result) c.args.self.now.meetings c.due.new.self (c.due.ensures.members, c.due.ensures.hub, c.due.ensures.attended) (λ slot. refl))
+    (moves_one (LeaveAway c.in-Some-Away.number) c.due.new.self c.leave_away-left.new.self (c.leave_away-left.ensures.members, c.leave_away-left.ensures.took) (λ slot. refl))

@@ -1,0 +1,60 @@
+//! Why a member's socket was shut.
+
+ghost use Rattle.std.specs.Prelude.{◌≡◌};
+
+use floor_meetings::HubRefusal;
+
+/// Why a member's socket was shut: the first that applied.
+#[derive(Clone, Copy, Debug, PartialEq, Eq)]
+pub enum Departure {
+    /// Its stream ended behind a whole message, or before the first.
+    EndOfStream,
+    /// Its stream ended inside a message.
+    InsideMessage,
+    /// A read failed, as where the peer resets the connection.
+    Reset,
+    /// The hub refused its bytes or a message.
+    Refused(HubRefusal),
+    /// It was cut, since it had more than 1,024 messages not acknowledged.
+    Slow,
+    /// Its conference was closed.
+    Closed,
+    /// Its conference was broken off.
+    BrokenOff,
+    /// The server stops.
+    Stopped,
+}
+
+impl Departure {
+    ghost use Rattle.floor_turn.specs.Names.{name_of_departure};
+
+    /// Whether its connection was lost: then its member may stay. One whose stream ended in order is lost where that is
+    /// asked for.
+    pub(crate) fn is_lost(&self, is_for_all: bool) -> bool {
+        match self {
+            Departure::Reset | Departure::InsideMessage => true,
+            Departure::EndOfStream => is_for_all,
+            Departure::Refused(_)
+            | Departure::Slow
+            | Departure::Closed
+            | Departure::BrokenOff
+            | Departure::Stopped => false,
+        }
+    }
+
+    /// The name of the variant, or of the refusal. Takes no memory.
+    pub fn name(&self) -> &'static str
+        ensures value { result.now ≡ name_of_departure self.now }
+    {
+        match self {
+            Departure::EndOfStream => "EndOfStream",
+            Departure::InsideMessage => "InsideMessage",
+            Departure::Reset => "Reset",
+            Departure::Refused(refusal) => refusal.name(),
+            Departure::Slow => "Slow",
+            Departure::Closed => "Closed",
+            Departure::BrokenOff => "BrokenOff",
+            Departure::Stopped => "Stopped",
+        }
+    }
+}

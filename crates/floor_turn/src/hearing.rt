@@ -1,0 +1,203 @@
+//! What is read of sockets.
+
+ghost use Rattle.std.specs.Prelude.{◌≡◌, [], Bool, MatchOption, None, Result, Some, false, true};
+ghost use Rattle.floor_hub.specs.declared.refusal.HubRefusal.{HubRefusal as Refused};
+ghost use Rattle.floor_meetings.specs.Calls.{Comes, Ends, Fails};
+ghost use Rattle.floor_meetings.specs.Meetings.{member_at};
+ghost use Rattle.floor_sockets.specs.Life.{none_came, worded};
+ghost use Rattle.floor_sockets.specs.Sockets.{Changed, life_at};
+ghost use Rattle.floor_turn.specs.Asked.{reads};
+ghost use Rattle.floor_turn.specs.Table.{is_at_door, listener_of, socket_at};
+ghost use Rattle.floor_turn.specs.declared.table.Listener.{Listener as Where};
+ghost use Rattle.floor_turn.specs.Moves.{Moves, nothing_taken};
+
+use crate::asked::is_reading;
+use crate::connections::Connections;
+use crate::departure::Departure;
+use crate::meeting::{broken_at, end_of_stream};
+use crate::refusal::Refusal;
+use crate::server::Server;
+use floor_doors::Verdict;
+use floor_meetings::{HubRefusal, Meetings};
+
+impl Server {
+    /// The poll told that something may be read of a socket, and whether its stream ends.
+    pub fn readable(&mut self, socket: usize, ends: bool)
+        ensures sockets { listener_of (socket_at self.old.connections.table socket) ≡ None
+            → Changed (worded ends) socket self.old.connections.sockets.deadlines
+            self.old.connections.sockets self.new.connections.sockets }
+        ensures listener { (l : Where)
+            → listener_of (socket_at self.old.connections.table socket) ≡ Some l
+            → self.new.connections ≡ self.old.connections }
+        ensures meetings { self.new.meetings ≡ self.old.meetings }
+    {
+        match self.connections.table.listener(socket) {
+            Some(_) => {}
+            None => self.connections.sockets.readable(socket, ends),
+        }
+    }
+
+    /// Bytes came from a socket. Of a stream that doesn't end fewer than `MAX_READ` are all that are there now.
+    pub fn came(&mut self, socket: usize, bytes: &[u8], now: u64)
+        ensures heard { reads (life_at self.old.connections.sockets socket) ≡ true
+            → is_at_door (socket_at self.old.connections.table socket) ≡ false
+            → MatchOption (member_at self.old.meetings socket)
+            (self.new.meetings.hub ≡ self.old.meetings.hub)
+            (λ m. (r : Result Bool Refused) × Comes m.number bytes.now
+            self.old.meetings.hub self.new.meetings.hub r) }
+        ensures not_asked { reads (life_at self.old.connections.sockets socket) ≡ false
+            → self.new.meetings ≡ self.old.meetings }
+        ensures moves { Moves nothing_taken self.old.meetings self.new.meetings }
+    {
+        self.connections.pass(now);
+        if !is_reading(&self.connections.sockets, socket) {
+            return;
+        }
+        if self.connections.table.is_at_door(socket) {
+            let verdict = self.connections.table.came_at_door(socket, bytes);
+            self.act_on(socket, verdict, bytes);
+        } else {
+            self.hear(socket, bytes, bytes.len());
+        }
+    }
+
+    /// Nothing is there to be read.
+    pub fn nothing(&mut self, socket: usize)
+        ensures sockets { Changed none_came socket self.old.connections.sockets.deadlines
+            self.old.connections.sockets self.new.connections.sockets }
+        ensures meetings { self.new.meetings ≡ self.old.meetings }
+    {
+        self.connections.sockets.nothing(socket);
+    }
+
+    /// The stream of a socket is over: what came of it is served to its end, and it is shut once what is told is written,
+    /// at latest after 10 seconds.
+    pub fn ended(&mut self, socket: usize, now: u64)
+        ensures ended { reads (life_at self.old.connections.sockets socket) ≡ true
+            → is_at_door (socket_at self.old.connections.table socket) ≡ false
+            → MatchOption (member_at self.old.meetings socket)
+            (self.new.meetings.hub ≡ self.old.meetings.hub)
+            (λ m. Ends m.number self.old.meetings.hub self.new.meetings.hub) }
+        ensures not_asked { reads (life_at self.old.connections.sockets socket) ≡ false
+            → self.new.meetings ≡ self.old.meetings }
+        ensures moves { Moves nothing_taken self.old.meetings self.new.meetings }
+    {
+        self.connections.pass(now);
+        if !is_reading(&self.connections.sockets, socket) {
+            return;
+        }
+        if self.connections.table.is_at_door(socket) {
+            let verdict = self.connections.table.ended_at_door(socket);
+            self.act_on(socket, verdict, &[]);
+            return;
+        }
+        self.meetings.ended(socket, self.connections.millis());
+        let departure = end_of_stream(&self.meetings, socket);
+        self.connections.end_reading(socket, departure);
+    }
+
+    /// A read of a socket failed, as where its peer resets the connection: what came of it is served to its end, and it is
+    /// shut at once.
+    pub fn failed(&mut self, socket: usize, now: u64)
+        ensures failed { reads (life_at self.old.connections.sockets socket) ≡ true
+            → is_at_door (socket_at self.old.connections.table socket) ≡ false
+            → MatchOption (member_at self.old.meetings socket)
+            (self.new.meetings.hub ≡ self.old.meetings.hub)
+            (λ m. Fails m.number self.old.meetings.hub self.new.meetings.hub) }
+        ensures not_asked { reads (life_at self.old.connections.sockets socket) ≡ false
+            → self.new.meetings ≡ self.old.meetings }
+        ensures moves { Moves nothing_taken self.old.meetings self.new.meetings }
+    {
+        self.connections.pass(now);
+        if !is_reading(&self.connections.sockets, socket) {
+            return;
+        }
+        if self.connections.table.is_at_door(socket) {
+            let verdict = self.connections.table.ended_at_door(socket);
+            self.act_on(socket, verdict, &[]);
+            return;
+        }
+        self.meetings.failed(socket, self.connections.millis());
+        self.connections.fail(socket);
+    }
+
+    /// A turn of what a member has left over is served.
+    pub(crate) fn serve(&mut self, socket: usize)
+        ensures took { MatchOption (member_at self.old.meetings socket)
+            (self.new.meetings.hub ≡ self.old.meetings.hub)
+            (λ m. (r : Result Bool Refused) × Comes m.number []
+            self.old.meetings.hub self.new.meetings.hub r) }
+        ensures members { self.new.meetings.members ≡ self.old.meetings.members }
+        ensures moves { Moves nothing_taken self.old.meetings self.new.meetings }
+    {
+        let served = self.meetings.serve(socket, self.connections.millis());
+        let has_more = note(&mut self.connections, &self.meetings, socket, served);
+        self.connections.sockets.served(socket, has_more);
+    }
+
+    /// Bytes came from a member, the last of so many that were read.
+    fn hear(&mut self, socket: usize, bytes: &[u8], count: usize)
+        ensures took { MatchOption (member_at self.old.meetings socket)
+            (self.new.meetings.hub ≡ self.old.meetings.hub)
+            (λ m. (r : Result Bool Refused) × Comes m.number bytes.now
+            self.old.meetings.hub self.new.meetings.hub r) }
+        ensures members { self.new.meetings.members ≡ self.old.meetings.members }
+        ensures moves { Moves nothing_taken self.old.meetings self.new.meetings }
+    {
+        let served = self.meetings.came(socket, bytes, self.connections.millis());
+        let has_more = note(&mut self.connections, &self.meetings, socket, served);
+        self.connections.sockets.came(socket, count, has_more);
+    }
+
+    /// What follows for somebody at a door is done. These bytes came last.
+    fn act_on(&mut self, socket: usize, verdict: Verdict, bytes: &[u8])
+        ensures moves { Moves nothing_taken self.old.meetings self.new.meetings }
+    {
+        match verdict {
+            Verdict::Wait => self.connections.sockets.came(socket, bytes.len(), false),
+            Verdict::Enter {
+                conference,
+                user,
+                at,
+            } => self.enter(socket, conference, user, bytes, at),
+            Verdict::LetGo => self.connections.turn_away(socket, None),
+            Verdict::Refuse(refusal) => self
+                .connections
+                .turn_away(socket, Some(Refusal::AtDoor(refusal))),
+        }
+    }
+
+    /// Somebody at a door is this user: it joins, and what stands behind the header is its own.
+    fn enter(&mut self, socket: usize, conference: u32, user: u16, bytes: &[u8], at: usize)
+        ensures moves { Moves nothing_taken self.old.meetings self.new.meetings }
+    {
+        match self.join(socket, conference, user) {
+            Ok(()) => {
+                self.connections.let_in(socket, conference);
+                let rest = bytes.get(at..).unwrap_or(&[]);
+                self.hear(socket, rest, bytes.len());
+            }
+            Err(refusal) => self.connections.turn_away(socket, Some(refusal)),
+        }
+    }
+}
+
+/// Says whether a turn has left messages over; where one was refused this is noted.
+fn note(
+    connections: &mut Connections,
+    meetings: &Meetings,
+    socket: usize,
+    served: Result<bool, HubRefusal>,
+) -> bool {
+    match served {
+        Ok(has_more) => has_more,
+        Err(refusal) => {
+            connections.table.end(socket, Departure::Refused(refusal));
+            match broken_at(meetings, socket) {
+                Some(conference) => connections.break_off(conference),
+                None => {}
+            }
+            false
+        }
+    }
+}

@@ -1,0 +1,131 @@
+//! What the turn asks of the meetings.
+
+ghost use Rattle.std.specs.Prelude.{◌≡◌, None};
+ghost use Rattle.floor_meetings.specs.Meetings.{member_at};
+ghost use Rattle.floor_turn.specs.Moves.{Moves, nothing_taken};
+
+use crate::departure::Departure;
+use crate::entry::Who;
+use floor_hub::Live;
+use floor_meetings::{ConnNo, Meetings};
+use floor_room::Phase;
+
+/// The member at a socket has none any more. Says whether it stays: not where its connection wasn't lost, or its user is
+/// in the conference by another one.
+pub(crate) fn part(meetings: &mut Meetings, slot: usize, is_lost: bool, now: u64) -> bool
+    ensures free { member_at meetings.new slot ≡ None }
+    ensures moves { Moves nothing_taken meetings.old meetings.new }
+{
+    let Some(member) = meetings.get(slot) else {
+        return false;
+    };
+    match meetings.left(slot, now) {
+        Ok(true) => {}
+        Ok(false) | Err(_) => return false,
+    }
+    if is_lost && sockets_of(meetings, member.conference, member.user) == 0 {
+        return true;
+    }
+    let _left = meetings.leave_away(member.number, now);
+    false
+}
+
+/// Why the socket of a member is shut, whose reading ended so and whose server stops or doesn't.
+pub(crate) fn departure_of(
+    meetings: &Meetings,
+    slot: usize,
+    end: Option<Departure>,
+    is_stopping: bool,
+) -> Departure {
+    let Some(member) = meetings.get(slot) else {
+        return Departure::Reset;
+    };
+    match phase_of(meetings, member.conference) {
+        Some(Phase::Ended) => return Departure::Closed,
+        Some(Phase::Broken) => return Departure::BrokenOff,
+        Some(Phase::Running) | None => {}
+    }
+    if meetings.hub().is_cut(member.number) {
+        return Departure::Slow;
+    }
+    match end {
+        Some(departure) => departure,
+        None if is_stopping => Departure::Stopped,
+        None => Departure::Reset,
+    }
+}
+
+/// How the reading of a member's socket ended whose stream is over.
+pub(crate) fn end_of_stream(meetings: &Meetings, slot: usize) -> Departure {
+    let held = match meetings.get(slot) {
+        Some(member) => meetings.hub().held_len(member.number),
+        None => 0,
+    };
+    if held == 0 {
+        Departure::EndOfStream
+    } else {
+        Departure::InsideMessage
+    }
+}
+
+/// How a conference stands, where there is one.
+pub(crate) fn phase_of(meetings: &Meetings, conference: u32) -> Option<Phase> {
+    match meetings.hub().status(conference) {
+        Ok(status) => Some(status.phase),
+        Err(_) => None,
+    }
+}
+
+/// The conference of the member at a socket, where it is broken off.
+pub(crate) fn broken_at(meetings: &Meetings, slot: usize) -> Option<u32> {
+    let member = meetings.get(slot)?;
+    match phase_of(meetings, member.conference) {
+        Some(Phase::Broken) => Some(member.conference),
+        Some(Phase::Running | Phase::Ended) | None => None,
+    }
+}
+
+/// Who the member at a socket is.
+pub(crate) fn who_at(meetings: &Meetings, slot: usize) -> Option<Who> {
+    let member = meetings.get(slot)?;
+    let place = meetings.hub().place(member.number)?;
+    Some(Who {
+        conference: member.conference,
+        user: member.user,
+        n: place.n,
+    })
+}
+
+/// Whether a user has as many sockets in a conference as its configuration lets one user have.
+pub(crate) fn is_full_for(meetings: &Meetings, conference: u32, user: u16) -> bool {
+    match meetings.hub().config(conference) {
+        Ok(config) => usize::from(config.connections()) <= sockets_of(meetings, conference, user),
+        Err(_) => false,
+    }
+}
+
+/// How many sockets of a user are in a conference.
+fn sockets_of(meetings: &Meetings, conference: u32, user: u16) -> usize {
+    match meetings.hub().members(conference) {
+        Ok(live) => count_of(meetings, live, user),
+        Err(_) => 0,
+    }
+}
+
+/// How many of these live connections are in slots and of this user.
+fn count_of(meetings: &Meetings, live: &[Live], user: u16) -> usize {
+    live.iter()
+        .filter(|one| is_of(meetings, one.number, user))
+        .count()
+}
+
+/// Whether the member with this number is in a slot, and of this user.
+fn is_of(meetings: &Meetings, number: ConnNo, user: u16) -> bool {
+    match meetings.slot_of(number) {
+        Some(slot) => match meetings.get(slot) {
+            Some(member) => member.user == user,
+            None => false,
+        },
+        None => false,
+    }
+}

@@ -1,0 +1,272 @@
+//! Who is at which socket.
+
+ghost use Rattle.std.specs.Prelude.{◌≡◌, ◌<◌, ℕ, None, OnOk, length, slice_index_or};
+ghost use Rattle.floor_turn.specs.Table.{is_at_door, listener_of, socket_at};
+
+use crate::departure::Departure;
+use crate::place::{Peer, Place};
+use floor_doors::{Newcomer, Verdict};
+use std::alloc::{AllocError, Global};
+
+/// How far a listener is.
+#[derive(Clone, Copy, Debug, PartialEq, Eq)]
+pub(crate) enum Stage {
+    /// It is to be listened there.
+    Wanted,
+    /// The system was asked for it.
+    Asked,
+    /// It is listened there.
+    Listening,
+    /// The same, and the last accept failed.
+    Failing,
+}
+
+/// A listener: where it listens, with whom those share their turns who connect there, and how far it is.
+#[derive(Clone, Copy, Debug, PartialEq, Eq)]
+pub(crate) struct Listener {
+    pub(crate) place: Place,
+    pub(crate) group: usize,
+    pub(crate) stage: Stage,
+}
+
+/// Who is at a socket.
+#[derive(Drop)]
+pub(crate) enum Socket {
+    /// Nobody but us: whoever connects is accepted there.
+    Listener(Listener),
+    /// Somebody at a door, of whom a header is awaited.
+    AtDoor {
+        peer: Peer,
+        newcomer: Newcomer,
+    },
+    /// Somebody who isn't let in, or was only looking: it is to be shut.
+    Turned,
+    /// A member, how its reading ended, where it has, and whether it waits to be shut, since nothing is lent to it.
+    Member {
+        peer: Peer,
+        end: Option<Departure>,
+        is_leaving: bool,
+    },
+}
+
+/// Who is at which socket, by its slot.
+#[derive(Drop)]
+pub(crate) struct Table {
+    slots: Vec<Option<Socket>>,
+    count: usize,
+}
+
+impl Table {
+    /// Nobody. Takes no memory.
+    pub(crate) fn new(alloc: Global) -> Table
+        ensures none { (slot : ℕ) → socket_at result slot ≡ None }
+    {
+        Table {
+            slots: Vec::new(alloc),
+            count: 0,
+        }
+    }
+
+    /// Somebody is at a socket from now on. Where memory is refused nothing has changed.
+    pub(crate) fn put(&mut self, slot: usize, socket: Socket) -> Result<(), AllocError> {
+        grow(&mut self.slots, slot)?;
+        if let Some(place) = self.slots.get_mut(slot) {
+            if place.is_none() {
+                self.count = self.count.saturating_add(1);
+            }
+            *place = Some(socket);
+        }
+        Ok(())
+    }
+
+    /// Nobody is at a socket any more.
+    pub(crate) fn remove(&mut self, slot: usize) {
+        if let Some(place) = self.slots.get_mut(slot) {
+            if place.is_some() {
+                self.count = self.count.saturating_sub(1);
+            }
+            *place = None;
+        }
+    }
+
+    /// Whether nobody is anywhere.
+    pub(crate) fn is_empty(&self) -> bool {
+        self.count == 0
+    }
+
+    /// How many slots there are at most.
+    pub(crate) fn len(&self) -> usize {
+        self.slots.len()
+    }
+
+    /// The listener at a socket.
+    pub(crate) fn listener(&self, slot: usize) -> Option<Listener>
+        ensures value { result ≡ listener_of (socket_at self.now slot) }
+    {
+        match self.slots.get(slot) {
+            Some(Some(Socket::Listener(listener))) => Some(*listener),
+            Some(Some(Socket::AtDoor { .. } | Socket::Turned | Socket::Member { .. }) | None)
+            | None => None,
+        }
+    }
+
+    /// Where is listened there, or was asked to be.
+    pub(crate) fn place_at(&self, slot: usize) -> Option<Place> {
+        let listener = self.listener(slot)?;
+        match listener.stage {
+            Stage::Wanted => None,
+            Stage::Asked | Stage::Listening | Stage::Failing => Some(listener.place),
+        }
+    }
+
+    /// A listener has come so far.
+    pub(crate) fn set_stage(&mut self, slot: usize, stage: Stage) {
+        let Some(place) = self.slots.get_mut(slot) else {
+            return;
+        };
+        if let Some(socket) = place {
+            match socket {
+                Socket::Listener(listener) => listener.stage = stage,
+                Socket::AtDoor { .. } | Socket::Turned | Socket::Member { .. } => {}
+            }
+        }
+    }
+
+    /// Who has connected there and wasn't turned away.
+    pub(crate) fn peer(&self, slot: usize) -> Option<Peer> {
+        match self.slots.get(slot) {
+            Some(Some(Socket::AtDoor { peer, .. })) => Some(*peer),
+            Some(Some(Socket::Member { peer, .. })) => Some(*peer),
+            _ => None,
+        }
+    }
+
+    /// What follows from bytes that came of somebody at a door. Of who isn't at one nothing does.
+    pub(crate) fn came_at_door(&mut self, slot: usize, bytes: &[u8]) -> Verdict {
+        let Some(place) = self.slots.get_mut(slot) else {
+            return Verdict::LetGo;
+        };
+        match place {
+            Some(socket) => match socket {
+                Socket::AtDoor { newcomer, .. } => newcomer.came(bytes),
+                Socket::Listener(_) | Socket::Turned | Socket::Member { .. } => Verdict::LetGo,
+            },
+            None => Verdict::LetGo,
+        }
+    }
+
+    /// What follows where the stream of somebody at a door is over.
+    pub(crate) fn ended_at_door(&self, slot: usize) -> Verdict {
+        match self.slots.get(slot) {
+            Some(Some(Socket::AtDoor { newcomer, .. })) => newcomer.ended(),
+            _ => Verdict::LetGo,
+        }
+    }
+
+    /// Somebody has become a member.
+    pub(crate) fn let_in(&mut self, slot: usize) {
+        if let Some(peer) = self.peer(slot) {
+            if let Some(place) = self.slots.get_mut(slot) {
+                *place = Some(Socket::Member {
+                    peer,
+                    end: None,
+                    is_leaving: false,
+                });
+            }
+        }
+    }
+
+    /// Whether there is a member.
+    pub(crate) fn is_member(&self, slot: usize) -> bool {
+        match self.slots.get(slot) {
+            Some(Some(Socket::Member { .. })) => true,
+            _ => false,
+        }
+    }
+
+    /// A member waits to be shut, or doesn't. Says whether that is new.
+    pub(crate) fn set_leaving(&mut self, slot: usize, leaves: bool) -> bool {
+        let Some(place) = self.slots.get_mut(slot) else {
+            return false;
+        };
+        match place {
+            Some(socket) => match socket {
+                Socket::Member { is_leaving, .. } => {
+                    let is_new = *is_leaving != leaves;
+                    *is_leaving = leaves;
+                    is_new
+                }
+                Socket::Listener(_) | Socket::AtDoor { .. } | Socket::Turned => false,
+            },
+            None => false,
+        }
+    }
+
+    /// Somebody is turned away.
+    pub(crate) fn turn_away(&mut self, slot: usize) {
+        if let Some(place) = self.slots.get_mut(slot) {
+            if place.is_some() {
+                *place = Some(Socket::Turned);
+            }
+        }
+    }
+
+    /// The reading of a member's socket has ended so, unless it had before.
+    pub(crate) fn end(&mut self, slot: usize, departure: Departure) {
+        let Some(place) = self.slots.get_mut(slot) else {
+            return;
+        };
+        if let Some(socket) = place {
+            match socket {
+                Socket::Member { end, .. } => {
+                    if end.is_none() {
+                        *end = Some(departure);
+                    }
+                }
+                Socket::Listener(_) | Socket::AtDoor { .. } | Socket::Turned => {}
+            }
+        }
+    }
+
+    /// How it has ended.
+    pub(crate) fn end_of(&self, slot: usize) -> Option<Departure> {
+        match self.slots.get(slot) {
+            Some(Some(Socket::Member { end, .. })) => *end,
+            _ => None,
+        }
+    }
+
+    /// Whether somebody is at a door.
+    pub(crate) fn is_at_door(&self, slot: usize) -> bool
+        ensures value { result ≡ is_at_door (socket_at self.now slot) }
+    {
+        match self.slots.get(slot) {
+            Some(Some(Socket::AtDoor { .. })) => true,
+            Some(Some(Socket::Listener(_) | Socket::Turned | Socket::Member { .. }) | None)
+            | None => false,
+        }
+    }
+
+    /// Whether somebody is at a socket.
+    pub(crate) fn is_there(&self, slot: usize) -> bool {
+        match self.slots.get(slot) {
+            Some(Some(_)) => true,
+            _ => false,
+        }
+    }
+}
+
+/// Has a place for this slot, and for all before it.
+fn grow(slots: &mut Vec<Option<Socket>>, slot: usize) -> Result<(), AllocError>
+    ensures room { OnOk result (slot < length slots.new.items) }
+    ensures same { (k : ℕ) → slice_index_or slots.new.items k None
+        ≡ slice_index_or slots.old.items k None }
+{
+    while slots.len() <= slot {
+        match slots.push(None) {
+            Ok(()) => {}
+            Err(_) => return Err(AllocError),
+        }
+    }
+    Ok(())
+}

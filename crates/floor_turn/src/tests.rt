@@ -1,0 +1,5 @@
+//! What no clause says, as pages of calls and deeds.
+
+mod ends;
+mod members;
+mod page;

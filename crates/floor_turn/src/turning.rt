@@ -1,0 +1,174 @@
+//! The turn: what is to be done next.
+
+ghost use Rattle.std.specs.Prelude.{◌≡◌, IfNone, ℕ, None, false};
+ghost use Rattle.floor_loop.specs.Loop.{ready_at};
+ghost use Rattle.floor_sockets.specs.Sockets.{IsDone};
+ghost use Rattle.floor_turn.specs.Moves.{Moves, nothing_taken};
+
+use crate::connections::Connections;
+use crate::deed::Deed;
+use crate::entry::{Entry, Who};
+use crate::server::{Course, Server};
+use crate::shutting::end_all;
+use floor_meetings::Due;
+use floor_sockets::Deed as Asked;
+
+impl Server {
+    /// What is to be done next. Where it gives nothing, nothing is to be done before the poll says something or `due` has
+    /// come.
+    pub fn next(&mut self) -> Option<Deed>
+        ensures rest { IfNone result (IsDone self.new.connections.sockets) }
+        ensures ready { IfNone result ((number : ℕ)
+            → ready_at self.old.meetings.hub number ≡ None) }
+        ensures moves { Moves nothing_taken self.old.meetings self.new.meetings }
+    {
+        match self.connections.next_entry() {
+            Some(entry) => return Some(Deed::Log(entry)),
+            None => {}
+        }
+        let is_serving = self.is_serving();
+        match self.connections.next_wanted(is_serving) {
+            Some(deed) => return Some(deed),
+            None => {}
+        }
+        if self.see_to_somebody() {
+            return Some(Deed::Turn);
+        }
+        match self.connections.sockets.next() {
+            Some(asked) => return Some(self.do_asked(asked)),
+            None => {}
+        }
+        self.rest()
+    }
+
+    /// Whose time is over, who is ready, whoever is there where the server stops, or the next one that is leaving: one is
+    /// seen to. Says whether there was any.
+    fn see_to_somebody(&mut self) -> bool
+        ensures ready { result ≡ false → (number : ℕ)
+            → ready_at self.old.meetings.hub number ≡ None }
+        ensures moves { Moves nothing_taken self.old.meetings self.new.meetings }
+    {
+        if self.see_to_due() {
+            return true;
+        }
+        if self.see_to_ready() {
+            return true;
+        }
+        if self.ends_all() {
+            return true;
+        }
+        self.see_to_leaving()
+    }
+
+    /// Whether it wasn't told to stop.
+    fn is_serving(&self) -> bool {
+        match self.course {
+            Course::Starting | Course::Running => true,
+            Course::Stopping | Course::Closing | Course::Ended => false,
+        }
+    }
+
+    /// Somebody whose time is over is to be shut, or leaves. Says whether anybody has left.
+    fn see_to_due(&mut self) -> bool
+        ensures ready { result ≡ false → (number : ℕ)
+            → ready_at self.new.meetings.hub number ≡ ready_at self.old.meetings.hub number }
+        ensures moves { Moves nothing_taken self.old.meetings self.new.meetings }
+    {
+        let now = self.connections.millis();
+        match self.meetings.due(now) {
+            Some(Due::Member(socket)) => {
+                self.connections.sockets.fail(socket);
+                false
+            }
+            Some(Due::Away(number)) => {
+                let _left = self.meetings.leave_away(number, now);
+                let who = self.connections.forget_away(number);
+                tell_left(&mut self.connections, who);
+                true
+            }
+            None => false,
+        }
+    }
+
+    /// A server that stops has whoever is there shut, once whoever was ready has been seen to. Says whether it did.
+    fn ends_all(&mut self) -> bool
+        ensures meetings { self.new.meetings ≡ self.old.meetings }
+    {
+        match self.course {
+            Course::Stopping => {
+                end_all(&mut self.connections, &self.meetings);
+                self.course = Course::Closing;
+                true
+            }
+            Course::Starting | Course::Running | Course::Closing | Course::Ended => false,
+        }
+    }
+
+    /// The next one to whom nothing was lent is shut, unless something is by now. Says whether one was looked at.
+    fn see_to_leaving(&mut self) -> bool
+        ensures meetings { self.new.meetings ≡ self.old.meetings }
+    {
+        let Some(socket) = self.connections.next_leaving() else {
+            return false;
+        };
+        if self.meetings.lent(socket).is_empty() {
+            self.connections.close_one(socket);
+        }
+        true
+    }
+
+    /// What is asked of a socket is to be done, or is done where it is nothing of the system.
+    fn do_asked(&mut self, asked: Asked) -> Deed
+        ensures moves { Moves nothing_taken self.old.meetings self.new.meetings }
+    {
+        match asked {
+            Asked::Accept(listener) => Deed::Accept(listener),
+            Asked::Read(socket) => Deed::Read(socket),
+            Asked::Write(socket) => Deed::Write(socket),
+            Asked::Serve(socket) => {
+                self.serve(socket);
+                Deed::Turn
+            }
+            Asked::Shut(socket) => self.shut_next(socket),
+        }
+    }
+
+    /// A socket is to be shut. One that nobody else knows of goes at once.
+    fn shut_next(&mut self, socket: usize) -> Deed
+        ensures meetings { self.new.meetings ≡ self.old.meetings }
+    {
+        match self.connections.shut_next(socket) {
+            Deed::Turn => {
+                self.connections.shut(socket);
+                Deed::Turn
+            }
+            deed => deed,
+        }
+    }
+
+    /// Nothing is to be done: the start is over, or all is done.
+    fn rest(&mut self) -> Option<Deed>
+        ensures connections { self.new.connections ≡ self.old.connections }
+        ensures meetings { self.new.meetings ≡ self.old.meetings }
+    {
+        match self.course {
+            Course::Starting => {
+                self.course = Course::Running;
+                None
+            }
+            Course::Closing if self.connections.table.is_empty() => {
+                self.course = Course::Ended;
+                Some(Deed::End(self.fault))
+            }
+            Course::Running | Course::Stopping | Course::Closing | Course::Ended => None,
+        }
+    }
+}
+
+/// The log is told that a member has left that was away.
+fn tell_left(connections: &mut Connections, who: Option<Who>) {
+    match who {
+        Some(who) => connections.tell(Entry::Gone(who)),
+        None => {}
+    }
+}
