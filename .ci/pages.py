@@ -1,28 +1,36 @@
-"""How the pages for operators and builders read, and the index of what they list.
+"""How the pages read, and the index of what those for operators and builders list.
 
-These pages are for whoever looks something up. The first line of each below its title is one sentence, which
+The pages are for whoever looks something up. The first line of each below its title is one sentence, which
 says what the page is for. No sentence has more than 45 words, and half of those outside of tables have 20 at most; no
 paragraph has more than 600 characters. A text in a code span counts as one word. Words that nobody searches for don't
-stand there.
+stand there. A page that a script makes isn't read.
 
-docs/operate/index.md lists the pages, and what their tables have in columns that are titled as in KINDS. Each option of
-the servers and gateways, each metric and each name of a fault that the code prints is in it, and each option and line of
-floorsim.
+docs/operate/index.md lists the pages, and what the tables of those for operators and builders have in columns that are
+titled as in KINDS. Each option of the servers and gateways, each metric and each name of a fault that the code prints is
+in it, and each option and line of floorsim.
 """
 import os
 import re
 import statistics
 
 MOST_WORDS, MEDIAN_WORDS, MOST_CHARACTERS = 45, 20, 600
-# The folders of pages, and whom each is for.
-FOLDERS = {"docs/operate": "operators", "docs/build": "builders"}
+# The folders of pages, and what those of each are for. What the tables of the first two list is in the index.
+FOLDERS = {
+    "docs/operate": "operators",
+    "docs/build": "builders",
+    "docs/design": "those who ask why",
+    "docs/proof": "those who check the proofs",
+    "docs/develop": "developers",
+}
+INDEXED = ["docs/operate", "docs/build"]
 FOLDER = "docs/operate"
 INDEX = f"{FOLDER}/index.md"
-# The pages of the folders that aren't read, but made, or taken over with what was measured.
-NOT_READ = {"index.md", "hostile-use.md"}
-# Pages that are listed with the builders'.
-LISTED_BESIDES = ["docs/protocol.md", "docs/design/glossary.md"]
-READABLE_BESIDES = ["README.md", "docs/start.md", *LISTED_BESIDES]
+# The pages that are made.
+MADE = {INDEX, "docs/proof/definitions.md"}
+# A page that is listed with the builders', and those that the index takes up besides its folders'.
+LISTED_BESIDES = ["docs/protocol.md"]
+INDEXED_BESIDES = [*LISTED_BESIDES, "docs/design/glossary.md"]
+READABLE_BESIDES = ["README.md", "CONTRIBUTING.md", "docs/start.md", *LISTED_BESIDES]
 # Words that a reader doesn't search for, and what to say.
 UNWANTED = {
     "behind": "after",
@@ -56,7 +64,7 @@ KINDS = {
 }
 INDEX_HEAD = """# Index
 
-This page lists the pages for operators and builders, and each option, key, line, metric and name with its page.
+This page lists all pages, and each option, key, line, metric and name with its page.
 
 `.ci/documents --write` makes it of the tables of the pages.
 """
@@ -107,7 +115,7 @@ def parts(text):
 def readable(root):
     """The pages that are read."""
     found = [page for page in READABLE_BESIDES if (root / page).is_file()]
-    return found + [page for folder in FOLDERS for page in pages_of(root, folder) if page.split("/")[-1] not in NOT_READ]
+    return found + [page for folder in FOLDERS for page in pages_of(root, folder) if page not in MADE]
 
 
 def pages_of(root, folder):
@@ -153,7 +161,7 @@ def anchor(head):
 
 def entries(root):
     """Each kind of thing that the pages list, with its text, and the page and heading of it."""
-    for page in listed(root):
+    for page in [page for folder in INDEXED for page in pages_of(root, folder)] + INDEXED_BESIDES:
         text = re.sub(r"^```.*?^```$", "", (root / page).read_text(), flags=re.S | re.M)
         title = head = text.split("\n", 1)[0][2:]
         titles = []
@@ -179,7 +187,7 @@ def index(root):
     text = INDEX_HEAD
     for folder, readers in FOLDERS.items():
         text += f"\n## Pages for {readers}\n\n| page | is for |\n|---|---|\n"
-        for page in pages_of(root, folder) + (LISTED_BESIDES if readers == "builders" else []):
+        for page in pages_of(root, folder) + (LISTED_BESIDES if folder == "docs/build" else []):
             lines = (root / page).read_text().splitlines()
             said = re.sub(r"\]\((?!https?:)([^)#]*)(#[^)]*)?\)", "]", lines[2])
             said = re.sub(r"\[([^\]]*)\]", r"\1", said)
