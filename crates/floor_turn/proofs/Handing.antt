@@ -9,10 +9,10 @@ use Rattle.floor_meetings.specs.Calls.{Quiet}
 use Rattle.floor_sockets.specs.declared.deadlines.Deadline.{Deadline}
 use Rattle.floor_sockets.specs.Sockets.{IsDone, Rests, Sockets}
 use Rattle.floor_proxy.specs.declared.header.NamedBy.{NamedBy}
-use Rattle.floor_turn.specs.declared.place.Place.{Place}
-use Rattle.floor_turn.specs.declared.place.Place.TheVariants.{Door, Health, Port}
-use Rattle.floor_turn.specs.declared.refusal.Refusal.{Refusal}
-use Rattle.floor_turn.specs.declared.table.Listener.{Listener}
+use Rattle.floor_connections.specs.declared.place.Place.{Place}
+use Rattle.floor_connections.specs.declared.place.Place.TheVariants.{Door, Health, Port}
+use Rattle.floor_connections.specs.declared.refusal.Refusal.{Refusal}
+use Rattle.floor_connections.specs.declared.table.Listener.{Listener}
 
 -- what was answered so was answered somehow
 pub any_answer : {M R : Type 0} (o : Option M) (P : Type 0) (Q : M → R → Type 0) (r : R) → MatchOption o P (λ m. Q m r) → MatchOption o P (λ m. (a : R) × Q m a)

@@ -1,7 +1,4 @@
 -- What a reader has to believe, in the order of reading.
-pub mod Names
-pub mod Asked
-pub mod Table
 pub mod Due
 pub mod Moves
 pub mod Runs

@@ -6,7 +6,7 @@ use Rattle.floor_meetings.specs.declared.members.Member.{Member}
 use Rattle.floor_meetings.specs.Meetings.{lent_at}
 use Rattle.floor_meetings.specs.Runs.{Call as Part, IsLiving}
 use Rattle.floor_turn.specs.declared.server.Server.{Server}
-use Rattle.floor_turn.specs.Asked.{writes}
+use Rattle.floor_connections.specs.Asked.{writes}
 use Rattle.floor_turn.specs.Moves.{Leads, Moves, nothing_taken, taken_at, taken_of}
 
 -- a call that may change something: `took`, with the socket and the bytes that this took, or any other

@@ -6,18 +6,14 @@ ghost use Rattle.floor_meetings.specs.Meetings.{member_at};
 ghost use Rattle.floor_meetings.specs.declared.members.Member.{Member as Known};
 ghost use Rattle.floor_sockets.specs.Life.{none_came, worded};
 ghost use Rattle.floor_sockets.specs.Sockets.{Changed};
-ghost use Rattle.floor_turn.specs.Table.{listener_of, socket_at};
-ghost use Rattle.floor_turn.specs.declared.place.Place.TheVariants.{Port};
-ghost use Rattle.floor_turn.specs.declared.table.Listener.{Listener as Where};
+ghost use Rattle.floor_connections.specs.Table.{listener_of, socket_at};
+ghost use Rattle.floor_connections.specs.declared.place.Place.TheVariants.{Port};
+ghost use Rattle.floor_connections.specs.declared.table.Listener.{Listener as Where};
 ghost use Rattle.floor_turn.specs.Moves.{Moves, nothing_taken};
 
-use crate::connections::Connections;
-use crate::deed::Fault;
-use crate::entry::Entry;
 use crate::meeting::{is_full_for, phase_of, who_at};
-use crate::place::{Peer, Place};
-use crate::refusal::Refusal;
 use crate::server::{Course, Server};
+use floor_connections::{Connections, Entry, Fault, Peer, Place, Refusal};
 use floor_meetings::{JoinRefusal, Meetings};
 use floor_room::Phase;
 

@@ -6,17 +6,14 @@ ghost use Rattle.floor_meetings.specs.Calls.{Comes, Ends, Fails};
 ghost use Rattle.floor_meetings.specs.Meetings.{member_at};
 ghost use Rattle.floor_sockets.specs.Life.{none_came, worded};
 ghost use Rattle.floor_sockets.specs.Sockets.{Changed, life_at};
-ghost use Rattle.floor_turn.specs.Asked.{reads};
-ghost use Rattle.floor_turn.specs.Table.{is_at_door, listener_of, socket_at};
-ghost use Rattle.floor_turn.specs.declared.table.Listener.{Listener as Where};
+ghost use Rattle.floor_connections.specs.Asked.{reads};
+ghost use Rattle.floor_connections.specs.Table.{is_at_door, listener_of, socket_at};
+ghost use Rattle.floor_connections.specs.declared.table.Listener.{Listener as Where};
 ghost use Rattle.floor_turn.specs.Moves.{Moves, nothing_taken};
 
-use crate::asked::is_reading;
-use crate::connections::Connections;
-use crate::departure::Departure;
 use crate::meeting::{broken_at, end_of_stream};
-use crate::refusal::Refusal;
 use crate::server::Server;
+use floor_connections::{Connections, Departure, Refusal, is_reading};
 use floor_doors::Verdict;
 use floor_meetings::{HubRefusal, Meetings};
 

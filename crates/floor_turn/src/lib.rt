@@ -1,39 +1,26 @@
 //! A floor control server as one value: what happened goes in, and what is to be done comes out.
 //!
 //! RFC 8855 leaves to a server how it serves many connections (section 6). This crate joins the parts that decide: the
-//! sockets and whose turn it is (`floor_sockets`), who comes by a proxy (`floor_doors`), and the conferences with their
-//! members (`floor_meetings`). It has no socket, clock, file or thread, and waits for nothing: whoever calls it asks the
-//! system, and says what it answered.
+//! sockets and who is at them (`floor_connections`), whose turn it is (`floor_sockets`), who comes by a proxy
+//! (`floor_doors`), and the conferences with their members (`floor_meetings`). It has no socket, clock, file or thread, and
+//! waits for nothing: whoever calls it asks the system, and says what it answered.
 #![tactic(auto)]
 
 mod accepting;
-mod asked;
-mod conferences;
-mod connections;
-mod deed;
-mod departure;
-mod entry;
 mod hearing;
 mod laws;
 mod meeting;
 mod opening;
-mod place;
-mod refusal;
 mod server;
 mod shutting;
-mod table;
 #[cfg(test)]
 mod tests;
 mod turning;
 mod writing;
 
-pub use deed::{Deed, Fault};
-pub use departure::Departure;
-pub use entry::{Entry, Who};
+pub use floor_connections::{Deed, Departure, Entry, Fault, Peer, Place, Refusal, Who};
 pub use floor_doors::{DoorRefusal, NamedBy};
 pub use floor_meetings::{Act, Bounds, Config, Grace, HubRefusal, JoinRefusal, Loop, Member};
 pub use floor_sockets::MAX_READ;
 pub use laws::{nothing_is_left, one_is_written, taken_is_called_for};
-pub use place::{Peer, Place};
-pub use refusal::Refusal;
 pub use server::Server;

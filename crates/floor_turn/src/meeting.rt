@@ -4,8 +4,7 @@ ghost use Rattle.std.specs.Prelude.{◌≡◌, None};
 ghost use Rattle.floor_meetings.specs.Meetings.{member_at};
 ghost use Rattle.floor_turn.specs.Moves.{Moves, nothing_taken};
 
-use crate::departure::Departure;
-use crate::entry::Who;
+use floor_connections::{Departure, Who};
 use floor_hub::Live;
 use floor_meetings::{ConnNo, Meetings};
 use floor_room::Phase;

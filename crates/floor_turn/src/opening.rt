@@ -8,11 +8,9 @@ ghost use Rattle.floor_machine.specs.declared.act.Act.TheVariants as acts;
 ghost use Rattle.floor_meetings.specs.Calls.{Quiet};
 ghost use Rattle.floor_turn.specs.Moves.{Moves, nothing_taken};
 
-use crate::connections::Connections;
-use crate::entry::Entry;
 use crate::meeting::phase_of;
-use crate::place::Place;
 use crate::server::{Course, Server};
+use floor_connections::{Connections, Entry, Place};
 use floor_doors::NamedBy;
 use floor_hub::{Refusal, RoomRefusal};
 use floor_meetings::{Act, Config, HubRefusal, Meetings};

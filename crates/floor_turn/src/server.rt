@@ -9,8 +9,7 @@ ghost use Rattle.floor_turn.specs.Due.{IsDueAt};
 ghost use Rattle.floor_sockets.specs.Sockets.{life_at};
 ghost use Rattle.floor_turn.specs.Moves.{Moves, nothing_taken};
 
-use crate::connections::Connections;
-use crate::deed::Fault;
+use floor_connections::{Connections, Fault};
 use floor_meetings::{Bounds, Grace, Loop, Meetings, Member};
 use std::alloc::Global;
 

@@ -3,16 +3,12 @@
 ghost use Rattle.std.specs.Prelude.{◌≡◌, None, false};
 ghost use Rattle.floor_meetings.specs.Meetings.{member_at};
 ghost use Rattle.floor_sockets.specs.Sockets.{life_at};
-ghost use Rattle.floor_turn.specs.Asked.{shuts};
+ghost use Rattle.floor_connections.specs.Asked.{shuts};
 ghost use Rattle.floor_turn.specs.Moves.{Moves, nothing_taken};
 
-use crate::asked::is_shutting;
-use crate::connections::Connections;
-use crate::entry::Entry;
 use crate::meeting::{departure_of, part, who_at};
-use crate::place::Peer;
-use crate::refusal::Refusal;
 use crate::server::{Course, Server};
+use floor_connections::{Connections, Entry, Peer, Refusal, is_shutting};
 use floor_doors::DoorRefusal;
 use floor_meetings::Meetings;
 

@@ -5,11 +5,9 @@ ghost use Rattle.floor_loop.specs.Loop.{ready_at};
 ghost use Rattle.floor_sockets.specs.Sockets.{IsDone};
 ghost use Rattle.floor_turn.specs.Moves.{Moves, nothing_taken};
 
-use crate::connections::Connections;
-use crate::deed::Deed;
-use crate::entry::{Entry, Who};
 use crate::server::{Course, Server};
 use crate::shutting::end_all;
+use floor_connections::{Connections, Deed, Entry, Who};
 use floor_meetings::Due;
 use floor_sockets::Deed as Asked;
 

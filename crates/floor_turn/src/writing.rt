@@ -6,12 +6,11 @@ ghost use Rattle.floor_meetings.specs.Calls.{Takes};
 ghost use Rattle.floor_meetings.specs.Meetings.{lent_at, member_at};
 ghost use Rattle.floor_sockets.specs.Life.{unblocked};
 ghost use Rattle.floor_sockets.specs.Sockets.{Changed, life_at};
-ghost use Rattle.floor_turn.specs.Asked.{writes};
+ghost use Rattle.floor_connections.specs.Asked.{writes};
 ghost use Rattle.floor_turn.specs.Moves.{Moves, nothing_taken, taken_at, taken_of};
 
-use crate::asked::is_writing;
-use crate::connections::Connections;
 use crate::server::Server;
+use floor_connections::{Connections, is_writing};
 use floor_meetings::{Meetings, Ready};
 
 impl Server {

@@ -1,7 +1,7 @@
 use Rattle.std.proofs.Common.{◌≡◌, Some, refl, subst}
-use Rattle.floor_turn.specs.declared.place.Place.TheVariants.{Port}
-use Rattle.floor_turn.specs.declared.table.Table.{Table}
-use Rattle.floor_turn.specs.Table.{listener_of, socket_at}
+use Rattle.floor_connections.specs.declared.place.Place.TheVariants.{Port}
+use Rattle.floor_connections.specs.declared.table.Table.{Table}
+use Rattle.floor_connections.specs.Table.{listener_of, socket_at}
 use Rattle.floor_turn.proofs.Handing.{place_of}
 use Rattle.floor_turn.proofs.Moving.{moves_same}
 use Rattle.floor_turn.proofs.server.Server.accepted.Goals as goal

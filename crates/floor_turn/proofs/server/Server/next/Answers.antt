@@ -1,7 +1,7 @@
 use Rattle.std.proofs.Common.{◌≡◌, ℕ, None, refl, subst, sym}
 use Rattle.floor_loop.specs.Loop.{ready_at}
 use Rattle.floor_sockets.specs.Sockets.{IsDone}
-use Rattle.floor_turn.specs.declared.connections.Connections.{Connections}
+use Rattle.floor_connections.specs.declared.connections.Connections.{Connections}
 use Rattle.floor_turn.proofs.Handing.{if_none, rests_done}
 use Rattle.floor_turn.proofs.Moving.{moves_same, moves_then}
 use Rattle.floor_turn.proofs.server.Server.next.Goals as goal

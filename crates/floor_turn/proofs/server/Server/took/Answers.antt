@@ -3,7 +3,7 @@ use Rattle.std.specs.Prelude.{MatchOption, length, min}
 use Rattle.floor_sockets.specs.Sockets.{Sockets, life_at}
 use Rattle.floor_meetings.specs.Calls.{Takes}
 use Rattle.floor_meetings.specs.Meetings.{lent_at, member_at}
-use Rattle.floor_turn.specs.Asked.{writes}
+use Rattle.floor_connections.specs.Asked.{writes}
 use Rattle.floor_turn.specs.Moves.{Moves, taken_at, taken_of}
 use Rattle.floor_turn.proofs.Handing.{never}
 use Rattle.floor_turn.proofs.Moving.{moves_taken, moves_untaken}

@@ -1,6 +1,6 @@
 use Rattle.std.proofs.Common.{◌≡◌, ℕ, ◌+◌, ◌-◌, None, vec_len}
 use Rattle.std.specs.Prelude.{slice_index_or}
-use Rattle.floor_turn.proofs.table.grow.Given as goal
+use Rattle.floor_connections.proofs.table.grow.Given as goal
 
 -- the same are there
 abbrev pub invariant-loop-slots : goal.invariant-loop-slots

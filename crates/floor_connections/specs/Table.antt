@@ -1,9 +1,9 @@
 -- Who is at which socket.
 use Rattle.std.specs.Prelude.{ℕ, Bool, true, false, Option, Some, None, slice_index_or}
-use Rattle.floor_turn.specs.declared.table.Listener.{Listener}
-use Rattle.floor_turn.specs.declared.table.Socket.{Socket}
-use Rattle.floor_turn.specs.declared.table.Socket.TheVariants as socket
-use Rattle.floor_turn.specs.declared.table.Table.{Table}
+use Rattle.floor_connections.specs.declared.table.Listener.{Listener}
+use Rattle.floor_connections.specs.declared.table.Socket.{Socket}
+use Rattle.floor_connections.specs.declared.table.Socket.TheVariants as socket
+use Rattle.floor_connections.specs.declared.table.Table.{Table}
 
 -- who is at the socket in the slot
 abbrev pub socket_at : Table → ℕ → Option Socket

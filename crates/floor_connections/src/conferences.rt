@@ -14,7 +14,7 @@ struct Conference {
 
 /// Conferences by number. Each has a group of turns of its own, from 1 on; the doors share group 0.
 #[derive(Drop)]
-pub(crate) struct Conferences {
+pub struct Conferences {
     alloc: Global,
     numbers: IndexMap<u32, usize>,
     items: Slab<Conference>,
@@ -22,7 +22,7 @@ pub(crate) struct Conferences {
 
 impl Conferences {
     /// None. Takes no memory.
-    pub(crate) fn new(alloc: Global) -> Conferences {
+    pub fn new(alloc: Global) -> Conferences {
         Conferences {
             alloc,
             numbers: IndexMap::new(alloc),
@@ -31,7 +31,7 @@ impl Conferences {
     }
 
     /// One more, with these listeners' slots, unless there is one with the number. Gives its group.
-    pub(crate) fn add(&mut self, conference: u32) -> Result<usize, AllocError> {
+    pub fn add(&mut self, conference: u32) -> Result<usize, AllocError> {
         if let Some(index) = self.numbers.get(&conference) {
             return Ok(index.saturating_add(1));
         }
@@ -46,12 +46,12 @@ impl Conferences {
     }
 
     /// Whether there is a conference with the number.
-    pub(crate) fn has(&self, conference: u32) -> bool {
+    pub fn has(&self, conference: u32) -> bool {
         self.numbers.get(&conference).is_some()
     }
 
     /// The group of a conference; that of the doors where there is none.
-    pub(crate) fn group(&self, conference: u32) -> usize {
+    pub fn group(&self, conference: u32) -> usize {
         match self.numbers.get(&conference) {
             Some(index) => index.saturating_add(1),
             None => 0,
@@ -59,7 +59,7 @@ impl Conferences {
     }
 
     /// A listener of a conference, where there is one with the number.
-    pub(crate) fn add_listener(&mut self, conference: u32, slot: usize) -> Result<(), AllocError> {
+    pub fn add_listener(&mut self, conference: u32, slot: usize) -> Result<(), AllocError> {
         let Some(index) = self.numbers.get(&conference) else {
             return Ok(());
         };
@@ -73,7 +73,7 @@ impl Conferences {
     }
 
     /// A slot isn't one of a conference's listeners any more.
-    pub(crate) fn remove_listener(&mut self, conference: u32, slot: usize) {
+    pub fn remove_listener(&mut self, conference: u32, slot: usize) {
         if let Some(index) = self.numbers.get(&conference) {
             if let Some(item) = self.items.get_mut(*index) {
                 item.listeners.retain(|other| *other != slot);
@@ -82,7 +82,7 @@ impl Conferences {
     }
 
     /// The slots of the listeners of a conference, which aren't its any more.
-    pub(crate) fn take_listeners(&mut self, conference: u32) -> Vec<usize> {
+    pub fn take_listeners(&mut self, conference: u32) -> Vec<usize> {
         let mut listeners = Vec::new(self.alloc);
         if let Some(index) = self.numbers.get(&conference) {
             if let Some(item) = self.items.get_mut(*index) {
@@ -93,7 +93,7 @@ impl Conferences {
     }
 
     /// A conference has ended or is broken off. Says whether it wasn't known.
-    pub(crate) fn end(&mut self, conference: u32) -> bool {
+    pub fn end(&mut self, conference: u32) -> bool {
         let Some(index) = self.numbers.get(&conference) else {
             return false;
         };
@@ -104,7 +104,7 @@ impl Conferences {
     }
 
     /// A conference is no more.
-    pub(crate) fn remove(&mut self, conference: u32) {
+    pub fn remove(&mut self, conference: u32) {
         if let Some(index) = self.numbers.swap_remove(&conference) {
             let _item = self.items.try_remove(index);
         }

@@ -20,7 +20,7 @@ pub enum Refusal {
 }
 
 impl Refusal {
-    ghost use Rattle.floor_turn.specs.Names.{name_of};
+    ghost use Rattle.floor_connections.specs.Names.{name_of};
 
     /// The name of the variant, or of the refusal that it wraps. Takes no memory.
     pub fn name(self) -> &'static str
@@ -38,7 +38,7 @@ impl Refusal {
 /// Writes the name.
 impl fmt::Display for Refusal {
     ghost use Rattle.std.specs.Prelude.{Some};
-    ghost use Rattle.floor_turn.specs.Names.{name_of};
+    ghost use Rattle.floor_connections.specs.Names.{name_of};
 
     ghost output = { λ refusal. Some (name_of refusal) };
 

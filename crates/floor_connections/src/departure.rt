@@ -26,11 +26,11 @@ pub enum Departure {
 }
 
 impl Departure {
-    ghost use Rattle.floor_turn.specs.Names.{name_of_departure};
+    ghost use Rattle.floor_connections.specs.Names.{name_of_departure};
 
     /// Whether its connection was lost: then its member may stay. One whose stream ended in order is lost where that is
     /// asked for.
-    pub(crate) fn is_lost(&self, is_for_all: bool) -> bool {
+    pub fn is_lost(&self, is_for_all: bool) -> bool {
         match self {
             Departure::Reset | Departure::InsideMessage => true,
             Departure::EndOfStream => is_for_all,

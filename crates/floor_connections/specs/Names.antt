@@ -3,10 +3,10 @@ use Rattle.std.specs.Prelude.{ℕ, List, codes}
 use Rattle.floor_doors.specs.Names as doors
 use Rattle.floor_hub.specs.Names as hub
 use Rattle.floor_meetings.specs.Names as meetings
-use Rattle.floor_turn.specs.declared.departure.Departure.{Departure}
-use Rattle.floor_turn.specs.declared.departure.Departure.TheVariants as departure
-use Rattle.floor_turn.specs.declared.refusal.Refusal.{Refusal}
-use Rattle.floor_turn.specs.declared.refusal.Refusal.TheVariants.{NotAsked, Memory, AtDoor, AtMeeting}
+use Rattle.floor_connections.specs.declared.departure.Departure.{Departure}
+use Rattle.floor_connections.specs.declared.departure.Departure.TheVariants as departure
+use Rattle.floor_connections.specs.declared.refusal.Refusal.{Refusal}
+use Rattle.floor_connections.specs.declared.refusal.Refusal.TheVariants.{NotAsked, Memory, AtDoor, AtMeeting}
 
 -- the name of a refusal, in ASCII
 abbrev pub name_of : Refusal → List ℕ

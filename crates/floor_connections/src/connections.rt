@@ -2,7 +2,7 @@
 
 ghost use Rattle.std.specs.Prelude.{◌≡◌, IfSome, None, Some, ℕ, max};
 ghost use Rattle.floor_sockets.specs.Sockets.{life_at};
-ghost use Rattle.floor_turn.specs.Table.{listener_of, socket_at};
+ghost use Rattle.floor_connections.specs.Table.{listener_of, socket_at};
 
 use crate::asked::{is_accepting, is_over};
 use crate::conferences::Conferences;
@@ -21,11 +21,11 @@ use std::collections::VecDeque;
 
 /// The sockets of a server and who is at them, the ports of its conferences, and what the log is to be told.
 #[derive(Drop)]
-pub(crate) struct Connections {
-    pub(crate) alloc: Global,
-    pub(crate) sockets: Sockets,
-    pub(crate) table: Table,
-    pub(crate) conferences: Conferences,
+pub struct Connections {
+    pub alloc: Global,
+    pub sockets: Sockets,
+    pub table: Table,
+    pub conferences: Conferences,
     /// The listeners of which the system wasn't asked yet.
     wanted: VecDeque<usize>,
     entries: VecDeque<Entry>,
@@ -36,12 +36,12 @@ pub(crate) struct Connections {
     /// Who is away, by its connection's number, as far as memory was had for it.
     away: IndexMap<u64, Who>,
     /// How late it is, in microseconds.
-    pub(crate) time: u64,
+    pub time: u64,
 }
 
 impl Connections {
     /// None. Takes no memory.
-    pub(crate) fn new(alloc: Global) -> Connections
+    pub fn new(alloc: Global) -> Connections
         ensures sockets { (socket : ℕ) → life_at result.sockets socket ≡ None }
         ensures table { (socket : ℕ) → socket_at result.table socket ≡ None }
     {
@@ -60,7 +60,7 @@ impl Connections {
     }
 
     /// It is so late, unless it was later before.
-    pub(crate) fn pass(&mut self, now: u64)
+    pub fn pass(&mut self, now: u64)
         ensures sockets { self.new.sockets
             ≡ record self.old.sockets { time = max self.old.sockets.time now } }
         ensures time { self.new.time ≡ max self.old.time now }
@@ -71,12 +71,12 @@ impl Connections {
     }
 
     /// The time in milliseconds.
-    pub(crate) fn millis(&self) -> u64 {
+    pub fn millis(&self) -> u64 {
         self.time / 1_000
     }
 
     /// Tells the log. Where memory is refused it is counted.
-    pub(crate) fn tell(&mut self, entry: Entry)
+    pub fn tell(&mut self, entry: Entry)
         ensures sockets { self.new.sockets ≡ self.old.sockets }
     {
         if self.entries.push_back(entry).is_err() {
@@ -85,7 +85,7 @@ impl Connections {
     }
 
     /// What the log is to be told next.
-    pub(crate) fn next_entry(&mut self) -> Option<Entry>
+    pub fn next_entry(&mut self) -> Option<Entry>
         ensures sockets { self.new.sockets ≡ self.old.sockets }
     {
         match self.entries.pop_front() {
@@ -101,7 +101,7 @@ impl Connections {
     }
 
     /// Has a place listened on, and gives the listener's number.
-    pub(crate) fn listen(&mut self, place: Place, group: usize) -> Result<usize, AllocError> {
+    pub fn listen(&mut self, place: Place, group: usize) -> Result<usize, AllocError> {
         self.wanted.reserve(1)?;
         let slot = self.sockets.open(Role::Listener, group)?;
         let listener = Listener {
@@ -122,7 +122,7 @@ impl Connections {
     }
 
     /// Has a user's port listened on.
-    pub(crate) fn listen_for(
+    pub fn listen_for(
         &mut self,
         conference: u32,
         group: usize,
@@ -145,7 +145,7 @@ impl Connections {
     }
 
     /// Has the ports of a conference's users listened on. Where memory is refused none is.
-    pub(crate) fn listen_all(&mut self, config: &Config) -> Result<(), AllocError> {
+    pub fn listen_all(&mut self, config: &Config) -> Result<(), AllocError> {
         let conference = config.conference();
         match self.listen_each(conference, config) {
             Ok(()) => Ok(()),
@@ -167,7 +167,7 @@ impl Connections {
     }
 
     /// The ports of a conference's users aren't listened on any more.
-    pub(crate) fn end_ports(&mut self, conference: u32) {
+    pub fn end_ports(&mut self, conference: u32) {
         let listeners = self.conferences.take_listeners(conference);
         end_each(
             &mut self.sockets,
@@ -178,13 +178,13 @@ impl Connections {
     }
 
     /// A conference is no more.
-    pub(crate) fn forget(&mut self, conference: u32) {
+    pub fn forget(&mut self, conference: u32) {
         self.end_ports(conference);
         self.conferences.remove(conference);
     }
 
     /// A conference is closed: that is told, once, and its ports aren't listened on any more.
-    pub(crate) fn close(&mut self, conference: u32) {
+    pub fn close(&mut self, conference: u32) {
         if self.conferences.end(conference) {
             self.tell(Entry::Closed { conference });
             self.end_ports(conference);
@@ -192,7 +192,7 @@ impl Connections {
     }
 
     /// A conference is broken off: that is told, once, and its ports aren't listened on any more.
-    pub(crate) fn break_off(&mut self, conference: u32) {
+    pub fn break_off(&mut self, conference: u32) {
         if self.conferences.end(conference) {
             self.tell(Entry::BrokenOff { conference });
             self.end_ports(conference);
@@ -200,7 +200,7 @@ impl Connections {
     }
 
     /// What is to be listened on next, where anything may be.
-    pub(crate) fn next_wanted(&mut self, is_serving: bool) -> Option<Deed> {
+    pub fn next_wanted(&mut self, is_serving: bool) -> Option<Deed> {
         let listener = self.wanted.pop_front()?;
         let Some(known) = self.table.listener(listener) else {
             return Some(Deed::Turn);
@@ -224,7 +224,7 @@ impl Connections {
     }
 
     /// A place is listened on, or can't be: then it is named.
-    pub(crate) fn listened(&mut self, listener: usize, is_listening: bool) -> Option<Place> {
+    pub fn listened(&mut self, listener: usize, is_listening: bool) -> Option<Place> {
         let known = self.table.listener(listener)?;
         match known.stage {
             Stage::Asked => {}
@@ -248,7 +248,7 @@ impl Connections {
     }
 
     /// One was accepted, where that was asked: gives the listener.
-    pub(crate) fn accept(&mut self, listener: usize) -> Option<Listener>
+    pub fn accept(&mut self, listener: usize) -> Option<Listener>
         ensures found { IfSome result (λ l. listener_of (socket_at self.old.table listener)
             ≡ Some l) }
     {
@@ -268,7 +268,7 @@ impl Connections {
     }
 
     /// An accept failed, where one was asked.
-    pub(crate) fn fail_to_accept(&mut self, listener: usize) {
+    pub fn fail_to_accept(&mut self, listener: usize) {
         let Some(known) = self.table.listener(listener) else {
             return;
         };
@@ -286,7 +286,7 @@ impl Connections {
     }
 
     /// A member's socket, which shares its turns with these.
-    pub(crate) fn open_member(&mut self, peer: Peer, group: usize) -> Result<usize, Refusal> {
+    pub fn open_member(&mut self, peer: Peer, group: usize) -> Result<usize, Refusal> {
         let member = Socket::Member {
             peer,
             end: None,
@@ -296,13 +296,13 @@ impl Connections {
     }
 
     /// A socket at a door.
-    pub(crate) fn open_at_door(&mut self, peer: Peer, named_by: NamedBy) -> Result<usize, Refusal> {
+    pub fn open_at_door(&mut self, peer: Peer, named_by: NamedBy) -> Result<usize, Refusal> {
         let newcomer = Newcomer::new(self.alloc, named_by, self.time);
         self.open(Role::AtDoor, 0, Socket::AtDoor { peer, newcomer })
     }
 
     /// A socket of who only looks: it is shut at once.
-    pub(crate) fn open_probe(&mut self) -> Result<usize, Refusal> {
+    pub fn open_probe(&mut self) -> Result<usize, Refusal> {
         let slot = self.open(Role::Probe, 0, Socket::Turned)?;
         self.sockets.fail(slot);
         Ok(slot)
@@ -323,13 +323,13 @@ impl Connections {
     }
 
     /// A socket of whose number nobody was told is no more.
-    pub(crate) fn take_back(&mut self, slot: usize) {
+    pub fn take_back(&mut self, slot: usize) {
         self.table.remove(slot);
         self.sockets.fail(slot);
     }
 
     /// Who is at a socket has joined, as this member.
-    pub(crate) fn tell_joined(&mut self, slot: usize, who: Option<Who>)
+    pub fn tell_joined(&mut self, slot: usize, who: Option<Who>)
         ensures sockets { self.new.sockets ≡ self.old.sockets }
     {
         match (self.table.peer(slot), who) {
@@ -339,21 +339,21 @@ impl Connections {
     }
 
     /// A member stays, away. Where memory is refused it isn't told when its user is back.
-    pub(crate) fn note_away(&mut self, number: ConnNo, who: Who)
+    pub fn note_away(&mut self, number: ConnNo, who: Who)
         ensures sockets { self.new.sockets ≡ self.old.sockets }
     {
         let _noted = self.away.insert(number, who);
     }
 
     /// A member that was away has left: who it was, where memory was had for that.
-    pub(crate) fn forget_away(&mut self, number: ConnNo) -> Option<Who>
+    pub fn forget_away(&mut self, number: ConnNo) -> Option<Who>
         ensures sockets { self.new.sockets ≡ self.old.sockets }
     {
         self.away.swap_remove(&number)
     }
 
     /// Where this member was away it has left, since its user came back.
-    pub(crate) fn tell_gone(&mut self, number: Option<ConnNo>)
+    pub fn tell_gone(&mut self, number: Option<ConnNo>)
         ensures sockets { self.new.sockets ≡ self.old.sockets }
     {
         let Some(number) = number else {
@@ -366,21 +366,21 @@ impl Connections {
     }
 
     /// The same of each of these.
-    pub(crate) fn tell_back(&mut self, numbers: &[ConnNo]) {
+    pub fn tell_back(&mut self, numbers: &[ConnNo]) {
         for number in numbers {
             self.tell_gone(Some(*number));
         }
     }
 
     /// Somebody at a door is a member from now on, of a conference that shares its turns.
-    pub(crate) fn let_in(&mut self, slot: usize, conference: u32) {
+    pub fn let_in(&mut self, slot: usize, conference: u32) {
         self.table.let_in(slot);
         let group = self.conferences.group(conference);
         self.sockets.become_role(slot, Role::MemberByDoor, group);
     }
 
     /// Somebody at a door isn't let in, for this reason or for none that is told.
-    pub(crate) fn turn_away(&mut self, slot: usize, refusal: Option<Refusal>) {
+    pub fn turn_away(&mut self, slot: usize, refusal: Option<Refusal>) {
         match (self.table.peer(slot), refusal) {
             (Some(peer), Some(refusal)) => self.tell(Entry::Refused { peer, refusal }),
             _ => {}
@@ -390,20 +390,20 @@ impl Connections {
     }
 
     /// A member's socket was read to its end, which was so.
-    pub(crate) fn end_reading(&mut self, slot: usize, departure: Departure) {
+    pub fn end_reading(&mut self, slot: usize, departure: Departure) {
         self.table.end(slot, departure);
         self.sockets.nothing(slot);
     }
 
     /// A read of a member's socket failed.
-    pub(crate) fn fail(&mut self, slot: usize) {
+    pub fn fail(&mut self, slot: usize) {
         self.table.end(slot, Departure::Reset);
         self.sockets.fail(slot);
     }
 
     /// These bytes are lent to a socket, or none. One that is to be shut down isn't read any more, has ten seconds to take
     /// them, and is shut before where none are.
-    pub(crate) fn lend(&mut self, slot: usize, has_bytes: bool, ends: bool) {
+    pub fn lend(&mut self, slot: usize, has_bytes: bool, ends: bool) {
         self.sockets.lend(slot, has_bytes);
         if !ends && !is_over(&self.sockets, slot) {
             return;
@@ -418,7 +418,7 @@ impl Connections {
 
     /// Who is to be shut next, since nothing was lent to it, once whoever else is due was shut: so what their leaves tell
     /// it is written first.
-    pub(crate) fn next_leaving(&mut self) -> Option<usize>
+    pub fn next_leaving(&mut self) -> Option<usize>
         ensures sockets { self.new.sockets ≡ self.old.sockets }
     {
         if self.leaving.is_empty() || self.has_due() {
@@ -438,14 +438,14 @@ impl Connections {
     }
 
     /// Somebody to whom nothing is lent still is shut at once, where it is to be.
-    pub(crate) fn close_one(&mut self, slot: usize) {
+    pub fn close_one(&mut self, slot: usize) {
         if self.table.is_member(slot) && is_over(&self.sockets, slot) {
             self.sockets.fail(slot);
         }
     }
 
     /// Where the server stops nobody is read, accepted or waited for any more.
-    pub(crate) fn end(&mut self, slot: usize, has_bytes: bool) {
+    pub fn end(&mut self, slot: usize, has_bytes: bool) {
         if self.table.is_member(slot) {
             self.lend(slot, has_bytes, true);
         } else {
@@ -454,7 +454,7 @@ impl Connections {
     }
 
     /// What is to be done to shut a socket: nothing of the system where nobody else knows of it.
-    pub(crate) fn shut_next(&self, slot: usize) -> Deed {
+    pub fn shut_next(&self, slot: usize) -> Deed {
         match self.table.listener(slot) {
             Some(listener) => match listener.stage {
                 Stage::Wanted => Deed::Turn,
@@ -466,7 +466,7 @@ impl Connections {
     }
 
     /// A socket was shut: its number is free.
-    pub(crate) fn shut(&mut self, slot: usize) {
+    pub fn shut(&mut self, slot: usize) {
         self.table.remove(slot);
         self.sockets.shut(slot);
     }

@@ -1,7 +1,7 @@
 //! Who is at which socket.
 
 ghost use Rattle.std.specs.Prelude.{◌≡◌, ◌<◌, ℕ, None, OnOk, length, slice_index_or};
-ghost use Rattle.floor_turn.specs.Table.{is_at_door, listener_of, socket_at};
+ghost use Rattle.floor_connections.specs.Table.{is_at_door, listener_of, socket_at};
 
 use crate::departure::Departure;
 use crate::place::{Peer, Place};
@@ -10,7 +10,7 @@ use std::alloc::{AllocError, Global};
 
 /// How far a listener is.
 #[derive(Clone, Copy, Debug, PartialEq, Eq)]
-pub(crate) enum Stage {
+pub enum Stage {
     /// It is to be listened there.
     Wanted,
     /// The system was asked for it.
@@ -23,15 +23,15 @@ pub(crate) enum Stage {
 
 /// A listener: where it listens, with whom those share their turns who connect there, and how far it is.
 #[derive(Clone, Copy, Debug, PartialEq, Eq)]
-pub(crate) struct Listener {
-    pub(crate) place: Place,
-    pub(crate) group: usize,
-    pub(crate) stage: Stage,
+pub struct Listener {
+    pub place: Place,
+    pub group: usize,
+    pub stage: Stage,
 }
 
 /// Who is at a socket.
 #[derive(Drop)]
-pub(crate) enum Socket {
+pub enum Socket {
     /// Nobody but us: whoever connects is accepted there.
     Listener(Listener),
     /// Somebody at a door, of whom a header is awaited.
@@ -51,14 +51,14 @@ pub(crate) enum Socket {
 
 /// Who is at which socket, by its slot.
 #[derive(Drop)]
-pub(crate) struct Table {
+pub struct Table {
     slots: Vec<Option<Socket>>,
     count: usize,
 }
 
 impl Table {
     /// Nobody. Takes no memory.
-    pub(crate) fn new(alloc: Global) -> Table
+    pub fn new(alloc: Global) -> Table
         ensures none { (slot : ℕ) → socket_at result slot ≡ None }
     {
         Table {
@@ -68,7 +68,7 @@ impl Table {
     }
 
     /// Somebody is at a socket from now on. Where memory is refused nothing has changed.
-    pub(crate) fn put(&mut self, slot: usize, socket: Socket) -> Result<(), AllocError> {
+    pub fn put(&mut self, slot: usize, socket: Socket) -> Result<(), AllocError> {
         grow(&mut self.slots, slot)?;
         if let Some(place) = self.slots.get_mut(slot) {
             if place.is_none() {
@@ -80,7 +80,7 @@ impl Table {
     }
 
     /// Nobody is at a socket any more.
-    pub(crate) fn remove(&mut self, slot: usize) {
+    pub fn remove(&mut self, slot: usize) {
         if let Some(place) = self.slots.get_mut(slot) {
             if place.is_some() {
                 self.count = self.count.saturating_sub(1);
@@ -90,17 +90,17 @@ impl Table {
     }
 
     /// Whether nobody is anywhere.
-    pub(crate) fn is_empty(&self) -> bool {
+    pub fn is_empty(&self) -> bool {
         self.count == 0
     }
 
     /// How many slots there are at most.
-    pub(crate) fn len(&self) -> usize {
+    pub fn len(&self) -> usize {
         self.slots.len()
     }
 
     /// The listener at a socket.
-    pub(crate) fn listener(&self, slot: usize) -> Option<Listener>
+    pub fn listener(&self, slot: usize) -> Option<Listener>
         ensures value { result ≡ listener_of (socket_at self.now slot) }
     {
         match self.slots.get(slot) {
@@ -111,7 +111,7 @@ impl Table {
     }
 
     /// Where is listened there, or was asked to be.
-    pub(crate) fn place_at(&self, slot: usize) -> Option<Place> {
+    pub fn place_at(&self, slot: usize) -> Option<Place> {
         let listener = self.listener(slot)?;
         match listener.stage {
             Stage::Wanted => None,
@@ -120,7 +120,7 @@ impl Table {
     }
 
     /// A listener has come so far.
-    pub(crate) fn set_stage(&mut self, slot: usize, stage: Stage) {
+    pub fn set_stage(&mut self, slot: usize, stage: Stage) {
         let Some(place) = self.slots.get_mut(slot) else {
             return;
         };
@@ -133,7 +133,7 @@ impl Table {
     }
 
     /// Who has connected there and wasn't turned away.
-    pub(crate) fn peer(&self, slot: usize) -> Option<Peer> {
+    pub fn peer(&self, slot: usize) -> Option<Peer> {
         match self.slots.get(slot) {
             Some(Some(Socket::AtDoor { peer, .. })) => Some(*peer),
             Some(Some(Socket::Member { peer, .. })) => Some(*peer),
@@ -142,7 +142,7 @@ impl Table {
     }
 
     /// What follows from bytes that came of somebody at a door. Of who isn't at one nothing does.
-    pub(crate) fn came_at_door(&mut self, slot: usize, bytes: &[u8]) -> Verdict {
+    pub fn came_at_door(&mut self, slot: usize, bytes: &[u8]) -> Verdict {
         let Some(place) = self.slots.get_mut(slot) else {
             return Verdict::LetGo;
         };
@@ -156,7 +156,7 @@ impl Table {
     }
 
     /// What follows where the stream of somebody at a door is over.
-    pub(crate) fn ended_at_door(&self, slot: usize) -> Verdict {
+    pub fn ended_at_door(&self, slot: usize) -> Verdict {
         match self.slots.get(slot) {
             Some(Some(Socket::AtDoor { newcomer, .. })) => newcomer.ended(),
             _ => Verdict::LetGo,
@@ -164,7 +164,7 @@ impl Table {
     }
 
     /// Somebody has become a member.
-    pub(crate) fn let_in(&mut self, slot: usize) {
+    pub fn let_in(&mut self, slot: usize) {
         if let Some(peer) = self.peer(slot) {
             if let Some(place) = self.slots.get_mut(slot) {
                 *place = Some(Socket::Member {
@@ -177,7 +177,7 @@ impl Table {
     }
 
     /// Whether there is a member.
-    pub(crate) fn is_member(&self, slot: usize) -> bool {
+    pub fn is_member(&self, slot: usize) -> bool {
         match self.slots.get(slot) {
             Some(Some(Socket::Member { .. })) => true,
             _ => false,
@@ -185,7 +185,7 @@ impl Table {
     }
 
     /// A member waits to be shut, or doesn't. Says whether that is new.
-    pub(crate) fn set_leaving(&mut self, slot: usize, leaves: bool) -> bool {
+    pub fn set_leaving(&mut self, slot: usize, leaves: bool) -> bool {
         let Some(place) = self.slots.get_mut(slot) else {
             return false;
         };
@@ -203,7 +203,7 @@ impl Table {
     }
 
     /// Somebody is turned away.
-    pub(crate) fn turn_away(&mut self, slot: usize) {
+    pub fn turn_away(&mut self, slot: usize) {
         if let Some(place) = self.slots.get_mut(slot) {
             if place.is_some() {
                 *place = Some(Socket::Turned);
@@ -212,7 +212,7 @@ impl Table {
     }
 
     /// The reading of a member's socket has ended so, unless it had before.
-    pub(crate) fn end(&mut self, slot: usize, departure: Departure) {
+    pub fn end(&mut self, slot: usize, departure: Departure) {
         let Some(place) = self.slots.get_mut(slot) else {
             return;
         };
@@ -229,7 +229,7 @@ impl Table {
     }
 
     /// How it has ended.
-    pub(crate) fn end_of(&self, slot: usize) -> Option<Departure> {
+    pub fn end_of(&self, slot: usize) -> Option<Departure> {
         match self.slots.get(slot) {
             Some(Some(Socket::Member { end, .. })) => *end,
             _ => None,
@@ -237,7 +237,7 @@ impl Table {
     }
 
     /// Whether somebody is at a door.
-    pub(crate) fn is_at_door(&self, slot: usize) -> bool
+    pub fn is_at_door(&self, slot: usize) -> bool
         ensures value { result ≡ is_at_door (socket_at self.now slot) }
     {
         match self.slots.get(slot) {
@@ -248,7 +248,7 @@ impl Table {
     }
 
     /// Whether somebody is at a socket.
-    pub(crate) fn is_there(&self, slot: usize) -> bool {
+    pub fn is_there(&self, slot: usize) -> bool {
         match self.slots.get(slot) {
             Some(Some(_)) => true,
             _ => false,

@@ -2,12 +2,12 @@
 
 ghost use Rattle.std.specs.Prelude.{◌≡◌};
 ghost use Rattle.floor_sockets.specs.Sockets.{life_at};
-ghost use Rattle.floor_turn.specs.Asked.{accepts, is_over, reads, shuts, writes};
+ghost use Rattle.floor_connections.specs.Asked.{accepts, is_over, reads, shuts, writes};
 
 use floor_sockets::{Asked, Sockets};
 
 /// Whether an accept was asked of it.
-pub(crate) fn is_accepting(sockets: &Sockets, socket: usize) -> bool
+pub fn is_accepting(sockets: &Sockets, socket: usize) -> bool
     ensures value { result ≡ accepts (life_at sockets.now socket) }
 {
     match sockets.get(socket) {
@@ -20,7 +20,7 @@ pub(crate) fn is_accepting(sockets: &Sockets, socket: usize) -> bool
 }
 
 /// Whether a read was asked of it.
-pub(crate) fn is_reading(sockets: &Sockets, socket: usize) -> bool
+pub fn is_reading(sockets: &Sockets, socket: usize) -> bool
     ensures value { result ≡ reads (life_at sockets.now socket) }
 {
     match sockets.get(socket) {
@@ -33,7 +33,7 @@ pub(crate) fn is_reading(sockets: &Sockets, socket: usize) -> bool
 }
 
 /// Whether a write was asked of it.
-pub(crate) fn is_writing(sockets: &Sockets, socket: usize) -> bool
+pub fn is_writing(sockets: &Sockets, socket: usize) -> bool
     ensures value { result ≡ writes (life_at sockets.now socket) }
 {
     match sockets.get(socket) {
@@ -46,7 +46,7 @@ pub(crate) fn is_writing(sockets: &Sockets, socket: usize) -> bool
 }
 
 /// Whether its `Shut` was asked.
-pub(crate) fn is_shutting(sockets: &Sockets, socket: usize) -> bool
+pub fn is_shutting(sockets: &Sockets, socket: usize) -> bool
     ensures value { result ≡ shuts (life_at sockets.now socket) }
 {
     match sockets.get(socket) {
@@ -59,7 +59,7 @@ pub(crate) fn is_shutting(sockets: &Sockets, socket: usize) -> bool
 }
 
 /// Whether it is to be shut down.
-pub(crate) fn is_over(sockets: &Sockets, socket: usize) -> bool
+pub fn is_over(sockets: &Sockets, socket: usize) -> bool
     ensures value { result ≡ is_over (life_at sockets.now socket) }
 {
     match sockets.get(socket) {
