@@ -216,7 +216,7 @@ def linked(page):
 def sentences_as_written(text):
     """The first sentence of a text, without what it is called."""
     first = re.split(r"(?<=[.!?])\s", text)[0]
-    return re.sub(r"^This page (?:says|lists|is for) ", "", first).rstrip(".")
+    return re.sub(r"^This page (?:says|shows|lists|has|is for) ", "", first).rstrip(".")
 
 
 def unlisted(root):
