@@ -30,7 +30,7 @@ MADE = {INDEX, "docs/proof/definitions.md"}
 # A page that is listed with the builders', and those that the index takes up besides its folders'.
 LISTED_BESIDES = ["docs/protocol.md"]
 INDEXED_BESIDES = [*LISTED_BESIDES, "docs/design/glossary.md"]
-READABLE_BESIDES = ["README.md", "CONTRIBUTING.md", "docs/start.md", *LISTED_BESIDES]
+READABLE_BESIDES = ["README.md", "CONTRIBUTING.md", "examples/README.md", "docs/start.md", *LISTED_BESIDES]
 # Words that a reader doesn't search for, and what to say.
 UNWANTED = {
     "behind": "after",
