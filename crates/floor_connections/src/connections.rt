@@ -1,8 +1,14 @@
 //! Sockets and who is at them, without their meetings: where is listened, who waits at a door, and what the log is told.
 
-ghost use Rattle.std.specs.Prelude.{◌≡◌, IfSome, None, Some, ℕ, max};
+ghost use Rattle.std.specs.Prelude.{◌≡◌, ◌≢◌, ◌⊎◌, IfErr, IfNone, IfOk, IfSome, None, OnOk, Some, ℕ, false, max, true};
 ghost use Rattle.floor_sockets.specs.Sockets.{life_at};
-ghost use Rattle.floor_connections.specs.Table.{listener_of, socket_at};
+ghost use Rattle.floor_connections.specs.Asked.{accepts};
+ghost use Rattle.floor_connections.specs.Table.{IsWanted, is_at_door, listener_of, socket_at, wanted};
+ghost use Rattle.floor_connections.specs.declared.place.Place.TheVariants as places;
+ghost use Rattle.floor_connections.specs.declared.refusal.Refusal.TheVariants as refusals;
+ghost use Rattle.floor_connections.specs.declared.table.Listener.{Listener as Where};
+ghost use Rattle.floor_connections.specs.declared.table.Socket.TheVariants as somebody;
+ghost use Rattle.floor_connections.specs.declared.table.Stage.TheVariants as stages;
 
 use crate::asked::{is_accepting, is_over};
 use crate::conferences::Conferences;
@@ -101,7 +107,10 @@ impl Connections {
     }
 
     /// Has a place listened on, and gives the listener's number.
-    pub fn listen(&mut self, place: Place, group: usize) -> Result<usize, AllocError> {
+    pub fn listen(&mut self, place: Place, group: usize) -> Result<usize, AllocError>
+        ensures there { IfOk result (λ slot. listener_of (socket_at self.new.table slot)
+            ≡ Some (wanted place group)) }
+    {
         self.wanted.reserve(1)?;
         let slot = self.sockets.open(Role::Listener, group)?;
         let listener = Listener {
@@ -128,7 +137,10 @@ impl Connections {
         group: usize,
         user: u16,
         port: u16,
-    ) -> Result<(), AllocError> {
+    ) -> Result<(), AllocError>
+        ensures there { OnOk result (IsWanted self.new.table
+            (places.Port conference user port) group) }
+    {
         let place = Place::Port {
             conference,
             user,
@@ -224,7 +236,15 @@ impl Connections {
     }
 
     /// A place is listened on, or can't be: then it is named.
-    pub fn listened(&mut self, listener: usize, is_listening: bool) -> Option<Place> {
+    pub fn listened(&mut self, listener: usize, is_listening: bool) -> Option<Place>
+        ensures nobody { listener_of (socket_at self.old.table listener) ≡ None
+            → (result ≡ None) × (self.new ≡ self.old) }
+        ensures not_asked { (l : Where) → listener_of (socket_at self.old.table listener) ≡ Some l
+            → l.stage ≢ stages.Asked → (result ≡ None) × (self.new ≡ self.old) }
+        ensures listens { is_listening ≡ true → result ≡ None }
+        ensures missed { (l : Where) → listener_of (socket_at self.old.table listener) ≡ Some l
+            → l.stage ≡ stages.Asked → is_listening ≡ false → result ≡ Some l.place }
+    {
         let known = self.table.listener(listener)?;
         match known.stage {
             Stage::Asked => {}
@@ -251,6 +271,10 @@ impl Connections {
     pub fn accept(&mut self, listener: usize) -> Option<Listener>
         ensures found { IfSome result (λ l. listener_of (socket_at self.old.table listener)
             ≡ Some l) }
+        ensures asked { IfSome result (λ _. accepts (life_at self.old.sockets listener) ≡ true) }
+        ensures none { IfNone result ((listener_of (socket_at self.old.table listener) ≡ None)
+            ⊎ (accepts (life_at self.old.sockets listener) ≡ false)) }
+        ensures not_asked { IfNone result (self.new ≡ self.old) }
     {
         let known = self.table.listener(listener)?;
         if !is_accepting(&self.sockets, listener) {
@@ -268,7 +292,12 @@ impl Connections {
     }
 
     /// An accept failed, where one was asked.
-    pub fn fail_to_accept(&mut self, listener: usize) {
+    pub fn fail_to_accept(&mut self, listener: usize)
+        ensures nobody { listener_of (socket_at self.old.table listener) ≡ None
+            → self.new ≡ self.old }
+        ensures not_asked { accepts (life_at self.old.sockets listener) ≡ false
+            → self.new ≡ self.old }
+    {
         let Some(known) = self.table.listener(listener) else {
             return;
         };
@@ -286,7 +315,11 @@ impl Connections {
     }
 
     /// A member's socket, which shares its turns with these.
-    pub fn open_member(&mut self, peer: Peer, group: usize) -> Result<usize, Refusal> {
+    pub fn open_member(&mut self, peer: Peer, group: usize) -> Result<usize, Refusal>
+        ensures there { IfOk result (λ slot. socket_at self.new.table slot
+            ≡ Some (somebody.Member peer None false)) }
+        ensures refused { IfErr result (λ why. why ≡ refusals.Memory) }
+    {
         let member = Socket::Member {
             peer,
             end: None,
@@ -296,19 +329,27 @@ impl Connections {
     }
 
     /// A socket at a door.
-    pub fn open_at_door(&mut self, peer: Peer, named_by: NamedBy) -> Result<usize, Refusal> {
+    pub fn open_at_door(&mut self, peer: Peer, named_by: NamedBy) -> Result<usize, Refusal>
+        ensures there { IfOk result (λ slot. is_at_door (socket_at self.new.table slot) ≡ true) }
+        ensures refused { IfErr result (λ why. why ≡ refusals.Memory) }
+    {
         let newcomer = Newcomer::new(self.alloc, named_by, self.time);
         self.open(Role::AtDoor, 0, Socket::AtDoor { peer, newcomer })
     }
 
     /// A socket of who only looks: it is shut at once.
-    pub fn open_probe(&mut self) -> Result<usize, Refusal> {
+    pub fn open_probe(&mut self) -> Result<usize, Refusal>
+        ensures refused { IfErr result (λ why. why ≡ refusals.Memory) }
+    {
         let slot = self.open(Role::Probe, 0, Socket::Turned)?;
         self.sockets.fail(slot);
         Ok(slot)
     }
 
-    fn open(&mut self, role: Role, group: usize, socket: Socket) -> Result<usize, Refusal> {
+    fn open(&mut self, role: Role, group: usize, socket: Socket) -> Result<usize, Refusal>
+        ensures there { IfOk result (λ slot. socket_at self.new.table slot ≡ Some socket) }
+        ensures refused { IfErr result (λ why. why ≡ refusals.Memory) }
+    {
         let slot = match self.sockets.open(role, group) {
             Ok(slot) => slot,
             Err(_) => return Err(Refusal::Memory),

@@ -1,7 +1,7 @@
 //! Who is at which socket.
 
-ghost use Rattle.std.specs.Prelude.{◌≡◌, ◌<◌, ℕ, None, OnOk, length, slice_index_or};
-ghost use Rattle.floor_connections.specs.Table.{is_at_door, listener_of, socket_at};
+ghost use Rattle.std.specs.Prelude.{◌≡◌, ◌<◌, ℕ, None, OnErr, OnOk, Some, length, slice_index_or};
+ghost use Rattle.floor_connections.specs.Table.{OthersStay, Same, is_at_door, listener_of, socket_at};
 
 use crate::departure::Departure;
 use crate::place::{Peer, Place};
@@ -68,7 +68,11 @@ impl Table {
     }
 
     /// Somebody is at a socket from now on. Where memory is refused nothing has changed.
-    pub fn put(&mut self, slot: usize, socket: Socket) -> Result<(), AllocError> {
+    pub fn put(&mut self, slot: usize, socket: Socket) -> Result<(), AllocError>
+        ensures there { OnOk result (socket_at self.new slot ≡ Some socket) }
+        ensures others { OthersStay slot self.old self.new }
+        ensures left { OnErr result (Same self.old self.new) }
+    {
         grow(&mut self.slots, slot)?;
         if let Some(place) = self.slots.get_mut(slot) {
             if place.is_none() {

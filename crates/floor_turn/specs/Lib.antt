@@ -1,4 +1,5 @@
 -- What a reader has to believe, in the order of reading.
+pub mod Course
 pub mod Due
 pub mod Moves
 pub mod Runs

@@ -1,14 +1,18 @@
 //! Listeners, and who connects there.
 
-ghost use Rattle.std.specs.Prelude.{◌≡◌, ℕ, IfOk, None, OnOk, Some, false};
+ghost use Rattle.std.specs.Prelude.{◌≡◌, ◌≢◌, ◌⊎◌, ℕ, Err, IfErr, IfOk, None, OnOk, Some, false, max, true};
 ghost use Rattle.floor_loop.specs.Laws.{IsNew};
 ghost use Rattle.floor_meetings.specs.Meetings.{member_at};
 ghost use Rattle.floor_meetings.specs.declared.members.Member.{Member as Known};
 ghost use Rattle.floor_sockets.specs.Life.{none_came, worded};
-ghost use Rattle.floor_sockets.specs.Sockets.{Changed};
-ghost use Rattle.floor_connections.specs.Table.{listener_of, socket_at};
-ghost use Rattle.floor_connections.specs.declared.place.Place.TheVariants.{Port};
+ghost use Rattle.floor_sockets.specs.Sockets.{Changed, life_at};
+ghost use Rattle.floor_proxy.specs.declared.header.NamedBy.{NamedBy as By};
+ghost use Rattle.floor_connections.specs.Asked.{accepts};
+ghost use Rattle.floor_connections.specs.Table.{is_at_door, listener_of, socket_at};
+ghost use Rattle.floor_connections.specs.declared.place.Place.TheVariants.{Door, Port};
+ghost use Rattle.floor_connections.specs.declared.refusal.Refusal.TheVariants.{NotAsked};
 ghost use Rattle.floor_connections.specs.declared.table.Listener.{Listener as Where};
+ghost use Rattle.floor_connections.specs.declared.table.Stage.TheVariants as stages;
 ghost use Rattle.floor_turn.specs.Moves.{Moves, nothing_taken};
 
 use crate::meeting::{is_full_for, phase_of, who_at};
@@ -36,6 +40,11 @@ impl Server {
 
     /// The place of a listener is listened on, or can't be. Where a port of the start can't the server ends.
     pub fn listened(&mut self, listener: usize, is_listening: bool)
+        ensures nobody { listener_of (socket_at self.old.connections.table listener) ≡ None
+            → self.new ≡ self.old }
+        ensures not_asked { (l : Where)
+            → listener_of (socket_at self.old.connections.table listener) ≡ Some l
+            → l.stage ≢ stages.Asked → self.new ≡ self.old }
         ensures meetings { self.new.meetings ≡ self.old.meetings }
     {
         let missed = self.connections.listened(listener, is_listening);
@@ -58,6 +67,15 @@ impl Server {
             → (m : Known) × (member_at self.new.meetings socket ≡ Some m)
             × (m.conference ≡ c) × (m.user ≡ u)
             × IsNew self.new.meetings.hub m.number) }
+        ensures at_door { IfOk result (λ socket. (l : Where) (named_by : By) (p : ℕ)
+            → listener_of (socket_at self.old.connections.table listener) ≡ Some l
+            → l.place ≡ Door named_by p
+            → is_at_door (socket_at self.new.connections.table socket) ≡ true) }
+        ensures not_asked { accepts (life_at self.old.connections.sockets listener) ≡ false
+            → result ≡ Err NotAsked }
+        ensures asked { IfErr result (λ why. why ≡ NotAsked
+            → (listener_of (socket_at self.old.connections.table listener) ≡ None)
+            ⊎ (accepts (life_at self.old.connections.sockets listener) ≡ false)) }
         ensures moves { Moves nothing_taken self.old.meetings self.new.meetings }
     {
         self.connections.pass(now);
@@ -88,6 +106,9 @@ impl Server {
 
     /// An accept failed at a listener, as it does without a descriptor left: it is tried again 100 milliseconds later.
     pub fn unaccepted(&mut self, listener: usize, now: u64)
+        ensures not_asked { accepts (life_at self.old.connections.sockets listener) ≡ false
+            → self.new.connections.sockets ≡ record self.old.connections.sockets {
+            time = max self.old.connections.sockets.time now } }
         ensures meetings { self.new.meetings ≡ self.old.meetings }
     {
         self.connections.pass(now);
@@ -100,6 +121,10 @@ impl Server {
             → (m : Known) × (member_at self.new.meetings socket ≡ Some m)
             × (m.conference ≡ c) × (m.user ≡ u)
             × IsNew self.new.meetings.hub m.number) }
+        ensures at_door { IfOk result (λ socket. (named_by : By) (p : ℕ)
+            → peer.place ≡ Door named_by p
+            → is_at_door (socket_at self.new.connections.table socket) ≡ true) }
+        ensures asked { IfErr result (λ why. why ≢ NotAsked) }
         ensures moves { Moves nothing_taken self.old.meetings self.new.meetings }
     {
         match peer.place {
@@ -125,6 +150,7 @@ impl Server {
             × (member_at self.new.meetings socket ≡ Some m)
             × (m.conference ≡ conference) × (m.user ≡ user)
             × IsNew self.new.meetings.hub m.number) }
+        ensures asked { IfErr result (λ why. why ≢ NotAsked) }
         ensures moves { Moves nothing_taken self.old.meetings self.new.meetings }
     {
         let socket = self.connections.open_member(peer, group)?;
@@ -142,6 +168,7 @@ impl Server {
         ensures joined { OnOk result ((m : Known) × (member_at self.new.meetings socket ≡ Some m)
             × (m.conference ≡ conference) × (m.user ≡ user)
             × IsNew self.new.meetings.hub m.number) }
+        ensures asked { IfErr result (λ why. why ≢ NotAsked) }
         ensures moves { Moves nothing_taken self.old.meetings self.new.meetings }
     {
         if is_full_for(&self.meetings, conference, user) {

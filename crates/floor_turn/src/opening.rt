@@ -1,11 +1,14 @@
 //! Conferences are opened and closed, and the server stops.
 
-ghost use Rattle.std.specs.Prelude.{◌≡◌, OnErr, OnOk, true};
-ghost use Rattle.floor_hub.specs.Rooms.{Forgets, OneRoom, Opens, admin_event, by_broken, refusal_in};
+ghost use Rattle.std.specs.Prelude.{◌≡◌, IfErr, OnErr, OnOk, false, true, ℕ};
+ghost use Rattle.floor_hub.specs.Rooms.{Forgets, IsRemembered, OneRoom, Opens, admin_event, by_broken, refusal_in};
 ghost use Rattle.floor_hub.specs.declared.step.Step.TheVariants.{Admin, Open};
 ghost use Rattle.floor_loop.specs.Done.{AtMost, NoSteps};
 ghost use Rattle.floor_machine.specs.declared.act.Act.TheVariants as acts;
 ghost use Rattle.floor_meetings.specs.Calls.{Quiet};
+ghost use Rattle.floor_connections.specs.Table.{IsWanted};
+ghost use Rattle.floor_connections.specs.declared.place.Place.TheVariants as places;
+ghost use Rattle.floor_turn.specs.Course.{is_serving};
 ghost use Rattle.floor_turn.specs.Moves.{Moves, nothing_taken};
 
 use crate::meeting::phase_of;
@@ -20,6 +23,8 @@ use std::alloc::AllocError;
 impl Server {
     /// Has a door listened on at this port, whose headers name users by this.
     pub fn door(&mut self, named_by: NamedBy, port: u16) -> Result<(), AllocError>
+        ensures wanted { OnOk result (IsWanted self.new.connections.table
+            (places.Door named_by port) 0) }
         ensures meetings { self.new.meetings ≡ self.old.meetings }
     {
         let _listener = self.connections.listen(Place::Door { named_by, port }, 0)?;
@@ -28,6 +33,8 @@ impl Server {
 
     /// Has a port listened on at which whoever connects is let go at once: it joins nothing, and is told nothing.
     pub fn health(&mut self, port: u16) -> Result<(), AllocError>
+        ensures wanted { OnOk result (IsWanted self.new.connections.table
+            (places.Health port) 0) }
         ensures meetings { self.new.meetings ≡ self.old.meetings }
     {
         let _listener = self.connections.listen(Place::Health { port }, 0)?;
@@ -37,6 +44,8 @@ impl Server {
     /// Has a port listened on for a user of a conference, as for one that was added while it runs. Refused as the hub's
     /// `status` is, by `Ended` or `Broken` where the conference isn't open, and by `Memory`: then no port is listened on.
     pub fn port(&mut self, conference: u32, user: u16, port: u16) -> Result<(), HubRefusal>
+        ensures wanted { OnOk result ((group : ℕ) × IsWanted self.new.connections.table
+            (places.Port conference user port) group) }
         ensures meetings { self.new.meetings ≡ self.old.meetings }
     {
         match self.meetings.hub().status(conference)?.phase {
@@ -114,6 +123,7 @@ impl Server {
         ensures quiet { Quiet NoSteps self.old.meetings.hub self.new.meetings.hub }
         ensures forgot { OnOk result (Forgets conference
             self.old.meetings.hub.hub self.new.meetings.hub.hub) }
+        ensures refused { IfErr result (IsRemembered conference self.old.meetings.hub.hub) }
         ensures left { OnErr result (self.new.meetings.hub ≡ self.old.meetings.hub) }
         ensures members { self.new.meetings.members ≡ self.old.meetings.members }
         ensures moves { Moves nothing_taken self.old.meetings self.new.meetings }
@@ -127,6 +137,7 @@ impl Server {
     /// Stops: nothing is listened on any more, nobody is read, and each socket is shut once what was told to its member is
     /// written, at latest after 10 seconds. `next` gives `End` behind the last one.
     pub fn stop(&mut self, now: u64)
+        ensures stops { is_serving self.new.course ≡ false }
         ensures meetings { self.new.meetings ≡ self.old.meetings }
     {
         self.connections.pass(now);

@@ -3,6 +3,7 @@
 ghost use Rattle.std.specs.Prelude.{◌≡◌, IfNone, ℕ, None, false};
 ghost use Rattle.floor_loop.specs.Loop.{ready_at};
 ghost use Rattle.floor_sockets.specs.Sockets.{IsDone};
+ghost use Rattle.floor_turn.specs.Course.{is_serving};
 ghost use Rattle.floor_turn.specs.Moves.{Moves, nothing_taken};
 
 use crate::server::{Course, Server};
@@ -59,7 +60,9 @@ impl Server {
     }
 
     /// Whether it wasn't told to stop.
-    fn is_serving(&self) -> bool {
+    fn is_serving(&self) -> bool
+        ensures value { result ≡ is_serving self.now.course }
+    {
         match self.course {
             Course::Starting | Course::Running => true,
             Course::Stopping | Course::Closing | Course::Ended => false,

@@ -1,5 +1,5 @@
 use Rattle.std.proofs.Common.{◌≡◌, Some, refl, subst}
-use Rattle.floor_connections.specs.declared.place.Place.TheVariants.{Port}
+use Rattle.floor_connections.specs.declared.place.Place.TheVariants.{Door, Port}
 use Rattle.floor_connections.specs.declared.table.Table.{Table}
 use Rattle.floor_connections.specs.Table.{listener_of, socket_at}
 use Rattle.floor_turn.proofs.Handing.{place_of}
@@ -13,3 +13,8 @@ returns-in-Ok-clause-joined c = λ l d u p at is. c.in-Ok.ensures.joined d u p
 
 pub returns-in_default-clause-moves : goal.returns-in_default-clause-moves
 returns-in_default-clause-moves c = moves_same c.args.self.now.meetings c.args.self.now.meetings refl
+
+pub returns-in-Ok-clause-at_door : goal.returns-in-Ok-clause-at_door
+returns-in-Ok-clause-at_door c = λ l named_by p at is. c.in-Ok.ensures.at_door named_by p
+    (place_of (listener_of (socket_at c.args.self.now.connections.table c.args.listener)) c.in-Some.known l (Door named_by p)
+    (subst (λ (t : Table). listener_of (socket_at t c.args.listener) ≡ Some c.in-Some.known) c.pass.ensures.table c.in-Some.ensures.found) at is)
