@@ -2,6 +2,8 @@
 pub mod Course
 pub mod Due
 pub mod Moves
+pub mod Entering
+pub mod Over
 pub mod Runs
 pub mod Laws
 pub mod Examples

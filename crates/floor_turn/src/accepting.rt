@@ -8,11 +8,13 @@ ghost use Rattle.floor_sockets.specs.Life.{none_came, worded};
 ghost use Rattle.floor_sockets.specs.Sockets.{Changed, life_at};
 ghost use Rattle.floor_proxy.specs.declared.header.NamedBy.{NamedBy as By};
 ghost use Rattle.floor_connections.specs.Asked.{accepts};
+ghost use Rattle.floor_connections.specs.Steps.{Steps};
 ghost use Rattle.floor_connections.specs.Table.{is_at_door, listener_of, socket_at};
 ghost use Rattle.floor_connections.specs.declared.place.Place.TheVariants.{Door, Port};
-ghost use Rattle.floor_connections.specs.declared.refusal.Refusal.TheVariants.{NotAsked};
+ghost use Rattle.floor_connections.specs.declared.refusal.Refusal.TheVariants.{Memory, NotAsked};
 ghost use Rattle.floor_connections.specs.declared.table.Listener.{Listener as Where};
 ghost use Rattle.floor_connections.specs.declared.table.Stage.TheVariants as stages;
+ghost use Rattle.floor_turn.specs.Entering.{HasJoined, IsDeclined};
 ghost use Rattle.floor_turn.specs.Moves.{Moves, nothing_taken};
 
 use crate::meeting::{is_full_for, phase_of, who_at};
@@ -31,6 +33,7 @@ impl Server {
         ensures none { listener_of (socket_at self.old.connections.table listener) ≡ None
             → self.new.connections ≡ self.old.connections }
         ensures meetings { self.new.meetings ≡ self.old.meetings }
+        ensures steps { Steps self.old.connections.sockets self.new.connections.sockets }
     {
         match self.connections.table.listener(listener) {
             Some(_) => self.connections.sockets.readable(listener, false),
@@ -46,6 +49,7 @@ impl Server {
             → listener_of (socket_at self.old.connections.table listener) ≡ Some l
             → l.stage ≢ stages.Asked → self.new ≡ self.old }
         ensures meetings { self.new.meetings ≡ self.old.meetings }
+        ensures steps { Steps self.old.connections.sockets self.new.connections.sockets }
     {
         let missed = self.connections.listened(listener, is_listening);
         match (missed, self.course) {
@@ -76,7 +80,14 @@ impl Server {
         ensures asked { IfErr result (λ why. why ≡ NotAsked
             → (listener_of (socket_at self.old.connections.table listener) ≡ None)
             ⊎ (accepts (life_at self.old.connections.sockets listener) ≡ false)) }
+        ensures refused { IfErr result (λ why. (l : Where) (c u p : ℕ)
+            → accepts (life_at self.old.connections.sockets listener) ≡ true
+            → listener_of (socket_at self.old.connections.table listener) ≡ Some l
+            → l.place ≡ Port c u p
+            → (why ≡ Memory) ⊎ ((socket : ℕ)
+            × IsDeclined socket c u self.old.meetings why)) }
         ensures moves { Moves nothing_taken self.old.meetings self.new.meetings }
+        ensures steps { Steps self.old.connections.sockets self.new.connections.sockets }
     {
         self.connections.pass(now);
         let Some(known) = self.connections.accept(listener) else {
@@ -100,6 +111,7 @@ impl Server {
         ensures sockets { Changed none_came listener self.old.connections.sockets.deadlines
             self.old.connections.sockets self.new.connections.sockets }
         ensures meetings { self.new.meetings ≡ self.old.meetings }
+        ensures steps { Steps self.old.connections.sockets self.new.connections.sockets }
     {
         self.connections.sockets.nothing(listener);
     }
@@ -108,8 +120,10 @@ impl Server {
     pub fn unaccepted(&mut self, listener: usize, now: u64)
         ensures not_asked { accepts (life_at self.old.connections.sockets listener) ≡ false
             → self.new.connections.sockets ≡ record self.old.connections.sockets {
-            time = max self.old.connections.sockets.time now } }
+              time = max self.old.connections.sockets.time now;
+            } }
         ensures meetings { self.new.meetings ≡ self.old.meetings }
+        ensures steps { Steps self.old.connections.sockets self.new.connections.sockets }
     {
         self.connections.pass(now);
         self.connections.fail_to_accept(listener);
@@ -125,7 +139,10 @@ impl Server {
             → peer.place ≡ Door named_by p
             → is_at_door (socket_at self.new.connections.table socket) ≡ true) }
         ensures asked { IfErr result (λ why. why ≢ NotAsked) }
+        ensures refused { IfErr result (λ why. (c u p : ℕ) → peer.place ≡ Port c u p
+            → (why ≡ Memory) ⊎ ((socket : ℕ) × IsDeclined socket c u self.old.meetings why)) }
         ensures moves { Moves nothing_taken self.old.meetings self.new.meetings }
+        ensures steps { Steps self.old.connections.sockets self.new.connections.sockets }
     {
         match peer.place {
             Place::Port {
@@ -151,7 +168,10 @@ impl Server {
             × (m.conference ≡ conference) × (m.user ≡ user)
             × IsNew self.new.meetings.hub m.number) }
         ensures asked { IfErr result (λ why. why ≢ NotAsked) }
+        ensures refused { IfErr result (λ why. (why ≡ Memory) ⊎ ((socket : ℕ)
+            × IsDeclined socket conference user self.old.meetings why)) }
         ensures moves { Moves nothing_taken self.old.meetings self.new.meetings }
+        ensures steps { Steps self.old.connections.sockets self.new.connections.sockets }
     {
         let socket = self.connections.open_member(peer, group)?;
         match self.join(socket, conference, user) {
@@ -168,8 +188,13 @@ impl Server {
         ensures joined { OnOk result ((m : Known) × (member_at self.new.meetings socket ≡ Some m)
             × (m.conference ≡ conference) × (m.user ≡ user)
             × IsNew self.new.meetings.hub m.number) }
+        ensures entered { OnOk result (HasJoined socket conference user
+            self.old.meetings self.new.meetings) }
         ensures asked { IfErr result (λ why. why ≢ NotAsked) }
+        ensures refused { IfErr result (IsDeclined socket conference user self.old.meetings) }
+        ensures table { self.new.connections.table ≡ self.old.connections.table }
         ensures moves { Moves nothing_taken self.old.meetings self.new.meetings }
+        ensures steps { Steps self.old.connections.sockets self.new.connections.sockets }
     {
         if is_full_for(&self.meetings, conference, user) {
             return Err(Refusal::AtMeeting(JoinRefusal::UserConnections));
@@ -196,7 +221,10 @@ impl Server {
 }
 
 /// A conference that want of memory has broken off is told of, once, and its ports aren't listened on any more.
-fn see_to_broken(connections: &mut Connections, meetings: &Meetings, conference: u32) {
+fn see_to_broken(connections: &mut Connections, meetings: &Meetings, conference: u32)
+    ensures table { connections.new.table ≡ connections.old.table }
+    ensures steps { Steps connections.old.sockets connections.new.sockets }
+{
     match phase_of(meetings, conference) {
         Some(Phase::Broken) => connections.break_off(conference),
         Some(Phase::Running | Phase::Ended) | None => {}
