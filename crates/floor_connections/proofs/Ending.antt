@@ -1,5 +1,5 @@
 -- Whoever was ended or has failed is ending.
-use Rattle.std.proofs.Common.{◌≡◌, Bool, true, false, Some, None, refl, sym, ap, ◌∙◌}
+use Rattle.std.proofs.Common.{◌≡◌, Bool, true, false, Some, None, refl, ap, ◌∙◌}
 use Rattle.std.specs.Prelude.{◌||◌, Option, option_map}
 use Rattle.floor_sockets.specs.declared.life.Asked.{Asked}
 use Rattle.floor_sockets.specs.declared.life.Asked.TheVariants as asked

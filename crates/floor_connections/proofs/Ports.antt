@@ -1,6 +1,6 @@
 -- The ports of users are to be listened on.
 use Rattle.std.proofs.Common.{◌≡◌, ◌≢◌, ◌<◌, ◌+◌, ℕ, List, inl, inr, length, get_or, Some, None, refl, sym, ap, ◌∙◌, subst, arith}
-use Rattle.std.specs.Prelude.{IfSome, IsSome, Option, nat_eq}
+use Rattle.std.specs.Prelude.{IfSome, IsSome, Option}
 use Rattle.std.proofs.lemmas.Bool.Decides.{eqb_tells}
 use Rattle.std.proofs.lemmas.List.{get_or_default}
 use Rattle.floor_config.specs.declared.users.User.{User}

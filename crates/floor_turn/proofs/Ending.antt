@@ -1,5 +1,5 @@
 -- Whoever is to be shut down is shut in time.
-use Rattle.std.proofs.Common.{◌≡◌, List, [], ◌∷◌, refl, sym, ap, ◌∙◌}
+use Rattle.std.proofs.Common.{List, [], ◌∷◌, refl, sym, ap, ◌∙◌}
 use Rattle.std.specs.Prelude.{Option}
 use Rattle.floor_sockets.specs.declared.life.Deed.{Deed}
 use Rattle.floor_sockets.specs.Sockets.{Sockets}

@@ -1,12 +1,11 @@
 -- Who joins by a header at a door, and who is turned away.
-use Rattle.std.proofs.Common.{◌≡◌, ◌≢◌, ◌≤◌, ◌<◌, ◌-◌, ℕ, Bool, true, false, inl, inr, Some, None, refl, sym, ap, ◌∙◌, subst, arith}
-use Rattle.std.specs.Prelude.{◌⊎◌, IfErr, Option, Ok, Err, Result, nat_eq, option_map}
+use Rattle.std.proofs.Common.{◌≡◌, ◌≢◌, ◌≤◌, ◌<◌, ℕ, Bool, true, false, inl, inr, Some, None, refl, sym, ap, ◌∙◌, subst, arith}
+use Rattle.std.specs.Prelude.{◌⊎◌, IfErr, Option, Ok, Err, Result, option_map}
 use Rattle.std.proofs.lemmas.Bool.Decides.{eqb_tells}
 use Rattle.std.proofs.lemmas.Option.{none-some}
 use Rattle.floor_room.specs.Room.{Room}
 use Rattle.floor_hub.specs.declared.refusal.HubRefusal.{HubRefusal}
 use Rattle.floor_proxy.specs.declared.header.ProxyRead.{ProxyRead}
-use Rattle.floor_proxy.specs.declared.header.ProxyRead.TheVariants.{Named}
 use Rattle.floor_proxy.specs.declared.refusal.ProxyRefusal.{ProxyRefusal}
 use Rattle.floor_doors.specs.declared.newcomer.Verdict.{Verdict}
 use Rattle.floor_doors.specs.declared.newcomer.Verdict.TheVariants.{Wait, Enter, LetGo, Refuse}

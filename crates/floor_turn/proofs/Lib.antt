@@ -5,4 +5,4 @@ pub mod Wanted
 pub mod Resting
 pub mod Ending
 pub mod Entering
-pub mod Shutting
+pub mod Deeds

@@ -15,7 +15,7 @@ use Rattle.floor_sockets.specs.Sockets.{life_at}
 use Rattle.floor_connections.specs.Asked.{is_ending}
 use Rattle.floor_connections.specs.declared.connections.Connections.{Connections}
 use Rattle.floor_connections.specs.declared.refusal.Refusal.{Refusal}
-use Rattle.floor_connections.specs.declared.refusal.Refusal.TheVariants.{AtMeeting, Memory}
+use Rattle.floor_connections.specs.declared.refusal.Refusal.TheVariants.{AtMeeting}
 use Rattle.floor_connections.specs.declared.table.Socket.TheVariants.{Turned}
 use Rattle.floor_connections.specs.Table.{is_member, socket_at}
 use Rattle.floor_turn.specs.declared.server.Server.{Server}

@@ -173,7 +173,10 @@ impl Server {
         ensures moves { Moves nothing_taken self.old.meetings self.new.meetings }
         ensures steps { Steps self.old.connections.sockets self.new.connections.sockets }
     {
-        let socket = self.connections.open_member(peer, group)?;
+        let socket = match self.connections.open_member(peer, group) {
+            Ok(socket) => socket,
+            Err(refusal) => return Err(refusal),
+        };
         match self.join(socket, conference, user) {
             Ok(()) => Ok(socket),
             Err(refusal) => {

@@ -39,8 +39,8 @@ returns-in-LetGo-clause-let_go c = λ peer at is. (
 pub returns-in-Refuse-clause-refused : goal.returns-in-Refuse-clause-refused
 returns-in-Refuse-clause-refused c = λ peer why at is. (
   record {
-    there = turned_there (socket_at c.args.self.now.connections.table c.args.socket) (socket_at c.turn_away.new.self.table c.args.socket) peer at c.turn_away.ensures.here;
-    over = ends_by (life_at c.args.self.now.connections.sockets c.args.socket) (life_at c.turn_away.new.self.sockets c.args.socket) c.turn_away.ensures.failed.here;
+    there = turned_there (socket_at c.args.self.now.connections.table c.args.socket) (socket_at c.turn_away-in-Refuse.new.self.table c.args.socket) peer at c.turn_away-in-Refuse.ensures.here;
+    over = ends_by (life_at c.args.self.now.connections.sockets c.args.socket) (life_at c.turn_away-in-Refuse.new.self.sockets c.args.socket) c.turn_away-in-Refuse.ensures.failed.here;
   },
   refl,
 )
@@ -49,4 +49,4 @@ pub returns-in-LetGo-clause-steps : goal.returns-in-LetGo-clause-steps
 returns-in-LetGo-clause-steps c = steps_by (Fail c.args.socket) c.args.self.now.connections.sockets c.turn_away.new.self.sockets (λ slot. refl) c.turn_away.ensures.failed
 
 pub returns-in-Refuse-clause-steps : goal.returns-in-Refuse-clause-steps
-returns-in-Refuse-clause-steps c = steps_by (Fail c.args.socket) c.args.self.now.connections.sockets c.turn_away.new.self.sockets (λ slot. refl) c.turn_away.ensures.failed
+returns-in-Refuse-clause-steps c = steps_by (Fail c.args.socket) c.args.self.now.connections.sockets c.turn_away-in-Refuse.new.self.sockets (λ slot. refl) c.turn_away-in-Refuse.ensures.failed

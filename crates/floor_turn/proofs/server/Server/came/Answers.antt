@@ -1,6 +1,5 @@
-use Rattle.std.proofs.Common.{refl, ◌≡◌, ◌∙◌, ◌++◌, ◌-◌, [], ap, drop, inl, inr, length, sym, Some}
+use Rattle.std.proofs.Common.{refl, ◌≡◌, ◌∙◌, ◌++◌, ◌-◌, ap, inl, inr, length, sym, Some}
 use Rattle.floor_connections.proofs.Steps.{steps_then}
-use Rattle.std.specs.Prelude.{◌⊎◌}
 use Rattle.floor_proxy.specs.Header.{proxy}
 use Rattle.floor_doors.specs.Follows.{follows}
 use Rattle.floor_doors.specs.declared.newcomer.Verdict.TheVariants.{Enter, Refuse}
@@ -12,7 +11,6 @@ use Rattle.floor_connections.specs.declared.table.Socket.TheVariants.{AtDoor}
 use Rattle.floor_connections.specs.declared.table.Table.{Table}
 use Rattle.floor_turn.proofs.Handing.{never}
 use Rattle.floor_turn.proofs.Entering.{no_wait_enter, no_wait_refuse, told}
-use Rattle.floor_turn.specs.Entering.{EntersOrNot, IsTurnedAway}
 use Rattle.floor_turn.proofs.Moving.{moves_same}
 use Rattle.floor_turn.proofs.server.Server.came.Goals as goal
 

@@ -1,4 +1,4 @@
-use Rattle.std.proofs.Common.{◌≡◌, ℕ, List, inl, inr, ap, ◌∙◌, subst, refl}
+use Rattle.std.proofs.Common.{ℕ, List, inl, inr, ap, ◌∙◌, subst, refl}
 use Rattle.floor_meetings.specs.Runs.{Came, Does}
 use Rattle.floor_connections.specs.Table.{is_member, peer_of, socket_at}
 use Rattle.floor_connections.specs.declared.table.Table.{Table}

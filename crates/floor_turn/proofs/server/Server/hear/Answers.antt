@@ -24,4 +24,4 @@ pub returns-clause-steps : goal.returns-clause-steps
 returns-clause-steps c = steps_more (Reads c.args.socket c.args.count c.note-has_more.result) c.args.self.now.connections.sockets c.note-has_more.new.connections.sockets c.came.new.self (λ slot. refl) c.note-has_more.ensures.steps c.came.ensures.took
 
 pub returns-clause-heard : goal.returns-clause-heard
-returns-clause-heard c = (c.came-served.result, c.came-served.ensures.members, c.came-served.ensures.took)
+returns-clause-heard c = (c.came-served.result, (c.came-served.ensures.members, c.came-served.ensures.took))

@@ -1,4 +1,4 @@
-use Rattle.std.proofs.Common.{◌≡◌, ◌∙◌, sym}
+use Rattle.std.proofs.Common.{◌∙◌, sym}
 use Rattle.floor_connections.proofs.Steps.{steps_then}
 use Rattle.floor_turn.proofs.Moving.{moves_same, moves_then}
 use Rattle.floor_turn.proofs.server.Server.see_to_somebody.Goals as goal

@@ -39,4 +39,4 @@ returns-clause-moves c =
     (moves_taken c.args.socket c.args.count old c.took.new.self c.took.ensures.members c.took.ensures.took)
 
 pub returns-clause-steps : goal.returns-clause-steps
-returns-clause-steps c = steps_then c.args.self.now.connections.sockets c.took-2.new.self c.see_to.new.connections.sockets (steps_more (Took c.args.socket c.args.count c.len-lent.result) c.args.self.now.connections.sockets c.pass.new.self.sockets c.took-2.new.self (λ slot. refl) c.pass.ensures.steps c.took-2.ensures.took) c.see_to.ensures.steps
+returns-clause-steps c = steps_then c.args.self.now.connections.sockets c.took-2.new.self c.see_to.new.connections.sockets (steps_more (Took c.args.socket c.args.count (length c.lent-lent.result.now)) c.args.self.now.connections.sockets c.pass.new.self.sockets c.took-2.new.self (λ slot. refl) c.pass.ensures.steps c.took-2.ensures.took) c.see_to.ensures.steps
