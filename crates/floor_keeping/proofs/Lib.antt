@@ -1,0 +1,6 @@
+pub mod Turns
+pub mod Calm
+pub mod Fronts
+pub mod Readings
+pub mod Owned
+pub mod Epochs

@@ -1,0 +1,61 @@
+-- The files of all kept conferences, and what a call does to them.
+use Rattle.std.specs.Prelude.{◌≡◌, ◌<◌, ℕ, Bool, true, false, nat_eq, Option, Some, None}
+use Rattle.floor_keeping.specs.Deeds.{deed_of}
+use Rattle.floor_keeping.specs.Kept.{KeptFile, ask, asked_of}
+use Rattle.floor_keeping.specs.State.{is_open}
+use Rattle.floor_keeping.specs.declared.deed.Deed.{Deed}
+use Rattle.floor_keeping.specs.declared.policy.Policy.{Policy}
+use Rattle.floor_keeping.specs.declared.state.Asked.{Asked}
+use Rattle.floor_keeping.specs.declared.state.Asked.TheVariants as asked
+
+-- more may be put to the file of this conference, if it has one
+abbrev pub takes : Option KeptFile → Bool
+takes None = false
+takes (Some f) = is_open f.state.course
+
+-- what is left of a file behind the asking: nothing, once it is told that nothing more is kept
+abbrev pub left_by : Asked → KeptFile → Option KeptFile
+left_by asked.Nothing f = Some f
+left_by asked.Begin f = Some (ask asked.Begin f)
+left_by asked.Cut f = Some (ask asked.Cut f)
+left_by asked.Append f = Some (ask asked.Append f)
+left_by asked.Sync f = Some (ask asked.Sync f)
+left_by asked.Rename f = Some (ask asked.Rename f)
+left_by asked.Spoil f = Some (ask asked.Spoil f)
+left_by asked.Empty f = Some (ask asked.Empty f)
+left_by asked.Tell f = Some (ask asked.Tell f)
+left_by asked.End f = None
+
+-- no other conference's file has changed
+abbrev pub SameOthers : ℕ → (old new : ℕ → Option KeptFile) → Type 0
+SameOthers c old new = (k : ℕ) → nat_eq c k ≡ false → new k ≡ old k
+
+-- none has
+abbrev pub SameFiles : (old new : ℕ → Option KeptFile) → Type 0
+SameFiles old new = (k : ℕ) → new k ≡ old k
+
+-- Of this conference's file that was asked which is to be asked next, by this deed.
+pub record AsksOf (p : Policy) (now : ℕ) (old new : ℕ → Option KeptFile) (c : ℕ) (d : Deed) : Type 0 where
+  pub file : KeptFile
+  pub there : old c ≡ Some file
+  pub asked : deed_of c (asked_of p now file) file.state ≡ Some d
+  pub here : new c ≡ left_by (asked_of p now file) file
+  pub others : SameOthers c old new
+
+-- of some conference's
+abbrev pub Asks : Policy → ℕ → (old new : ℕ → Option KeptFile) → Deed → Type 0
+Asks p now old new d = (c : ℕ) × AsksOf p now old new c d
+
+-- The conference's file took what was put to it: it is what this makes of it, and no other has changed.
+pub record Took (f : KeptFile → KeptFile) (events : ℕ) (old new : ℕ → Option KeptFile) (c : ℕ) : Type 0 where
+  pub file : KeptFile
+  pub there : old c ≡ Some file
+  pub opened : is_open file.state.course ≡ true
+  pub longer : (events < file.state.events) → ⊥
+  pub here : new c ≡ Some (f file)
+  pub others : SameOthers c old new
+
+-- more events were put to it before than these
+abbrev pub IsShorter : ℕ → Option KeptFile → Type 0
+IsShorter events None = ⊥
+IsShorter events (Some f) = events < f.state.events
