@@ -8,7 +8,7 @@ use floor_turn::{Bounds, Entry, Who};
 
 /// How many sockets there may be of one user in a conference, and of a conference.
 pub const BOUNDS: Bounds = Bounds {
-    of_user: 30,
+    of_user: 62,
     of_conference: 63,
 };
 

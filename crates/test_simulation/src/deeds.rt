@@ -44,12 +44,11 @@ impl Run {
     /// Listens no more, as is asked: who waited there is gone.
     pub fn unlisten(&mut self, slot: usize) -> Result<(), Fault> {
         let place = self.model.world.listener_mut(slot)?.place;
-        let is_over = match place {
-            Place::Port { conference, .. } => !self.model.is_open(conference),
-            Place::Door { .. } | Place::Health { .. } => false,
-        };
-        let may = is_over || self.model.course == Course::Closing;
-        demand(may, "a port isn't listened on any more", slot)?;
+        demand(
+            self.model.is_over(place),
+            "it isn't listened any more",
+            slot,
+        )?;
         self.model.world.free(slot);
         self.model.log(Entry::Ended(place))?;
         self.server.shut(slot);
@@ -181,7 +180,6 @@ impl Run {
     /// Shuts a socket.
     pub fn shut(&mut self, slot: usize) -> Result<(), Fault> {
         let number = self.model.world.peer_in(slot)?;
-        let _now = self.model.pass();
         self.model.may_shut(number)?;
         self.model.leaves(number)?;
         self.server.shut(slot);
@@ -190,16 +188,19 @@ impl Run {
 
     /// The server is given an answer that nobody asked for.
     pub fn stray(&mut self, kind: u16, slot: usize) -> Result<(), Fault> {
+        if kind == 0 {
+            self.server.shut(slot);
+            return Ok(());
+        }
         let now = self.model.pass();
         let mut is_let_in = false;
         match kind {
-            0 => self
+            1 => self
                 .server
                 .came(slot, b"\x20\x0b\0\0\0\0\0\x01\0\x01\0\x0a", now),
-            1 => self.server.took(slot, 5, now),
-            2 => self.server.ended(slot, now),
-            3 => self.server.failed(slot, now),
-            4 => self.server.shut(slot),
+            2 => self.server.took(slot, 5, now),
+            3 => self.server.ended(slot, now),
+            4 => self.server.failed(slot, now),
             5 => self.server.unaccepted(slot, now),
             _ => is_let_in = self.server.accepted(slot, 0, now).is_ok(),
         }

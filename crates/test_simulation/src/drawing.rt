@@ -33,10 +33,10 @@ pub struct Drawing {
     peers: usize,
     crowd: u64,
     place: Place,
-    /// Whether the last that has connected is at a door, and says who it is next; and who is to be sent on, since it has
-    /// said something just now.
+    /// Whether the last that has connected is at a door, and says who it is next; and what happens next, where that is
+    /// known: what somebody has said just now is sent, or a conference is opened that has no port.
     is_at_door: bool,
-    behind: Option<usize>,
+    then: Option<Happening>,
 }
 
 impl Drawing {
@@ -58,7 +58,7 @@ impl Drawing {
             crowd: 0,
             place: ID,
             is_at_door: false,
-            behind: None,
+            then: None,
         }
     }
 
@@ -73,9 +73,9 @@ impl Drawing {
 
     /// What happens first: how long members outlive their sockets.
     pub fn first(&mut self) -> Happening {
-        match self.below(6) {
-            0 => Happening::GraceForAll(1 + self.below(9_000)),
-            1 => Happening::Grace(1 + self.below(9_000)),
+        match self.below(if self.theme == Theme::Crowds { 2 } else { 6 }) {
+            0 => Happening::GraceForAll(1 + self.below(30_000)),
+            1 => Happening::Grace(1 + self.below(30_000)),
             _ => Happening::Grace(0),
         }
     }
@@ -84,23 +84,22 @@ impl Drawing {
     pub fn next(&mut self, place: u32) -> Happening {
         match place {
             0 | 1 => return Happening::Open(1 + place),
-            2 => return Happening::Turn,
+            2 if !self.one_in(25) => return Happening::Turn,
+            2 => return Happening::Deny,
             _ => {}
         }
         if self.crowd != 0 {
             self.crowd -= 1;
             return self.connect();
         }
-        let last = self.peers.saturating_sub(1);
         if self.is_at_door {
             self.is_at_door = false;
-            self.behind = Some(last);
             let message = self.header();
-            return of(last, Does::Say { times: 1, message });
+            return self.say(self.peers.saturating_sub(1), 1, message);
         }
-        match self.behind.take() {
-            Some(peer) if !self.one_in(6) => of(peer, Does::Send(self.count())),
-            _ => self.draw(),
+        match self.then.take() {
+            Some(happening) => happening,
+            None => self.draw(),
         }
     }
 
@@ -110,7 +109,7 @@ impl Drawing {
                 self.place = self.place();
                 self.connect()
             }
-            16..=75 => self.say(),
+            16..=75 => self.say_some(),
             76..=85 => of(self.somebody(), Does::Send(self.count())),
             86..=90 => of(self.somebody(), Does::End),
             91..=93 => of(self.somebody(), Does::Reset),
@@ -120,7 +119,7 @@ impl Drawing {
             149..=163 => Happening::Deeds(1 + self.below(6) as u32),
             164..=179 => Happening::Pass(self.below(300_000)),
             180..=183 => Happening::Pass(LONG[self.below(6) as usize]),
-            184 => Happening::Back(self.below(20_000_000)),
+            184 => Happening::Back(self.below(4_000_000)),
             185..=188 => Happening::Stray {
                 kind: self.below(7) as u16,
                 slot: self.below(40) as usize,
@@ -130,7 +129,7 @@ impl Drawing {
             194..=196 => Happening::Feed,
             _ if self.theme == Theme::Crowds || self.one_in(12) => {
                 self.place = self.place();
-                self.crowd = 10 + self.below(90);
+                self.crowd = 40 + self.below(60);
                 self.connect()
             }
             _ => Happening::Turn,
@@ -168,9 +167,15 @@ impl Drawing {
         self.peers.saturating_sub(1 + back)
     }
 
-    fn say(&mut self) -> Happening {
-        let peer = self.somebody();
-        self.behind = Some(peer);
+    /// A peer says something, most of which is sent next.
+    fn say(&mut self, peer: usize, times: u32, message: Message) -> Happening {
+        if !self.one_in(6) {
+            self.then = Some(of(peer, Does::Send(self.count())));
+        }
+        of(peer, Does::Say { times, message })
+    }
+
+    fn say_some(&mut self) -> Happening {
         let most = match self.theme {
             Theme::Floods => 120,
             Theme::Slow => 1 + self.below(3) * 300,
@@ -182,7 +187,8 @@ impl Drawing {
         } else {
             self.message()
         };
-        of(peer, Does::Say { times, message })
+        let peer = self.somebody();
+        self.say(peer, times, message)
     }
 
     fn header(&mut self) -> Message {
@@ -250,7 +256,10 @@ impl Drawing {
             4..=6 => Happening::Forget(conference),
             7 => Happening::Close(conference),
             8 | 9 => Happening::Close(3),
-            10 | 11 => Happening::Deny,
+            10 | 11 => {
+                self.then = Some(Happening::Open(3));
+                Happening::Deny
+            }
             12..=14 => Happening::Allow,
             15 if self.one_in(4) => Happening::Stop,
             _ => Happening::Revoke(1 + self.below(20) as u16),

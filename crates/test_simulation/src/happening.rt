@@ -90,7 +90,7 @@ pub enum Happening {
     Forget(u32),
     /// The administrator of conference 1 revokes a floor request.
     Revoke(u16),
-    /// The server is stopped.
+    /// The server is stopped, and all is done that is to be done then.
     Stop,
     /// No port can be had from now on, or each can again.
     Deny,
@@ -104,7 +104,7 @@ pub enum Happening {
     Turn,
     /// So many microseconds go by.
     Pass(u64),
-    /// The clock is told to be so many microseconds earlier than it is.
+    /// The clock goes back by so many microseconds.
     Back(u64),
     /// The server is given an answer of this kind that nobody asked for, of this slot.
     Stray { kind: u16, slot: usize },

@@ -1,6 +1,7 @@
 //! A conference as the floor machine alone has it, of what the server's journal says happened.
 
 use crate::fault::{Fault, demand};
+use crate::serving::SHUT;
 use floor_machine::{Config, Event, Machine, Parcel, SharedInfo};
 use floor_turn::Who;
 use std::alloc::{AllocError, Global};
@@ -43,8 +44,9 @@ pub struct Meeting {
     alloc: Global,
     pub conference: u32,
     machine: Machine,
-    /// How many events it has had.
+    /// How many events it has had, and since when it has ended.
     pub events: usize,
+    pub ended: Option<u64>,
     /// The members, by their numbers, the first of which is 1.
     members: Vec<Member>,
     out: Vec<Parcel>,
@@ -59,6 +61,7 @@ impl Meeting {
             conference: config.conference(),
             machine: Machine::new(alloc, config)?,
             events: 0,
+            ended: None,
             members: Vec::new(alloc),
             out: Vec::new(alloc),
             changed: Vec::new(alloc),
@@ -90,6 +93,12 @@ impl Meeting {
             .iter()
             .filter(|member| user.is_none() || user == Some(member.who.user))
             .any(|member| member.away.is_some())
+    }
+
+    /// Until when a member stays that is away since then, with this grace.
+    pub fn stays_until(&self, away: u64, grace: u64) -> u64 {
+        let ended = self.ended.unwrap_or(u64::MAX);
+        away.saturating_add(grace).min(ended.saturating_add(SHUT))
     }
 
     pub fn is_cut(&self, n: u32) -> bool {

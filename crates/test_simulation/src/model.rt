@@ -10,7 +10,7 @@ use crate::meeting::{Meeting, Member};
 use crate::peer::{Life, Stage};
 use crate::world::{Holder, World};
 use floor_config::read_configs;
-use floor_turn::{Config, Departure, Entry, Fault as EndFault, Who};
+use floor_turn::{Config, Departure, Entry, Fault as EndFault, Place, Who};
 use std::alloc::Global;
 use std::collections::VecDeque;
 
@@ -168,6 +168,15 @@ impl Model {
         }
     }
 
+    /// Whether it isn't to be listened there any more.
+    pub fn is_over(&self, place: Place) -> bool {
+        match place {
+            _ if self.course == Course::Closing => true,
+            Place::Port { conference, .. } => !self.is_open(conference),
+            Place::Door { .. } | Place::Health { .. } => false,
+        }
+    }
+
     /// A conference is opened, unless it was before. Says whether it is.
     pub fn open(&mut self, conference: u32) -> Result<bool, Fault> {
         let is_known = self.meeting(conference).is_some() || self.forgotten.contains(&conference);
@@ -256,10 +265,10 @@ impl Model {
 
     /// Somebody who is away goes, since its time is over.
     pub fn goes(&mut self, who: Who) -> Result<(), Fault> {
-        let latest = self.told.saturating_add(LATE).saturating_sub(self.grace);
-        let member = self.meeting_mut(who.conference)?.member_mut(who.n)?;
-        let is_late = member.away.is_some_and(|away| away <= latest);
-        member.away = None;
+        let (latest, grace) = (self.told.saturating_add(LATE), self.grace);
+        let meeting = self.meeting_mut(who.conference)?;
+        let away = meeting.member_mut(who.n)?.away.take();
+        let is_late = away.is_some_and(|away| meeting.stays_until(away, grace) <= latest);
         demand(is_late, "who may stay leaves", who.n as usize)
     }
 

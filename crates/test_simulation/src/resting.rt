@@ -38,7 +38,7 @@ impl Model {
         for meeting in self.meetings.iter() {
             for member in meeting.members() {
                 if let Some(away) = member.away {
-                    let until = away.saturating_add(self.grace);
+                    let until = meeting.stays_until(away, self.grace);
                     let is_late = until.saturating_add(LATE) <= self.told;
                     demand(!is_late, "who is away stays too long", member.peer)?;
                     first = first.min(until);
@@ -53,6 +53,7 @@ impl Model {
         let is_tried = listener.again.is_none_or(|again| self.told < again);
         let waits = listener.again.is_none() && !listener.queue.is_empty();
         demand(is_tried, "a failed accept isn't tried again", slot)?;
+        demand(!self.is_over(listener.place), "who listens isn't to", slot)?;
         demand(!waits, "somebody waits to be accepted", slot)?;
         Ok(listener.again.unwrap_or(u64::MAX))
     }

@@ -65,8 +65,8 @@ impl Run {
             }
             Happening::Turn => self.turn()?,
             Happening::Back(micros) => {
-                let now = world.now.saturating_sub(micros);
-                self.model.told = self.model.told.max(now);
+                world.now = world.now.saturating_sub(micros);
+                let now = self.model.pass();
                 self.server.time(now);
             }
             Happening::Stray { kind, slot } => self.stray(kind, slot)?,
@@ -74,6 +74,7 @@ impl Run {
                 self.model.stop(None)?;
                 let now = self.model.pass();
                 self.server.stop(now);
+                self.turn()?;
             }
             Happening::Open(conference) if is_serving => {
                 if let Some(config) = self.model.config(conference)? {
@@ -107,6 +108,8 @@ impl Run {
         demand(holds, "it is closed, or isn't", conference as usize)?;
         self.model.cause = Cause::Acts(conference);
         if closes && did {
+            let told = self.model.told;
+            self.model.meeting_mut(conference)?.ended = Some(told);
             self.model.log(Entry::Closed { conference })?;
         }
         Ok(())
