@@ -15,7 +15,7 @@ use Rattle.floor_rpc.specs.CallsWritten.{chair_setting_fields, chair_setting_jso
 use Rattle.floor_rpc.specs.Json.{Fields, given, list_json, member_where, members_of, number_json, object_of, option_json}
 use Rattle.floor_rpc.specs.Laws.{AllAre, AllAreWhere, BelowWhere, IsCall, IsChairSetting, IsCreation, IsDecision, IsFloorAddition, IsJournalFrom, IsListing, IsNewFloor, IsNewUser, IsOfConference, IsOfRequest, IsOfUser, IsOpening, IsParts, IsRelease, IsRemoval, IsU16, IsU32, IsUnwatching, IsUserAddition, IsWatched, IsWatching, IsWhom, IsWordSetting, IsWordsOf}
 use Rattle.floor_rpc.specs.Methods.{methods, name_of, parameters_of}
-use Rattle.floor_rpc.specs.Params.{and_rest, and_then, each, first_unknown, flag, flag_in, list_in, list_or_empty, named, needed, needed_in, needed_list, only, optional, optional_in, optional_list, optional_list_in, or_null, or_why, place_of, priority_of, refuse, some, some_value, text_of, u16_of, u32_of, up_to_4}
+use Rattle.floor_rpc.specs.Params.{and_rest, and_then, each, first_unknown, flag, flag_in, item_only, list_in, list_or_empty, named, needed, needed_in, needed_list, only, optional, optional_in, optional_list, optional_list_in, or_null, or_why, place_of, priority_of, refuse, some, some_value, text_of, u16_of, u32_of, up_to_4}
 use Rattle.floor_rpc.specs.Requests.{with_params}
 use Rattle.floor_rpc.specs.declared.call.Call.{Call}
 use Rattle.floor_rpc.specs.declared.call.Call.TheVariants as call
@@ -110,6 +110,9 @@ none_unknown names (f ∷ fs) e =
 
 only_fields : (names : List (List ℕ)) (fs : Fields) → all_known names fs ≡ true → only names (object_of fs) ≡ Ok tt
 only_fields names fs e = ap refuse (none_unknown names fs e)
+
+item_fields : (list : List ℕ) (names : List (List ℕ)) (fs : Fields) → all_known names fs ≡ true → item_only list names (object_of fs) ≡ Ok tt
+item_fields list names fs e = only_fields names fs e
 
 -- ---- values
 
@@ -228,10 +231,10 @@ new_floor_back back n h =
     (refl))))
 
 listed_user_back : NumbersAreReadBack → (u : NewUser) → IsNewUser u → listed_user (new_user_json u) ≡ Ok u
-listed_user_back back u h = rw (only_fields user_names (new_user_fields u) refl) (new_user_back back u h)
+listed_user_back back u h = rw (item_fields (codes "users") user_names (new_user_fields u) refl) (new_user_back back u h)
 
 listed_floor_back : NumbersAreReadBack → (f : NewFloor) → IsNewFloor f → listed_floor (new_floor_json f) ≡ Ok f
-listed_floor_back back f h = rw (only_fields floor_names (new_floor_fields f) refl) (new_floor_back back f h)
+listed_floor_back back f h = rw (item_fields (codes "floors") floor_names (new_floor_fields f) refl) (new_floor_back back f h)
 
 parts_back : NumbersAreReadBack → (p : Parts) → IsParts p → parts (parts_json p) ≡ Ok p
 parts_back back p h =
@@ -249,11 +252,11 @@ of_conference_back back o h =
     (refl)
 
 unwatched_back : NumbersAreReadBack → (o : OfConference) → IsOfConference o → unwatched (of_conference_json o) ≡ Ok o
-unwatched_back back o h = rw (only_fields (codes "conference" ∷ []) (of_conference_fields o) refl) (of_conference_back back o h)
+unwatched_back back o h = rw (item_fields (codes "conferences") (codes "conference" ∷ []) (of_conference_fields o) refl) (of_conference_back back o h)
 
 watched_back : NumbersAreReadBack → (w : Watched) → IsWatched w → watched (watched_json w) ≡ Ok w
 watched_back back w h =
-    rw (only_fields (codes "conference" ∷ codes "from" ∷ []) (watched_fields w) refl)
+    rw (item_fields (codes "conferences") (codes "conference" ∷ codes "from" ∷ []) (watched_fields w) refl)
     (rw (need u32_of (codes "conference") (watched_fields w) (number_json w.conference) w.conference refl (u32_back back w.conference h.conference))
     (rw (may place_of number_json (codes "from") (watched_fields w) w.from refl (place_where back w.from h.from))
     (refl)))

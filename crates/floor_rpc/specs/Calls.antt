@@ -3,7 +3,7 @@ use Rattle.std.specs.Prelude.{ℕ, Option, Some, None, Result, Ok, Err, List, []
 use Rattle.json.specs.Json.{Json}
 use Rattle.json.specs.Find.{get}
 use Rattle.floor_rpc.specs.Methods.{parameters_of}
-use Rattle.floor_rpc.specs.Params.{and_then, flag, list_or_empty, named, needed, needed_list, only, optional, optional_list, or_null, place_of, priority_of, text_of, u16_of, u32_of}
+use Rattle.floor_rpc.specs.Params.{and_then, flag, item_only, list_or_empty, named, needed, needed_list, only, optional, optional_list, or_null, place_of, priority_of, text_of, u16_of, u32_of}
 use Rattle.floor_rpc.specs.declared.call.Call.{Call}
 use Rattle.floor_rpc.specs.declared.call.Call.TheVariants as call
 use Rattle.floor_rpc.specs.declared.call.ChairSetting.{ChairSetting}
@@ -65,12 +65,12 @@ new_floor p =
     and_then (optional text_of (codes "title") p) (λ title.
     Ok record { id = id; room = room; chair = chair; title = title }))))
 
--- a user, and a floor, of a list: with no other parameter
+-- a user, and a floor, of a list: an object with no other parameter
 abbrev pub listed_user : Json → Result NewUser RequestFault
-listed_user j = and_then (only user_names j) (λ _. new_user j)
+listed_user j = and_then (item_only (codes "users") user_names j) (λ _. new_user j)
 
 abbrev pub listed_floor : Json → Result NewFloor RequestFault
-listed_floor j = and_then (only floor_names j) (λ _. new_floor j)
+listed_floor j = and_then (item_only (codes "floors") floor_names j) (λ _. new_floor j)
 
 -- the parts of a conference
 abbrev pub parts : Json → Result Parts RequestFault
@@ -194,13 +194,13 @@ words_of p = and_then (conference_in p) (λ c. and_then (optional text_of (codes
 -- a conference of the list of what is to be watched, and of what is to be watched no more
 abbrev pub watched : Json → Result Watched RequestFault
 watched j =
-    and_then (only (codes "conference" ∷ codes "from" ∷ []) j) (λ _.
+    and_then (item_only (codes "conferences") (codes "conference" ∷ codes "from" ∷ []) j) (λ _.
     and_then (conference_in j) (λ c.
     and_then (optional place_of (codes "from") j) (λ from.
     Ok record { conference = c; from = from })))
 
 abbrev pub unwatched : Json → Result OfConference RequestFault
-unwatched j = and_then (only (codes "conference" ∷ []) j) (λ _. of_conference j)
+unwatched j = and_then (item_only (codes "conferences") (codes "conference" ∷ []) j) (λ _. of_conference j)
 
 abbrev pub watching : Json → Result Watching RequestFault
 watching p =

@@ -51,6 +51,11 @@ pub a_text_is_no_number : call_of method.ConferenceGet (json.object (member (cod
     ≡ Err (BadParam (Some (codes "conference")) WrongType)
 a_text_is_no_number = refl
 
+-- {"conferences":[7]}: an item that is no object isn't taken for an empty one
+pub a_number_is_no_conference : call_of method.Watch (json.object (member (codes "conferences") (json.array (item (number_json 7) no_items)) no_members))
+    ≡ Err (BadParam (Some (codes "conferences")) WrongType)
+a_number_is_no_conference = refl
+
 -- what isn't given is left out
 pub nobody_is_named : release_json record { conference = 7; request = 9; by = None }
     ≡ json.object (member (codes "conference") (number_json 7) (member (codes "request") (number_json 9) no_members))

@@ -160,3 +160,11 @@ refuse None = Ok tt
 -- an object has no key but these
 abbrev pub only : List (List ℕ) → Json → Result (Unit {0}) RequestFault
 only names j = refuse (first_unknown names j)
+
+abbrev pub object_in : List ℕ → Option Members → Result (Unit {0}) RequestFault
+object_in name (Some ms) = Ok tt
+object_in name None = Err (BadParam (Some name) WrongType)
+
+-- an item of the list of this name is an object, and has no key but these
+abbrev pub item_only : List ℕ → List (List ℕ) → Json → Result (Unit {0}) RequestFault
+item_only name names j = and_then (object_in name (as_object j)) (λ _. only names j)

@@ -8,7 +8,7 @@ ghost use Rattle.floor_rpc.specs.Params.{Reads, each, list_of, list_or_empty, ne
 use crate::call::{NewFloor, NewUser, OfConference, Watched};
 use crate::fault::{RequestFault, Why};
 use crate::list::List;
-use crate::params::{Param, bad_param, needed, only, optional};
+use crate::params::{Param, bad_param, item_only, needed, optional};
 use crate::reading::{read_conference, read_new_floor, read_new_user};
 use json::Value;
 use std::alloc::Global;
@@ -41,7 +41,12 @@ impl ListItem for NewUser {
     ghost reads = { listed_user };
 
     fn read_item(alloc: Global, value: &Value<'_>) -> Result<NewUser, RequestFault> {
-        only(alloc, value, &["id", "name", "uri", "proxy", "port"])?;
+        item_only(
+            alloc,
+            value,
+            "users",
+            &["id", "name", "uri", "proxy", "port"],
+        )?;
         read_new_user(alloc, value)
     }
 }
@@ -50,7 +55,7 @@ impl ListItem for NewFloor {
     ghost reads = { listed_floor };
 
     fn read_item(alloc: Global, value: &Value<'_>) -> Result<NewFloor, RequestFault> {
-        only(alloc, value, &["id", "room", "chair", "title"])?;
+        item_only(alloc, value, "floors", &["id", "room", "chair", "title"])?;
         read_new_floor(alloc, value)
     }
 }
@@ -60,7 +65,7 @@ impl ListItem for Watched {
     ghost reads = { watched };
 
     fn read_item(alloc: Global, value: &Value<'_>) -> Result<Watched, RequestFault> {
-        only(alloc, value, &["conference", "from"])?;
+        item_only(alloc, value, "conferences", &["conference", "from"])?;
         let conference = needed(alloc, value, "conference")?;
         let from = optional(alloc, value, "from")?;
         Ok(Watched { conference, from })
@@ -72,7 +77,7 @@ impl ListItem for OfConference {
     ghost reads = { unwatched };
 
     fn read_item(alloc: Global, value: &Value<'_>) -> Result<OfConference, RequestFault> {
-        only(alloc, value, &["conference"])?;
+        item_only(alloc, value, "conferences", &["conference"])?;
         read_conference(alloc, value)
     }
 }

@@ -5,7 +5,7 @@ ghost use Rattle.std.specs.List.{list_any};
 ghost use Rattle.std.specs.Str.{bytes_eq};
 ghost use Rattle.json.specs.Strict.{keys};
 ghost use Rattle.json.specs.Value.{members_view, value_view};
-ghost use Rattle.floor_rpc.specs.Params.{Reads, bool_of, flag, first_unknown, named, needed, only, optional, or_null, place_of, priority_of, text_of, u16_of, u32_of};
+ghost use Rattle.floor_rpc.specs.Params.{Reads, bool_of, flag, first_unknown, item_only, named, needed, only, optional, or_null, place_of, priority_of, text_of, u16_of, u32_of};
 ghost use Rattle.floor_rpc.specs.declared.fault.RequestFault.TheVariants.{BadParam, Memory};
 
 use crate::fault::{RequestFault, Why};
@@ -233,5 +233,21 @@ pub(crate) fn only(alloc: Global, params: &Value<'_>, names: &[&str]) -> Result<
     match first_unknown(params, names) {
         None => Ok(()),
         Some(name) => Err(bad_param(alloc, name, Why::Unknown)),
+    }
+}
+
+/// Refuses an item of the list of this name that is no object, or has another key than these.
+pub(crate) fn item_only(
+    alloc: Global,
+    value: &Value<'_>,
+    list: &str,
+    names: &[&str],
+) -> Result<(), RequestFault>
+    ensures { Reads (item_only list.now (map (λ name. name.now) names.now) (value_view value.now))
+        result }
+{
+    match value {
+        Value::Object(_) => only(alloc, value, names),
+        _ => Err(bad_param(alloc, list, Why::WrongType)),
     }
 }

@@ -147,6 +147,14 @@ unanswered
 {"jsonrpc":"2.0","id":1,"error":{"code":-32602,"message":"Invalid params","data":{"param":"nam","why":"Unknown"}}}
 {"id":1,"method":"conference.open","params":{"users":[{"port":65536}],"floors":[]}}
 {"jsonrpc":"2.0","id":1,"error":{"code":-32602,"message":"Invalid params","data":{"param":"port","why":"OutOfRange"}}}
+{"id":1,"method":"conference.open","params":{"users":[1],"floors":[]}}
+{"jsonrpc":"2.0","id":1,"error":{"code":-32602,"message":"Invalid params","data":{"param":"users","why":"WrongType"}}}
+{"id":1,"method":"conference.open","params":{"users":[{}],"floors":[{},[]]}}
+{"jsonrpc":"2.0","id":1,"error":{"code":-32602,"message":"Invalid params","data":{"param":"floors","why":"WrongType"}}}
+{"id":1,"method":"watch","params":{"conferences":[{"conference":7},null]}}
+{"jsonrpc":"2.0","id":1,"error":{"code":-32602,"message":"Invalid params","data":{"param":"conferences","why":"WrongType"}}}
+{"id":1,"method":"unwatch","params":{"conferences":["7"]}}
+{"jsonrpc":"2.0","id":1,"error":{"code":-32602,"message":"Invalid params","data":{"param":"conferences","why":"WrongType"}}}
 {"id":1,"method":"conference.open","params":{"users":{},"floors":[]}}
 {"jsonrpc":"2.0","id":1,"error":{"code":-32602,"message":"Invalid params","data":{"param":"users","why":"WrongType"}}}
 {"id":1,"method":"conference.open","params":{"users":[]}}
