@@ -48,7 +48,7 @@ pub struct UserShown {
 #[derive(Drop)]
 pub struct MemberShown {
     pub member: u32,
-    /// How many bytes of what it was told it hasn't taken.
+    /// How many messages it was told and hasn't taken whole.
     pub behind: u64,
     /// Whether it is told nothing any more, since it took too little.
     pub cut: bool,
