@@ -1,5 +1,5 @@
 -- What was asked of a socket, and isn't answered yet.
-use Rattle.std.specs.Prelude.{Bool, true, false, Option, Some, None}
+use Rattle.std.specs.Prelude.{Bool, true, false, ◌||◌, Option, Some, None}
 use Rattle.floor_sockets.specs.declared.life.Asked.{Asked}
 use Rattle.floor_sockets.specs.declared.life.Asked.TheVariants as asked
 use Rattle.floor_sockets.specs.declared.life.Life.{Life}
@@ -42,3 +42,8 @@ shuts (Some l) = life.is_shutting l.asked
 abbrev pub is_over : Option Life → Bool
 is_over None = false
 is_over (Some l) = l.is_over
+
+-- no socket is there any more, or it is to be shut down or being shut
+abbrev pub is_ending : Option Life → Bool
+is_ending None = true
+is_ending (Some l) = l.is_over || life.is_shutting l.asked

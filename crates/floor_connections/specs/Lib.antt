@@ -2,3 +2,5 @@
 pub mod Names
 pub mod Asked
 pub mod Table
+pub mod Ports
+pub mod Steps

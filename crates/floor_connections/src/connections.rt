@@ -1,8 +1,20 @@
 //! Sockets and who is at them, without their meetings: where is listened, who waits at a door, and what the log is told.
 
-ghost use Rattle.std.specs.Prelude.{◌≡◌, IfSome, None, Some, ℕ, max};
+ghost use Rattle.std.specs.Prelude.{◌≡◌, ◌≢◌, ◌⊎◌, All, IfErr, IfNone, IfOk, IfSome, None, OnErr, OnOk, Some, ℕ, false, max, option_map, true};
+ghost use Rattle.floor_sockets.specs.Runs.{BecomeRole, Does, Fail, NothingCame, Shut};
 ghost use Rattle.floor_sockets.specs.Sockets.{life_at};
-ghost use Rattle.floor_connections.specs.Table.{listener_of, socket_at};
+ghost use Rattle.floor_sockets.specs.declared.role.Role.TheVariants.{MemberByDoor};
+ghost use Rattle.floor_connections.specs.Asked.{accepts, is_ending};
+ghost use Rattle.floor_connections.specs.Ports.{HasPort, IsAdded, KeepsPorts};
+ghost use Rattle.floor_connections.specs.Steps.{Steps};
+ghost use Rattle.floor_connections.specs.Table.{IsWanted, OthersStay, Same, ended, is_at_door, listener_of, peer_of, shut_deed, socket_at, turned, wanted};
+ghost use Rattle.floor_connections.specs.declared.departure.Departure.TheVariants as departures;
+ghost use Rattle.floor_connections.specs.declared.place.Peer.{Peer as Guest};
+ghost use Rattle.floor_connections.specs.declared.place.Place.TheVariants as places;
+ghost use Rattle.floor_connections.specs.declared.refusal.Refusal.TheVariants as refusals;
+ghost use Rattle.floor_connections.specs.declared.table.Listener.{Listener as Where};
+ghost use Rattle.floor_connections.specs.declared.table.Socket.TheVariants as somebody;
+ghost use Rattle.floor_connections.specs.declared.table.Stage.TheVariants as stages;
 
 use crate::asked::{is_accepting, is_over};
 use crate::conferences::Conferences;
@@ -12,6 +24,7 @@ use crate::entry::{Entry, Who};
 use crate::place::{Peer, Place};
 use crate::refusal::Refusal;
 use crate::table::{Listener, Socket, Stage, Table};
+use floor_config::User;
 use floor_doors::{NamedBy, Newcomer};
 use floor_meetings::{Config, ConnNo};
 use floor_sockets::{Role, Sockets};
@@ -65,6 +78,7 @@ impl Connections {
             ≡ record self.old.sockets { time = max self.old.sockets.time now } }
         ensures time { self.new.time ≡ max self.old.time now }
         ensures table { self.new.table ≡ self.old.table }
+        ensures steps { Steps self.old.sockets self.new.sockets }
     {
         self.time = self.time.max(now);
         self.sockets.time(now);
@@ -78,6 +92,11 @@ impl Connections {
     /// Tells the log. Where memory is refused it is counted.
     pub fn tell(&mut self, entry: Entry)
         ensures sockets { self.new.sockets ≡ self.old.sockets }
+        ensures table { self.new.table ≡ self.old.table }
+        ensures plain { self.new ≡ record self.old {
+          entries = self.new.entries;
+          untold = self.new.untold;
+        } }
     {
         if self.entries.push_back(entry).is_err() {
             self.untold = self.untold.saturating_add(1);
@@ -87,6 +106,11 @@ impl Connections {
     /// What the log is to be told next.
     pub fn next_entry(&mut self) -> Option<Entry>
         ensures sockets { self.new.sockets ≡ self.old.sockets }
+        ensures table { self.new.table ≡ self.old.table }
+        ensures plain { self.new ≡ record self.old {
+          entries = self.new.entries;
+          untold = self.new.untold;
+        } }
     {
         match self.entries.pop_front() {
             Some(entry) => return Some(entry),
@@ -101,7 +125,13 @@ impl Connections {
     }
 
     /// Has a place listened on, and gives the listener's number.
-    pub fn listen(&mut self, place: Place, group: usize) -> Result<usize, AllocError> {
+    pub fn listen(&mut self, place: Place, group: usize) -> Result<usize, AllocError>
+        ensures there { IfOk result (λ slot. listener_of (socket_at self.new.table slot)
+            ≡ Some (wanted place group)) }
+        ensures took { IfOk result (IsAdded place group self.old self.new) }
+        ensures left { OnErr result (Same self.old.table self.new.table) }
+        ensures steps { Steps self.old.sockets self.new.sockets }
+    {
         self.wanted.reserve(1)?;
         let slot = self.sockets.open(Role::Listener, group)?;
         let listener = Listener {
@@ -128,7 +158,13 @@ impl Connections {
         group: usize,
         user: u16,
         port: u16,
-    ) -> Result<(), AllocError> {
+    ) -> Result<(), AllocError>
+        ensures there { OnOk result (IsWanted self.new.table
+            (places.Port conference user port) group) }
+        ensures took { OnOk result ((slot : ℕ)
+            × IsAdded (places.Port conference user port) group self.old self.new slot) }
+        ensures steps { Steps self.old.sockets self.new.sockets }
+    {
         let place = Place::Port {
             conference,
             user,
@@ -145,7 +181,11 @@ impl Connections {
     }
 
     /// Has the ports of a conference's users listened on. Where memory is refused none is.
-    pub fn listen_all(&mut self, config: &Config) -> Result<(), AllocError> {
+    pub fn listen_all(&mut self, config: &Config) -> Result<(), AllocError>
+        ensures ports { OnOk result (All (HasPort self.new.table self.new.sockets
+            config.now.conference) config.now.users) }
+        ensures steps { Steps self.old.sockets self.new.sockets }
+    {
         let conference = config.conference();
         match self.listen_each(conference, config) {
             Ok(()) => Ok(()),
@@ -156,18 +196,35 @@ impl Connections {
         }
     }
 
-    fn listen_each(&mut self, conference: u32, config: &Config) -> Result<(), AllocError> {
+    fn listen_each(&mut self, conference: u32, config: &Config) -> Result<(), AllocError>
+        ensures ports { OnOk result (All (HasPort self.new.table self.new.sockets conference)
+            config.now.users) }
+        ensures steps { Steps self.old.sockets self.new.sockets }
+    {
         let group = self.conferences.add(conference)?;
         for user in config.users() {
-            if let Some(port) = user.port {
-                self.listen_for(conference, group, user.id, port)?;
-            }
+            self.listen_user(conference, group, user)?;
         }
         Ok(())
     }
 
+    /// Has a user's port listened on, where it has one.
+    fn listen_user(&mut self, conference: u32, group: usize, user: &User) -> Result<(), AllocError>
+        ensures port { OnOk result (HasPort self.new.table self.new.sockets conference user.now) }
+        ensures kept { OnOk result (KeepsPorts self.old self.new) }
+        ensures steps { Steps self.old.sockets self.new.sockets }
+    {
+        match user.port {
+            Some(port) => self.listen_for(conference, group, user.id, port),
+            None => Ok(()),
+        }
+    }
+
     /// The ports of a conference's users aren't listened on any more.
-    pub fn end_ports(&mut self, conference: u32) {
+    pub fn end_ports(&mut self, conference: u32)
+        ensures table { self.new.table ≡ self.old.table }
+        ensures steps { Steps self.old.sockets self.new.sockets }
+    {
         let listeners = self.conferences.take_listeners(conference);
         end_each(
             &mut self.sockets,
@@ -178,13 +235,19 @@ impl Connections {
     }
 
     /// A conference is no more.
-    pub fn forget(&mut self, conference: u32) {
+    pub fn forget(&mut self, conference: u32)
+        ensures table { self.new.table ≡ self.old.table }
+        ensures steps { Steps self.old.sockets self.new.sockets }
+    {
         self.end_ports(conference);
         self.conferences.remove(conference);
     }
 
     /// A conference is closed: that is told, once, and its ports aren't listened on any more.
-    pub fn close(&mut self, conference: u32) {
+    pub fn close(&mut self, conference: u32)
+        ensures table { self.new.table ≡ self.old.table }
+        ensures steps { Steps self.old.sockets self.new.sockets }
+    {
         if self.conferences.end(conference) {
             self.tell(Entry::Closed { conference });
             self.end_ports(conference);
@@ -192,7 +255,10 @@ impl Connections {
     }
 
     /// A conference is broken off: that is told, once, and its ports aren't listened on any more.
-    pub fn break_off(&mut self, conference: u32) {
+    pub fn break_off(&mut self, conference: u32)
+        ensures table { self.new.table ≡ self.old.table }
+        ensures steps { Steps self.old.sockets self.new.sockets }
+    {
         if self.conferences.end(conference) {
             self.tell(Entry::BrokenOff { conference });
             self.end_ports(conference);
@@ -200,7 +266,9 @@ impl Connections {
     }
 
     /// What is to be listened on next, where anything may be.
-    pub fn next_wanted(&mut self, is_serving: bool) -> Option<Deed> {
+    pub fn next_wanted(&mut self, is_serving: bool) -> Option<Deed>
+        ensures steps { Steps self.old.sockets self.new.sockets }
+    {
         let listener = self.wanted.pop_front()?;
         let Some(known) = self.table.listener(listener) else {
             return Some(Deed::Turn);
@@ -224,7 +292,16 @@ impl Connections {
     }
 
     /// A place is listened on, or can't be: then it is named.
-    pub fn listened(&mut self, listener: usize, is_listening: bool) -> Option<Place> {
+    pub fn listened(&mut self, listener: usize, is_listening: bool) -> Option<Place>
+        ensures nobody { listener_of (socket_at self.old.table listener) ≡ None
+            → (result ≡ None) × (self.new ≡ self.old) }
+        ensures not_asked { (l : Where) → listener_of (socket_at self.old.table listener) ≡ Some l
+            → l.stage ≢ stages.Asked → (result ≡ None) × (self.new ≡ self.old) }
+        ensures listens { is_listening ≡ true → result ≡ None }
+        ensures missed { (l : Where) → listener_of (socket_at self.old.table listener) ≡ Some l
+            → l.stage ≡ stages.Asked → is_listening ≡ false → result ≡ Some l.place }
+        ensures steps { Steps self.old.sockets self.new.sockets }
+    {
         let known = self.table.listener(listener)?;
         match known.stage {
             Stage::Asked => {}
@@ -236,12 +313,7 @@ impl Connections {
             return None;
         }
         self.tell(Entry::CannotListen(known.place));
-        match known.place {
-            Place::Port { conference, .. } => {
-                self.conferences.remove_listener(conference, listener);
-            }
-            Place::Door { .. } | Place::Health { .. } => {}
-        }
+        remove_from(&mut self.conferences, known.place, listener);
         self.table.remove(listener);
         self.sockets.fail(listener);
         Some(known.place)
@@ -251,6 +323,11 @@ impl Connections {
     pub fn accept(&mut self, listener: usize) -> Option<Listener>
         ensures found { IfSome result (λ l. listener_of (socket_at self.old.table listener)
             ≡ Some l) }
+        ensures asked { IfSome result (λ _. accepts (life_at self.old.sockets listener) ≡ true) }
+        ensures none { IfNone result ((listener_of (socket_at self.old.table listener) ≡ None)
+            ⊎ (accepts (life_at self.old.sockets listener) ≡ false)) }
+        ensures not_asked { IfNone result (self.new ≡ self.old) }
+        ensures steps { Steps self.old.sockets self.new.sockets }
     {
         let known = self.table.listener(listener)?;
         if !is_accepting(&self.sockets, listener) {
@@ -268,7 +345,13 @@ impl Connections {
     }
 
     /// An accept failed, where one was asked.
-    pub fn fail_to_accept(&mut self, listener: usize) {
+    pub fn fail_to_accept(&mut self, listener: usize)
+        ensures nobody { listener_of (socket_at self.old.table listener) ≡ None
+            → self.new ≡ self.old }
+        ensures not_asked { accepts (life_at self.old.sockets listener) ≡ false
+            → self.new ≡ self.old }
+        ensures steps { Steps self.old.sockets self.new.sockets }
+    {
         let Some(known) = self.table.listener(listener) else {
             return;
         };
@@ -286,7 +369,12 @@ impl Connections {
     }
 
     /// A member's socket, which shares its turns with these.
-    pub fn open_member(&mut self, peer: Peer, group: usize) -> Result<usize, Refusal> {
+    pub fn open_member(&mut self, peer: Peer, group: usize) -> Result<usize, Refusal>
+        ensures there { IfOk result (λ slot. socket_at self.new.table slot
+            ≡ Some (somebody.Member peer None false)) }
+        ensures refused { IfErr result (λ why. why ≡ refusals.Memory) }
+        ensures steps { Steps self.old.sockets self.new.sockets }
+    {
         let member = Socket::Member {
             peer,
             end: None,
@@ -296,19 +384,30 @@ impl Connections {
     }
 
     /// A socket at a door.
-    pub fn open_at_door(&mut self, peer: Peer, named_by: NamedBy) -> Result<usize, Refusal> {
+    pub fn open_at_door(&mut self, peer: Peer, named_by: NamedBy) -> Result<usize, Refusal>
+        ensures there { IfOk result (λ slot. is_at_door (socket_at self.new.table slot) ≡ true) }
+        ensures refused { IfErr result (λ why. why ≡ refusals.Memory) }
+        ensures steps { Steps self.old.sockets self.new.sockets }
+    {
         let newcomer = Newcomer::new(self.alloc, named_by, self.time);
         self.open(Role::AtDoor, 0, Socket::AtDoor { peer, newcomer })
     }
 
     /// A socket of who only looks: it is shut at once.
-    pub fn open_probe(&mut self) -> Result<usize, Refusal> {
+    pub fn open_probe(&mut self) -> Result<usize, Refusal>
+        ensures refused { IfErr result (λ why. why ≡ refusals.Memory) }
+        ensures steps { Steps self.old.sockets self.new.sockets }
+    {
         let slot = self.open(Role::Probe, 0, Socket::Turned)?;
         self.sockets.fail(slot);
         Ok(slot)
     }
 
-    fn open(&mut self, role: Role, group: usize, socket: Socket) -> Result<usize, Refusal> {
+    fn open(&mut self, role: Role, group: usize, socket: Socket) -> Result<usize, Refusal>
+        ensures there { IfOk result (λ slot. socket_at self.new.table slot ≡ Some socket) }
+        ensures refused { IfErr result (λ why. why ≡ refusals.Memory) }
+        ensures steps { Steps self.old.sockets self.new.sockets }
+    {
         let slot = match self.sockets.open(role, group) {
             Ok(slot) => slot,
             Err(_) => return Err(Refusal::Memory),
@@ -323,7 +422,12 @@ impl Connections {
     }
 
     /// A socket of whose number nobody was told is no more.
-    pub fn take_back(&mut self, slot: usize) {
+    pub fn take_back(&mut self, slot: usize)
+        ensures gone { socket_at self.new.table slot ≡ None }
+        ensures others { OthersStay slot self.old.table self.new.table }
+        ensures failed { Does (Fail slot) self.old.sockets self.new.sockets }
+        ensures steps { Steps self.old.sockets self.new.sockets }
+    {
         self.table.remove(slot);
         self.sockets.fail(slot);
     }
@@ -331,6 +435,7 @@ impl Connections {
     /// Who is at a socket has joined, as this member.
     pub fn tell_joined(&mut self, slot: usize, who: Option<Who>)
         ensures sockets { self.new.sockets ≡ self.old.sockets }
+        ensures table { self.new.table ≡ self.old.table }
     {
         match (self.table.peer(slot), who) {
             (Some(peer), Some(who)) => self.tell(Entry::Joined { peer, who }),
@@ -341,6 +446,7 @@ impl Connections {
     /// A member stays, away. Where memory is refused it isn't told when its user is back.
     pub fn note_away(&mut self, number: ConnNo, who: Who)
         ensures sockets { self.new.sockets ≡ self.old.sockets }
+        ensures table { self.new.table ≡ self.old.table }
     {
         let _noted = self.away.insert(number, who);
     }
@@ -348,6 +454,7 @@ impl Connections {
     /// A member that was away has left: who it was, where memory was had for that.
     pub fn forget_away(&mut self, number: ConnNo) -> Option<Who>
         ensures sockets { self.new.sockets ≡ self.old.sockets }
+        ensures table { self.new.table ≡ self.old.table }
     {
         self.away.swap_remove(&number)
     }
@@ -355,6 +462,7 @@ impl Connections {
     /// Where this member was away it has left, since its user came back.
     pub fn tell_gone(&mut self, number: Option<ConnNo>)
         ensures sockets { self.new.sockets ≡ self.old.sockets }
+        ensures table { self.new.table ≡ self.old.table }
     {
         let Some(number) = number else {
             return;
@@ -366,21 +474,36 @@ impl Connections {
     }
 
     /// The same of each of these.
-    pub fn tell_back(&mut self, numbers: &[ConnNo]) {
+    pub fn tell_back(&mut self, numbers: &[ConnNo])
+        ensures sockets { self.new.sockets ≡ self.old.sockets }
+        ensures table { self.new.table ≡ self.old.table }
+    {
         for number in numbers {
             self.tell_gone(Some(*number));
         }
     }
 
     /// Somebody at a door is a member from now on, of a conference that shares its turns.
-    pub fn let_in(&mut self, slot: usize, conference: u32) {
+    pub fn let_in(&mut self, slot: usize, conference: u32)
+        ensures here { (peer : Guest) → peer_of (socket_at self.old.table slot) ≡ Some peer
+            → socket_at self.new.table slot ≡ Some (somebody.Member peer None false) }
+        ensures others { OthersStay slot self.old.table self.new.table }
+        ensures named { (group : ℕ) × Does (BecomeRole slot MemberByDoor group)
+            self.old.sockets self.new.sockets }
+        ensures steps { Steps self.old.sockets self.new.sockets }
+    {
         self.table.let_in(slot);
         let group = self.conferences.group(conference);
         self.sockets.become_role(slot, Role::MemberByDoor, group);
     }
 
     /// Somebody at a door isn't let in, for this reason or for none that is told.
-    pub fn turn_away(&mut self, slot: usize, refusal: Option<Refusal>) {
+    pub fn turn_away(&mut self, slot: usize, refusal: Option<Refusal>)
+        ensures here { socket_at self.new.table slot
+            ≡ option_map turned (socket_at self.old.table slot) }
+        ensures others { OthersStay slot self.old.table self.new.table }
+        ensures failed { Does (Fail slot) self.old.sockets self.new.sockets }
+    {
         match (self.table.peer(slot), refusal) {
             (Some(peer), Some(refusal)) => self.tell(Entry::Refused { peer, refusal }),
             _ => {}
@@ -390,20 +513,36 @@ impl Connections {
     }
 
     /// A member's socket was read to its end, which was so.
-    pub fn end_reading(&mut self, slot: usize, departure: Departure) {
+    pub fn end_reading(&mut self, slot: usize, departure: Departure)
+        ensures here { socket_at self.new.table slot
+            ≡ option_map (ended departure) (socket_at self.old.table slot) }
+        ensures others { OthersStay slot self.old.table self.new.table }
+        ensures read { Does (NothingCame slot) self.old.sockets self.new.sockets }
+        ensures steps { Steps self.old.sockets self.new.sockets }
+    {
         self.table.end(slot, departure);
         self.sockets.nothing(slot);
     }
 
     /// A read of a member's socket failed.
-    pub fn fail(&mut self, slot: usize) {
+    pub fn fail(&mut self, slot: usize)
+        ensures ends { is_ending (life_at self.new.sockets slot) ≡ true }
+        ensures here { socket_at self.new.table slot
+            ≡ option_map (ended departures.Reset) (socket_at self.old.table slot) }
+        ensures others { OthersStay slot self.old.table self.new.table }
+        ensures failed { Does (Fail slot) self.old.sockets self.new.sockets }
+        ensures steps { Steps self.old.sockets self.new.sockets }
+    {
         self.table.end(slot, Departure::Reset);
         self.sockets.fail(slot);
     }
 
     /// These bytes are lent to a socket, or none. One that is to be shut down isn't read any more, has ten seconds to take
     /// them, and is shut before where none are.
-    pub fn lend(&mut self, slot: usize, has_bytes: bool, ends: bool) {
+    pub fn lend(&mut self, slot: usize, has_bytes: bool, ends: bool)
+        ensures ends { ends ≡ true → is_ending (life_at self.new.sockets slot) ≡ true }
+        ensures steps { Steps self.old.sockets self.new.sockets }
+    {
         self.sockets.lend(slot, has_bytes);
         if !ends && !is_over(&self.sockets, slot) {
             return;
@@ -438,14 +577,20 @@ impl Connections {
     }
 
     /// Somebody to whom nothing is lent still is shut at once, where it is to be.
-    pub fn close_one(&mut self, slot: usize) {
+    pub fn close_one(&mut self, slot: usize)
+        ensures table { self.new.table ≡ self.old.table }
+        ensures steps { Steps self.old.sockets self.new.sockets }
+    {
         if self.table.is_member(slot) && is_over(&self.sockets, slot) {
             self.sockets.fail(slot);
         }
     }
 
     /// Where the server stops nobody is read, accepted or waited for any more.
-    pub fn end(&mut self, slot: usize, has_bytes: bool) {
+    pub fn end(&mut self, slot: usize, has_bytes: bool)
+        ensures ends { is_ending (life_at self.new.sockets slot) ≡ true }
+        ensures steps { Steps self.old.sockets self.new.sockets }
+    {
         if self.table.is_member(slot) {
             self.lend(slot, has_bytes, true);
         } else {
@@ -454,7 +599,9 @@ impl Connections {
     }
 
     /// What is to be done to shut a socket: nothing of the system where nobody else knows of it.
-    pub fn shut_next(&self, slot: usize) -> Deed {
+    pub fn shut_next(&self, slot: usize) -> Deed
+        ensures value { result ≡ shut_deed slot (socket_at self.now.table slot) }
+    {
         match self.table.listener(slot) {
             Some(listener) => match listener.stage {
                 Stage::Wanted => Deed::Turn,
@@ -466,14 +613,29 @@ impl Connections {
     }
 
     /// A socket was shut: its number is free.
-    pub fn shut(&mut self, slot: usize) {
+    pub fn shut(&mut self, slot: usize)
+        ensures gone { socket_at self.new.table slot ≡ None }
+        ensures others { OthersStay slot self.old.table self.new.table }
+        ensures shut { Does (Shut slot) self.old.sockets self.new.sockets }
+        ensures steps { Steps self.old.sockets self.new.sockets }
+    {
         self.table.remove(slot);
         self.sockets.shut(slot);
     }
 }
 
+/// A slot isn't a listener's of the conference any more that a place is of, where it is of one.
+fn remove_from(conferences: &mut Conferences, place: Place, listener: usize) {
+    match place {
+        Place::Port { conference, .. } => conferences.remove_listener(conference, listener),
+        Place::Door { .. } | Place::Health { .. } => {}
+    }
+}
+
 /// At each of these slots at which a port of the conference is listened on, it isn't any more.
-fn end_each(sockets: &mut Sockets, table: &Table, conference: u32, slots: &[usize]) {
+fn end_each(sockets: &mut Sockets, table: &Table, conference: u32, slots: &[usize])
+    ensures steps { Steps sockets.old sockets.new }
+{
     for slot in slots {
         if is_port_of(table, *slot, conference) {
             sockets.fail(*slot);

@@ -1,7 +1,14 @@
 //! Who is at which socket.
 
-ghost use Rattle.std.specs.Prelude.{◌≡◌, ◌<◌, ℕ, None, OnOk, length, slice_index_or};
-ghost use Rattle.floor_connections.specs.Table.{is_at_door, listener_of, socket_at};
+ghost use Rattle.std.specs.Prelude.{◌≡◌, ◌≢◌, ◌<◌, ◌++◌, ℕ, None, OnErr, OnOk, Some, if◌then◌else◌, false, is_some, length, option_map, slice_index_or};
+ghost use Rattle.floor_doors.specs.declared.newcomer.Verdict.TheVariants as verdict;
+ghost use Rattle.floor_doors.specs.declared.refusal.DoorRefusal.TheVariants as refusal;
+ghost use Rattle.floor_doors.specs.Follows.{follows};
+ghost use Rattle.floor_doors.specs.Newcomer.{Newcomer as Awaited};
+ghost use Rattle.floor_proxy.specs.Header.{proxy};
+ghost use Rattle.floor_connections.specs.Table.{OthersStay, Same, ended, is_at_door, is_member, leaving, listener_of, peer_of, socket_at, staged, turned};
+ghost use Rattle.floor_connections.specs.declared.place.Peer.{Peer as Who};
+ghost use Rattle.floor_connections.specs.declared.table.Socket.TheVariants.{AtDoor, Member};
 
 use crate::departure::Departure;
 use crate::place::{Peer, Place};
@@ -68,7 +75,11 @@ impl Table {
     }
 
     /// Somebody is at a socket from now on. Where memory is refused nothing has changed.
-    pub fn put(&mut self, slot: usize, socket: Socket) -> Result<(), AllocError> {
+    pub fn put(&mut self, slot: usize, socket: Socket) -> Result<(), AllocError>
+        ensures there { OnOk result (socket_at self.new slot ≡ Some socket) }
+        ensures others { OthersStay slot self.old self.new }
+        ensures left { OnErr result (Same self.old self.new) }
+    {
         grow(&mut self.slots, slot)?;
         if let Some(place) = self.slots.get_mut(slot) {
             if place.is_none() {
@@ -80,7 +91,10 @@ impl Table {
     }
 
     /// Nobody is at a socket any more.
-    pub fn remove(&mut self, slot: usize) {
+    pub fn remove(&mut self, slot: usize)
+        ensures gone { socket_at self.new slot ≡ None }
+        ensures others { OthersStay slot self.old self.new }
+    {
         if let Some(place) = self.slots.get_mut(slot) {
             if place.is_some() {
                 self.count = self.count.saturating_sub(1);
@@ -120,7 +134,10 @@ impl Table {
     }
 
     /// A listener has come so far.
-    pub fn set_stage(&mut self, slot: usize, stage: Stage) {
+    pub fn set_stage(&mut self, slot: usize, stage: Stage)
+        ensures here { socket_at self.new slot ≡ option_map (staged stage) (socket_at self.old slot) }
+        ensures others { OthersStay slot self.old self.new }
+    {
         let Some(place) = self.slots.get_mut(slot) else {
             return;
         };
@@ -133,16 +150,28 @@ impl Table {
     }
 
     /// Who has connected there and wasn't turned away.
-    pub fn peer(&self, slot: usize) -> Option<Peer> {
+    pub fn peer(&self, slot: usize) -> Option<Peer>
+        ensures value { result ≡ peer_of (socket_at self.now slot) }
+    {
         match self.slots.get(slot) {
             Some(Some(Socket::AtDoor { peer, .. })) => Some(*peer),
             Some(Some(Socket::Member { peer, .. })) => Some(*peer),
-            _ => None,
+            Some(Some(Socket::Listener(_) | Socket::Turned) | None) | None => None,
         }
     }
 
     /// What follows from bytes that came of somebody at a door. Of who isn't at one nothing does.
-    pub fn came_at_door(&mut self, slot: usize, bytes: &[u8]) -> Verdict {
+    pub fn came_at_door(&mut self, slot: usize, bytes: &[u8]) -> Verdict
+        ensures value { (peer : Who) (n : Awaited) → socket_at self.old slot ≡ Some (AtDoor peer n)
+            → result ≢ verdict.Refuse refusal.Memory
+            → result ≡ follows (length n.held) (proxy n.named_by (n.held ++ bytes.now)) }
+        ensures next { (peer : Who) (n : Awaited) → socket_at self.old slot ≡ Some (AtDoor peer n)
+            → result ≡ verdict.Wait → socket_at self.new slot
+            ≡ Some (AtDoor peer (record n { held = n.held ++ bytes.now })) }
+        ensures left { result ≢ verdict.Wait → Same self.old self.new }
+        ensures others { OthersStay slot self.old self.new }
+        ensures nobody { is_at_door (socket_at self.old slot) ≡ false → result ≡ verdict.LetGo }
+    {
         let Some(place) = self.slots.get_mut(slot) else {
             return Verdict::LetGo;
         };
@@ -156,15 +185,24 @@ impl Table {
     }
 
     /// What follows where the stream of somebody at a door is over.
-    pub fn ended_at_door(&self, slot: usize) -> Verdict {
+    pub fn ended_at_door(&self, slot: usize) -> Verdict
+        ensures value { result ≡ if is_at_door (socket_at self.now slot)
+            then verdict.Refuse refusal.NoHeader else verdict.LetGo }
+    {
         match self.slots.get(slot) {
             Some(Some(Socket::AtDoor { newcomer, .. })) => newcomer.ended(),
-            _ => Verdict::LetGo,
+            Some(Some(Socket::Listener(_) | Socket::Turned | Socket::Member { .. }) | None)
+            | None => Verdict::LetGo,
         }
     }
 
     /// Somebody has become a member.
-    pub fn let_in(&mut self, slot: usize) {
+    pub fn let_in(&mut self, slot: usize)
+        ensures here { (peer : Who) → peer_of (socket_at self.old slot) ≡ Some peer
+            → socket_at self.new slot ≡ Some (Member peer None false) }
+        ensures none { peer_of (socket_at self.old slot) ≡ None → Same self.old self.new }
+        ensures others { OthersStay slot self.old self.new }
+    {
         if let Some(peer) = self.peer(slot) {
             if let Some(place) = self.slots.get_mut(slot) {
                 *place = Some(Socket::Member {
@@ -177,15 +215,21 @@ impl Table {
     }
 
     /// Whether there is a member.
-    pub fn is_member(&self, slot: usize) -> bool {
+    pub fn is_member(&self, slot: usize) -> bool
+        ensures value { result ≡ is_member (socket_at self.now slot) }
+    {
         match self.slots.get(slot) {
             Some(Some(Socket::Member { .. })) => true,
-            _ => false,
+            Some(Some(Socket::Listener(_) | Socket::AtDoor { .. } | Socket::Turned) | None)
+            | None => false,
         }
     }
 
     /// A member waits to be shut, or doesn't. Says whether that is new.
-    pub fn set_leaving(&mut self, slot: usize, leaves: bool) -> bool {
+    pub fn set_leaving(&mut self, slot: usize, leaves: bool) -> bool
+        ensures here { socket_at self.new slot ≡ option_map (leaving leaves) (socket_at self.old slot) }
+        ensures others { OthersStay slot self.old self.new }
+    {
         let Some(place) = self.slots.get_mut(slot) else {
             return false;
         };
@@ -203,7 +247,10 @@ impl Table {
     }
 
     /// Somebody is turned away.
-    pub fn turn_away(&mut self, slot: usize) {
+    pub fn turn_away(&mut self, slot: usize)
+        ensures here { socket_at self.new slot ≡ option_map turned (socket_at self.old slot) }
+        ensures others { OthersStay slot self.old self.new }
+    {
         if let Some(place) = self.slots.get_mut(slot) {
             if place.is_some() {
                 *place = Some(Socket::Turned);
@@ -212,7 +259,10 @@ impl Table {
     }
 
     /// The reading of a member's socket has ended so, unless it had before.
-    pub fn end(&mut self, slot: usize, departure: Departure) {
+    pub fn end(&mut self, slot: usize, departure: Departure)
+        ensures here { socket_at self.new slot ≡ option_map (ended departure) (socket_at self.old slot) }
+        ensures others { OthersStay slot self.old self.new }
+    {
         let Some(place) = self.slots.get_mut(slot) else {
             return;
         };
@@ -248,10 +298,12 @@ impl Table {
     }
 
     /// Whether somebody is at a socket.
-    pub fn is_there(&self, slot: usize) -> bool {
+    pub fn is_there(&self, slot: usize) -> bool
+        ensures value { result ≡ is_some (socket_at self.now slot) }
+    {
         match self.slots.get(slot) {
             Some(Some(_)) => true,
-            _ => false,
+            Some(None) | None => false,
         }
     }
 }

@@ -62,7 +62,7 @@ pub not_health : (port c u p : ℕ) → ◌≡◌ {A = Place} (Health port) (Por
 not_health port c u p same = cc
 
 -- a port's user is one
-port_fields : (c u p d v q : ℕ) → ◌≡◌ {A = Place} (Port c u p) (Port d v q) → (c ≡ d) × (u ≡ v)
+pub port_fields : (c u p d v q : ℕ) → ◌≡◌ {A = Place} (Port c u p) (Port d v q) → (c ≡ d) × (u ≡ v)
 port_fields c u p d v q same = (cc, cc)
 
 pub at_port : (r : Result ℕ Refusal) (place : Place) (c u p : ℕ) (P : ℕ → ℕ → ℕ → Type 0) → place ≡ Port c u p → IfOk r (λ s. P s c u) → IfOk r (λ s. (d v q : ℕ) → place ≡ Port d v q → P s d v)

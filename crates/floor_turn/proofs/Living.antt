@@ -1,5 +1,5 @@
 -- The law of lives.
-use Rattle.std.proofs.Common.{◌≡◌, ℕ, List, [], ◌∷◌, ◌++◌, refl, sym, ap, ◌∙◌, subst}
+use Rattle.std.proofs.Common.{◌≡◌, ℕ, List, [], ◌∷◌, ◌++◌, refl, ap, ◌∙◌, subst}
 use Rattle.floor_meetings.specs.declared.meetings.Meetings.{Meetings}
 use Rattle.floor_meetings.specs.declared.members.Member.{Member}
 use Rattle.floor_meetings.specs.Runs.{Call as Part, Lives}
@@ -7,8 +7,8 @@ use Rattle.floor_meetings.specs.Runs as meetings
 use Rattle.floor_meetings.specs.Laws as lives
 use Rattle.floor_meetings.specs.Laws.{IsCalledFor}
 use Rattle.floor_turn.specs.declared.server.Server.{Server}
-use Rattle.floor_turn.specs.Moves.{Leads, Moves, taken_at}
-use Rattle.floor_turn.specs.Runs.{Call, Took, Other, Calls, Does, Stays, StaysBy, StaysIn, bytes_by}
+use Rattle.floor_turn.specs.Moves.{Leads, taken_at}
+use Rattle.floor_turn.specs.Runs.{Call, Took, Other, Calls, Stays, StaysBy, bytes_by}
 use Rattle.floor_turn.specs.Laws.{TakenIsCalledFor}
 use Rattle.floor_turn.proofs.Moving.{bytes_then}
 

@@ -1,5 +1,5 @@
 -- What is left where nothing is to be done.
-use Rattle.std.proofs.Common.{◌≡◌, Bool, true, false, refl, sym, ap, ◌∙◌, subst}
+use Rattle.std.proofs.Common.{◌≡◌, Bool, true, false, refl, sym, ◌∙◌, subst}
 use Rattle.std.specs.Prelude.{◌&&◌, ◌||◌, if◌then◌else◌, not}
 use Rattle.floor_sockets.specs.declared.life.Asked.{Asked}
 use Rattle.floor_sockets.specs.declared.life.Asked.TheVariants as asked

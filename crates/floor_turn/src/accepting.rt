@@ -1,14 +1,20 @@
 //! Listeners, and who connects there.
 
-ghost use Rattle.std.specs.Prelude.{◌≡◌, ℕ, IfOk, None, OnOk, Some, false};
+ghost use Rattle.std.specs.Prelude.{◌≡◌, ◌≢◌, ◌⊎◌, ℕ, Err, IfErr, IfOk, None, OnOk, Some, false, max, true};
 ghost use Rattle.floor_loop.specs.Laws.{IsNew};
 ghost use Rattle.floor_meetings.specs.Meetings.{member_at};
 ghost use Rattle.floor_meetings.specs.declared.members.Member.{Member as Known};
 ghost use Rattle.floor_sockets.specs.Life.{none_came, worded};
-ghost use Rattle.floor_sockets.specs.Sockets.{Changed};
-ghost use Rattle.floor_connections.specs.Table.{listener_of, socket_at};
-ghost use Rattle.floor_connections.specs.declared.place.Place.TheVariants.{Port};
+ghost use Rattle.floor_sockets.specs.Sockets.{Changed, life_at};
+ghost use Rattle.floor_proxy.specs.declared.header.NamedBy.{NamedBy as By};
+ghost use Rattle.floor_connections.specs.Asked.{accepts};
+ghost use Rattle.floor_connections.specs.Steps.{Steps};
+ghost use Rattle.floor_connections.specs.Table.{is_at_door, listener_of, socket_at};
+ghost use Rattle.floor_connections.specs.declared.place.Place.TheVariants.{Door, Port};
+ghost use Rattle.floor_connections.specs.declared.refusal.Refusal.TheVariants.{Memory, NotAsked};
 ghost use Rattle.floor_connections.specs.declared.table.Listener.{Listener as Where};
+ghost use Rattle.floor_connections.specs.declared.table.Stage.TheVariants as stages;
+ghost use Rattle.floor_turn.specs.Entering.{HasJoined, IsDeclined};
 ghost use Rattle.floor_turn.specs.Moves.{Moves, nothing_taken};
 
 use crate::meeting::{is_full_for, phase_of, who_at};
@@ -27,6 +33,7 @@ impl Server {
         ensures none { listener_of (socket_at self.old.connections.table listener) ≡ None
             → self.new.connections ≡ self.old.connections }
         ensures meetings { self.new.meetings ≡ self.old.meetings }
+        ensures steps { Steps self.old.connections.sockets self.new.connections.sockets }
     {
         match self.connections.table.listener(listener) {
             Some(_) => self.connections.sockets.readable(listener, false),
@@ -36,7 +43,13 @@ impl Server {
 
     /// The place of a listener is listened on, or can't be. Where a port of the start can't the server ends.
     pub fn listened(&mut self, listener: usize, is_listening: bool)
+        ensures nobody { listener_of (socket_at self.old.connections.table listener) ≡ None
+            → self.new ≡ self.old }
+        ensures not_asked { (l : Where)
+            → listener_of (socket_at self.old.connections.table listener) ≡ Some l
+            → l.stage ≢ stages.Asked → self.new ≡ self.old }
         ensures meetings { self.new.meetings ≡ self.old.meetings }
+        ensures steps { Steps self.old.connections.sockets self.new.connections.sockets }
     {
         let missed = self.connections.listened(listener, is_listening);
         match (missed, self.course) {
@@ -58,7 +71,23 @@ impl Server {
             → (m : Known) × (member_at self.new.meetings socket ≡ Some m)
             × (m.conference ≡ c) × (m.user ≡ u)
             × IsNew self.new.meetings.hub m.number) }
+        ensures at_door { IfOk result (λ socket. (l : Where) (named_by : By) (p : ℕ)
+            → listener_of (socket_at self.old.connections.table listener) ≡ Some l
+            → l.place ≡ Door named_by p
+            → is_at_door (socket_at self.new.connections.table socket) ≡ true) }
+        ensures not_asked { accepts (life_at self.old.connections.sockets listener) ≡ false
+            → result ≡ Err NotAsked }
+        ensures asked { IfErr result (λ why. why ≡ NotAsked
+            → (listener_of (socket_at self.old.connections.table listener) ≡ None)
+            ⊎ (accepts (life_at self.old.connections.sockets listener) ≡ false)) }
+        ensures refused { IfErr result (λ why. (l : Where) (c u p : ℕ)
+            → accepts (life_at self.old.connections.sockets listener) ≡ true
+            → listener_of (socket_at self.old.connections.table listener) ≡ Some l
+            → l.place ≡ Port c u p
+            → (why ≡ Memory) ⊎ ((socket : ℕ)
+            × IsDeclined socket c u self.old.meetings why)) }
         ensures moves { Moves nothing_taken self.old.meetings self.new.meetings }
+        ensures steps { Steps self.old.connections.sockets self.new.connections.sockets }
     {
         self.connections.pass(now);
         let Some(known) = self.connections.accept(listener) else {
@@ -82,13 +111,19 @@ impl Server {
         ensures sockets { Changed none_came listener self.old.connections.sockets.deadlines
             self.old.connections.sockets self.new.connections.sockets }
         ensures meetings { self.new.meetings ≡ self.old.meetings }
+        ensures steps { Steps self.old.connections.sockets self.new.connections.sockets }
     {
         self.connections.sockets.nothing(listener);
     }
 
     /// An accept failed at a listener, as it does without a descriptor left: it is tried again 100 milliseconds later.
     pub fn unaccepted(&mut self, listener: usize, now: u64)
+        ensures not_asked { accepts (life_at self.old.connections.sockets listener) ≡ false
+            → self.new.connections.sockets ≡ record self.old.connections.sockets {
+              time = max self.old.connections.sockets.time now;
+            } }
         ensures meetings { self.new.meetings ≡ self.old.meetings }
+        ensures steps { Steps self.old.connections.sockets self.new.connections.sockets }
     {
         self.connections.pass(now);
         self.connections.fail_to_accept(listener);
@@ -100,7 +135,14 @@ impl Server {
             → (m : Known) × (member_at self.new.meetings socket ≡ Some m)
             × (m.conference ≡ c) × (m.user ≡ u)
             × IsNew self.new.meetings.hub m.number) }
+        ensures at_door { IfOk result (λ socket. (named_by : By) (p : ℕ)
+            → peer.place ≡ Door named_by p
+            → is_at_door (socket_at self.new.connections.table socket) ≡ true) }
+        ensures asked { IfErr result (λ why. why ≢ NotAsked) }
+        ensures refused { IfErr result (λ why. (c u p : ℕ) → peer.place ≡ Port c u p
+            → (why ≡ Memory) ⊎ ((socket : ℕ) × IsDeclined socket c u self.old.meetings why)) }
         ensures moves { Moves nothing_taken self.old.meetings self.new.meetings }
+        ensures steps { Steps self.old.connections.sockets self.new.connections.sockets }
     {
         match peer.place {
             Place::Port {
@@ -125,9 +167,16 @@ impl Server {
             × (member_at self.new.meetings socket ≡ Some m)
             × (m.conference ≡ conference) × (m.user ≡ user)
             × IsNew self.new.meetings.hub m.number) }
+        ensures asked { IfErr result (λ why. why ≢ NotAsked) }
+        ensures refused { IfErr result (λ why. (why ≡ Memory) ⊎ ((socket : ℕ)
+            × IsDeclined socket conference user self.old.meetings why)) }
         ensures moves { Moves nothing_taken self.old.meetings self.new.meetings }
+        ensures steps { Steps self.old.connections.sockets self.new.connections.sockets }
     {
-        let socket = self.connections.open_member(peer, group)?;
+        let socket = match self.connections.open_member(peer, group) {
+            Ok(socket) => socket,
+            Err(refusal) => return Err(refusal),
+        };
         match self.join(socket, conference, user) {
             Ok(()) => Ok(socket),
             Err(refusal) => {
@@ -142,7 +191,13 @@ impl Server {
         ensures joined { OnOk result ((m : Known) × (member_at self.new.meetings socket ≡ Some m)
             × (m.conference ≡ conference) × (m.user ≡ user)
             × IsNew self.new.meetings.hub m.number) }
+        ensures entered { OnOk result (HasJoined socket conference user
+            self.old.meetings self.new.meetings) }
+        ensures asked { IfErr result (λ why. why ≢ NotAsked) }
+        ensures refused { IfErr result (IsDeclined socket conference user self.old.meetings) }
+        ensures table { self.new.connections.table ≡ self.old.connections.table }
         ensures moves { Moves nothing_taken self.old.meetings self.new.meetings }
+        ensures steps { Steps self.old.connections.sockets self.new.connections.sockets }
     {
         if is_full_for(&self.meetings, conference, user) {
             return Err(Refusal::AtMeeting(JoinRefusal::UserConnections));
@@ -169,7 +224,10 @@ impl Server {
 }
 
 /// A conference that want of memory has broken off is told of, once, and its ports aren't listened on any more.
-fn see_to_broken(connections: &mut Connections, meetings: &Meetings, conference: u32) {
+fn see_to_broken(connections: &mut Connections, meetings: &Meetings, conference: u32)
+    ensures table { connections.new.table ≡ connections.old.table }
+    ensures steps { Steps connections.old.sockets connections.new.sockets }
+{
     match phase_of(meetings, conference) {
         Some(Phase::Broken) => connections.break_off(conference),
         Some(Phase::Running | Phase::Ended) | None => {}

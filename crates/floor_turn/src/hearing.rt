@@ -1,14 +1,25 @@
 //! What is read of sockets.
 
-ghost use Rattle.std.specs.Prelude.{◌≡◌, [], Bool, MatchOption, None, Result, Some, false, true};
+ghost use Rattle.std.specs.Prelude.{◌≡◌, ◌⊎◌, ◌++◌, ◌-◌, [], Bool, Err, MatchOption, None, Ok, Result, Some, drop, false, length, true, ℕ};
 ghost use Rattle.floor_hub.specs.declared.refusal.HubRefusal.{HubRefusal as Refused};
 ghost use Rattle.floor_meetings.specs.Calls.{Comes, Ends, Fails};
+ghost use Rattle.floor_doors.specs.Newcomer.{Newcomer as Awaited};
+ghost use Rattle.floor_doors.specs.declared.newcomer.Verdict.TheVariants as verdicts;
+ghost use Rattle.floor_doors.specs.declared.refusal.DoorRefusal.{DoorRefusal as Why};
 ghost use Rattle.floor_meetings.specs.Meetings.{member_at};
+ghost use Rattle.floor_meetings.specs.Runs.{Came, Does};
+ghost use Rattle.floor_proxy.specs.Header.{proxy};
+ghost use Rattle.floor_proxy.specs.declared.header.ProxyRead.TheVariants.{Local, More, Named};
+ghost use Rattle.floor_proxy.specs.declared.refusal.ProxyRefusal.{ProxyRefusal as Wrong};
 ghost use Rattle.floor_sockets.specs.Life.{none_came, worded};
 ghost use Rattle.floor_sockets.specs.Sockets.{Changed, life_at};
 ghost use Rattle.floor_connections.specs.Asked.{reads};
-ghost use Rattle.floor_connections.specs.Table.{is_at_door, listener_of, socket_at};
+ghost use Rattle.floor_connections.specs.Steps.{Steps};
+ghost use Rattle.floor_connections.specs.Table.{is_at_door, is_member, listener_of, peer_of, socket_at};
+ghost use Rattle.floor_connections.specs.declared.place.Peer.{Peer as Guest};
+ghost use Rattle.floor_connections.specs.declared.table.Socket.TheVariants.{AtDoor};
 ghost use Rattle.floor_connections.specs.declared.table.Listener.{Listener as Where};
+ghost use Rattle.floor_turn.specs.Entering.{EntersOrNot, IsTurnedAway};
 ghost use Rattle.floor_turn.specs.Moves.{Moves, nothing_taken};
 
 use crate::meeting::{broken_at, end_of_stream};
@@ -27,6 +38,7 @@ impl Server {
             → listener_of (socket_at self.old.connections.table socket) ≡ Some l
             → self.new.connections ≡ self.old.connections }
         ensures meetings { self.new.meetings ≡ self.old.meetings }
+        ensures steps { Steps self.old.connections.sockets self.new.connections.sockets }
     {
         match self.connections.table.listener(socket) {
             Some(_) => {}
@@ -42,9 +54,22 @@ impl Server {
             (self.new.meetings.hub ≡ self.old.meetings.hub)
             (λ m. (r : Result Bool Refused) × Comes m.number bytes.now
             self.old.meetings.hub self.new.meetings.hub r) }
+        ensures entered { (peer : Guest) (n : Awaited) (c u len : ℕ)
+            → reads (life_at self.old.connections.sockets socket) ≡ true
+            → socket_at self.old.connections.table socket ≡ Some (AtDoor peer n)
+            → proxy n.named_by (n.held ++ bytes.now) ≡ Ok (Named c u len)
+            → EntersOrNot socket c u (drop (len - length n.held) bytes.now)
+            self.old.meetings self.new
+            ⊎ (IsTurnedAway socket self.new.connections × (self.new.meetings ≡ self.old.meetings)) }
+        ensures wrong { (peer : Guest) (n : Awaited) (why : Wrong)
+            → reads (life_at self.old.connections.sockets socket) ≡ true
+            → socket_at self.old.connections.table socket ≡ Some (AtDoor peer n)
+            → proxy n.named_by (n.held ++ bytes.now) ≡ Err why
+            → IsTurnedAway socket self.new.connections × (self.new.meetings ≡ self.old.meetings) }
         ensures not_asked { reads (life_at self.old.connections.sockets socket) ≡ false
             → self.new.meetings ≡ self.old.meetings }
         ensures moves { Moves nothing_taken self.old.meetings self.new.meetings }
+        ensures steps { Steps self.old.connections.sockets self.new.connections.sockets }
     {
         self.connections.pass(now);
         if !is_reading(&self.connections.sockets, socket) {
@@ -63,6 +88,7 @@ impl Server {
         ensures sockets { Changed none_came socket self.old.connections.sockets.deadlines
             self.old.connections.sockets self.new.connections.sockets }
         ensures meetings { self.new.meetings ≡ self.old.meetings }
+        ensures steps { Steps self.old.connections.sockets self.new.connections.sockets }
     {
         self.connections.sockets.nothing(socket);
     }
@@ -75,9 +101,13 @@ impl Server {
             → MatchOption (member_at self.old.meetings socket)
             (self.new.meetings.hub ≡ self.old.meetings.hub)
             (λ m. Ends m.number self.old.meetings.hub self.new.meetings.hub) }
+        ensures turned { reads (life_at self.old.connections.sockets socket) ≡ true
+            → is_at_door (socket_at self.old.connections.table socket) ≡ true
+            → IsTurnedAway socket self.new.connections × (self.new.meetings ≡ self.old.meetings) }
         ensures not_asked { reads (life_at self.old.connections.sockets socket) ≡ false
             → self.new.meetings ≡ self.old.meetings }
         ensures moves { Moves nothing_taken self.old.meetings self.new.meetings }
+        ensures steps { Steps self.old.connections.sockets self.new.connections.sockets }
     {
         self.connections.pass(now);
         if !is_reading(&self.connections.sockets, socket) {
@@ -101,9 +131,13 @@ impl Server {
             → MatchOption (member_at self.old.meetings socket)
             (self.new.meetings.hub ≡ self.old.meetings.hub)
             (λ m. Fails m.number self.old.meetings.hub self.new.meetings.hub) }
+        ensures turned { reads (life_at self.old.connections.sockets socket) ≡ true
+            → is_at_door (socket_at self.old.connections.table socket) ≡ true
+            → IsTurnedAway socket self.new.connections × (self.new.meetings ≡ self.old.meetings) }
         ensures not_asked { reads (life_at self.old.connections.sockets socket) ≡ false
             → self.new.meetings ≡ self.old.meetings }
         ensures moves { Moves nothing_taken self.old.meetings self.new.meetings }
+        ensures steps { Steps self.old.connections.sockets self.new.connections.sockets }
     {
         self.connections.pass(now);
         if !is_reading(&self.connections.sockets, socket) {
@@ -126,6 +160,7 @@ impl Server {
             self.old.meetings.hub self.new.meetings.hub r) }
         ensures members { self.new.meetings.members ≡ self.old.meetings.members }
         ensures moves { Moves nothing_taken self.old.meetings self.new.meetings }
+        ensures steps { Steps self.old.connections.sockets self.new.connections.sockets }
     {
         let served = self.meetings.serve(socket, self.connections.millis());
         let has_more = note(&mut self.connections, &self.meetings, socket, served);
@@ -134,12 +169,17 @@ impl Server {
 
     /// Bytes came from a member, the last of so many that were read.
     fn hear(&mut self, socket: usize, bytes: &[u8], count: usize)
+        ensures heard { (r : Result Bool Refused) × Does (Came socket bytes.now r)
+            self.old.meetings self.new.meetings }
+        ensures member { is_member (socket_at self.new.connections.table socket)
+            ≡ is_member (socket_at self.old.connections.table socket) }
         ensures took { MatchOption (member_at self.old.meetings socket)
             (self.new.meetings.hub ≡ self.old.meetings.hub)
             (λ m. (r : Result Bool Refused) × Comes m.number bytes.now
             self.old.meetings.hub self.new.meetings.hub r) }
         ensures members { self.new.meetings.members ≡ self.old.meetings.members }
         ensures moves { Moves nothing_taken self.old.meetings self.new.meetings }
+        ensures steps { Steps self.old.connections.sockets self.new.connections.sockets }
     {
         let served = self.meetings.came(socket, bytes, self.connections.millis());
         let has_more = note(&mut self.connections, &self.meetings, socket, served);
@@ -148,7 +188,20 @@ impl Server {
 
     /// What follows for somebody at a door is done. These bytes came last.
     fn act_on(&mut self, socket: usize, verdict: Verdict, bytes: &[u8])
+        ensures entered { (peer : Guest) (c u at : ℕ)
+            → peer_of (socket_at self.old.connections.table socket) ≡ Some peer
+            → verdict ≡ verdicts.Enter c u at
+            → EntersOrNot socket c u (drop at bytes.now) self.old.meetings self.new }
+        ensures let_go { (peer : Guest)
+            → peer_of (socket_at self.old.connections.table socket) ≡ Some peer
+            → verdict ≡ verdicts.LetGo
+            → IsTurnedAway socket self.new.connections × (self.new.meetings ≡ self.old.meetings) }
+        ensures refused { (peer : Guest) (why : Why)
+            → peer_of (socket_at self.old.connections.table socket) ≡ Some peer
+            → verdict ≡ verdicts.Refuse why
+            → IsTurnedAway socket self.new.connections × (self.new.meetings ≡ self.old.meetings) }
         ensures moves { Moves nothing_taken self.old.meetings self.new.meetings }
+        ensures steps { Steps self.old.connections.sockets self.new.connections.sockets }
     {
         match verdict {
             Verdict::Wait => self.connections.sockets.came(socket, bytes.len(), false),
@@ -166,17 +219,27 @@ impl Server {
 
     /// Somebody at a door is this user: it joins, and what stands behind the header is its own.
     fn enter(&mut self, socket: usize, conference: u32, user: u16, bytes: &[u8], at: usize)
+        ensures entered { (peer : Guest)
+            → peer_of (socket_at self.old.connections.table socket) ≡ Some peer
+            → EntersOrNot socket conference user (drop at bytes.now) self.old.meetings self.new }
         ensures moves { Moves nothing_taken self.old.meetings self.new.meetings }
+        ensures steps { Steps self.old.connections.sockets self.new.connections.sockets }
     {
         match self.join(socket, conference, user) {
             Ok(()) => {
                 self.connections.let_in(socket, conference);
-                let rest = bytes.get(at..).unwrap_or(&[]);
-                self.hear(socket, rest, bytes.len());
+                self.hear(socket, behind(bytes, at), bytes.len());
             }
             Err(refusal) => self.connections.turn_away(socket, Some(refusal)),
         }
     }
+}
+
+/// What stands behind so many bytes.
+fn behind(bytes: &[u8], at: usize) -> &[u8]
+    ensures value { result.now ≡ drop at bytes.now }
+{
+    bytes.get(at..).unwrap_or(&[])
 }
 
 /// Says whether a turn has left messages over; where one was refused this is noted.
@@ -185,7 +248,11 @@ fn note(
     meetings: &Meetings,
     socket: usize,
     served: Result<bool, HubRefusal>,
-) -> bool {
+) -> bool
+    ensures member { (k : ℕ) → is_member (socket_at connections.new.table k)
+        ≡ is_member (socket_at connections.old.table k) }
+    ensures steps { Steps connections.old.sockets connections.new.sockets }
+{
     match served {
         Ok(has_more) => has_more,
         Err(refusal) => {

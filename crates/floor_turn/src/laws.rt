@@ -1,7 +1,8 @@
-//! The law of lives, and what is left where nothing is to be done. Each is the contract of a function that does nothing.
+//! The law of lives, what is left where nothing is to be done, and that whoever is to be shut down is. Each is the contract of a function that does nothing.
 
 ghost use Rattle.floor_turn.specs.Examples.{OneIsWritten};
 ghost use Rattle.floor_turn.specs.Laws.{NothingIsLeft, TakenIsCalledFor};
+ghost use Rattle.floor_turn.specs.Over.{WhoFailsIsShut, WhoIsEndedIsShut};
 
 /// For any list of calls of a server, each of which did what its contract says: where the conference of a member met no
 /// want of memory, the bytes that were lent to its socket and that it took are a front of what that conference's floor
@@ -25,3 +26,18 @@ pub fn one_is_written()
 pub fn nothing_is_left()
     ensures { NothingIsLeft }
 {}
+
+/// For any list of calls of a server, each of which did what its contract says: whoever is ended by one has had its
+/// `Shut` once ten seconds have gone by and whatever was due is done, whatever else is told, asked and answered in between.
+pub fn who_is_ended_is_shut()
+    ensures { WhoIsEndedIsShut }
+{
+    floor_sockets::who_is_ended_is_shut();
+}
+
+/// The same of who fails, without the ten seconds.
+pub fn who_fails_is_shut()
+    ensures { WhoFailsIsShut }
+{
+    floor_sockets::who_fails_is_shut();
+}

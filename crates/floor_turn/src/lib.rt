@@ -22,5 +22,7 @@ pub use floor_connections::{Deed, Departure, Entry, Fault, Peer, Place, Refusal,
 pub use floor_doors::{DoorRefusal, NamedBy};
 pub use floor_meetings::{Act, Bounds, Config, Grace, HubRefusal, JoinRefusal, Loop, Member};
 pub use floor_sockets::MAX_READ;
-pub use laws::{nothing_is_left, one_is_written, taken_is_called_for};
+pub use laws::{
+    nothing_is_left, one_is_written, taken_is_called_for, who_fails_is_shut, who_is_ended_is_shut,
+};
 pub use server::Server;

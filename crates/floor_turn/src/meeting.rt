@@ -1,7 +1,13 @@
 //! What the turn asks of the meetings.
 
-ghost use Rattle.std.specs.Prelude.{◌≡◌, None};
+ghost use Rattle.std.specs.Prelude.{◌≡◌, ◌≤◌, ◌<◌, List, None, Some, false, true};
+ghost use Rattle.floor_room.specs.Room.{Room};
+ghost use Rattle.floor_hub.specs.Hub.{room_at};
+ghost use Rattle.floor_hub.specs.Members.{AreMembers};
+ghost use Rattle.floor_hub.specs.declared.attached.Live.{Live as Listed};
+ghost use Rattle.floor_meetings.specs.Joined.{is_of, member_with, of_user};
 ghost use Rattle.floor_meetings.specs.Meetings.{member_at};
+ghost use Rattle.floor_turn.specs.Entering.{IsFullFor, MayTry};
 ghost use Rattle.floor_turn.specs.Moves.{Moves, nothing_taken};
 
 use floor_connections::{Departure, Who};
@@ -96,15 +102,30 @@ pub(crate) fn who_at(meetings: &Meetings, slot: usize) -> Option<Who> {
 }
 
 /// Whether a user has as many sockets in a conference as its configuration lets one user have.
-pub(crate) fn is_full_for(meetings: &Meetings, conference: u32, user: u16) -> bool {
+pub(crate) fn is_full_for(meetings: &Meetings, conference: u32, user: u16) -> bool
+    ensures full { result ≡ true → IsFullFor conference user meetings.now }
+    ensures may { result ≡ false → MayTry conference user meetings.now }
+{
     match meetings.hub().config(conference) {
-        Ok(config) => usize::from(config.connections()) <= sockets_of(meetings, conference, user),
+        Ok(config) => are_all(config.connections(), sockets_of(meetings, conference, user)),
         Err(_) => false,
     }
 }
 
+/// Whether there are as many as there may be.
+fn are_all(most: u16, count: usize) -> bool
+    ensures full { result ≡ true → most ≤ count }
+    ensures free { result ≡ false → count < most }
+{
+    usize::from(most) <= count
+}
+
 /// How many sockets of a user are in a conference.
-fn sockets_of(meetings: &Meetings, conference: u32, user: u16) -> usize {
+fn sockets_of(meetings: &Meetings, conference: u32, user: u16) -> usize
+    ensures found { (r : Room) → room_at meetings.now.hub.hub conference ≡ Some r
+        → (live : List Listed) × AreMembers meetings.now.hub.hub conference live
+        × (result ≡ of_user meetings.now.members user live) }
+{
     match meetings.hub().members(conference) {
         Ok(live) => count_of(meetings, live, user),
         Err(_) => 0,
@@ -112,14 +133,18 @@ fn sockets_of(meetings: &Meetings, conference: u32, user: u16) -> usize {
 }
 
 /// How many of these live connections are in slots and of this user.
-fn count_of(meetings: &Meetings, live: &[Live], user: u16) -> usize {
+fn count_of(meetings: &Meetings, live: &[Live], user: u16) -> usize
+    ensures value { result ≡ of_user meetings.now.members user live.now }
+{
     live.iter()
         .filter(|one| is_of(meetings, one.number, user))
         .count()
 }
 
 /// Whether the member with this number is in a slot, and of this user.
-fn is_of(meetings: &Meetings, number: ConnNo, user: u16) -> bool {
+fn is_of(meetings: &Meetings, number: ConnNo, user: u16) -> bool
+    ensures value { result ≡ is_of user (member_with meetings.now.members number) }
+{
     match meetings.slot_of(number) {
         Some(slot) => match meetings.get(slot) {
             Some(member) => member.user == user,

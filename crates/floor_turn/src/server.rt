@@ -7,6 +7,7 @@ ghost use Rattle.floor_loop.specs.Loop.{over_at};
 ghost use Rattle.floor_meetings.specs.Meetings.{AreCalledFor, lent_at, member_at};
 ghost use Rattle.floor_turn.specs.Due.{IsDueAt};
 ghost use Rattle.floor_sockets.specs.Sockets.{life_at};
+ghost use Rattle.floor_connections.specs.Steps.{Steps};
 ghost use Rattle.floor_turn.specs.Moves.{Moves, nothing_taken};
 
 use floor_connections::{Connections, Fault};
@@ -125,6 +126,7 @@ impl Server {
         ensures sockets { self.new.connections.sockets
             ≡ record self.old.connections.sockets { time = max self.old.connections.sockets.time now } }
         ensures meetings { self.new.meetings ≡ self.old.meetings }
+        ensures steps { Steps self.old.connections.sockets self.new.connections.sockets }
     {
         self.connections.pass(now);
     }

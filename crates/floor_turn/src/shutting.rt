@@ -4,6 +4,7 @@ ghost use Rattle.std.specs.Prelude.{◌≡◌, None, false};
 ghost use Rattle.floor_meetings.specs.Meetings.{member_at};
 ghost use Rattle.floor_sockets.specs.Sockets.{life_at};
 ghost use Rattle.floor_connections.specs.Asked.{shuts};
+ghost use Rattle.floor_connections.specs.Steps.{Steps};
 ghost use Rattle.floor_turn.specs.Moves.{Moves, nothing_taken};
 
 use crate::meeting::{departure_of, part, who_at};
@@ -19,6 +20,7 @@ impl Server {
         ensures not_asked { shuts (life_at self.old.connections.sockets socket) ≡ false
             → self.new.meetings ≡ self.old.meetings }
         ensures moves { Moves nothing_taken self.old.meetings self.new.meetings }
+        ensures steps { Steps self.old.connections.sockets self.new.connections.sockets }
     {
         if !is_shutting(&self.connections.sockets, socket) {
             return;
@@ -30,6 +32,7 @@ impl Server {
     /// Whoever is at a socket that was shut is no more: a member leaves, or stays for its grace.
     fn see_off(&mut self, socket: usize)
         ensures moves { Moves nothing_taken self.old.meetings self.new.meetings }
+        ensures sockets { self.new.connections.sockets ≡ self.old.connections.sockets }
     {
         match self.connections.table.peer(socket) {
             None => self.end_listener(socket),
@@ -46,6 +49,7 @@ impl Server {
     /// A listener isn't listened on any more.
     fn end_listener(&mut self, socket: usize)
         ensures meetings { self.new.meetings ≡ self.old.meetings }
+        ensures sockets { self.new.connections.sockets ≡ self.old.connections.sockets }
     {
         match self.connections.table.place_at(socket) {
             Some(place) => self.connections.tell(Entry::Ended(place)),
@@ -56,6 +60,7 @@ impl Server {
     /// Somebody at a door has said nothing in time.
     fn let_go(&mut self, peer: Peer)
         ensures meetings { self.new.meetings ≡ self.old.meetings }
+        ensures sockets { self.new.connections.sockets ≡ self.old.connections.sockets }
     {
         if self.course == Course::Closing {
             return;
@@ -68,6 +73,7 @@ impl Server {
     fn part(&mut self, socket: usize, peer: Peer)
         ensures free { member_at self.new.meetings socket ≡ None }
         ensures moves { Moves nothing_taken self.old.meetings self.new.meetings }
+        ensures sockets { self.new.connections.sockets ≡ self.old.connections.sockets }
     {
         let is_stopping = self.course == Course::Closing;
         let end = self.connections.table.end_of(socket);
@@ -101,7 +107,9 @@ impl Server {
 }
 
 /// Nobody is listened for or read any more, and each socket is to be shut.
-pub(crate) fn end_all(connections: &mut Connections, meetings: &Meetings) {
+pub(crate) fn end_all(connections: &mut Connections, meetings: &Meetings)
+    ensures steps { Steps connections.old.sockets connections.new.sockets }
+{
     for socket in 0..connections.table.len() {
         let has_bytes = !meetings.lent(socket).is_empty();
         connections.end(socket, has_bytes);

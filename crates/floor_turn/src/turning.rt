@@ -1,14 +1,20 @@
 //! The turn: what is to be done next.
 
-ghost use Rattle.std.specs.Prelude.{◌≡◌, IfNone, ℕ, None, false};
+ghost use Rattle.std.specs.Prelude.{◌≡◌, IfNone, Option, Some, ℕ, None, false};
 ghost use Rattle.floor_loop.specs.Loop.{ready_at};
+ghost use Rattle.floor_sockets.specs.Laws.{is_shut};
 ghost use Rattle.floor_sockets.specs.Sockets.{IsDone};
+ghost use Rattle.floor_sockets.specs.declared.life.Deed.{Deed as Given};
+ghost use Rattle.floor_sockets.specs.declared.life.Deed.TheVariants as askeds;
+ghost use Rattle.floor_connections.specs.Steps.{Steps, StepsBy};
+ghost use Rattle.floor_turn.specs.Course.{is_serving};
+ghost use Rattle.floor_turn.specs.Over.{IsHandedOut};
 ghost use Rattle.floor_turn.specs.Moves.{Moves, nothing_taken};
 
 use crate::server::{Course, Server};
 use crate::shutting::end_all;
 use floor_connections::{Connections, Deed, Entry, Who};
-use floor_meetings::Due;
+use floor_meetings::{Due, Meetings};
 use floor_sockets::Deed as Asked;
 
 impl Server {
@@ -18,6 +24,9 @@ impl Server {
         ensures rest { IfNone result (IsDone self.new.connections.sockets) }
         ensures ready { IfNone result ((number : ℕ)
             → ready_at self.old.meetings.hub number ≡ None) }
+        ensures handed { (asked : Option Given) × IsHandedOut asked result self.new.connections
+            × StepsBy (λ slot. is_shut slot asked)
+            self.old.connections.sockets self.new.connections.sockets }
         ensures moves { Moves nothing_taken self.old.meetings self.new.meetings }
     {
         match self.connections.next_entry() {
@@ -45,6 +54,7 @@ impl Server {
         ensures ready { result ≡ false → (number : ℕ)
             → ready_at self.old.meetings.hub number ≡ None }
         ensures moves { Moves nothing_taken self.old.meetings self.new.meetings }
+        ensures steps { Steps self.old.connections.sockets self.new.connections.sockets }
     {
         if self.see_to_due() {
             return true;
@@ -59,7 +69,9 @@ impl Server {
     }
 
     /// Whether it wasn't told to stop.
-    fn is_serving(&self) -> bool {
+    fn is_serving(&self) -> bool
+        ensures value { result ≡ is_serving self.now.course }
+    {
         match self.course {
             Course::Starting | Course::Running => true,
             Course::Stopping | Course::Closing | Course::Ended => false,
@@ -71,6 +83,7 @@ impl Server {
         ensures ready { result ≡ false → (number : ℕ)
             → ready_at self.new.meetings.hub number ≡ ready_at self.old.meetings.hub number }
         ensures moves { Moves nothing_taken self.old.meetings self.new.meetings }
+        ensures steps { Steps self.old.connections.sockets self.new.connections.sockets }
     {
         let now = self.connections.millis();
         match self.meetings.due(now) {
@@ -91,6 +104,7 @@ impl Server {
     /// A server that stops has whoever is there shut, once whoever was ready has been seen to. Says whether it did.
     fn ends_all(&mut self) -> bool
         ensures meetings { self.new.meetings ≡ self.old.meetings }
+        ensures steps { Steps self.old.connections.sockets self.new.connections.sockets }
     {
         match self.course {
             Course::Stopping => {
@@ -105,18 +119,19 @@ impl Server {
     /// The next one to whom nothing was lent is shut, unless something is by now. Says whether one was looked at.
     fn see_to_leaving(&mut self) -> bool
         ensures meetings { self.new.meetings ≡ self.old.meetings }
+        ensures steps { Steps self.old.connections.sockets self.new.connections.sockets }
     {
         let Some(socket) = self.connections.next_leaving() else {
             return false;
         };
-        if self.meetings.lent(socket).is_empty() {
-            self.connections.close_one(socket);
-        }
+        close_idle(&mut self.connections, &self.meetings, socket);
         true
     }
 
     /// What is asked of a socket is to be done, or is done where it is nothing of the system.
     fn do_asked(&mut self, asked: Asked) -> Deed
+        ensures handed { IsHandedOut (Some asked) (Some result) self.new.connections }
+        ensures steps { Steps self.old.connections.sockets self.new.connections.sockets }
         ensures moves { Moves nothing_taken self.old.meetings self.new.meetings }
     {
         match asked {
@@ -133,7 +148,10 @@ impl Server {
 
     /// A socket is to be shut. One that nobody else knows of goes at once.
     fn shut_next(&mut self, socket: usize) -> Deed
+        ensures handed { IsHandedOut (Some (askeds.Shut socket)) (Some result)
+            self.new.connections }
         ensures meetings { self.new.meetings ≡ self.old.meetings }
+        ensures steps { Steps self.old.connections.sockets self.new.connections.sockets }
     {
         match self.connections.shut_next(socket) {
             Deed::Turn => {
@@ -163,8 +181,19 @@ impl Server {
     }
 }
 
+/// Somebody to whom nothing is lent is shut, where it is to be.
+fn close_idle(connections: &mut Connections, meetings: &Meetings, socket: usize)
+    ensures steps { Steps connections.old.sockets connections.new.sockets }
+{
+    if meetings.lent(socket).is_empty() {
+        connections.close_one(socket);
+    }
+}
+
 /// The log is told that a member has left that was away.
-fn tell_left(connections: &mut Connections, who: Option<Who>) {
+fn tell_left(connections: &mut Connections, who: Option<Who>)
+    ensures sockets { connections.new.sockets ≡ connections.old.sockets }
+{
     match who {
         Some(who) => connections.tell(Entry::Gone(who)),
         None => {}

@@ -1,12 +1,13 @@
 //! What is written to sockets.
 
-ghost use Rattle.std.specs.Prelude.{◌≡◌, MatchOption, ℕ, None, false, length, min, true};
+ghost use Rattle.std.specs.Prelude.{◌≡◌, IsSome, MatchOption, ℕ, None, Some, false, length, min, true};
 ghost use Rattle.floor_loop.specs.Loop.{ready_at};
 ghost use Rattle.floor_meetings.specs.Calls.{Takes};
-ghost use Rattle.floor_meetings.specs.Meetings.{lent_at, member_at};
+ghost use Rattle.floor_meetings.specs.Meetings.{lent_at, member_at, shut_by};
 ghost use Rattle.floor_sockets.specs.Life.{unblocked};
 ghost use Rattle.floor_sockets.specs.Sockets.{Changed, life_at};
-ghost use Rattle.floor_connections.specs.Asked.{writes};
+ghost use Rattle.floor_connections.specs.Asked.{is_ending, writes};
+ghost use Rattle.floor_connections.specs.Steps.{Steps};
 ghost use Rattle.floor_turn.specs.Moves.{Moves, nothing_taken, taken_at, taken_of};
 
 use crate::server::Server;
@@ -19,6 +20,7 @@ impl Server {
         ensures sockets { Changed unblocked socket self.old.connections.sockets.deadlines
             self.old.connections.sockets self.new.connections.sockets }
         ensures meetings { self.new.meetings ≡ self.old.meetings }
+        ensures steps { Steps self.old.connections.sockets self.new.connections.sockets }
     {
         self.connections.sockets.writable(socket);
     }
@@ -38,6 +40,7 @@ impl Server {
         ensures moves { Moves (taken_at socket
             (taken_of (writes (life_at self.old.connections.sockets socket)) count
             (lent_at self.old.meetings socket))) self.old.meetings self.new.meetings }
+        ensures steps { Steps self.old.connections.sockets self.new.connections.sockets }
     {
         self.connections.pass(now);
         if !is_writing(&self.connections.sockets, socket) {
@@ -55,6 +58,7 @@ impl Server {
             → (number : ℕ) → ready_at self.old.meetings.hub number ≡ None }
         ensures members { self.new.meetings.members ≡ self.old.meetings.members }
         ensures moves { Moves nothing_taken self.old.meetings self.new.meetings }
+        ensures steps { Steps self.old.connections.sockets self.new.connections.sockets }
     {
         match self.meetings.ready() {
             Some(Ready::Member(socket)) => {
@@ -72,7 +76,11 @@ impl Server {
 
 /// What is lent to a member is written; one that is to be shut down isn't read any more, and is shut once nothing is lent
 /// to it.
-fn see_to(connections: &mut Connections, meetings: &Meetings, socket: usize) {
+fn see_to(connections: &mut Connections, meetings: &Meetings, socket: usize)
+    ensures ends { IsSome (shut_by meetings.now socket)
+        → is_ending (life_at connections.new.sockets socket) ≡ true }
+    ensures steps { Steps connections.old.sockets connections.new.sockets }
+{
     let has_bytes = !meetings.lent(socket).is_empty();
     let ends = meetings.until(socket).is_some();
     connections.lend(socket, has_bytes, ends);

@@ -2,6 +2,10 @@ use Rattle.std.proofs.Common.{◌≡◌, ℕ, Some, refl, sym, ◌∙◌}
 use Rattle.floor_loop.specs.Laws.{IsNew}
 use Rattle.floor_meetings.specs.Meetings.{member_at}
 use Rattle.floor_meetings.specs.declared.members.Member.{Member}
+use Rattle.std.specs.Prelude.{◌⊎◌}
+use Rattle.floor_connections.specs.declared.refusal.Refusal.TheVariants.{Memory}
+use Rattle.floor_turn.proofs.Entering.{at_port_refused, no_port_refused}
+use Rattle.floor_turn.specs.Entering.{IsDeclined}
 use Rattle.floor_turn.proofs.Handing.{at_port, no_port, not_door, not_health}
 use Rattle.floor_turn.proofs.Moving.{moves_same}
 use Rattle.floor_turn.proofs.server.Server.come_in.Goals as goal
@@ -29,3 +33,12 @@ returns-in-Door-clause-moves c = moves_same c.args.self.now.meetings c.args.self
 
 pub returns-in-Health-clause-moves : goal.returns-in-Health-clause-moves
 returns-in-Health-clause-moves c = moves_same c.args.self.now.meetings c.args.self.now.meetings refl
+
+pub returns-in-Port-clause-refused : goal.returns-in-Port-clause-refused
+returns-in-Port-clause-refused c = at_port_refused c.enter_at_port.result c.args.peer.place _ _ _ (λ why d u. (why ≡ Memory) ⊎ ((socket : ℕ) × IsDeclined socket d u c.args.self.now.meetings why)) c.in-Port.is c.enter_at_port.ensures.refused
+
+pub returns-in-Door-clause-refused : goal.returns-in-Door-clause-refused
+returns-in-Door-clause-refused c = no_port_refused c.open_at_door.result c.args.peer.place (λ why d u. (why ≡ Memory) ⊎ ((socket : ℕ) × IsDeclined socket d u c.args.self.now.meetings why)) (λ d u p is. not_door _ _ d u p (sym c.in-Door.is ∙ is))
+
+pub returns-in-Health-clause-refused : goal.returns-in-Health-clause-refused
+returns-in-Health-clause-refused c = no_port_refused c.open_probe.result c.args.peer.place (λ why d u. (why ≡ Memory) ⊎ ((socket : ℕ) × IsDeclined socket d u c.args.self.now.meetings why)) (λ d u p is. not_health _ d u p (sym c.in-Health.is ∙ is))

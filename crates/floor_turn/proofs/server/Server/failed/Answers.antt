@@ -1,5 +1,15 @@
-use Rattle.std.proofs.Common.{refl}
+use Rattle.std.proofs.Common.{refl, ◌≡◌, ◌∙◌, ap, sym, Bool}
 use Rattle.floor_meetings.specs.Runs.{Failed}
+use Rattle.floor_connections.proofs.Steps.{steps_then}
+use Rattle.std.specs.Prelude.{if◌then◌else◌}
+use Rattle.floor_doors.specs.declared.newcomer.Verdict.TheVariants.{LetGo, Refuse}
+use Rattle.floor_doors.specs.declared.refusal.DoorRefusal.TheVariants.{NoHeader}
+use Rattle.floor_sockets.specs.Sockets.{Sockets, life_at}
+use Rattle.floor_connections.specs.Asked.{reads}
+use Rattle.floor_connections.specs.Table.{is_at_door, peer_of, socket_at}
+use Rattle.floor_connections.specs.declared.table.Table.{Table}
+use Rattle.floor_turn.proofs.Handing.{never}
+use Rattle.floor_turn.proofs.Entering.{door_peer}
 use Rattle.floor_turn.proofs.Moving.{moves_one, moves_same}
 use Rattle.floor_turn.proofs.server.Server.failed.Goals as goal
 
@@ -8,3 +18,22 @@ returns-then-not-is_reading-clause-moves c = moves_same c.args.self.now.meetings
 
 pub returns-clause-moves : goal.returns-clause-moves
 returns-clause-moves c = moves_one (Failed c.args.socket) c.args.self.now.meetings c.failed.new.self (c.failed.ensures.members, c.failed.ensures.took) (λ slot. refl)
+
+pub returns-then-is_at_door-clause-steps : goal.returns-then-is_at_door-clause-steps
+returns-then-is_at_door-clause-steps c = steps_then c.args.self.now.connections.sockets c.pass.new.self.sockets c.act_on.new.self.connections.sockets c.pass.ensures.steps c.act_on.ensures.steps
+
+pub returns-clause-steps : goal.returns-clause-steps
+returns-clause-steps c = steps_then c.args.self.now.connections.sockets c.pass.new.self.sockets c.fail.new.self.sockets c.pass.ensures.steps c.fail.ensures.steps
+
+pub returns-then-is_at_door-clause-turned : goal.returns-then-is_at_door-clause-turned
+returns-then-is_at_door-clause-turned c = λ asked at.
+    let same : socket_at c.pass.new.self.table c.args.socket ≡ socket_at c.args.self.now.connections.table c.args.socket = ap (λ (t : Table). socket_at t c.args.socket) c.pass.ensures.table in
+    let guest = door_peer (socket_at c.args.self.now.connections.table c.args.socket) at in
+    c.act_on.ensures.refused guest.0 NoHeader (ap peer_of same ∙ guest.1)
+    (c.ended_at_door-verdict.ensures.value ∙ ap (λ (b : Bool). if b then Refuse NoHeader else LetGo) (ap is_at_door same ∙ at))
+
+pub returns-clause-turned : goal.returns-clause-turned
+returns-clause-turned c = λ asked at. never _ (sym c.if-is_at_door.false ∙ (c.is_at_door.ensures.value ∙ (ap (λ (t : Table). is_at_door (socket_at t c.args.socket)) c.pass.ensures.table ∙ at)))
+
+pub returns-then-not-is_reading-clause-turned : goal.returns-then-not-is_reading-clause-turned
+returns-then-not-is_reading-clause-turned c = λ asked at. never _ (sym c.if-not-is_reading.true ∙ (c.is_reading.ensures.value ∙ ap (λ (s : Sockets). reads (life_at s c.args.socket)) c.pass.ensures.sockets ∙ asked))

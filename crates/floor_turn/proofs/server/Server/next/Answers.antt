@@ -1,7 +1,11 @@
-use Rattle.std.proofs.Common.{◌≡◌, ℕ, None, refl, subst, sym}
+use Rattle.std.proofs.Common.{◌≡◌, ℕ, None, refl, ap, subst, sym}
 use Rattle.floor_loop.specs.Loop.{ready_at}
 use Rattle.floor_sockets.specs.Sockets.{IsDone}
 use Rattle.floor_connections.specs.declared.connections.Connections.{Connections}
+use Rattle.std.specs.Prelude.{Some}
+use Rattle.std.proofs.lemmas.Option.{none-some}
+use Rattle.floor_sockets.specs.declared.life.Deed.TheVariants.{Shut}
+use Rattle.floor_connections.proofs.Steps.{steps_given, steps_same, steps_then}
 use Rattle.floor_turn.proofs.Handing.{if_none, rests_done}
 use Rattle.floor_turn.proofs.Moving.{moves_same, moves_then}
 use Rattle.floor_turn.proofs.server.Server.next.Goals as goal
@@ -29,3 +33,18 @@ returns-clause-rest c =
 pub returns-clause-ready : goal.returns-clause-ready
 returns-clause-ready c =
     if_none c.rest.result ((number : ℕ) → ready_at c.args.self.now.meetings.hub number ≡ None) (c.see_to_somebody.ensures.ready c.if-see_to_somebody.false)
+
+pub returns-in-Some-clause-handed : goal.returns-in-Some-clause-handed
+returns-in-Some-clause-handed c = (None, (λ slot e. absurd (none-some (Shut slot) e)), steps_same c.args.self.now.connections.sockets c.next_entry.new.self.sockets c.next_entry.ensures.sockets)
+
+pub returns-in-Some-next_wanted-clause-handed : goal.returns-in-Some-next_wanted-clause-handed
+returns-in-Some-next_wanted-clause-handed c = (None, (λ slot e. absurd (none-some (Shut slot) e)), steps_then c.args.self.now.connections.sockets c.next_entry.new.self.sockets c.next_wanted.new.self.sockets (steps_same c.args.self.now.connections.sockets c.next_entry.new.self.sockets c.next_entry.ensures.sockets) c.next_wanted.ensures.steps)
+
+pub returns-then-see_to_somebody-clause-handed : goal.returns-then-see_to_somebody-clause-handed
+returns-then-see_to_somebody-clause-handed c = (None, (λ slot e. absurd (none-some (Shut slot) e)), steps_then c.args.self.now.connections.sockets c.next_wanted.new.self.sockets c.see_to_somebody.new.self.connections.sockets (steps_then c.args.self.now.connections.sockets c.next_entry.new.self.sockets c.next_wanted.new.self.sockets (steps_same c.args.self.now.connections.sockets c.next_entry.new.self.sockets c.next_entry.ensures.sockets) c.next_wanted.ensures.steps) c.see_to_somebody.ensures.steps)
+
+pub returns-in-Some-next-clause-handed : goal.returns-in-Some-next-clause-handed
+returns-in-Some-next-clause-handed c = (Some c.in-Some-next.asked, c.do_asked.ensures.handed, steps_given (Some c.in-Some-next.asked) c.args.self.now.connections.sockets c.see_to_somebody.new.self.connections.sockets c.next.new.self c.do_asked.new.self.connections.sockets (steps_then c.args.self.now.connections.sockets c.next_wanted.new.self.sockets c.see_to_somebody.new.self.connections.sockets (steps_then c.args.self.now.connections.sockets c.next_entry.new.self.sockets c.next_wanted.new.self.sockets (steps_same c.args.self.now.connections.sockets c.next_entry.new.self.sockets c.next_entry.ensures.sockets) c.next_wanted.ensures.steps) c.see_to_somebody.ensures.steps) c.in-Some-next.ensures.asked c.do_asked.ensures.steps)
+
+pub returns-clause-handed : goal.returns-clause-handed
+returns-clause-handed c = (None, (λ slot e. absurd (none-some (Shut slot) e)), steps_given None c.args.self.now.connections.sockets c.see_to_somebody.new.self.connections.sockets c.next.new.self c.rest.new.self.connections.sockets (steps_then c.args.self.now.connections.sockets c.next_wanted.new.self.sockets c.see_to_somebody.new.self.connections.sockets (steps_then c.args.self.now.connections.sockets c.next_entry.new.self.sockets c.next_wanted.new.self.sockets (steps_same c.args.self.now.connections.sockets c.next_entry.new.self.sockets c.next_entry.ensures.sockets) c.next_wanted.ensures.steps) c.see_to_somebody.ensures.steps) (c.in-None-next.ensures.done, c.in-None-next.ensures.left) (steps_same c.next.new.self c.rest.new.self.connections.sockets (ap (λ (x : Connections). x.sockets) c.rest.ensures.connections)))

@@ -1,5 +1,7 @@
-use Rattle.std.proofs.Common.{refl}
+use Rattle.std.proofs.Common.{refl, ◌∙◌}
 use Rattle.floor_meetings.specs.Runs.{Due, LeaveAway}
+use Rattle.floor_sockets.specs.Runs.{Fail}
+use Rattle.floor_connections.proofs.Steps.{steps_by, steps_same}
 use Rattle.floor_turn.proofs.Moving.{moves_one, moves_then}
 use Rattle.floor_turn.proofs.server.Server.see_to_due.Goals as goal
 
@@ -14,3 +16,9 @@ returns-in-Some-Away-clause-moves c =
     moves_then c.args.self.now.meetings c.due.new.self c.leave_away-left.new.self
     (moves_one (Due c.millis-now.result) c.args.self.now.meetings c.due.new.self (c.due.ensures.members, c.due.ensures.hub, c.due.ensures.attended) (λ slot. refl))
     (moves_one (LeaveAway c.in-Some-Away.number) c.due.new.self c.leave_away-left.new.self (c.leave_away-left.ensures.members, c.leave_away-left.ensures.took) (λ slot. refl))
+
+pub returns-in-Some-Member-clause-steps : goal.returns-in-Some-Member-clause-steps
+returns-in-Some-Member-clause-steps c = steps_by (Fail c.in-Some-Member.socket) c.args.self.now.connections.sockets c.fail.new.self (λ slot. refl) c.fail.ensures.took
+
+pub returns-in-Some-Away-clause-steps : goal.returns-in-Some-Away-clause-steps
+returns-in-Some-Away-clause-steps c = steps_same c.args.self.now.connections.sockets c.tell_left.new.connections.sockets (c.tell_left.ensures.sockets ∙ c.forget_away-who.ensures.sockets)

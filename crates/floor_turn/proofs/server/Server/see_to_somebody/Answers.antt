@@ -1,4 +1,5 @@
-use Rattle.std.proofs.Common.{◌≡◌, ◌∙◌, sym}
+use Rattle.std.proofs.Common.{◌∙◌, sym}
+use Rattle.floor_connections.proofs.Steps.{steps_then}
 use Rattle.floor_turn.proofs.Moving.{moves_same, moves_then}
 use Rattle.floor_turn.proofs.server.Server.see_to_somebody.Goals as goal
 
@@ -19,3 +20,12 @@ returns-clause-moves c =
 
 pub returns-clause-ready : goal.returns-clause-ready
 returns-clause-ready c = λ e number. sym (c.see_to_due.ensures.ready c.if-see_to_due.false number) ∙ c.see_to_ready.ensures.none c.if-see_to_ready.false number
+
+pub returns-then-see_to_ready-clause-steps : goal.returns-then-see_to_ready-clause-steps
+returns-then-see_to_ready-clause-steps c = steps_then c.args.self.now.connections.sockets c.see_to_due.new.self.connections.sockets c.see_to_ready.new.self.connections.sockets c.see_to_due.ensures.steps c.see_to_ready.ensures.steps
+
+pub returns-then-ends_all-clause-steps : goal.returns-then-ends_all-clause-steps
+returns-then-ends_all-clause-steps c = steps_then c.args.self.now.connections.sockets c.see_to_ready.new.self.connections.sockets c.ends_all.new.self.connections.sockets (steps_then c.args.self.now.connections.sockets c.see_to_due.new.self.connections.sockets c.see_to_ready.new.self.connections.sockets c.see_to_due.ensures.steps c.see_to_ready.ensures.steps) c.ends_all.ensures.steps
+
+pub returns-clause-steps : goal.returns-clause-steps
+returns-clause-steps c = steps_then c.args.self.now.connections.sockets c.ends_all.new.self.connections.sockets c.see_to_leaving.new.self.connections.sockets (steps_then c.args.self.now.connections.sockets c.see_to_ready.new.self.connections.sockets c.ends_all.new.self.connections.sockets (steps_then c.args.self.now.connections.sockets c.see_to_due.new.self.connections.sockets c.see_to_ready.new.self.connections.sockets c.see_to_due.ensures.steps c.see_to_ready.ensures.steps) c.ends_all.ensures.steps) c.see_to_leaving.ensures.steps

@@ -5,6 +5,8 @@ use Rattle.floor_meetings.specs.Calls.{Comes}
 use Rattle.floor_meetings.specs.Meetings.{member_at}
 use Rattle.floor_meetings.specs.declared.members.Member.{Member}
 use Rattle.floor_meetings.specs.Runs.{Came}
+use Rattle.floor_sockets.specs.Runs.{Served}
+use Rattle.floor_connections.proofs.Steps.{steps_more}
 use Rattle.floor_turn.proofs.Handing.{any_answer}
 use Rattle.floor_turn.proofs.Moving.{moves_one}
 use Rattle.floor_turn.proofs.server.Server.serve.Goals as goal
@@ -17,3 +19,6 @@ returns-clause-took c =
 
 pub returns-clause-moves : goal.returns-clause-moves
 returns-clause-moves c = moves_one (Came c.args.socket [] c.serve-served.result) c.args.self.now.meetings c.serve-served.new.self (c.serve-served.ensures.members, c.serve-served.ensures.took) (λ slot. refl)
+
+pub returns-clause-steps : goal.returns-clause-steps
+returns-clause-steps c = steps_more (Served c.args.socket c.note-has_more.result) c.args.self.now.connections.sockets c.note-has_more.new.connections.sockets c.served.new.self (λ slot. refl) c.note-has_more.ensures.steps c.served.ensures.took
