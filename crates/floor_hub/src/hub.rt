@@ -36,9 +36,10 @@ use crate::gathering::{first_in, put_first, queued_to};
 use crate::refusal::HubRefusal;
 use crate::rooms::{admin_at, leave_room, open_at, serve_room, take_room, took_room};
 use crate::step::Served;
+use floor_numbered::Numbered;
 use floor_room::{Act, Config, Effects, Parcel, Refusal, Room, RoomRefusal, SharedInfo};
 use floor_wire::{Framer, Octets};
-use indexmap::{IndexMap, IndexSet};
+use indexmap::IndexSet;
 use std::alloc::{AllocError, Global};
 use std::marker::Model;
 
@@ -61,7 +62,7 @@ use std::marker::Model;
 /// It comes behind every other refusal.
 #[derive(Drop)]
 pub struct Hub {
-    rooms: IndexMap<u32, Room>,
+    rooms: Numbered<Room>,
     connections: Connections,
     arrivals: u64,
     concerned: Concerned,
@@ -105,7 +106,7 @@ impl Hub {
         ensures remembered { result.forgotten ≡ [] }
     {
         Hub {
-            rooms: IndexMap::new(alloc),
+            rooms: Numbered::new(alloc),
             connections: Connections::new(alloc),
             arrivals: 0,
             concerned: Concerned::new(alloc),
@@ -319,7 +320,7 @@ impl Hub {
             Ok(_) => {}
             Err(_) => return Err(HubRefusal::Memory),
         }
-        let _room = self.rooms.swap_remove(&conference);
+        let _room = self.rooms.swap_remove(u64::from(conference));
         self.concerned.forget(conference);
         Ok(())
     }
@@ -329,7 +330,7 @@ impl Hub {
         ensures none { IfNone result (IsOver conference self.now) }
         ensures some { IfSome result (λ refusal. IsRemembered conference self.now refusal) }
     {
-        match self.rooms.get(&conference) {
+        match self.rooms.get(u64::from(conference)) {
             None => Some(forgotten_or_none(&self.forgotten, conference)),
             Some(room) => {
                 if !has_ended(room) {
@@ -413,7 +414,7 @@ impl Hub {
             ≡ first_at self.now (connection_at self.now.connections number) }
     {
         match self.connections.get(number) {
-            Some(connection) => match self.rooms.get(&connection.conference) {
+            Some(connection) => match self.rooms.get(u64::from(connection.conference)) {
                 Some(room) => first_in(room, connection.n),
                 None => None,
             },
@@ -474,7 +475,7 @@ impl Hub {
         ensures left { OnErr result (buffer.new.items ≡ buffer.old.items) }
     {
         match self.connections.get(number) {
-            Some(connection) => match self.rooms.get(&connection.conference) {
+            Some(connection) => match self.rooms.get(u64::from(connection.conference)) {
                 Some(room) => put_first(room, connection.n, buffer),
                 None => Ok(()),
             },
@@ -496,7 +497,7 @@ impl Hub {
         ensures value { (r : Kept) → room_at self.now conference ≡ Some r
             → QueuedIn r n result }
     {
-        match self.rooms.get(&conference) {
+        match self.rooms.get(u64::from(conference)) {
             Some(room) => queued_to(alloc, room, n),
             None => Ok(Octets::from_vec(Vec::new(alloc))),
         }
@@ -506,7 +507,7 @@ impl Hub {
 /// Attaches a connection of a user under this number, which no connection has.
 fn attach_at(
     alloc: Global,
-    rooms: &mut IndexMap<u32, Room>,
+    rooms: &mut Numbered<Room>,
     forgotten: &IndexSet<u32>,
     connections: &mut Connections,
     concerned: &mut Concerned,
@@ -527,7 +528,7 @@ fn attach_at(
     ensures changed { HandedBy (get nat_eq rooms.old) (get nat_eq rooms.new) conference
         effects.new.changed.items }
 {
-    match rooms.get_mut(&conference) {
+    match rooms.get_mut(u64::from(conference)) {
         Some(room) => {
             let was_shut = is_shut(room);
             let done = attach_in(
@@ -631,7 +632,7 @@ fn push_at(connections: &mut Connections, number: ConnNo, bytes: &[u8]) -> Resul
 
 /// Serves the next message of a connection in its room.
 fn serve_at(
-    rooms: &mut IndexMap<u32, Room>,
+    rooms: &mut Numbered<Room>,
     connections: &mut Connections,
     concerned: &mut Concerned,
     effects: &mut Effects,
@@ -657,7 +658,7 @@ fn serve_at(
 
 /// Tells its room that so many of the parcels to a connection were brought to their end.
 fn took_at(
-    rooms: &mut IndexMap<u32, Room>,
+    rooms: &mut Numbered<Room>,
     connections: &Connections,
     concerned: &mut Concerned,
     effects: &mut Effects,
@@ -684,7 +685,7 @@ fn took_at(
 
 /// Takes the first parcel that waits for a connection.
 fn take_at(
-    rooms: &mut IndexMap<u32, Room>,
+    rooms: &mut Numbered<Room>,
     connections: &Connections,
     number: ConnNo,
 ) -> Result<Option<Parcel>, HubRefusal>
@@ -701,7 +702,7 @@ fn take_at(
 
 /// Takes a connection out, and tells its room.
 fn leave_at(
-    rooms: &mut IndexMap<u32, Room>,
+    rooms: &mut Numbered<Room>,
     connections: &mut Connections,
     concerned: &mut Concerned,
     effects: &mut Effects,
@@ -727,11 +728,11 @@ fn leave_at(
 }
 
 /// Whether the member of a connection is cut.
-fn is_cut_at(rooms: &IndexMap<u32, Room>, connection: &Connection) -> bool
+fn is_cut_at(rooms: &Numbered<Room>, connection: &Connection) -> bool
     ensures { (r : Kept) → get nat_eq rooms.now connection.now.conference ≡ Some r
         → result ≡ is_cut r connection.now.n }
 {
-    match rooms.get(&connection.conference) {
+    match rooms.get(u64::from(connection.conference)) {
         Some(room) => room.is_cut(connection.n),
         None => false,
     }

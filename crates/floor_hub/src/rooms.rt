@@ -22,15 +22,16 @@ use crate::connection::{ConnNo, Connection};
 use crate::forgotten::ended_or_none;
 use crate::refusal::HubRefusal;
 use crate::step::Served;
+use floor_numbered::Numbered;
 use floor_room::{Act, Config, Effects, Parcel, Refusal, Room, RoomRefusal};
 use floor_wire::Framer;
-use indexmap::{IndexMap, IndexSet};
+use indexmap::IndexSet;
 use std::alloc::Global;
 
 /// Makes the room of a conference that opens.
 pub(crate) fn open_at(
     alloc: Global,
-    rooms: &mut IndexMap<u32, Room>,
+    rooms: &mut Numbered<Room>,
     forgotten: &IndexSet<u32>,
     config: Config,
 ) -> Result<(), HubRefusal>
@@ -49,12 +50,12 @@ pub(crate) fn open_at(
         ≡ get nat_eq rooms.old other) }
 {
     let conference = config.conference();
-    if rooms.contains_key(&conference) || forgotten.contains(&conference) {
+    if rooms.contains_key(u64::from(conference)) || forgotten.contains(&conference) {
         return Err(HubRefusal::Used);
     }
     match Room::new(alloc, config) {
         Err(_) => Err(HubRefusal::Memory),
-        Ok(room) => match rooms.insert(conference, room) {
+        Ok(room) => match rooms.insert(u64::from(conference), room) {
             Ok(_) => Ok(()),
             Err(_) => Err(HubRefusal::Memory),
         },
@@ -63,7 +64,7 @@ pub(crate) fn open_at(
 
 /// Does an act in the room of a conference.
 pub(crate) fn admin_at(
-    rooms: &mut IndexMap<u32, Room>,
+    rooms: &mut Numbered<Room>,
     forgotten: &IndexSet<u32>,
     concerned: &mut Concerned,
     effects: &mut Effects,
@@ -78,7 +79,7 @@ pub(crate) fn admin_at(
     ensures changed { HandedBy (get nat_eq rooms.old) (get nat_eq rooms.new) conference
         effects.new.changed.items }
 {
-    match rooms.get_mut(&conference) {
+    match rooms.get_mut(u64::from(conference)) {
         Some(room) => {
             let was_shut = is_shut(room);
             let done = admin_in(room, act, effects);
@@ -177,7 +178,7 @@ fn leave_in(room: &mut Room, n: u32, effects: &mut Effects) -> Result<(), HubRef
 
 /// Tells its room that a connection has left.
 pub(crate) fn leave_room(
-    rooms: &mut IndexMap<u32, Room>,
+    rooms: &mut Numbered<Room>,
     concerned: &mut Concerned,
     effects: &mut Effects,
     number: ConnNo,
@@ -196,7 +197,7 @@ pub(crate) fn leave_room(
         connection.now.conference effects.new.changed.items }
 {
     let conference = connection.conference;
-    match rooms.get_mut(&conference) {
+    match rooms.get_mut(u64::from(conference)) {
         Some(room) => {
             concerned.remove(conference, number);
             let was_shut = is_shut(room);
@@ -214,7 +215,7 @@ pub(crate) fn leave_room(
 
 /// Serves the next message of a connection in its room.
 pub(crate) fn serve_room(
-    rooms: &mut IndexMap<u32, Room>,
+    rooms: &mut Numbered<Room>,
     concerned: &mut Concerned,
     effects: &mut Effects,
     connection: &mut Connection,
@@ -231,7 +232,7 @@ pub(crate) fn serve_room(
         connection.old.conference effects.new.changed.items }
 {
     let conference = connection.conference;
-    match rooms.get_mut(&conference) {
+    match rooms.get_mut(u64::from(conference)) {
         Some(room) => {
             let was_shut = is_shut(room);
             let served = serve_in(room, connection.n, &mut connection.held, effects);
@@ -248,7 +249,7 @@ pub(crate) fn serve_room(
 
 /// Tells its room that so many of the parcels to a connection were brought to their end.
 pub(crate) fn took_room(
-    rooms: &mut IndexMap<u32, Room>,
+    rooms: &mut Numbered<Room>,
     concerned: &mut Concerned,
     effects: &mut Effects,
     connection: &Connection,
@@ -264,7 +265,7 @@ pub(crate) fn took_room(
         connection.now.conference effects.new.changed.items }
 {
     let conference = connection.conference;
-    match rooms.get_mut(&conference) {
+    match rooms.get_mut(u64::from(conference)) {
         Some(room) => {
             let was_shut = is_shut(room);
             let taken = took_in(room, connection.n, k, effects);
@@ -292,7 +293,7 @@ fn took_in(room: &mut Room, n: u32, k: u32, effects: &mut Effects) -> Result<(),
 
 /// Takes the first parcel that waits for a connection in its room.
 pub(crate) fn take_room(
-    rooms: &mut IndexMap<u32, Room>,
+    rooms: &mut Numbered<Room>,
     connection: &Connection,
 ) -> Result<Option<Parcel>, HubRefusal>
     ensures room { (room : Kept) → get nat_eq rooms.old connection.now.conference ≡ Some room
@@ -303,7 +304,7 @@ pub(crate) fn take_room(
     ensures kept { (room : Kept) → get nat_eq rooms.old connection.now.conference ≡ Some room
         → IsRoom room }
 {
-    match rooms.get_mut(&connection.conference) {
+    match rooms.get_mut(u64::from(connection.conference)) {
         Some(room) => {
             // What its contract says of the room is handed out.
             let _journal = room.journal();

@@ -20,7 +20,7 @@ use crate::line::Line;
 use crate::outgoing::{Mark, Outgoing};
 use crate::stay::Stay;
 use floor_hub::{ConnNo, Hub, HubRefusal};
-use indexmap::IndexMap;
+use floor_numbered::Numbered;
 use std::alloc::{AllocError, Global};
 use std::marker::Model;
 
@@ -33,7 +33,7 @@ const MAX_WAIT: u64 = 10_000;
 /// time, with room for all since their attach, and nobody is looked for.
 #[derive(Drop)]
 pub(crate) struct Attended {
-    outgoing: IndexMap<u64, Outgoing>,
+    outgoing: Numbered<Outgoing>,
     ready: Line,
     ending: Line,
     failed: Line,
@@ -69,7 +69,7 @@ impl Attended {
         } }
     {
         Attended {
-            outgoing: IndexMap::new(alloc),
+            outgoing: Numbered::new(alloc),
             ready: Line::new(alloc),
             ending: Line::new(alloc),
             failed: Line::new(alloc),
@@ -89,7 +89,7 @@ impl Attended {
     pub(crate) fn get(&self, number: ConnNo) -> Option<&Outgoing>
         ensures value { option_copied result ≡ outgoing_in self.now number }
     {
-        self.outgoing.get(&number)
+        self.outgoing.get(number)
     }
 
     /// A connection has something to write or is to be shut down.
@@ -205,7 +205,7 @@ impl Attended {
             → stay_of self.new.away k ≡ stay_of self.old.away k }
         ensures away { self.new.away ≡ record self.old.away { stays = self.new.away.stays } }
     {
-        let _gone = self.outgoing.swap_remove(&number);
+        let _gone = self.outgoing.swap_remove(number);
         self.away.remove(number);
     }
 

@@ -14,8 +14,9 @@ ghost use Rattle.floor_hub.specs.steps.KeptBy.{KeptIn, kept_by};
 use crate::forgotten::forgotten_or_none;
 use crate::hub::Hub;
 use crate::refusal::HubRefusal;
+use floor_numbered::Numbered;
 use floor_room::Room;
-use indexmap::{IndexMap, IndexSet};
+use indexmap::IndexSet;
 
 /// What becomes of how many events of a room are kept.
 #[derive(Clone, Copy, Debug)]
@@ -86,7 +87,7 @@ impl Hub {
         ensures found { (r : Kept) → room_at self.now conference ≡ Some r
             → result ≡ Ok (is_kept r) }
     {
-        match self.rooms.get(&conference) {
+        match self.rooms.get(u64::from(conference)) {
             Some(room) => Ok(room.is_kept()),
             None => Err(forgotten_or_none(&self.forgotten, conference)),
         }
@@ -108,7 +109,7 @@ impl Hub {
 
 /// Sets how many events of the room of a conference are kept.
 fn keep_at(
-    rooms: &mut IndexMap<u32, Room>,
+    rooms: &mut Numbered<Room>,
     forgotten: &IndexSet<u32>,
     conference: u32,
     keeping: Keeping,
@@ -117,7 +118,7 @@ fn keep_at(
         (forgotten_or_none (contains nat_eq forgotten.now conference)) (get nat_eq rooms.old)
         (get nat_eq rooms.new) conference result }
 {
-    match rooms.get_mut(&conference) {
+    match rooms.get_mut(u64::from(conference)) {
         Some(room) => {
             keep_in(room, keeping);
             Ok(())

@@ -25,9 +25,10 @@ use crate::concerned::Concerned;
 use crate::forgotten::ended_or_none;
 use crate::hub::Hub;
 use crate::refusal::HubRefusal;
+use floor_numbered::Numbered;
 use floor_room::{Effects, Frame, Refusal, Room, RoomRefusal, Said};
 use floor_wire::HEADER_LEN;
-use indexmap::{IndexMap, IndexSet};
+use indexmap::IndexSet;
 use std::alloc::Global;
 
 impl Hub {
@@ -72,7 +73,7 @@ impl Hub {
 /// Says a message for a user in the room of a conference.
 fn say_at(
     alloc: Global,
-    rooms: &mut IndexMap<u32, Room>,
+    rooms: &mut Numbered<Room>,
     forgotten: &IndexSet<u32>,
     concerned: &mut Concerned,
     effects: &mut Effects,
@@ -88,7 +89,7 @@ fn say_at(
     ensures changed { HandedBy (get nat_eq rooms.old) (get nat_eq rooms.new) conference
         effects.new.changed.items }
 {
-    match rooms.get_mut(&conference) {
+    match rooms.get_mut(u64::from(conference)) {
         Some(room) => {
             let was_shut = is_shut(room);
             let said = say_in(alloc, room, user, message, effects);
