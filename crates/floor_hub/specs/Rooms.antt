@@ -1,5 +1,5 @@
 -- What a call of the hub has done to the rooms.
-use Rattle.std.specs.Prelude.{◌≡◌, ◌≢◌, ◌↔◌, ◌⊎◌, ℕ, ◌+◌, List, [], ◌∷◌, ◌++◌, length, nat_eq, if◌then◌else◌, Bool, true, false, Option, Some, None, is_some, map, max, min, slice_get, take, Result, Ok, Err, MatchResult}
+use Rattle.std.specs.Prelude.{◌≡◌, ◌≢◌, ◌↔◌, ◌⊎◌, ℕ, ◌+◌, List, [], ◌∷◌, ◌++◌, length, nat_eq, if◌then◌else◌, ◌||◌, Bool, true, false, Option, Some, None, is_some, map, max, min, slice_get, take, Result, Ok, Err, MatchResult}
 use Rattle.std.specs.Option.{option_map_or}
 use Rattle.floor_config.specs.Configuration.{Configuration}
 use Rattle.floor_wire.specs.Message.{messages}
@@ -19,7 +19,7 @@ use Rattle.floor_room.specs.Taking.{Gave, outbox_of}
 use Rattle.floor_hub.specs.declared.refusal.HubRefusal.{HubRefusal}
 use Rattle.floor_hub.specs.declared.refusal.HubRefusal.TheVariants.{NoConference, Forgotten, Running, NoConnection, ByRoom, Memory as NoMemory}
 use Rattle.floor_hub.specs.declared.connection.Connection.{Connection}
-use Rattle.floor_hub.specs.Concerned.{handed, is_cut}
+use Rattle.floor_hub.specs.Concerned.{handed, is_cut, is_shut}
 use Rattle.floor_hub.specs.Connections.{Puts, SameConnections, connection_at}
 use Rattle.floor_hub.specs.Hub.{Hub, is_forgotten, room_at}
 
@@ -155,6 +155,11 @@ TakenOf (Some x) result old new = (parcel : Option Parcel) × (result ≡ Ok par
 abbrev pub CutIs : Hub → Option Connection → Bool → Type 0
 CutIs h None result = result ≡ false
 CutIs h (Some x) result = (r : Room) → room_at h x.conference ≡ Some r → result ≡ is_cut r x.n
+
+-- whether nothing more is told to a live connection: its member is cut, or its conference is closed or broken off; no without one
+abbrev pub OverIs : Hub → Option Connection → Bool → Type 0
+OverIs h None result = result ≡ false
+OverIs h (Some x) result = (r : Room) → room_at h x.conference ≡ Some r → result ≡ (is_cut r x.n || is_shut r)
 
 -- how many parcels to the member n were taken, and none where nobody has joined under the number
 abbrev pub taken_of : Room → ℕ → ℕ

@@ -1,17 +1,17 @@
 //! All conferences at once: their rooms and their connections.
 
-ghost use Rattle.std.specs.Prelude.{◌≡◌, ◌++◌, ◌∷◌, [], false, true, length, ℕ, Err, nat_eq, IfErr, IfNone, IfOk, IfSome, MatchResult, None, Ok, OnErr, OnOk, Some};
+ghost use Rattle.std.specs.Prelude.{◌≡◌, ◌||◌, ◌++◌, ◌∷◌, [], false, true, length, ℕ, Err, nat_eq, IfErr, IfNone, IfOk, IfSome, MatchResult, None, Ok, OnErr, OnOk, Some};
 ghost use Rattle.std.specs.Option.{option_copied};
 ghost use Rattle.indexmap.specs.IndexMap.{get};
 ghost use Rattle.indexmap.specs.IndexSet.{contains};
 ghost use Rattle.floor_machine.specs.declared.event.Event.TheVariants.{Took as Takes};
 ghost use Rattle.floor_room.specs.Room.{IsRoom, Room as Kept};
 ghost use Rattle.floor_hub.specs.Calls.{Fails, FailsGone, FailsSame, Turns, answer_of};
-ghost use Rattle.floor_hub.specs.Concerned.{Concerns, handed, is_cut};
+ghost use Rattle.floor_hub.specs.Concerned.{Concerns, handed, is_cut, is_shut};
 ghost use Rattle.floor_hub.specs.Connections.{Puts, SameConnections, StayLive, connection_at};
 ghost use Rattle.floor_hub.specs.Hub.{is_forgotten, room_at};
 ghost use Rattle.floor_hub.specs.Left.{LeftAt, LeftLeaving, LeftServing, LeftTaking};
-ghost use Rattle.floor_hub.specs.Rooms.{CutIs, Forgets, IsOver, IsRefusedIn, IsRemembered, Joins, KeptOf, OneRoom, Opens, RoomOf, SameHub, TakenInto, TakenOf, admin_event, attach_event, by_broken, ended_or_none, first_at, leave_event, refusal_in, serve_event, took_event};
+ghost use Rattle.floor_hub.specs.Rooms.{CutIs, Forgets, IsOver, IsRefusedIn, IsRemembered, Joins, KeptOf, OneRoom, Opens, OverIs, RoomOf, SameHub, TakenInto, TakenOf, admin_event, attach_event, by_broken, ended_or_none, first_at, leave_event, refusal_in, serve_event, took_event};
 ghost use Rattle.floor_hub.specs.Shown.{Shows};
 ghost use Rattle.floor_hub.specs.StandsFor.{StandsFor};
 ghost use Rattle.floor_hub.specs.World.{World, nothing};
@@ -52,7 +52,8 @@ use std::marker::Model;
 ///   something isn't kept; `keep` says how many are, and `end_keeping` that none has to be. `is_kept` reads.
 /// - Connections: `attach`, then `piece` and `serve` as bytes come, `take` as they are sent, `took`
 ///   once they were, and `leave` at the end. Whoever is more than 1,024 parcels behind is cut: it is
-///   told nothing more, its messages are refused by `Cut`, and `is_cut` tells it.
+///   told nothing more, its messages are refused by `Cut`, and `is_cut` tells it; `is_over` tells that, and that its
+///   conference is closed or broken off.
 /// - `concerned` names, after each call, the connections that have something to take, that it cut, or
 ///   whose conference it closed or broke off; and `changed` lends what is shown of the floor requests
 ///   that it changed, for whoever watches the conference.
@@ -353,6 +354,17 @@ impl Hub {
     {
         match self.connections.get(number) {
             Some(connection) => is_cut_at(&self.rooms, connection),
+            None => false,
+        }
+    }
+
+    /// Whether nothing more is told to a live connection: its member is cut, or its conference is closed or
+    /// broken off. False where no live connection has the number. Takes no memory.
+    pub fn is_over(&self, number: ConnNo) -> bool
+        ensures value { OverIs self.now (connection_at self.now.connections number) result }
+    {
+        match self.connections.get(number) {
+            Some(connection) => is_over_at(&self.rooms, connection),
             None => false,
         }
     }
@@ -734,6 +746,17 @@ fn is_cut_at(rooms: &Numbered<Room>, connection: &Connection) -> bool
 {
     match rooms.get(u64::from(connection.conference)) {
         Some(room) => room.is_cut(connection.n),
+        None => false,
+    }
+}
+
+/// Whether nothing more is told to a connection: its member is cut, or its conference is closed or broken off.
+fn is_over_at(rooms: &Numbered<Room>, connection: &Connection) -> bool
+    ensures { (r : Kept) → get nat_eq rooms.now connection.now.conference ≡ Some r
+        → result ≡ (is_cut r connection.now.n || is_shut r) }
+{
+    match rooms.get(u64::from(connection.conference)) {
+        Some(room) => room.is_cut(connection.n) || is_shut(room),
         None => false,
     }
 }

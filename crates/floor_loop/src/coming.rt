@@ -92,7 +92,7 @@ fn lose(hub: &Hub, attended: &mut Attended, number: ConnNo) -> Lost
     if millis == 0 {
         return Lost::Leaves;
     }
-    if is_over(hub, attended, number) {
+    if is_over(hub, number) {
         return Lost::Leaves;
     }
     keep(hub, attended, number, millis)

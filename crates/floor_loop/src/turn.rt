@@ -2,7 +2,6 @@
 
 ghost use Rattle.std.specs.Prelude.{◌≡◌, ◌↔◌, ℕ, Bool, IfErr, IfOk, IsSome, None, OnErr, OnOk, Some, false, nat_eq, option_and_then, true};
 ghost use Rattle.floor_room.specs.Room.{Room};
-ghost use Rattle.floor_hub.specs.Concerned.{is_shut};
 ghost use Rattle.floor_hub.specs.Connections.{connection_at};
 ghost use Rattle.floor_hub.specs.Hub.{room_at};
 ghost use Rattle.floor_hub.specs.Members.{Stands};
@@ -21,7 +20,6 @@ ghost use Rattle.floor_loop.specs.steps.Thrown.{Thrown};
 use crate::attended::Attended;
 use crate::changing::MAX_PARCELS;
 use floor_hub::{ConnNo, Hub, HubRefusal, Live, Served};
-use floor_room::Phase;
 use std::alloc::Global;
 
 /// How many parcels are thrown away at most: whoever is more than 1,024 behind is cut, so no more wait.
@@ -175,7 +173,7 @@ pub(crate) fn wake_one(hub: &Hub, attended: &mut Attended, number: ConnNo)
     ensures spared { (k : ℕ) → IsSpared hub.now attended.old attended.new k }
     ensures away { attended.new.away ≡ attended.old.away }
 {
-    if is_over(hub, attended, number) {
+    if is_over(hub, number) {
         end(attended, number);
         return;
     }
@@ -225,35 +223,11 @@ fn wake_first(hub: &Hub, attended: &mut Attended, number: ConnNo)
 
 /// Whether nothing more is told to a connection: its member is cut, or its conference is ended or broken
 /// off.
-pub(crate) fn is_over(hub: &Hub, attended: &Attended, number: ConnNo) -> bool
-    ensures { (x : Connection) (r : Room) (o : Way)
-        → connection_at hub.now.connections number ≡ Some x
-        → room_at hub.now x.conference ≡ Some r → outgoing_in attended.now number ≡ Some o
-        → o.conference ≡ x.conference → ((result ≡ true) ↔ IsOver r x.n) }
+pub(crate) fn is_over(hub: &Hub, number: ConnNo) -> bool
+    ensures { (x : Connection) (r : Room) → connection_at hub.now.connections number ≡ Some x
+        → room_at hub.now x.conference ≡ Some r → ((result ≡ true) ↔ IsOver r x.n) }
 {
-    match attended.get(number) {
-        Some(one) => {
-            if is_shut(hub, one.conference()) {
-                return true;
-            }
-            hub.is_cut(number)
-        }
-        None => false,
-    }
-}
-
-/// Whether a conference is ended or broken off.
-fn is_shut(hub: &Hub, conference: u32) -> bool
-    ensures { (r : Room) → room_at hub.now conference ≡ Some r → result ≡ is_shut r }
-{
-    match hub.status(conference) {
-        Ok(status) => match status.phase {
-            Phase::Running => false,
-            Phase::Ended => true,
-            Phase::Broken => true,
-        },
-        Err(_) => false,
-    }
+    hub.is_over(number)
 }
 
 /// Acknowledges so many parcels to a connection, and takes the next ones from the hub.
