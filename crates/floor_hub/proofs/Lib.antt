@@ -42,6 +42,7 @@ pub mod Known
 pub mod Moving
 pub mod Concerning
 pub mod Attaching
+pub mod Passing
 pub mod Naming
 pub mod Handing
 pub mod Saying

@@ -1,6 +1,6 @@
 //! All conferences at once: their rooms and their connections.
 
-ghost use Rattle.std.specs.Prelude.{◌≡◌, ◌||◌, ◌++◌, ◌∷◌, [], false, true, length, ℕ, Err, nat_eq, IfErr, IfNone, IfOk, IfSome, MatchResult, None, Ok, OnErr, OnOk, Some};
+ghost use Rattle.std.specs.Prelude.{◌≡◌, ◌≤◌, ◌||◌, ◌++◌, ◌∷◌, [], false, true, length, ℕ, Err, nat_eq, IfErr, IfNone, IfOk, IfSome, MatchResult, None, Ok, OnErr, OnOk, Some};
 ghost use Rattle.std.specs.Option.{option_copied};
 ghost use Rattle.indexmap.specs.IndexMap.{get};
 ghost use Rattle.indexmap.specs.IndexSet.{contains};
@@ -11,7 +11,7 @@ ghost use Rattle.floor_hub.specs.Concerned.{Concerns, handed, is_cut, is_shut};
 ghost use Rattle.floor_hub.specs.Connections.{Puts, SameConnections, StayLive, connection_at};
 ghost use Rattle.floor_hub.specs.Hub.{is_forgotten, room_at};
 ghost use Rattle.floor_hub.specs.Left.{LeftAt, LeftLeaving, LeftServing, LeftTaking};
-ghost use Rattle.floor_hub.specs.Rooms.{CutIs, Forgets, IsOver, IsRefusedIn, IsRemembered, Joins, KeptOf, OneRoom, Opens, OverIs, RoomOf, SameHub, TakenInto, TakenOf, admin_event, attach_event, by_broken, ended_or_none, first_at, leave_event, refusal_in, serve_event, took_event};
+ghost use Rattle.floor_hub.specs.Rooms.{CutIs, Forgets, IsOver, IsRefusedIn, IsRemembered, Joins, KeptOf, OneRoom, Opens, OverIs, RoomOf, SameHub, StopsAt, TakenAll, TakenInto, TakenOf, admin_event, attach_event, by_broken, ended_or_none, first_at, leave_event, refusal_in, serve_event, took_event};
 ghost use Rattle.floor_hub.specs.Shown.{Shows};
 ghost use Rattle.floor_hub.specs.StandsFor.{StandsFor};
 ghost use Rattle.floor_hub.specs.World.{World, nothing};
@@ -21,7 +21,7 @@ ghost use Rattle.floor_hub.specs.steps.Attached.{AreWithin, ConcernedBy, Concern
 ghost use Rattle.floor_hub.specs.steps.Found.{AtConnection, AtRoom};
 ghost use Rattle.floor_hub.specs.steps.Handed.{HandedBy, HandedOf, Hands};
 ghost use Rattle.floor_hub.specs.steps.Running.{QueuedIn, first_bytes};
-ghost use Rattle.floor_hub.specs.steps.Serving.{AttachIn, LeaveOf, ServeOf, TakeOf, TookOf};
+ghost use Rattle.floor_hub.specs.steps.Serving.{AttachIn, LeaveOf, ServeOf, TakeAllOf, TakeOf, TookOf};
 
 mod keeping;
 mod reading;
@@ -34,8 +34,10 @@ use crate::connections::Connections;
 use crate::forgotten::{ended_or_none, forgotten_or_none};
 use crate::gathering::{first_in, put_first, queued_to};
 use crate::refusal::HubRefusal;
-use crate::rooms::{admin_at, leave_room, open_at, serve_room, take_room, took_room};
-use crate::step::Served;
+use crate::rooms::{
+    admin_at, leave_room, open_at, serve_room, take_all_room, take_room, took_room,
+};
+use crate::step::{Served, Taken};
 use floor_numbered::Numbered;
 use floor_room::{Act, Config, Effects, Parcel, Refusal, Room, RoomRefusal, SharedInfo};
 use floor_wire::{Framer, Octets};
@@ -50,7 +52,7 @@ use std::marker::Model;
 ///   `forget` gives the memory of one that has ended back.
 /// - Keeping: behind `begin_keeping` nothing is handed out of a conference while an event that told
 ///   something isn't kept; `keep` says how many are, and `end_keeping` that none has to be. `is_kept` reads.
-/// - Connections: `attach`, then `piece` and `serve` as bytes come, `take` as they are sent, `took`
+/// - Connections: `attach`, then `piece` and `serve` as bytes come, `take` or `take_all` as they are sent, `took`
 ///   once they were, and `leave` at the end. Whoever is more than 1,024 parcels behind is cut: it is
 ///   told nothing more, its messages are refused by `Cut`, and `is_cut` tells it; `is_over` tells that, and that its
 ///   conference is closed or broken off.
@@ -474,6 +476,38 @@ impl Hub {
         }
     }
 
+    /// Takes what is handed out to a connection, one parcel after another, and puts their bytes behind those of
+    /// a buffer, until nothing is handed out any more, `most` parcels were taken, or the buffer has `enough`
+    /// bytes; or until memory is refused for one, which goes on to wait. Refused by `NoConnection`, and by
+    /// nothing else.
+    pub fn take_all(
+        &mut self,
+        number: ConnNo,
+        buffer: &mut Vec<u8>,
+        most: u32,
+        enough: usize,
+    ) -> Result<Taken, HubRefusal>
+        ensures given { TakenAll (connection_at self.old.connections number) result
+            buffer.old.items buffer.new.items self.old self.new }
+        ensures most { IfOk result (λ taken. taken.count ≤ most) }
+        ensures whole { IfOk result (λ taken. taken.is_refused ≡ false
+            → StopsAt most enough taken.count buffer.new.items
+            (first_at self.new (connection_at self.new.connections number))) }
+        ensures stands { (w : World) → StandsFor self.old w → StandsFor self.new w }
+        ensures concerned { self.new.concerned ≡ self.old.concerned }
+        ensures changed { self.new.changed ≡ self.old.changed }
+        ensures forgotten { self.new.forgotten ≡ self.old.forgotten }
+    {
+        take_all_at(
+            &mut self.rooms,
+            &self.connections,
+            number,
+            buffer,
+            most,
+            enough,
+        )
+    }
+
     /// Puts the bytes of the first parcel that waits for a connection behind those of a buffer. After
     /// an error nothing has changed.
     fn put_first(&self, number: ConnNo, buffer: &mut Vec<u8>) -> Result<(), AllocError>
@@ -708,6 +742,27 @@ fn take_at(
 {
     match connections.get(number) {
         Some(connection) => take_room(rooms, connection),
+        None => Err(HubRefusal::NoConnection),
+    }
+}
+
+/// Takes what is handed out to a connection.
+fn take_all_at(
+    rooms: &mut Numbered<Room>,
+    connections: &Connections,
+    number: ConnNo,
+    buffer: &mut Vec<u8>,
+    most: u32,
+    enough: usize,
+) -> Result<Taken, HubRefusal>
+    ensures connection { AtConnection (TakeAllOf most enough buffer.old.items buffer.new.items)
+        (get nat_eq rooms.old) (get nat_eq rooms.new)
+        connections.now connections.now number result }
+    ensures absent { connection_at connections.now number ≡ None
+        → buffer.new.items ≡ buffer.old.items }
+{
+    match connections.get(number) {
+        Some(connection) => take_all_room(rooms, connection, buffer, most, enough),
         None => Err(HubRefusal::NoConnection),
     }
 }

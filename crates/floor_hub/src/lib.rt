@@ -32,5 +32,5 @@ pub use laws::{
 };
 pub use refusal::HubRefusal;
 pub use running::{Memory, run};
-pub use step::{Answer, Served, Step};
+pub use step::{Answer, Served, Step, Taken};
 pub use transcript::{Answers, Queued, Queues, Transcript};

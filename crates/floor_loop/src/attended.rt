@@ -19,7 +19,7 @@ use crate::grace::Grace;
 use crate::line::Line;
 use crate::outgoing::{Mark, Outgoing};
 use crate::stay::Stay;
-use floor_hub::{ConnNo, Hub, HubRefusal};
+use floor_hub::{ConnNo, Hub, HubRefusal, Taken};
 use floor_numbered::Numbered;
 use std::alloc::{AllocError, Global};
 use std::marker::Model;
@@ -312,12 +312,11 @@ impl Attended {
         let _parcels = self.advance(number, count);
     }
 
-    /// Takes the first parcel that waits for a connection from the hub, and says whether one was taken: none
-    /// where 64 parcels or 64 KiB are on their way.
-    pub(crate) fn take_one(&mut self, hub: &mut Hub, number: ConnNo) -> Result<bool, HubRefusal>
+    /// Takes what the hub hands out to a connection: as much as may be on its way, 64 parcels or 64 KiB.
+    pub(crate) fn take_all(&mut self, hub: &mut Hub, number: ConnNo) -> Result<Taken, HubRefusal>
         ensures next { TakenFor number self.old.outgoing self.new.outgoing hub.old hub.new }
-        ensures filled { IfOk result (λ waited. Fills number waited self.old.outgoing
-            self.new.outgoing hub.new) }
+        ensures filled { IfOk result (λ taken. taken.is_refused ≡ false
+            → Fills number self.new.outgoing hub.new) }
         ensures time { self.new.time ≡ self.old.time }
         ensures away { self.new.away ≡ self.old.away }
         ensures stands { (w : World) → StandsFor hub.old w → StandsFor hub.new w }

@@ -13,15 +13,9 @@ ghost use Rattle.floor_loop.specs.steps.Taken.{Fills, TakenFor};
 
 use crate::line::{Entry, Line};
 use crate::outgoing::{Mark, Outgoing};
-use floor_hub::{ConnNo, Hub, HubRefusal};
+use floor_hub::{ConnNo, Hub, HubRefusal, Taken};
 use floor_numbered::Numbered;
 use std::alloc::AllocError;
-
-/// How many bytes are handed out to be written at a time: our choice.
-pub(crate) const MAX_WRITE: usize = 65_536;
-
-/// How many parcels are taken from the hub before they are acknowledged: our choice.
-pub(crate) const MAX_PARCELS: u32 = 64;
 
 /// Takes room for one connection more: in the map, and for all that haven't a mark in its line. After an error
 /// everybody stands where they stood.
@@ -122,11 +116,7 @@ fn give_one(outgoing: &mut Numbered<Outgoing>, number: ConnNo)
 }
 
 /// Who has this mark since longest. Whoever stands before it in the line hasn't it, and goes.
-pub(crate) fn first_of(
-    outgoing: &Numbered<Outgoing>,
-    line: &mut Line,
-    mark: Mark,
-) -> Option<Entry>
+pub(crate) fn first_of(outgoing: &Numbered<Outgoing>, line: &mut Line, mark: Mark) -> Option<Entry>
     ensures listed { (last : ℕ) → IsListed mark outgoing.now.entries last line.old
         → IsListed mark outgoing.now.entries last line.new }
     ensures found { IfSome result (λ entry. (o : Way)
@@ -204,33 +194,22 @@ pub(crate) fn advance_in(
     }
 }
 
-/// Takes the first parcel that waits for a connection from the hub, and says whether one was taken: none
-/// where 64 parcels or 64 KiB are on their way.
+/// Takes what the hub hands out to a connection, as much as may be on its way.
 pub(crate) fn take_in(
     outgoing: &mut Numbered<Outgoing>,
     hub: &mut Hub,
     number: ConnNo,
-) -> Result<bool, HubRefusal>
+) -> Result<Taken, HubRefusal>
     ensures next { TakenFor number outgoing.old.entries outgoing.new.entries hub.old hub.new }
-    ensures filled { IfOk result (λ waited. Fills number waited outgoing.old.entries
-        outgoing.new.entries hub.new) }
+    ensures filled { IfOk result (λ taken. taken.is_refused ≡ false
+        → Fills number outgoing.new.entries hub.new) }
     ensures stands { (w : World) → StandsFor hub.old w → StandsFor hub.new w }
 {
     match outgoing.get_mut(number) {
-        Some(one) => {
-            if is_full(one.parcels(), one.rest().len()) {
-                return Ok(false);
-            }
-            one.take_one(hub, number)
-        }
-        None => Ok(false),
+        Some(one) => one.take_all(hub, number),
+        None => Ok(Taken {
+            count: 0,
+            is_refused: false,
+        }),
     }
-}
-
-/// Whether no parcel more is taken from the hub before these are acknowledged.
-fn is_full(parcels: u32, rest: usize) -> bool
-    ensures room { result ≡ false → parcels < 64 }
-    ensures full { result ≡ true → (64 ≤ parcels) ⊎ (65536 ≤ rest) }
-{
-    MAX_PARCELS <= parcels || MAX_WRITE <= rest
 }

@@ -22,9 +22,9 @@ mod away;
 mod keeping;
 
 use crate::attended::Attended;
-use crate::changing::MAX_WRITE;
 use crate::coming::come;
 use crate::grace::Grace;
+use crate::outgoing::MAX_WRITE;
 use crate::turn::{
     acknowledge, end, fail, fill, leave_from, read_turn, serve_turn, throw_away, wake,
 };

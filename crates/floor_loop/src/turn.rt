@@ -18,11 +18,10 @@ ghost use Rattle.floor_loop.specs.steps.Moved.{AreWoken, IsLoop, IsSpared, IsWok
 ghost use Rattle.floor_loop.specs.steps.Thrown.{Thrown};
 
 use crate::attended::Attended;
-use crate::changing::MAX_PARCELS;
 use floor_hub::{ConnNo, Hub, HubRefusal, Live, Served};
 use std::alloc::Global;
 
-/// How many parcels are thrown away at most: whoever is more than 1,024 behind is cut, so no more wait.
+/// How often what waits is thrown away at most: whoever is more than 1,024 parcels behind is cut, so no more wait.
 const MAX_THROWN: u32 = 1_026;
 
 /// Attaches a connection of a user to a conference. After a `Memory` of the loop's own nothing has changed.
@@ -277,22 +276,24 @@ pub(crate) fn throw_away(hub: &mut Hub, attended: &mut Attended, number: ConnNo)
     ensures thrown { Thrown number (loop_of hub.old attended.old) (loop_of hub.new attended.new) }
     ensures away { attended.new.away ≡ attended.old.away }
 {
-    for _parcel in 0..MAX_THROWN {
+    for _time in 0..MAX_THROWN {
         if !throw_next(hub, attended, number) {
             return;
         }
     }
 }
 
-/// Throws away what is on its way to a connection, and takes the next parcel that waits for it; says whether one was
-/// taken.
+/// Throws away what is on its way to a connection, and takes what waits for it; says whether anything was taken.
 fn throw_next(hub: &mut Hub, attended: &mut Attended, number: ConnNo) -> bool
     ensures thrown { Thrown number (loop_of hub.old attended.old) (loop_of hub.new attended.new) }
     ensures away { attended.new.away ≡ attended.old.away }
 {
     attended.throw(number);
-    let taken = attended.take_one(hub, number);
-    taken.unwrap_or(false)
+    let count = match attended.take_all(hub, number) {
+        Ok(taken) => taken.count,
+        Err(_) => 0,
+    };
+    count != 0
 }
 
 /// A connection leaves the hub, and nothing is on its way to it any more.
@@ -333,14 +334,12 @@ pub(crate) fn fill(hub: &mut Hub, attended: &mut Attended, number: ConnNo)
     ensures ledgers { SameLedgers hub.old hub.new }
     ensures filled { IsFilled (loop_of hub.new attended.new) number }
 {
-    for _turn in 0..MAX_PARCELS {
-        match attended.take_one(hub, number) {
-            Ok(true) => {}
-            Ok(false) => return,
-            Err(_) => {
+    match attended.take_all(hub, number) {
+        Ok(taken) => {
+            if taken.is_refused {
                 attended.fail(number);
-                return;
             }
         }
+        Err(_) => attended.fail(number),
     }
 }
