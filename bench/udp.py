@@ -195,7 +195,7 @@ def notices(programs):
     if crossed:
         again.acknowledge(crossed)
     again.next += 1
-    # An acknowledgement after 0.4 s, of a notice that was sent once, makes T1 longer.
+    # An acknowledgement after 0.4 s, of a notice that was sent once, makes the retransmission timer longer.
     for _ in range(2):
         number = request_of(member.ask(FLOOR_REQUEST, floor(1)))
         notice = again.hear()
@@ -209,7 +209,7 @@ def notices(programs):
     notice = again.hear()
     start = time.monotonic()
     check("it is sent again", again.hear(3), notice)
-    check("behind a T1 that was measured", time.monotonic() - start > 0.7)
+    check("after a retransmission timer that was measured", time.monotonic() - start > 0.7)
     again.acknowledge(notice)
     # The acknowledgement of a notice that was sent twice measures nothing: nobody knows of which.
     fresh = Peer(12)
@@ -224,7 +224,7 @@ def notices(programs):
     notice = fresh.hear()
     start = time.monotonic()
     check("the next is sent again", fresh.hear(2), notice)
-    check("behind T1 as it was", 0.4 < time.monotonic() - start < 0.9)
+    check("after the retransmission timer as it was", 0.4 < time.monotonic() - start < 0.9)
     fresh.acknowledge(notice)
     gate.end()
 
@@ -436,7 +436,7 @@ def who(programs):
     check("an older Hello at once", late.all(QUIET), [])
     time.sleep(10)
     late.next = 10
-    check("an older Hello behind T2", late.ask(HELLO)[1], 12)
+    check("an older Hello after the response retransmission timer", late.ask(HELLO)[1], 12)
     check("is a client that began anew", gate.log()[-2].split(": ")[-1], "Anew")
     closed = Peer(11, first=9)
     gate.hub.ask("close 1")

@@ -2,7 +2,6 @@
 """Bugs in floor_turn and what it stands on, and what the simulation says of each.
 
     plants.py run FOLDER SEEDS STEPS [NUMBER ..]     plants all in one copy of the tree, builds it once, and runs so many seeds of each
-    plants.py prove CRATE [NUMBER ..]                asks the prover of the functions in which the bugs of a crate stand, as .ci/edits does
 
 In what is planted `B` stands for whether this bug is the one that is tried, and `B7` for whether it is number 7. In the copy
 that is a function of a further crate, whose code is put in once the copy was compiled: it reads a number, which is written
@@ -139,41 +138,19 @@ PLANTS = [
 ]
 
 
-def edits():
-    """Each place of a bug: its file, its text, and what is put in its place, where `B` has its number."""
-    for number, _, *places in PLANTS:
-        for file, old, new in zip(places[::3], places[1::3], places[2::3]):
-            yield file, old, re.sub(r"\bB\b", f"B{number}", new)
-
-
 def copy(folder):
     """A copy of the tree in which all are planted, and the files that were changed."""
     shutil.copytree(ROOT, folder, ignore=shutil.ignore_patterns("out", ".git", "bench", "docs"))
     changed = set()
-    for file, old, new in edits():
-        path = folder / "crates" / file
-        text = path.read_text()
-        if text.count(old) != 1:
-            sys.exit(f"{file} has {text.count(old)} times {old!r}")
-        path.write_text(text.replace(old, re.sub(r"\bB(\d+)\b", r"planted(\1)", new)))
-        changed.add(path)
+    for number, _, *places in PLANTS:
+        for file, old, new in zip(places[::3], places[1::3], places[2::3]):
+            path = folder / "crates" / file
+            text = path.read_text()
+            if text.count(old) != 1:
+                sys.exit(f"{file} has {text.count(old)} times {old!r}")
+            path.write_text(text.replace(old, re.sub(r"\bB(\d*)\b", lambda bug: f"planted({bug[1] or number})", new)))
+            changed.add(path)
     return changed
-
-
-def prove(crate, only):
-    """Asks the prover of each bug that stands in a crate alone."""
-    own = {"__file__": str(ROOT / ".ci/edits"), "__name__": "edits"}
-    exec(compile((ROOT / ".ci/edits").read_text(), "edits", "exec"), own)
-    places = {}
-    for file, old, new in edits():
-        for number in set(map(int, re.findall(r"\bB(\d+)\b", new))):
-            is_it = lambda bug: "true" if int(bug[1]) == number else "false"
-            name, _, path = file.partition("/")
-            places.setdefault(number, {}).setdefault(name, {}).setdefault(path, []).append((old, re.sub(r"\bB(\d+)\b", is_it, new)))
-    own["read_edit"] = lambda number: (places[number][crate], "")
-    numbers = [it for it, *_ in PLANTS if list(places[it]) == [crate] and (not only or it in only)]
-    for edit, (refused, why) in sorted(own["of_crate"](crate, numbers, True, True), key=lambda it: it[0].path):
-        print(f"{edit.path:4} {'refused' if refused else 'not refused'} | {edit.ways[:1]} | {why}", flush=True)
 
 
 def build(folder):
@@ -229,8 +206,6 @@ def main(words):
             if not program.is_file() and build(folder):
                 return 1
             run(program, seeds, steps, set(map(int, numbers)))
-        case ["prove", crate, *numbers]:
-            prove(crate, set(map(int, numbers)))
         case _:
             sys.exit(__doc__)
 
