@@ -6,8 +6,9 @@ paragraph has more than 600 characters. A text in a code span counts as one word
 stand there. A page that a script makes isn't read.
 
 docs/operate/index.md lists the pages, and what the tables of those for operators and builders have in columns that are
-titled as in KINDS. Each option of the servers and gateways, each metric and each name of a fault that the code prints is
-in it, and each option and line of floorsim.
+titled as in KINDS. In it is what the code reads and prints: each option of the servers, gateways and floorsim, each key of the
+configuration, each line of the console, the control socket, scripts and journals, each word and order, each metric, each line
+of floorhub's log and each name of a fault or a refusal; and each method of floor_rpc, once a page lists one.
 """
 import os
 import re
@@ -50,6 +51,7 @@ KINDS = {
     "option": "Options",
     "key": "Keys of the configuration",
     "line": "Lines of the console and the control socket",
+    "method": "Methods of the control socket",
     "script line": "Lines of scripts",
     "journal line": "Lines of journals and kept files",
     "log lines": "Lines of the log",
@@ -69,8 +71,23 @@ This page lists all pages, and each option, key, line, metric and name with its 
 `.ci/documents --write` makes it of the tables of the pages.
 """
 # The crates whose names of faults and refusals operators are told, and the names of statuses, which are none.
-NAME_CRATES = "server doors proxy control config web gateway udp sessions console keep kept".split()
+NAME_CRATES = "server doors proxy control config web gateway udp sessions console keep kept room hub script".split()
 STATUSES = set("Pending Accepted Granted Denied Cancelled Released Revoked".split())
+# Where the code has what is of a kind: the files, what they have it in, and which word of what is listed it is.
+READ = (
+    ("key", "floor_config/src/reading.rt", r'values::\w+\((?:alloc, )?table, "(\w+)"', r"\w+$"),
+    ("key", "floor_web/src/*.rt", r'table\.get\("(\w+)"\)', r"\w+$"),
+    ("key", "floor_udp/src/users.rt", r'get\("(\w+)"\)', r"\w+$"),
+    ("line", "floor_acts/src/act.rt", r'name == "(\w+)"', r"\w+"),
+    ("line", "floor_console/src/command.rt", r'name == "(\w+)"', r"\w+"),
+    ("line", "floor_control/src/reading.rt", r'name == "(\w+)"', r"\w+"),
+    ("line", "floor_control/src/answer.rt", r'"~ \{conference\} (\w+)', r"(?<=~ <c> )\w+"),
+    ("method", "floor_rpc/src/method.rt", r'Method::\w+ => "([\w.]+)"', r".+"),
+    ("journal line", "floor_room/src/journal.rt", r'"\{place\} (\w+)', r"(?<=<place> )\w+"),
+    ("word", "floor_web/src/picture.rt", r'(?:value_of\(conference|word_of\(alloc, conference), "(\w+)"', r"\w+"),
+    ("word", "floor_web/src/admission.rt", r'(?:user_behind\(|key.as_str\(\) == )"(\w+)"', r"\w+"),
+    ("order", "floor_web/src/order.rt", r'name == "(\w+)"', r"\w+"),
+)
 
 
 def shown(text):
@@ -221,9 +238,20 @@ def sentences_as_written(text):
 
 def unlisted(root):
     """What the code has and the index hasn't."""
-    found = {}
+    found, whole = {}, {}
     for kind, thing, *_ in entries(root):
         found.setdefault(kind, set()).add(thing.split(" ")[0])
+        whole.setdefault(kind, set()).add(thing)
+    for kind, files, pattern, which in READ:
+        listed = {word for thing in whole.get(kind, ()) for word in re.findall(which, thing)[:1]}
+        for path in sorted((root / "crates").glob(files)):
+            for thing in sorted(set(re.findall(pattern, path.read_text())) - listed):
+                if kind != "method" or listed:
+                    yield f"{FOLDER} has no {kind} {thing} of {path.relative_to(root)}"
+    logged = (root / "crates/floor_server/src/entry.rt").read_text()
+    for text in re.findall(r'"(?:[^"\n]*[}\d] )?([a-z][a-z ]+)"', logged):
+        if not any(text in line for line in whole["log lines"] | whole["name"]):
+            yield f"{FOLDER} has no line of the log with {text}"
     names = found["name"] | found["refused"] | found["left"]
     for path in sorted(root.glob("crates/*/src/words.rt")):
         for option in re.findall(r'\.long\("([a-z-]+)"\)', path.read_text()):
