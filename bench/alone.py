@@ -23,7 +23,7 @@ import sys
 import threading
 import time
 
-from server import Server, connect, hear, name_of
+from server import Server, connect, hear, is_hub
 
 CONFERENCES = 3
 LINES = 150
@@ -345,7 +345,7 @@ def play(program, floorsim, seed):
     """Plays a script over a server, all its conferences beside each other."""
     script = Script(seed)
     text = ''.join(configuration(it) for it in range(1, CONFERENCES + 1))
-    server = Server(program, text, words=('--loops', '1') if name_of(program) == 'floorhub' else ())
+    server = Server(program, text, words=('--loops', '1') if is_hub(program) else ())
     turn = threading.Lock()
 
     def ask(line):

@@ -14,7 +14,7 @@ import time
 
 import unread
 from messages import FLOOR_QUERY, floors, message
-from server import FIRST_PORT, Server, connect, greet, name_of
+from server import FIRST_PORT, Server, connect, greet, is_hub
 
 CONFERENCE, USER, PORT = 2, 10, FIRST_PORT + 20
 QUERY = message(FLOOR_QUERY, unread.CONFERENCE, 2, unread.PEER, floors(*range(1, 9)))
@@ -66,7 +66,7 @@ def main():
         raise SystemExit(__doc__)
     seconds = float(sys.argv[2]) if len(sys.argv) > 2 else 20
     server = Server(sys.argv[1], configuration(),
-                    words=('--loops', '1') if name_of(sys.argv[1]) == 'floorhub' else ())
+                    words=('--loops', '1') if is_hub(sys.argv[1]) else ())
     client = connect(PORT)
     client.settimeout(DEADLINE)
     proxy = connect(FIRST_PORT + unread.PROXY - unread.PEER)

@@ -25,7 +25,7 @@ import time
 import messages
 from messages import (FLOOR_QUERY, FLOOR_RELEASE, FLOOR_REQUEST, FLOOR_REQUEST_ID, GRANTED, HELLO,
                       attribute, floor_request_status, floors, hello_ack, message, number)
-from server import Server, connect, hear, name_of, proxy_header
+from server import Server, connect, hear, is_hub, proxy_header
 
 DEADLINE = 120
 FIRST_PORT = 7700
@@ -942,8 +942,9 @@ def beyond_descriptors(case):
     time.sleep(1)
     served = [(client, user) for client, user in clients if not silent(client, 0)]
     waiting = [pair for pair in clients if pair not in served]
-    # A port takes two, and a third while it waits for a connection; conference 2 has one.
-    if not 40 - 4 - 3 * 5 <= len(served) <= 40 - 4 - 2 * 5:
+    # A thread's port takes two, and a third while it waits for a connection; conference 2 has one. A loop's takes one.
+    most = 40 - (case.before['descriptors'] if case.by_loops else 4 + 2 * 5)
+    if not 40 - 4 - 3 * 5 <= len(served) <= most:
         raise Failed('%d connections are served' % len(served))
     used = used_in(case, 2)
     # An accept that fails is tried again without haste.
@@ -1026,7 +1027,11 @@ def beyond_memory(case):
     case.times()
     case.some_times(100)
     for user in USERS:
-        ended(case.connect(user))
+        try:
+            ended(case.connect(user))
+        except ConnectionRefusedError:
+            # Its ports may be given up by then.
+            pass
     for line, wanted in (('close 1', 'error Broken'), ('revoke 1 1', 'error Broken'),
                          ('status 2', 'conference 2 members 1 ongoing 0 events')):
         answer = case.server.ask(line, DEADLINE)
@@ -1209,6 +1214,13 @@ def last_words(case):
         case.events += 2
     case.wait_for_members(1, 1)
     other.close()
+    case.wait_for_members(0)
+    if case.by_loops:
+        # A write that failed has taken the system's word that the peer is gone: that is no end in order.
+        case.log.seek(0)
+        left = sorted(line.split(' left ')[1] for line in case.log if ' left ' in line)
+        if left != 6 * ['Reset\n']:
+            raise Failed('the log says of those who left: %s' % left)
     return 'up to 700 Hellos and a word, then a reset: each is an event'
 
 
@@ -1386,7 +1398,7 @@ def main():
         name = body.__name__
         if chosen and name not in chosen:
             continue
-        if '--door' in how.get('words', ()) and name_of(sys.argv[1]) != 'floorhub':
+        if '--door' in how.get('words', ()) and not is_hub(sys.argv[1]):
             continue
         print('%s: %s' % (name, body.__doc__.split('\n')[0]), flush=True)
         case = Case(sys.argv[1], **how)
@@ -1415,7 +1427,7 @@ CASES = (
     (two_peers, {}),
     (connect_and_leave, {}),
     (resets, {}),
-    (last_words, {}),
+    (last_words, {'words': ('--log',)}),
     (reads_nothing, {}),
     (stopped_and_continued, {}),
     (killed, {}),

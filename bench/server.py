@@ -49,8 +49,15 @@ def configuration(conferences, users, first_port=FIRST_PORT):
 
 
 def name_of(program):
-    """The name by which a server tells of itself, a floord or a floorhub."""
-    return 'floorhub' if os.path.basename(program).startswith('floorhub') else 'floord'
+    """The name by which a server tells of itself: a floord, a floorhub, or a floorhub_next, which is driven as a
+    floorhub is."""
+    name = os.path.basename(program)
+    return next((known for known in ('floorhub_next', 'floorhub') if name.startswith(known)), 'floord')
+
+
+def is_hub(program):
+    """Whether a server serves by event loops."""
+    return name_of(program).startswith('floorhub')
 
 
 class Server:
@@ -60,7 +67,7 @@ class Server:
 
     def __init__(self, floord, text, processors=None, limits=None, variables=None, words=(), errors=None):
         # Whether it serves by event loops.
-        self.by_loops = name_of(floord) == 'floorhub'
+        self.by_loops = is_hub(floord)
         handle, self.path = tempfile.mkstemp(suffix='.toml')
         with os.fdopen(handle, 'w') as file:
             file.write(text)

@@ -710,7 +710,7 @@ BOUND = 3
 
 def door(program, folder, server_path):
     """Users without ports, who come by a door of floorhub; a floord has none."""
-    if server.name_of(server_path) != 'floorhub':
+    if not server.is_hub(server_path):
         return
     at = PORT + 4
     text = ''.join(

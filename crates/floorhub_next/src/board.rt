@@ -1,0 +1,213 @@
+//! What an administrator's lines are about: the conferences of the value.
+
+use crate::console::Telling;
+use crate::lines::done_by;
+use crate::shell::Shell;
+use floor_config::{Config, Floor, Text, User};
+use floor_console::{Board, BoardRefusal, StopRefusal, Stopped};
+use floor_machine::AddedUser;
+use floor_room::{Phase, Status, add_end, add_lines};
+use floor_server::{Reason, configurations, read_text};
+use floor_turn::{Act, HubRefusal};
+use std::alloc::AllocError;
+use std::fs;
+
+impl Shell {
+    /// Opens the conferences of a file, and says how many.
+    pub fn open_file(&mut self, path: &str) -> Result<usize, BoardRefusal> {
+        let (system, alloc) = (&self.system, self.system.alloc);
+        let text = system.checked(read_text(&system.rt, alloc, path))?;
+        let configs = system.checked(configurations(alloc, path, text.as_str()))?;
+        let count = configs.len();
+        for config in configs {
+            self.open_one(config)?;
+        }
+        Ok(count)
+    }
+
+    /// Opens a conference, once its ports are had.
+    fn open_one(&mut self, config: Config) -> Result<(), BoardRefusal> {
+        match self.server.hub().status(config.conference()) {
+            Err(HubRefusal::NoConference) => {}
+            _ => return Err(BoardRefusal::Used),
+        }
+        let before = self.system.bound.len();
+        let opened = self.open_bound(config);
+        self.system.unbind(before, opened)
+    }
+
+    fn open_bound(&mut self, config: Config) -> Result<(), BoardRefusal> {
+        let conference = config.conference();
+        self.conferences.reserve(1)?;
+        self.system.bind_all(&config)?;
+        self.server.open(config).map_err(refused_by)?;
+        self.conferences.push_reserved(conference);
+        let _is_done = self.settle();
+        Ok(())
+    }
+
+    /// Does what an administrator does, and tells the log.
+    fn act(&mut self, conference: u32, act: Act) -> Result<(), BoardRefusal> {
+        let alloc = self.system.alloc;
+        let done = done_by(alloc, &act)?;
+        self.server
+            .act(conference, act, self.now)
+            .map_err(refused_by)?;
+        if let Some(done) = done {
+            let place = self.status(conference)?.events;
+            let told = format!(in alloc; "conference {conference} {} at {place}", done.as_str());
+            self.note(told);
+        }
+        Ok(())
+    }
+
+    /// Adds a user, once its port is had where it has one.
+    fn add(&mut self, conference: u32, user: User) -> Result<(), BoardRefusal> {
+        let (id, port) = (user.id, user.port);
+        if let Some(port) = port {
+            self.system.bind_for(conference, id, port)?;
+        }
+        let user = AddedUser::new(self.system.alloc, User { port: None, ..user })?;
+        self.act(conference, Act::AddUser(user))?;
+        match port {
+            Some(port) => self.server.port(conference, id, port).map_err(refused_by),
+            None => Ok(()),
+        }
+    }
+
+    /// Has the console told the next piece of a journal, where one is told and what it was told is written.
+    pub fn tell_on(&mut self) -> Result<(), AllocError> {
+        let Some(rest) = self.console.rest else {
+            return Ok(());
+        };
+        if !self.console.is_answered() {
+            return Ok(());
+        }
+        let events = self.server.hub().journal(rest.conference).unwrap_or(&[]);
+        let events = events.get(..rest.count).unwrap_or(events);
+        let alloc = self.system.alloc;
+        let mut text = String::new(alloc);
+        let added = add_lines(alloc, &mut text, events, rest.done)?;
+        let done = rest.done.saturating_add(added);
+        self.console.rest = Some(Telling { done, ..rest });
+        if added == 0 {
+            add_end(alloc, &mut text, done)?;
+            self.console.rest = None;
+        }
+        self.console.answer(text);
+        Ok(())
+    }
+
+    /// What the server had.
+    pub fn report(&self) -> Result<Stopped, StopRefusal> {
+        let mut events = 0u128;
+        for conference in self.conferences.iter() {
+            if let Ok(status) = self.server.hub().status(*conference) {
+                events = events.saturating_add(u128::from(status.events));
+                if status.phase == Phase::Broken {
+                    let conference = *conference;
+                    return Err(StopRefusal::Broken { conference });
+                }
+            }
+        }
+        Ok(Stopped {
+            seats: self.joined,
+            events,
+        })
+    }
+}
+
+impl Board for Shell {
+    ghost opens = { λ _ _ _ _. Unit {0} };
+
+    ghost closes = { λ _ _ _ _. Unit {0} };
+
+    ghost revokes = { λ _ _ _ _ _. Unit {0} };
+
+    ghost adds_user = { λ _ _ _ _ _. Unit {0} };
+
+    ghost adds_floor = { λ _ _ _ _ _. Unit {0} };
+
+    ghost sets_chair = { λ _ _ _ _ _ _. Unit {0} };
+
+    ghost stands = { λ _ _ _ _. Unit {0} };
+
+    ghost lists = { λ _ _ _ _. Unit {0} };
+
+    ghost stops = { λ _ _ _. Unit {0} };
+
+    /// Of what isn't a file, as a pipe, nothing is read: it may keep all waiting.
+    fn open(&mut self, path: &str) -> Result<usize, BoardRefusal> {
+        let system = &self.system;
+        match fs::metadata(&system.rt, path) {
+            Ok(found) if !found.is_file() => {
+                let line = format!(in system.alloc; "{path}: not a file").ok();
+                let refusal = BoardRefusal::CannotRead;
+                system.checked(Err(Reason { refusal, line }))
+            }
+            _ => self.open_file(path),
+        }
+    }
+
+    fn close(&mut self, conference: u32) -> Result<(), BoardRefusal> {
+        self.act(conference, Act::Close)
+    }
+
+    fn revoke(&mut self, conference: u32, request: u16) -> Result<(), BoardRefusal> {
+        self.act(conference, Act::Revoke(request))
+    }
+
+    fn add_user(&mut self, conference: u32, user: User) -> Result<(), BoardRefusal> {
+        let _status = self.status(conference)?;
+        let before = self.system.bound.len();
+        let added = self.add(conference, user);
+        self.system.unbind(before, added)
+    }
+
+    fn add_floor(&mut self, conference: u32, floor: Floor) -> Result<(), BoardRefusal> {
+        self.act(conference, Act::AddFloor(floor))
+    }
+
+    fn set_chair(
+        &mut self,
+        conference: u32,
+        floor: u16,
+        chair: Option<u16>,
+    ) -> Result<(), BoardRefusal> {
+        self.act(conference, Act::SetChair(floor, chair))
+    }
+
+    fn status(&mut self, conference: u32) -> Result<Status, BoardRefusal> {
+        self.server.hub().status(conference).map_err(refused_by)
+    }
+
+    /// No line of it yet: the console is told it by pieces, so that whoever asks for a long one holds nobody up.
+    fn journal(&mut self, conference: u32) -> Result<Text, BoardRefusal> {
+        let events = self.server.hub().journal(conference).map_err(refused_by)?;
+        self.console.rest = Some(Telling {
+            conference,
+            done: 0,
+            count: events.len(),
+        });
+        Ok(Text::from_string(String::new(self.system.alloc)))
+    }
+
+    /// It has stopped by now.
+    fn stop(&mut self) -> Result<Stopped, StopRefusal> {
+        self.report()
+    }
+}
+
+/// What is answered where the value refuses so.
+fn refused_by(refusal: HubRefusal) -> BoardRefusal {
+    match refusal {
+        HubRefusal::Used => BoardRefusal::Used,
+        HubRefusal::Memory => BoardRefusal::Memory,
+        HubRefusal::ByRoom(refusal) => BoardRefusal::ByRoom(refusal),
+        HubRefusal::NoConference
+        | HubRefusal::NoConnection
+        | HubRefusal::BadMessage
+        | HubRefusal::Forgotten
+        | HubRefusal::Running => BoardRefusal::NoConference,
+    }
+}

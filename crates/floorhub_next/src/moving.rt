@@ -1,0 +1,64 @@
+//! One read and one write: what a stream gave is handed in, and what it took is what was lent.
+
+ghost use Rattle.std.specs.Prelude.{◌≡◌};
+ghost use Rattle.floorhub_next.specs.Moving.{Heard, Wrote, count_of};
+
+use floor_streams::{Found, Written, read_some, write_some};
+use floor_turn::Server;
+use std::io::{Read, Write};
+
+/// Reads once from a socket's stream, and tells the value what the read found. Of a stream of which a write has failed
+/// nothing more comes than what is there, and its end is no end in order: the write was told why.
+pub fn read_once<S: Read>(
+    server: &mut Server,
+    stream: &mut S,
+    has_failed: bool,
+    buffer: &mut [u8],
+    socket: usize,
+    now: u64,
+)
+    ensures value { Heard socket server.old server.new
+        (S.remaining stream.old) (S.remaining stream.new) }
+{
+    match read_some(stream, buffer) {
+        // A signal came between: it is read again.
+        Found::Bytes(0) => {
+            server.nothing(socket);
+            server.readable(socket, false);
+        }
+        Found::Bytes(count) => server.came(socket, &buffer[..count], now),
+        Found::Nothing if !has_failed => server.nothing(socket),
+        Found::End if !has_failed => server.ended(socket, now),
+        Found::Nothing | Found::End | Found::Failure => server.failed(socket, now),
+    }
+}
+
+/// Writes once what is lent to a socket, and tells the value how much its stream took. Says whether the write failed: then
+/// it took none, and what the system has of the peer is read first.
+pub fn write_once<S: Write>(server: &mut Server, stream: &mut S, socket: usize, now: u64) -> bool
+    ensures value { Wrote socket server.old server.new
+        (S.contents stream.old) (S.contents stream.new) }
+{
+    let written = write_some(stream, server.lent(socket));
+    server.took(socket, count_of(written), now);
+    match written {
+        // A signal came between: it is written again.
+        Written::Bytes(0) => server.writable(socket),
+        Written::Failure => {
+            server.readable(socket, true);
+            return true;
+        }
+        Written::All | Written::Bytes(_) | Written::Nothing => {}
+    }
+    false
+}
+
+/// How many bytes a stream took.
+fn count_of(written: Written) -> usize
+    ensures value { result ≡ count_of written }
+{
+    match written {
+        Written::Bytes(count) => count,
+        Written::All | Written::Nothing | Written::Failure => 0,
+    }
+}

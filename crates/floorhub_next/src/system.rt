@@ -1,0 +1,154 @@
+//! What is had of the system: the poll, the sockets by their numbers, and ports.
+//!
+//! Ports are listened on before the value is told of them, so that where one can't be had nothing is opened.
+
+use floor_config::Config;
+use floor_console::BoardRefusal;
+use floor_listen::listening_address;
+use floor_server::{Door, PortFault, Reason, tell};
+use floor_turn::MAX_READ;
+use mio::net::{TcpListener, TcpStream};
+use mio::{Events, Poll};
+use std::alloc::{AllocError, Global};
+use std::mem;
+use std::net::SocketAddr;
+
+/// How many sockets are told to be ready at a time.
+const MAX_EVENTS: usize = 1_024;
+
+/// A socket of the system's.
+#[derive(Drop)]
+pub enum Handle {
+    None,
+    Listener(TcpListener),
+    /// A peer's, and whether a write to it has failed.
+    Stream(TcpStream, bool),
+}
+
+/// A port that is listened on.
+#[derive(Drop)]
+pub struct Bound {
+    port: u16,
+    listener: TcpListener,
+}
+
+/// What is had of the system.
+#[derive(Drop)]
+pub struct System {
+    pub rt: HostRuntime,
+    pub alloc: Global,
+    pub poll: Poll,
+    pub events: Events<Global>,
+    /// The sockets, by the numbers that the value gives them.
+    pub handles: Vec<Handle>,
+    /// What is listened on and isn't the value's yet.
+    pub bound: Vec<Bound>,
+    /// What a read gives.
+    pub buffer: Vec<u8>,
+}
+
+impl System {
+    /// Without memory or descriptors there is none.
+    pub fn new(rt: HostRuntime) -> Result<System, AllocError> {
+        let alloc = rt.alloc();
+        let poll = Poll::new(&rt).map_err(|_| AllocError)?;
+        let events = Events::with_capacity(alloc, MAX_EVENTS)?;
+        let buffer = Vec::from_elem(alloc, 0u8, MAX_READ)?;
+        Ok(System {
+            rt,
+            alloc,
+            poll,
+            events,
+            handles: Vec::new(alloc),
+            bound: Vec::new(alloc),
+            buffer,
+        })
+    }
+
+    /// Listens on the ports of a conference's users.
+    pub fn bind_all(&mut self, config: &Config) -> Result<(), BoardRefusal> {
+        for user in config.users() {
+            if let Some(port) = user.port {
+                self.bind_for(config.conference(), user.id, port)?;
+            }
+        }
+        Ok(())
+    }
+
+    /// Listens on a user's port.
+    pub fn bind_for(&mut self, conference: u32, user: u16, port: u16) -> Result<(), BoardRefusal> {
+        match self.bind(port) {
+            Ok(()) => Ok(()),
+            Err(fault) => self.checked(Err(fault.reason(self.alloc, conference, user, port))),
+        }
+    }
+
+    /// Listens on a door's port.
+    pub fn bind_door(&mut self, door: Door) -> Result<(), BoardRefusal> {
+        match self.bind(door.port) {
+            Ok(()) => Ok(()),
+            Err(fault) => self.checked(Err(fault.at_door(self.alloc, door))),
+        }
+    }
+
+    /// Listens on a port of 127.0.0.1.
+    fn bind(&mut self, port: u16) -> Result<(), PortFault> {
+        self.bound.reserve(1)?;
+        match TcpListener::bind(&self.rt, SocketAddr::V4(listening_address(port))) {
+            Ok(listener) => {
+                self.bound.push_reserved(Bound { port, listener });
+                Ok(())
+            }
+            Err(error) => Err(PortFault::System(error)),
+        }
+    }
+
+    /// Where something wasn't done, the ports that were had for it behind the first `count` are let go.
+    pub fn unbind(
+        &mut self,
+        count: usize,
+        done: Result<(), BoardRefusal>,
+    ) -> Result<(), BoardRefusal> {
+        if done.is_err() {
+            self.bound.truncate(count);
+        }
+        done
+    }
+
+    /// What listens on a port.
+    pub fn take_bound(&mut self, port: u16) -> Option<TcpListener> {
+        let place = self.bound.iter().position(|bound| bound.port == port)?;
+        let Bound { listener, .. } = self.bound.swap_remove(place);
+        Some(listener)
+    }
+
+    /// Tells a person of a refusal.
+    pub fn checked<T: Drop>(&self, had: Result<T, Reason>) -> Result<T, BoardRefusal> {
+        match had {
+            Ok(value) => Ok(value),
+            Err(reason) => {
+                tell(&mut self.rt.stderr(), reason.line);
+                Err(reason.refusal)
+            }
+        }
+    }
+
+    /// Puts a socket under its number. Where memory is refused it is closed.
+    pub fn put(&mut self, number: usize, handle: Handle) -> Result<(), AllocError> {
+        for _ in self.handles.len()..number.saturating_add(1) {
+            self.handles.push(Handle::None)?;
+        }
+        if let Some(place) = self.handles.get_mut(number) {
+            *place = handle;
+        }
+        Ok(())
+    }
+
+    /// Takes a socket out.
+    pub fn take(&mut self, number: usize) -> Handle {
+        match self.handles.get_mut(number) {
+            Some(place) => mem::replace(place, Handle::None),
+            None => Handle::None,
+        }
+    }
+}
