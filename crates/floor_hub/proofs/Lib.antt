@@ -42,7 +42,9 @@ pub mod Known
 pub mod Moving
 pub mod Concerning
 pub mod Attaching
+pub mod Passing
 pub mod Naming
 pub mod Handing
 pub mod Saying
 pub mod KeptRooms
+pub mod WentOn

@@ -12,10 +12,12 @@ use Rattle.floor_room.specs.Room.{Room, new_room}
 use Rattle.floor_hub.specs.declared.attached.Live.{Live}
 use Rattle.floor_hub.specs.declared.connection.Connection.{Connection}
 use Rattle.floor_hub.specs.declared.refusal.HubRefusal.{HubRefusal}
+use Rattle.floor_hub.specs.declared.step.Taken.{Taken}
+use Rattle.floor_hub.proofs.Passing.{each-same}
 use Rattle.floor_hub.specs.Connections.{Puts, SameConnections, SamePlace, connection_at}
 use Rattle.floor_hub.specs.Concerned.{Concerns, is_shut}
 use Rattle.floor_hub.specs.Hub.{Hub, room_at}
-use Rattle.floor_hub.specs.Rooms.{OneRoom, QueuesMore, RoomAfterIn, RoomOf, TakenOf}
+use Rattle.floor_hub.specs.Rooms.{TakenAll, OneRoom, QueuesMore, RoomAfterIn, RoomOf, TakenOf}
 use Rattle.floor_hub.specs.StandsFor.{HasOutbox, HaveOutboxes, Stood, StandsFor}
 use Rattle.floor_hub.specs.World.{World}
 use Rattle.floor_hub.specs.steps.Attached.{AreAttached, AreKnown, Concerned, ConcernedBy, ConcernedOf, EachOf, IsKnown, NamedIn, SameLive, Stands, Tells, always, attached_to, joined_as, live_in, marked, without}
@@ -238,3 +240,12 @@ known-taken (Some x) result old new lists t k =
     let f = t.2 in
     known-at x.conference (room_at old) (room_at new) lists lists f.after f.now f.others (λ d e. refl)
     (known-ledger f.before f.after (ap (λ (z : Room). z.ledger) f.gave.same) (live_in lists x.conference) (k x.conference f.before f.was)) k
+
+-- of each connection it is known as before whether its member is cut
+pub known-taken-all : (x : Option Connection) (result : Result Taken HubRefusal) (before after : List ℕ) (old new : Hub) (lists : Concerned) → TakenAll x result before after old new → AreKnown (room_at old) (live_in lists) → AreKnown (room_at new) (live_in lists)
+known-taken-all None result before after old new lists t k = known-same (room_at old) (room_at new) lists lists t.2.rooms (λ d. refl) k
+known-taken-all (Some x) result before after old new lists t k =
+    let f = t.5 in
+    let ledger : f.after.ledger ≡ f.before.ledger = ap (λ (z : Room). z.ledger) (each-same f.before f.after x.n t.1 f.took) in
+    known-at x.conference (room_at old) (room_at new) lists lists f.after f.now f.others (λ d e. refl)
+    (known-ledger f.before f.after ledger (live_in lists x.conference) (k x.conference f.before f.was)) k

@@ -101,41 +101,50 @@ grows-opened P (Ok v) config old new done same d = by (nat_eq config.conference 
     by true e = subst (λ (y : Option Room). Grows y (room_at new d)) (sym (ap (room_at old) (sym (eqb-true config.conference d e)) ∙ done.0)) tt
     by false e = grows-same (room_at old d) (room_at new d) (done.2 d e)
 
+-- what an outbox gives costs no outbox
+
+set_length : (os : List Outbox) (k : ℕ) (o : Outbox) → length os ≤ length (slice_set os k o)
+set_length [] k o = omega arith
+set_length (p ∷ os) zero o = omega arith
+set_length (p ∷ os) (suc k) o = omega (arith, set_length os k o)
+
+same_length : (os ps : List Outbox) → ps ≡ os → length os ≤ length ps
+same_length os ps e = omega (arith, ap length e)
+
+held_length : (os ps : List Outbox) (k : ℕ) (o : Outbox) (waits : List Parcel) (given : Result (Option Parcel) NoMember) → GivesHeld os ps (suc k) o waits given → length os ≤ length ps
+held_length os ps k o [] given h = same_length os ps h.1
+held_length os ps k o (p ∷ rest) given h = omega (arith, ap length h.1, set_length os k (after_take o rest))
+
+given_length : (os ps : List Outbox) (n : ℕ) (y : Option Outbox) (given : Result (Option Parcel) NoMember) → outbox_of os n ≡ y → GivesFrom os ps n y given → length os ≤ length ps
+given_length os ps n None given is h = same_length os ps h.1
+given_length os ps zero (Some o) given is h = absurd (none-some o is)
+given_length os ps (suc k) (Some o) given is h = held_length os ps k o o.held given h
+
+may_length : (b : Bool) (os ps : List Outbox) (n : ℕ) (given : Result (Option Parcel) NoMember) → GivesIf b os ps n given → length os ≤ length ps
+may_length true os ps n given h = given_length os ps n (outbox_of os n) given refl h
+may_length false os ps n given h = same_length os ps h.1
+
+pub gave-length : (r s : Room) (n : ℕ) (given : Result (Option Parcel) NoMember) → Gave r s n given → length r.outboxes ≤ length s.outboxes
+gave-length r s n given g = may_length (is_kept r) r.outboxes s.outboxes n given g.given
+
+-- where one room has as many outboxes, and all others are as they were
+pub grows-at : (c : ℕ) (old new : Hub) (r s : Room) → room_at old c ≡ Some r → room_at new c ≡ Some s → length r.outboxes ≤ length s.outboxes → ((d : ℕ) → nat_eq c d ≡ false → room_at new d ≡ room_at old d) →
+    (d : ℕ) → Grows (room_at old d) (room_at new d)
+grows-at c old new r s was now more others d = by (nat_eq c d) refl
+  where
+    own : Grows (room_at old c) (room_at new c)
+    own = subst (λ (y : Option Room). Grows y (room_at new c)) (sym was) (subst (Grows (Some r)) (sym now) more)
+
+    by : (b : Bool) → nat_eq c d ≡ b → Grows (room_at old d) (room_at new d)
+    by true e = subst (λ (i : ℕ). Grows (room_at old i) (room_at new i)) (eqb-true c d e) own
+    by false e = grows-same (room_at old d) (room_at new d) (others d e)
+
 -- where a parcel is taken
 pub grows-taken : (x : Option Connection) (result : Result (Option Parcel) HubRefusal) (old new : Hub) → TakenOf x result old new → (d : ℕ) → Grows (room_at old d) (room_at new d)
 grows-taken None result old new t d = grows-same (room_at old d) (room_at new d) (t.1.rooms d)
-grows-taken (Some x) result old new t d = by (nat_eq x.conference d) refl
-  where
-    set_length : (os : List Outbox) (k : ℕ) (o : Outbox) → length os ≤ length (slice_set os k o)
-    set_length [] k o = omega arith
-    set_length (p ∷ os) zero o = omega arith
-    set_length (p ∷ os) (suc k) o = omega (arith, set_length os k o)
-
-    same_length : (os ps : List Outbox) → ps ≡ os → length os ≤ length ps
-    same_length os ps e = omega (arith, ap length e)
-
-    held : (os ps : List Outbox) (k : ℕ) (o : Outbox) (waits : List Parcel) (given : Result (Option Parcel) NoMember) → GivesHeld os ps (suc k) o waits given → length os ≤ length ps
-    held os ps k o [] given h = same_length os ps h.1
-    held os ps k o (p ∷ rest) given h = omega (arith, ap length h.1, set_length os k (after_take o rest))
-
-    at : (os ps : List Outbox) (n : ℕ) (y : Option Outbox) (given : Result (Option Parcel) NoMember) → outbox_of os n ≡ y → GivesFrom os ps n y given → length os ≤ length ps
-    at os ps n None given is h = same_length os ps h.1
-    at os ps zero (Some o) given is h = absurd (none-some o is)
-    at os ps (suc k) (Some o) given is h = held os ps k o o.held given h
-
-    may : (b : Bool) (os ps : List Outbox) (n : ℕ) (given : Result (Option Parcel) NoMember) → GivesIf b os ps n given → length os ≤ length ps
-    may true os ps n given h = at os ps n (outbox_of os n) given refl h
-    may false os ps n given h = same_length os ps h.1
-
-    own : Grows (room_at old x.conference) (room_at new x.conference)
-    own =
-        let f = t.2 in
-        subst (λ (y : Option Room). Grows y (room_at new x.conference)) (sym f.was)
-        (subst (Grows (Some f.before)) (sym f.now) (may (is_kept f.before) f.before.outboxes f.after.outboxes x.n (Ok t.0) f.gave.given))
-
-    by : (b : Bool) → nat_eq x.conference d ≡ b → Grows (room_at old d) (room_at new d)
-    by true e = subst (λ (i : ℕ). Grows (room_at old i) (room_at new i)) (eqb-true x.conference d e) own
-    by false e = grows-same (room_at old d) (room_at new d) (t.2.others d e)
+grows-taken (Some x) result old new t d =
+    let f = t.2 in
+    grows-at x.conference old new f.before f.after f.was f.now (gave-length f.before f.after x.n (Ok t.0) f.gave) f.others d
 
 there-same : (x : Option Connection) → WasThere x x
 there-same None = tt

@@ -1,6 +1,7 @@
 -- What a reader has to believe, in the order of reading.
 pub mod Connections
 pub mod Names
+pub mod News
 pub mod Hub
 pub mod World
 pub mod Kept
@@ -10,6 +11,7 @@ pub mod Rooms
 pub mod Left
 pub mod Concerned
 pub mod Shown
+pub mod Gathers
 pub mod Members
 pub mod Runs
 pub mod Laws

@@ -1,5 +1,5 @@
 -- What a call of the hub has done to the rooms.
-use Rattle.std.specs.Prelude.{◌≡◌, ◌≢◌, ◌↔◌, ◌⊎◌, ℕ, ◌+◌, List, [], ◌∷◌, ◌++◌, length, nat_eq, if◌then◌else◌, Bool, true, false, Option, Some, None, is_some, map, max, min, slice_get, take, Result, Ok, Err, MatchResult}
+use Rattle.std.specs.Prelude.{◌≡◌, ◌≢◌, ◌↔◌, ◌⊎◌, ◌≤◌, ℕ, ◌+◌, List, [], ◌∷◌, ◌++◌, length, nat_eq, if◌then◌else◌, ◌||◌, Bool, true, false, Option, Some, None, is_some, map, max, min, slice_get, take, Result, Ok, Err, MatchResult}
 use Rattle.std.specs.Option.{option_map_or}
 use Rattle.floor_config.specs.Configuration.{Configuration}
 use Rattle.floor_wire.specs.Message.{messages}
@@ -14,12 +14,14 @@ use Rattle.floor_room.specs.declared.refusal.RoomRefusal.TheVariants.{Refused as
 use Rattle.floor_room.specs.Ledger.{IsRefusedBy, closed, refusal}
 use Rattle.floor_room.specs.declared.refusal.RoomRefusal.{RoomRefusal}
 use Rattle.floor_room.specs.Outbox.{Outbox}
+use Rattle.floor_room.specs.Replay.{bytes_of}
 use Rattle.floor_room.specs.Room.{IsRoom, Room, new_room}
 use Rattle.floor_room.specs.Taking.{Gave, outbox_of}
 use Rattle.floor_hub.specs.declared.refusal.HubRefusal.{HubRefusal}
 use Rattle.floor_hub.specs.declared.refusal.HubRefusal.TheVariants.{NoConference, Forgotten, Running, NoConnection, ByRoom, Memory as NoMemory}
 use Rattle.floor_hub.specs.declared.connection.Connection.{Connection}
-use Rattle.floor_hub.specs.Concerned.{handed, is_cut}
+use Rattle.floor_hub.specs.declared.step.Taken.{Taken}
+use Rattle.floor_hub.specs.Concerned.{handed, is_cut, is_shut}
 use Rattle.floor_hub.specs.Connections.{Puts, SameConnections, connection_at}
 use Rattle.floor_hub.specs.Hub.{Hub, is_forgotten, room_at}
 
@@ -156,6 +158,11 @@ abbrev pub CutIs : Hub → Option Connection → Bool → Type 0
 CutIs h None result = result ≡ false
 CutIs h (Some x) result = (r : Room) → room_at h x.conference ≡ Some r → result ≡ is_cut r x.n
 
+-- whether nothing more is told to a live connection: its member is cut, or its conference is closed or broken off; no without one
+abbrev pub OverIs : Hub → Option Connection → Bool → Type 0
+OverIs h None result = result ≡ false
+OverIs h (Some x) result = (r : Room) → room_at h x.conference ≡ Some r → result ≡ (is_cut r x.n || is_shut r)
+
 -- how many parcels to the member n were taken, and none where nobody has joined under the number
 abbrev pub taken_of : Room → ℕ → ℕ
 taken_of r n = option_map_or (λ o. o.taken) (outbox_of r.outboxes n) 0
@@ -188,6 +195,32 @@ TakenInto (Some x) result before after old new =
     MatchResult result
     (λ waited. (parcel : Option Parcel) × (waited ≡ is_some parcel) × (after ≡ before ++ bytes_in parcel) × TakenFrom x.conference x.n parcel old new)
     (λ r. (r ≡ NoMemory) × (after ≡ before) × SameHub old new)
+
+-- these parcels were taken, one after another, of what is handed out to the member n, and each room on the way is sent what its journal calls for
+abbrev pub TookEach : Room → Room → ℕ → List Parcel → Type 0
+TookEach old new n [] = new ≡ old
+TookEach old new n (p ∷ ps) = (mid : Room) × IsRoom old × Gave old mid n (Ok (Some p)) × TookEach mid new n ps
+
+-- The same of the room of this conference. All else is as it was.
+pub record TakenEach (c n : ℕ) (parcels : List Parcel) (old new : Hub) : Type 0 where
+  pub before : Room
+  pub after : Room
+  pub was : room_at old c ≡ Some before
+  pub now : room_at new c ≡ Some after
+  pub took : TookEach before after n parcels
+  pub others : (d : ℕ) → nat_eq c d ≡ false → room_at new d ≡ room_at old d
+  pub connections : SameConnections old.connections new.connections
+  pub arrivals : new.arrivals ≡ old.arrivals
+
+-- A call that puts what is handed out behind the bytes of a buffer: NoConnection where no live connection has the number; else so many parcels were taken.
+abbrev pub TakenAll : Option Connection → Result Taken HubRefusal → List ℕ → List ℕ → Hub → Hub → Type 0
+TakenAll None result before after old new = (result ≡ Err NoConnection) × (after ≡ before) × SameHub old new
+TakenAll (Some x) result before after old new =
+    (taken : Taken) × (parcels : List Parcel) × (result ≡ Ok taken) × (taken.count ≡ length parcels) × (after ≡ before ++ bytes_of parcels) × TakenEach x.conference x.n parcels old new
+
+-- no more is taken: so many parcels were, the buffer has so many bytes, or nothing is handed out
+abbrev pub StopsAt : ℕ → ℕ → ℕ → List ℕ → Option Parcel → Type 0
+StopsAt most enough count bytes next = (most ≤ count) ⊎ ((enough ≤ length bytes) ⊎ (next ≡ None))
 
 -- a live connection is of this conference
 abbrev pub IsAttended : ℕ → Hub → Type 0

@@ -7,3 +7,4 @@ pub mod Running
 pub mod Attached
 pub mod Handed
 pub mod KeptBy
+pub mod Gathering

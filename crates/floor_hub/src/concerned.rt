@@ -7,8 +7,8 @@ ghost use Rattle.floor_hub.specs.steps.Attached.{AreListed, IsBehind, NamedIn, N
 
 use crate::attached::{Attached, Live, is_shut};
 use crate::connection::ConnNo;
+use floor_numbered::Numbered;
 use floor_room::Room;
-use indexmap::IndexMap;
 use std::alloc::{AllocError, Global};
 use std::marker::Model;
 
@@ -16,7 +16,7 @@ use std::marker::Model;
 /// is room for the numbers of all that are live in any one conference.
 #[derive(Drop)]
 pub(crate) struct Concerned {
-    attached: IndexMap<u32, Attached>,
+    attached: Numbered<Attached>,
     numbers: Vec<ConnNo>,
 }
 
@@ -40,7 +40,7 @@ impl Concerned {
         ensures numbers { result.numbers ≡ [] }
     {
         Concerned {
-            attached: IndexMap::new(alloc),
+            attached: Numbered::new(alloc),
             numbers: Vec::new(alloc),
         }
     }
@@ -57,7 +57,7 @@ impl Concerned {
         ensures value { result.now ≡ live_in self.now conference }
         ensures listed { AreListed result.now }
     {
-        match self.attached.get(&conference) {
+        match self.attached.get(u64::from(conference)) {
             Some(attached) => attached.as_slice(),
             None => &[],
         }
@@ -77,18 +77,18 @@ impl Concerned {
             (PutsLive self.old self.new conference (live_in self.old conference ++ live ∷ [])) }
         ensures left { OnErr result (SameLive self.old self.new) }
     {
-        let count = match self.attached.get(&conference) {
+        let count = match self.attached.get(u64::from(conference)) {
             Some(attached) => attached.len(),
             None => 0,
         };
         self.numbers.clear();
         self.numbers.reserve(count.saturating_add(1))?;
-        match self.attached.get_mut(&conference) {
+        match self.attached.get_mut(u64::from(conference)) {
             Some(attached) => attached.add(live),
             None => {
                 let mut attached = Attached::new(*self.numbers.allocator());
                 attached.add(live)?;
-                self.attached.insert(conference, attached)?;
+                self.attached.insert(u64::from(conference), attached)?;
                 Ok(())
             }
         }
@@ -100,7 +100,7 @@ impl Concerned {
         ensures next { PutsLive self.old self.new conference
             (without number (live_in self.old conference)) }
     {
-        match self.attached.get_mut(&conference) {
+        match self.attached.get_mut(u64::from(conference)) {
             Some(attached) => attached.remove(number),
             None => {}
         }
@@ -112,7 +112,7 @@ impl Concerned {
         ensures next { SameLive self.old self.new }
         ensures numbers { self.new.numbers ≡ self.old.numbers }
     {
-        let _attached = self.attached.swap_remove(&conference);
+        let _attached = self.attached.swap_remove(u64::from(conference));
     }
 
     /// Names those connections of a conference that a call concerned: none where the room was shut
@@ -145,7 +145,7 @@ impl Concerned {
         ensures named { self.new.numbers ≡ numbers_of (live_in self.old conference) }
         ensures ascending { AscendFrom 0 self.new.numbers }
     {
-        match self.attached.get(&conference) {
+        match self.attached.get(u64::from(conference)) {
             Some(attached) => attached.name_all(&mut self.numbers),
             None => {}
         }
@@ -159,7 +159,7 @@ impl Concerned {
         ensures named { Names self.new.numbers (is_noted told.now cut.now)
             (live_in self.old conference) }
     {
-        match self.attached.get_mut(&conference) {
+        match self.attached.get_mut(u64::from(conference)) {
             Some(attached) => attached.name_noted(told, cut, &mut self.numbers),
             None => {}
         }

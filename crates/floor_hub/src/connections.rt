@@ -9,7 +9,7 @@ ghost use Rattle.floor_hub.specs.steps.Lending.{LendsConnection};
 ghost use Rattle.floor_hub.specs.steps.Slots.{with_connection};
 
 use crate::connection::{ConnNo, Connection};
-use indexmap::IndexMap;
+use floor_numbered::Numbered;
 use slab::Slab;
 use std::alloc::{AllocError, Global};
 use std::marker::Model;
@@ -17,7 +17,7 @@ use std::marker::Model;
 /// The live connections.
 #[derive(Drop)]
 pub(crate) struct Connections {
-    keys: IndexMap<u64, usize>,
+    keys: Numbered<usize>,
     slots: Slab<Connection>,
 }
 
@@ -38,7 +38,7 @@ impl Connections {
         ensures value { (number : ℕ) → connection_at result number ≡ None }
     {
         Connections {
-            keys: IndexMap::new(alloc),
+            keys: Numbered::new(alloc),
             slots: Slab::new(alloc),
         }
     }
@@ -47,7 +47,7 @@ impl Connections {
     pub(crate) fn get(&self, number: ConnNo) -> Option<&Connection>
         ensures found { option_copied result ≡ connection_at self.now number }
     {
-        match self.keys.get(&number) {
+        match self.keys.get(number) {
             Some(key) => self.slots.get(*key),
             None => None,
         }
@@ -60,7 +60,7 @@ impl Connections {
         ensures puts { (x y : Connection) → connection_at self.old number ≡ Some x
             → Puts self.old (with_connection self.old number y) number (Some y) }
     {
-        let key = *self.keys.get(&number)?;
+        let key = *self.keys.get(number)?;
         self.slots.get_mut(key)
     }
 
@@ -92,7 +92,7 @@ impl Connections {
         ensures value { result ≡ connection_at self.old number }
         ensures next { Puts self.old self.new number None }
     {
-        match self.keys.swap_remove(&number) {
+        match self.keys.swap_remove(number) {
             Some(key) => self.slots.try_remove(key),
             None => None,
         }

@@ -1,17 +1,18 @@
 //! All conferences at once: their rooms and their connections.
 
-ghost use Rattle.std.specs.Prelude.{◌≡◌, ◌++◌, ◌∷◌, [], false, true, length, ℕ, Err, nat_eq, IfErr, IfNone, IfOk, IfSome, MatchResult, None, Ok, OnErr, OnOk, Some};
+ghost use Rattle.std.specs.Prelude.{◌≡◌, ◌≤◌, ◌||◌, ◌++◌, ◌∷◌, [], false, true, length, ℕ, Err, nat_eq, IfErr, IfNone, IfOk, IfSome, MatchResult, None, Ok, OnErr, OnOk, Some};
 ghost use Rattle.std.specs.Option.{option_copied};
 ghost use Rattle.indexmap.specs.IndexMap.{get};
 ghost use Rattle.indexmap.specs.IndexSet.{contains};
 ghost use Rattle.floor_machine.specs.declared.event.Event.TheVariants.{Took as Takes};
 ghost use Rattle.floor_room.specs.Room.{IsRoom, Room as Kept};
 ghost use Rattle.floor_hub.specs.Calls.{Fails, FailsGone, FailsSame, Turns, answer_of};
-ghost use Rattle.floor_hub.specs.Concerned.{Concerns, handed, is_cut};
+ghost use Rattle.floor_hub.specs.Concerned.{Concerns, handed, is_cut, is_shut};
 ghost use Rattle.floor_hub.specs.Connections.{Puts, SameConnections, StayLive, connection_at};
+ghost use Rattle.floor_hub.specs.Gathers.{Gathers};
 ghost use Rattle.floor_hub.specs.Hub.{is_forgotten, room_at};
 ghost use Rattle.floor_hub.specs.Left.{LeftAt, LeftLeaving, LeftServing, LeftTaking};
-ghost use Rattle.floor_hub.specs.Rooms.{CutIs, Forgets, IsOver, IsRefusedIn, IsRemembered, Joins, KeptOf, OneRoom, Opens, RoomOf, SameHub, TakenInto, TakenOf, admin_event, attach_event, by_broken, ended_or_none, first_at, leave_event, refusal_in, serve_event, took_event};
+ghost use Rattle.floor_hub.specs.Rooms.{CutIs, Forgets, IsOver, IsRefusedIn, IsRemembered, Joins, KeptOf, OneRoom, Opens, OverIs, RoomOf, SameHub, StopsAt, TakenAll, TakenInto, TakenOf, admin_event, attach_event, by_broken, ended_or_none, first_at, leave_event, refusal_in, serve_event, took_event};
 ghost use Rattle.floor_hub.specs.Shown.{Shows};
 ghost use Rattle.floor_hub.specs.StandsFor.{StandsFor};
 ghost use Rattle.floor_hub.specs.World.{World, nothing};
@@ -19,13 +20,15 @@ ghost use Rattle.floor_hub.specs.declared.step.Answer.TheVariants.{Attached, Don
 ghost use Rattle.floor_hub.specs.declared.step.Step.TheVariants.{Admin, Attach, Leave, Open, Piece, Serve, Took};
 ghost use Rattle.floor_hub.specs.steps.Attached.{AreWithin, ConcernedBy, ConcernedOf, PutsLive, SameLive, Tells, attached_to, joined_as, live_in, without};
 ghost use Rattle.floor_hub.specs.steps.Found.{AtConnection, AtRoom};
+ghost use Rattle.floor_hub.specs.steps.Gathering.{IsBeforeOf};
 ghost use Rattle.floor_hub.specs.steps.Handed.{HandedBy, HandedOf, Hands};
 ghost use Rattle.floor_hub.specs.steps.Running.{QueuedIn, first_bytes};
-ghost use Rattle.floor_hub.specs.steps.Serving.{AttachIn, LeaveOf, ServeOf, TakeOf, TookOf};
+ghost use Rattle.floor_hub.specs.steps.Serving.{AttachIn, LeaveOf, ServeOf, TakeAllOf, TakeOf, TookOf};
 
 mod keeping;
 mod reading;
 mod saying;
+mod watching;
 
 use crate::attached::{Live, has_ended, is_shut};
 use crate::concerned::Concerned;
@@ -33,12 +36,16 @@ use crate::connection::{ConnNo, Connection, Place};
 use crate::connections::Connections;
 use crate::forgotten::{ended_or_none, forgotten_or_none};
 use crate::gathering::{first_in, put_first, queued_to};
+use crate::news::{Before, Gathered};
 use crate::refusal::HubRefusal;
-use crate::rooms::{admin_at, leave_room, open_at, serve_room, take_room, took_room};
-use crate::step::Served;
+use crate::rooms::{
+    admin_at, leave_room, open_at, serve_room, take_all_room, take_room, took_room,
+};
+use crate::step::{Served, Taken};
+use floor_numbered::Numbered;
 use floor_room::{Act, Config, Effects, Parcel, Refusal, Room, RoomRefusal, SharedInfo};
 use floor_wire::{Framer, Octets};
-use indexmap::{IndexMap, IndexSet};
+use indexmap::IndexSet;
 use std::alloc::{AllocError, Global};
 use std::marker::Model;
 
@@ -49,25 +56,29 @@ use std::marker::Model;
 ///   `forget` gives the memory of one that has ended back.
 /// - Keeping: behind `begin_keeping` nothing is handed out of a conference while an event that told
 ///   something isn't kept; `keep` says how many are, and `end_keeping` that none has to be. `is_kept` reads.
-/// - Connections: `attach`, then `piece` and `serve` as bytes come, `take` as they are sent, `took`
+/// - Connections: `attach`, then `piece` and `serve` as bytes come, `take` or `take_all` as they are sent, `took`
 ///   once they were, and `leave` at the end. Whoever is more than 1,024 parcels behind is cut: it is
-///   told nothing more, its messages are refused by `Cut`, and `is_cut` tells it.
+///   told nothing more, its messages are refused by `Cut`, and `is_cut` tells it; `is_over` tells that, and that its
+///   conference is closed or broken off.
 /// - `concerned` names, after each call, the connections that have something to take, that it cut, or
 ///   whose conference it closed or broke off; and `changed` lends what is shown of the floor requests
-///   that it changed, for whoever watches the conference.
+///   that it changed.
+/// - Watching: behind `watch`, until `unwatch`, what each event of a conference changes is gathered, one `News` an
+///   event; `news` lends it, and `clear_news` clears it. Nothing is gathered of other conferences.
 ///
 /// A refused call changes nothing. Want of memory does so in `open` and `piece`, too; in `attach`,
 /// `serve`, `took`, `leave`, `admin` and `say` it breaks that one conference's room off, and no other.
 /// It comes behind every other refusal.
 #[derive(Drop)]
 pub struct Hub {
-    rooms: IndexMap<u32, Room>,
+    rooms: Numbered<Room>,
     connections: Connections,
     arrivals: u64,
     concerned: Concerned,
     // What the last event did, as its room says.
     effects: Effects,
     forgotten: IndexSet<u32>,
+    gathered: Gathered,
 }
 
 impl Model for Hub {
@@ -84,6 +95,7 @@ impl Model for Hub {
       concerned = h.concerned.numbers;
       changed = h.effects.changed.items;
       forgotten = h.forgotten.keys;
+      gathered = h.gathered;
     } };
 
     ghost invariant = { λ h. IsKeptHub
@@ -94,6 +106,7 @@ impl Model for Hub {
           concerned = h.concerned.numbers;
           changed = h.effects.changed.items;
           forgotten = h.forgotten.keys;
+          gathered = h.gathered;
         }
         h.concerned };
 }
@@ -105,12 +118,13 @@ impl Hub {
         ensures remembered { result.forgotten ≡ [] }
     {
         Hub {
-            rooms: IndexMap::new(alloc),
+            rooms: Numbered::new(alloc),
             connections: Connections::new(alloc),
             arrivals: 0,
             concerned: Concerned::new(alloc),
             effects: Effects::new(alloc),
             forgotten: IndexSet::new(alloc),
+            gathered: Gathered::new(alloc),
         }
     }
 
@@ -126,6 +140,7 @@ impl Hub {
         ensures concerned { self.new.concerned ≡ self.old.concerned }
         ensures changed { self.new.changed ≡ self.old.changed }
         ensures forgotten { self.new.forgotten ≡ self.old.forgotten }
+        ensures gathered { self.new.gathered ≡ self.old.gathered }
     {
         open_at(alloc, &mut self.rooms, &self.forgotten, config)
     }
@@ -153,8 +168,10 @@ impl Hub {
         ensures concerned { Concerns self.old self.new }
         ensures changed { Shows self.old self.new }
         ensures forgotten { self.new.forgotten ≡ self.old.forgotten }
+        ensures gathered { Gathers self.old self.new }
     {
         let number = self.arrivals + 1;
+        let before = self.gathered.before(&self.rooms, conference);
         let joined = attach_at(
             alloc,
             &mut self.rooms,
@@ -166,6 +183,7 @@ impl Hub {
             conference,
             user,
         );
+        self.gathered.gather(&self.rooms, before, &self.effects);
         match joined {
             Ok(()) => {
                 self.arrivals = number;
@@ -187,6 +205,7 @@ impl Hub {
         ensures concerned { self.new.concerned ≡ self.old.concerned }
         ensures changed { self.new.changed ≡ self.old.changed }
         ensures forgotten { self.new.forgotten ≡ self.old.forgotten }
+        ensures gathered { self.new.gathered ≡ self.old.gathered }
     {
         push_at(&mut self.connections, number, bytes)
     }
@@ -206,14 +225,18 @@ impl Hub {
         ensures concerned { Concerns self.old self.new }
         ensures changed { Shows self.old self.new }
         ensures forgotten { self.new.forgotten ≡ self.old.forgotten }
+        ensures gathered { Gathers self.old self.new }
     {
-        serve_at(
+        let before = before_of(&self.gathered, &self.rooms, &self.connections, number);
+        let served = serve_at(
             &mut self.rooms,
             &mut self.connections,
             &mut self.concerned,
             &mut self.effects,
             number,
-        )
+        );
+        self.gathered.gather(&self.rooms, before, &self.effects);
+        served
     }
 
     /// Takes it that so many of the parcels to a connection were taken and brought to their end, so
@@ -236,15 +259,19 @@ impl Hub {
         ensures concerned { Concerns self.old self.new }
         ensures changed { Shows self.old self.new }
         ensures forgotten { self.new.forgotten ≡ self.old.forgotten }
+        ensures gathered { Gathers self.old self.new }
     {
-        took_at(
+        let before = before_of(&self.gathered, &self.rooms, &self.connections, number);
+        let taken = took_at(
             &mut self.rooms,
             &self.connections,
             &mut self.concerned,
             &mut self.effects,
             number,
             k,
-        )
+        );
+        self.gathered.gather(&self.rooms, before, &self.effects);
+        taken
     }
 
     /// Ends a connection, and tells its conference. Refused by `NoConnection` alone: where the room
@@ -262,14 +289,18 @@ impl Hub {
         ensures concerned { Concerns self.old self.new }
         ensures changed { Shows self.old self.new }
         ensures forgotten { self.new.forgotten ≡ self.old.forgotten }
+        ensures gathered { Gathers self.old self.new }
     {
-        leave_at(
+        let before = before_of(&self.gathered, &self.rooms, &self.connections, number);
+        let left = leave_at(
             &mut self.rooms,
             &mut self.connections,
             &mut self.concerned,
             &mut self.effects,
             number,
-        )
+        );
+        self.gathered.gather(&self.rooms, before, &self.effects);
+        left
     }
 
     /// Does what the administrator of a conference does. Refused by `NoConference`, else as the
@@ -287,15 +318,19 @@ impl Hub {
         ensures concerned { Concerns self.old self.new }
         ensures changed { Shows self.old self.new }
         ensures forgotten { self.new.forgotten ≡ self.old.forgotten }
+        ensures gathered { Gathers self.old self.new }
     {
-        admin_at(
+        let before = self.gathered.before(&self.rooms, conference);
+        let done = admin_at(
             &mut self.rooms,
             &self.forgotten,
             &mut self.concerned,
             &mut self.effects,
             conference,
             act,
-        )
+        );
+        self.gathered.gather(&self.rooms, before, &self.effects);
+        done
     }
 
     /// Gives the memory of a conference back that has ended and of which no connection is live; what stays
@@ -310,6 +345,7 @@ impl Hub {
         ensures stands { (w : World) → StandsFor self.old w → StandsFor self.new w }
         ensures concerned { self.new.concerned ≡ self.old.concerned }
         ensures changed { self.new.changed ≡ self.old.changed }
+        ensures gathered { self.new.gathered ≡ self.old.gathered }
     {
         match self.why_remembered(conference) {
             Some(refusal) => return Err(refusal),
@@ -319,7 +355,7 @@ impl Hub {
             Ok(_) => {}
             Err(_) => return Err(HubRefusal::Memory),
         }
-        let _room = self.rooms.swap_remove(&conference);
+        let _room = self.rooms.swap_remove(u64::from(conference));
         self.concerned.forget(conference);
         Ok(())
     }
@@ -329,7 +365,7 @@ impl Hub {
         ensures none { IfNone result (IsOver conference self.now) }
         ensures some { IfSome result (λ refusal. IsRemembered conference self.now refusal) }
     {
-        match self.rooms.get(&conference) {
+        match self.rooms.get(u64::from(conference)) {
             None => Some(forgotten_or_none(&self.forgotten, conference)),
             Some(room) => {
                 if !has_ended(room) {
@@ -352,6 +388,17 @@ impl Hub {
     {
         match self.connections.get(number) {
             Some(connection) => is_cut_at(&self.rooms, connection),
+            None => false,
+        }
+    }
+
+    /// Whether nothing more is told to a live connection: its member is cut, or its conference is closed or
+    /// broken off. False where no live connection has the number. Takes no memory.
+    pub fn is_over(&self, number: ConnNo) -> bool
+        ensures value { OverIs self.now (connection_at self.now.connections number) result }
+    {
+        match self.connections.get(number) {
+            Some(connection) => is_over_at(&self.rooms, connection),
             None => false,
         }
     }
@@ -413,7 +460,7 @@ impl Hub {
             ≡ first_at self.now (connection_at self.now.connections number) }
     {
         match self.connections.get(number) {
-            Some(connection) => match self.rooms.get(&connection.conference) {
+            Some(connection) => match self.rooms.get(u64::from(connection.conference)) {
                 Some(room) => first_in(room, connection.n),
                 None => None,
             },
@@ -432,6 +479,7 @@ impl Hub {
         ensures concerned { self.new.concerned ≡ self.old.concerned }
         ensures changed { self.new.changed ≡ self.old.changed }
         ensures forgotten { self.new.forgotten ≡ self.old.forgotten }
+        ensures gathered { self.new.gathered ≡ self.old.gathered }
     {
         take_at(&mut self.rooms, &self.connections, number)
     }
@@ -449,6 +497,7 @@ impl Hub {
         ensures concerned { self.new.concerned ≡ self.old.concerned }
         ensures changed { self.new.changed ≡ self.old.changed }
         ensures forgotten { self.new.forgotten ≡ self.old.forgotten }
+        ensures gathered { self.new.gathered ≡ self.old.gathered }
     {
         match self.put_first(number, buffer) {
             Ok(()) => {}
@@ -459,6 +508,39 @@ impl Hub {
             Ok(None) => Ok(false),
             Err(refusal) => Err(refusal),
         }
+    }
+
+    /// Takes what is handed out to a connection, one parcel after another, and puts their bytes behind those of
+    /// a buffer, until nothing is handed out any more, `most` parcels were taken, or the buffer has `enough`
+    /// bytes; or until memory is refused for one, which goes on to wait. Refused by `NoConnection`, and by
+    /// nothing else.
+    pub fn take_all(
+        &mut self,
+        number: ConnNo,
+        buffer: &mut Vec<u8>,
+        most: u32,
+        enough: usize,
+    ) -> Result<Taken, HubRefusal>
+        ensures given { TakenAll (connection_at self.old.connections number) result
+            buffer.old.items buffer.new.items self.old self.new }
+        ensures most { IfOk result (λ taken. taken.count ≤ most) }
+        ensures whole { IfOk result (λ taken. taken.is_refused ≡ false
+            → StopsAt most enough taken.count buffer.new.items
+            (first_at self.new (connection_at self.new.connections number))) }
+        ensures stands { (w : World) → StandsFor self.old w → StandsFor self.new w }
+        ensures concerned { self.new.concerned ≡ self.old.concerned }
+        ensures changed { self.new.changed ≡ self.old.changed }
+        ensures forgotten { self.new.forgotten ≡ self.old.forgotten }
+        ensures gathered { self.new.gathered ≡ self.old.gathered }
+    {
+        take_all_at(
+            &mut self.rooms,
+            &self.connections,
+            number,
+            buffer,
+            most,
+            enough,
+        )
     }
 
     /// Puts the bytes of the first parcel that waits for a connection behind those of a buffer. After
@@ -474,7 +556,7 @@ impl Hub {
         ensures left { OnErr result (buffer.new.items ≡ buffer.old.items) }
     {
         match self.connections.get(number) {
-            Some(connection) => match self.rooms.get(&connection.conference) {
+            Some(connection) => match self.rooms.get(u64::from(connection.conference)) {
                 Some(room) => put_first(room, connection.n, buffer),
                 None => Ok(()),
             },
@@ -496,17 +578,36 @@ impl Hub {
         ensures value { (r : Kept) → room_at self.now conference ≡ Some r
             → QueuedIn r n result }
     {
-        match self.rooms.get(&conference) {
+        match self.rooms.get(u64::from(conference)) {
             Some(room) => queued_to(alloc, room, n),
             None => Ok(Octets::from_vec(Vec::new(alloc))),
         }
     }
 }
 
+/// How a connection's conference stands, where it is watched.
+fn before_of(
+    gathered: &Gathered,
+    rooms: &Numbered<Room>,
+    connections: &Connections,
+    number: ConnNo,
+) -> Option<Before>
+    ensures before { IsBeforeOf gathered.now.watched (get nat_eq rooms.now)
+        (connection_at connections.now number) result }
+{
+    if gathered.is_idle() {
+        return None;
+    }
+    match connections.get(number) {
+        Some(connection) => gathered.before(rooms, connection.conference),
+        None => None,
+    }
+}
+
 /// Attaches a connection of a user under this number, which no connection has.
 fn attach_at(
     alloc: Global,
-    rooms: &mut IndexMap<u32, Room>,
+    rooms: &mut Numbered<Room>,
     forgotten: &IndexSet<u32>,
     connections: &mut Connections,
     concerned: &mut Concerned,
@@ -527,7 +628,7 @@ fn attach_at(
     ensures changed { HandedBy (get nat_eq rooms.old) (get nat_eq rooms.new) conference
         effects.new.changed.items }
 {
-    match rooms.get_mut(&conference) {
+    match rooms.get_mut(u64::from(conference)) {
         Some(room) => {
             let was_shut = is_shut(room);
             let done = attach_in(
@@ -631,7 +732,7 @@ fn push_at(connections: &mut Connections, number: ConnNo, bytes: &[u8]) -> Resul
 
 /// Serves the next message of a connection in its room.
 fn serve_at(
-    rooms: &mut IndexMap<u32, Room>,
+    rooms: &mut Numbered<Room>,
     connections: &mut Connections,
     concerned: &mut Concerned,
     effects: &mut Effects,
@@ -657,7 +758,7 @@ fn serve_at(
 
 /// Tells its room that so many of the parcels to a connection were brought to their end.
 fn took_at(
-    rooms: &mut IndexMap<u32, Room>,
+    rooms: &mut Numbered<Room>,
     connections: &Connections,
     concerned: &mut Concerned,
     effects: &mut Effects,
@@ -684,7 +785,7 @@ fn took_at(
 
 /// Takes the first parcel that waits for a connection.
 fn take_at(
-    rooms: &mut IndexMap<u32, Room>,
+    rooms: &mut Numbered<Room>,
     connections: &Connections,
     number: ConnNo,
 ) -> Result<Option<Parcel>, HubRefusal>
@@ -699,9 +800,30 @@ fn take_at(
     }
 }
 
+/// Takes what is handed out to a connection.
+fn take_all_at(
+    rooms: &mut Numbered<Room>,
+    connections: &Connections,
+    number: ConnNo,
+    buffer: &mut Vec<u8>,
+    most: u32,
+    enough: usize,
+) -> Result<Taken, HubRefusal>
+    ensures connection { AtConnection (TakeAllOf most enough buffer.old.items buffer.new.items)
+        (get nat_eq rooms.old) (get nat_eq rooms.new)
+        connections.now connections.now number result }
+    ensures absent { connection_at connections.now number ≡ None
+        → buffer.new.items ≡ buffer.old.items }
+{
+    match connections.get(number) {
+        Some(connection) => take_all_room(rooms, connection, buffer, most, enough),
+        None => Err(HubRefusal::NoConnection),
+    }
+}
+
 /// Takes a connection out, and tells its room.
 fn leave_at(
-    rooms: &mut IndexMap<u32, Room>,
+    rooms: &mut Numbered<Room>,
     connections: &mut Connections,
     concerned: &mut Concerned,
     effects: &mut Effects,
@@ -727,12 +849,23 @@ fn leave_at(
 }
 
 /// Whether the member of a connection is cut.
-fn is_cut_at(rooms: &IndexMap<u32, Room>, connection: &Connection) -> bool
+fn is_cut_at(rooms: &Numbered<Room>, connection: &Connection) -> bool
     ensures { (r : Kept) → get nat_eq rooms.now connection.now.conference ≡ Some r
         → result ≡ is_cut r connection.now.n }
 {
-    match rooms.get(&connection.conference) {
+    match rooms.get(u64::from(connection.conference)) {
         Some(room) => room.is_cut(connection.n),
+        None => false,
+    }
+}
+
+/// Whether nothing more is told to a connection: its member is cut, or its conference is closed or broken off.
+fn is_over_at(rooms: &Numbered<Room>, connection: &Connection) -> bool
+    ensures { (r : Kept) → get nat_eq rooms.now connection.now.conference ≡ Some r
+        → result ≡ (is_cut r connection.now.n || is_shut r) }
+{
+    match rooms.get(u64::from(connection.conference)) {
+        Some(room) => room.is_cut(connection.n) || is_shut(room),
         None => false,
     }
 }

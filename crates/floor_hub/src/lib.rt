@@ -12,6 +12,7 @@ mod forgotten;
 mod gathering;
 mod hub;
 mod laws;
+mod news;
 mod refusal;
 mod rooms;
 mod running;
@@ -30,7 +31,8 @@ pub use laws::{
     arrivals_fit, conference_alone, each_journal_is_resumed, each_journal_is_run, headline,
     kept_worlds, step_adds, two_worlds,
 };
+pub use news::News;
 pub use refusal::HubRefusal;
 pub use running::{Memory, run};
-pub use step::{Answer, Served, Step};
+pub use step::{Answer, Served, Step, Taken};
 pub use transcript::{Answers, Queued, Queues, Transcript};

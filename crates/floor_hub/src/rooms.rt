@@ -1,6 +1,6 @@
 //! The rooms of all conferences: each call is for one of them, and leaves the others.
 
-ghost use Rattle.std.specs.Prelude.{false, true, ◌≡◌, ◌≢◌, ◌⊎◌, ◌≤◌, ℕ, Ok, Err, nat_eq, IfErr, IfSome, IsErr, MatchResult, OnErr, OnOk, None, Option, Result, Some};
+ghost use Rattle.std.specs.Prelude.{false, true, IfOk, ◌≡◌, ◌≢◌, ◌⊎◌, ◌≤◌, ℕ, Ok, Err, nat_eq, IfErr, IfSome, IsErr, MatchResult, OnErr, OnOk, None, Option, Result, Some};
 ghost use Rattle.indexmap.specs.IndexMap.{Updates, get};
 ghost use Rattle.indexmap.specs.IndexSet.{contains};
 ghost use Rattle.floor_machine.specs.Machine.{event_of_act};
@@ -11,26 +11,29 @@ ghost use Rattle.floor_room.specs.Taking.{Gave};
 ghost use Rattle.floor_room.specs.declared.outbox.NoMember.{NoMember};
 ghost use Rattle.floor_room.specs.declared.refusal.RoomRefusal.{RoomRefusal};
 ghost use Rattle.floor_hub.specs.Rooms.{ended_or_none};
+ghost use Rattle.floor_hub.specs.declared.step.Taken.{Taken as Given};
 ghost use Rattle.floor_hub.specs.steps.Attached.{ConcernedBy, Tells, always, live_in, without};
 ghost use Rattle.floor_hub.specs.steps.Found.{AtRoom};
 ghost use Rattle.floor_hub.specs.steps.Handed.{HandedBy, Hands};
-ghost use Rattle.floor_hub.specs.steps.Serving.{EventIn, IsServable, LeaveFailsIn, LeavesIn, ServedIn};
+ghost use Rattle.floor_hub.specs.steps.Serving.{EventIn, IsServable, LeaveFailsIn, LeavesIn, ServedIn, Stops, TookAll, TookNext};
 
 use crate::attached::is_shut;
 use crate::concerned::Concerned;
 use crate::connection::{ConnNo, Connection};
 use crate::forgotten::ended_or_none;
+use crate::gathering::put_first;
 use crate::refusal::HubRefusal;
-use crate::step::Served;
+use crate::step::{Served, Taken};
+use floor_numbered::Numbered;
 use floor_room::{Act, Config, Effects, Parcel, Refusal, Room, RoomRefusal};
 use floor_wire::Framer;
-use indexmap::{IndexMap, IndexSet};
-use std::alloc::Global;
+use indexmap::IndexSet;
+use std::alloc::{AllocError, Global};
 
 /// Makes the room of a conference that opens.
 pub(crate) fn open_at(
     alloc: Global,
-    rooms: &mut IndexMap<u32, Room>,
+    rooms: &mut Numbered<Room>,
     forgotten: &IndexSet<u32>,
     config: Config,
 ) -> Result<(), HubRefusal>
@@ -49,12 +52,12 @@ pub(crate) fn open_at(
         ≡ get nat_eq rooms.old other) }
 {
     let conference = config.conference();
-    if rooms.contains_key(&conference) || forgotten.contains(&conference) {
+    if rooms.contains_key(u64::from(conference)) || forgotten.contains(&conference) {
         return Err(HubRefusal::Used);
     }
     match Room::new(alloc, config) {
         Err(_) => Err(HubRefusal::Memory),
-        Ok(room) => match rooms.insert(conference, room) {
+        Ok(room) => match rooms.insert(u64::from(conference), room) {
             Ok(_) => Ok(()),
             Err(_) => Err(HubRefusal::Memory),
         },
@@ -63,7 +66,7 @@ pub(crate) fn open_at(
 
 /// Does an act in the room of a conference.
 pub(crate) fn admin_at(
-    rooms: &mut IndexMap<u32, Room>,
+    rooms: &mut Numbered<Room>,
     forgotten: &IndexSet<u32>,
     concerned: &mut Concerned,
     effects: &mut Effects,
@@ -78,7 +81,7 @@ pub(crate) fn admin_at(
     ensures changed { HandedBy (get nat_eq rooms.old) (get nat_eq rooms.new) conference
         effects.new.changed.items }
 {
-    match rooms.get_mut(&conference) {
+    match rooms.get_mut(u64::from(conference)) {
         Some(room) => {
             let was_shut = is_shut(room);
             let done = admin_in(room, act, effects);
@@ -177,7 +180,7 @@ fn leave_in(room: &mut Room, n: u32, effects: &mut Effects) -> Result<(), HubRef
 
 /// Tells its room that a connection has left.
 pub(crate) fn leave_room(
-    rooms: &mut IndexMap<u32, Room>,
+    rooms: &mut Numbered<Room>,
     concerned: &mut Concerned,
     effects: &mut Effects,
     number: ConnNo,
@@ -196,7 +199,7 @@ pub(crate) fn leave_room(
         connection.now.conference effects.new.changed.items }
 {
     let conference = connection.conference;
-    match rooms.get_mut(&conference) {
+    match rooms.get_mut(u64::from(conference)) {
         Some(room) => {
             concerned.remove(conference, number);
             let was_shut = is_shut(room);
@@ -214,7 +217,7 @@ pub(crate) fn leave_room(
 
 /// Serves the next message of a connection in its room.
 pub(crate) fn serve_room(
-    rooms: &mut IndexMap<u32, Room>,
+    rooms: &mut Numbered<Room>,
     concerned: &mut Concerned,
     effects: &mut Effects,
     connection: &mut Connection,
@@ -231,7 +234,7 @@ pub(crate) fn serve_room(
         connection.old.conference effects.new.changed.items }
 {
     let conference = connection.conference;
-    match rooms.get_mut(&conference) {
+    match rooms.get_mut(u64::from(conference)) {
         Some(room) => {
             let was_shut = is_shut(room);
             let served = serve_in(room, connection.n, &mut connection.held, effects);
@@ -248,7 +251,7 @@ pub(crate) fn serve_room(
 
 /// Tells its room that so many of the parcels to a connection were brought to their end.
 pub(crate) fn took_room(
-    rooms: &mut IndexMap<u32, Room>,
+    rooms: &mut Numbered<Room>,
     concerned: &mut Concerned,
     effects: &mut Effects,
     connection: &Connection,
@@ -264,7 +267,7 @@ pub(crate) fn took_room(
         connection.now.conference effects.new.changed.items }
 {
     let conference = connection.conference;
-    match rooms.get_mut(&conference) {
+    match rooms.get_mut(u64::from(conference)) {
         Some(room) => {
             let was_shut = is_shut(room);
             let taken = took_in(room, connection.n, k, effects);
@@ -292,7 +295,7 @@ fn took_in(room: &mut Room, n: u32, k: u32, effects: &mut Effects) -> Result<(),
 
 /// Takes the first parcel that waits for a connection in its room.
 pub(crate) fn take_room(
-    rooms: &mut IndexMap<u32, Room>,
+    rooms: &mut Numbered<Room>,
     connection: &Connection,
 ) -> Result<Option<Parcel>, HubRefusal>
     ensures room { (room : Kept) → get nat_eq rooms.old connection.now.conference ≡ Some room
@@ -303,7 +306,7 @@ pub(crate) fn take_room(
     ensures kept { (room : Kept) → get nat_eq rooms.old connection.now.conference ≡ Some room
         → IsRoom room }
 {
-    match rooms.get_mut(&connection.conference) {
+    match rooms.get_mut(u64::from(connection.conference)) {
         Some(room) => {
             // What its contract says of the room is handed out.
             let _journal = room.journal();
@@ -313,5 +316,76 @@ pub(crate) fn take_room(
             }
         }
         None => Err(HubRefusal::NoConnection),
+    }
+}
+
+/// Takes what is handed out to a connection in its room.
+pub(crate) fn take_all_room(
+    rooms: &mut Numbered<Room>,
+    connection: &Connection,
+    buffer: &mut Vec<u8>,
+    most: u32,
+    enough: usize,
+) -> Result<Taken, HubRefusal>
+    ensures room { (room : Kept) → get nat_eq rooms.old connection.now.conference ≡ Some room
+        → (new : Kept) × Updates nat_eq rooms.old rooms.new connection.now.conference (Some new)
+        × (taken : Given) × (result ≡ Ok taken) × (taken.count ≤ most)
+        × TookAll room new connection.now.n buffer.old.items buffer.new.items taken
+        × Stops most enough buffer.new.items new connection.now.n taken }
+{
+    match rooms.get_mut(u64::from(connection.conference)) {
+        Some(room) => Ok(take_all_in(room, connection.n, buffer, most, enough)),
+        None => Err(HubRefusal::NoConnection),
+    }
+}
+
+/// Takes what a room hands out to a member.
+fn take_all_in(room: &mut Room, n: u32, buffer: &mut Vec<u8>, most: u32, enough: usize) -> Taken
+    ensures most { result.count ≤ most }
+    ensures took { TookAll room.old room.new n buffer.old.items buffer.new.items result }
+    ensures stops { Stops most enough buffer.new.items room.new n result }
+{
+    for count in 0..most {
+        if enough <= buffer.len() {
+            return Taken {
+                count,
+                is_refused: false,
+            };
+        }
+        match take_next(room, n, buffer) {
+            Ok(true) => {}
+            Ok(false) => {
+                return Taken {
+                    count,
+                    is_refused: false,
+                };
+            }
+            Err(_) => {
+                return Taken {
+                    count,
+                    is_refused: true,
+                };
+            }
+        }
+    }
+    Taken {
+        count: most,
+        is_refused: false,
+    }
+}
+
+/// Takes the first parcel that a room hands out to a member, puts its bytes behind those of a buffer, and says
+/// whether there was one. After an error nothing has changed.
+fn take_next(room: &mut Room, n: u32, buffer: &mut Vec<u8>) -> Result<bool, AllocError>
+    ensures took { IfOk result (TookNext room.old room.new n buffer.old.items buffer.new.items) }
+    ensures left { OnErr result ((room.new ≡ room.old)
+        × (buffer.new.items ≡ buffer.old.items)) }
+{
+    // What its contract says of the room is handed out.
+    let _journal = room.journal();
+    put_first(room, n, buffer)?;
+    match room.take(n) {
+        Ok(Some(_)) => Ok(true),
+        Ok(None) | Err(_) => Ok(false),
     }
 }

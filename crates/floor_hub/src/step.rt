@@ -69,6 +69,15 @@ pub enum Answer {
     Refused(HubRefusal),
 }
 
+/// What was taken for a connection.
+#[derive(Clone, Copy, Debug, PartialEq, Eq)]
+pub struct Taken {
+    /// How many parcels.
+    pub count: u32,
+    /// Memory was refused for one more, which goes on to wait.
+    pub is_refused: bool,
+}
+
 /// What serving an arrival has found.
 #[derive(Clone, Copy, Debug, PartialEq, Eq)]
 pub enum Served {

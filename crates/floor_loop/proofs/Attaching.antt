@@ -20,7 +20,7 @@ use Rattle.floor_loop.proofs.Stepping.{is_not_none, kept-some, some-out, steps-t
 
 -- the hub has refused it
 pub moved-refused : (conference user : ℕ) (hub now : Hub) (a b : Attended) (r : HubRefusal) → Attaches conference user hub now (Err r) → KeepsAll (outgoing_in a) (outgoing_in b) → FewerStays a b → AreWoken now b → Moved (AtMost 1 (Attach conference user)) (loop_of hub a) (loop_of now b)
-moved-refused conference user hub now a b r t keeps few woken = moved-unattached conference user (loop_of hub a) (loop_of now b) r t.next t.room t.left t.concerned keeps few woken
+moved-refused conference user hub now a b r t keeps few woken = moved-unattached conference user (loop_of hub a) (loop_of now b) r t.next t.room t.left t.concerned t.gathered keeps few woken
 
 module _ (conference user number : ℕ) (hub now : Hub) (a b c : Attended) (t : Attaches conference user hub now (Ok number)) (added : Adds conference a b (Ok number)) (keeps : KeepsAll (outgoing_in b) (outgoing_in c)) (woken : AreWoken now c) (own : IsWoken now c number) where
   -- each other is what it was

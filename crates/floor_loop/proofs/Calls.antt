@@ -1,6 +1,6 @@
 -- What a loop comes to by each call of its hub.
-use Rattle.std.proofs.Common.{◌≡◌, ◌≢◌, ◌⊎◌, inl, inr, ℕ, ◌+◌, ◌≤◌, ◌++◌, Bool, true, false, List, refl, sym, ◌∙◌, ap, subst, Some, None}
-use Rattle.std.specs.Prelude.{Option, Result, Ok, Err, IsSome, MatchResult, OnErr, OnOk, if◌then◌else◌, is_some, nat_eq}
+use Rattle.std.proofs.Common.{◌≡◌, ◌≢◌, ◌⊎◌, inl, inr, ℕ, ◌+◌, ◌≤◌, ◌++◌, true, false, List, length, refl, sym, ◌∙◌, ap, subst, Some, None}
+use Rattle.std.specs.Prelude.{Option, Result, Ok, Err, IsSome, MatchResult, OnErr, OnOk, nat_eq}
 use Rattle.std.specs.Option.{option_map}
 use Rattle.std.specs.Map.{lookup}
 use Rattle.std.proofs.lemmas.Bool.Decides.{eqb_tells}
@@ -9,22 +9,24 @@ use Rattle.floor_config.specs.Configuration.{Configuration}
 use Rattle.floor_machine.specs.declared.act.Act.{Act}
 use Rattle.floor_machine.specs.Parcel.{Parcel}
 use Rattle.floor_room.specs.Ledger.{Ledger}
-use Rattle.floor_room.specs.Room.{IsRoom, Room}
+use Rattle.floor_room.specs.Replay.{bytes_of}
+use Rattle.floor_room.specs.Room.{Room}
 use Rattle.floor_room.specs.declared.said.Said as room
 use Rattle.floor_hub.specs.declared.connection.Connection.{Connection}
 use Rattle.floor_hub.specs.declared.refusal.HubRefusal.{HubRefusal}
-use Rattle.floor_hub.specs.declared.refusal.HubRefusal.TheVariants.{NoConnection}
 use Rattle.floor_hub.specs.declared.step.Answer.TheVariants.{Attached, Done, Said}
 use Rattle.floor_hub.specs.declared.step.Served.{Served}
+use Rattle.floor_hub.specs.declared.step.Taken.{Taken}
 use Rattle.floor_hub.specs.declared.step.Step.{Step}
 use Rattle.floor_hub.specs.declared.step.Step.TheVariants.{Admin, Attach, Leave, Open, Piece, Say, Serve, Took as Takes}
 use Rattle.floor_hub.specs.Calls.{Fails, FailsGone, FailsSame, Turns, answer_of}
 use Rattle.floor_hub.specs.Concerned.{Concerns}
 use Rattle.floor_hub.specs.Connections.{Puts, SameConnections, StayLive, connection_at}
+use Rattle.floor_hub.specs.Gathers.{Gathers}
 use Rattle.floor_hub.specs.Hub.{Hub, room_at}
 use Rattle.floor_hub.specs.Members.{user_of}
 use Rattle.floor_hub.specs.Left.{LeftAt}
-use Rattle.floor_hub.specs.Rooms.{KeptOf, OneRoom, Opens, RoomOf, SameHub, TakenFrom, TakenInto, admin_event, attach_event, by_broken, bytes_in, leave_event, refusal_in, say_event, serve_event, took_event}
+use Rattle.floor_hub.specs.Rooms.{OneRoom, Opens, RoomOf, SameHub, TakenAll, TakenEach, admin_event, attach_event, by_broken, leave_event, refusal_in, say_event, serve_event, took_event}
 use Rattle.floor_hub.specs.StandsFor.{StandsFor}
 use Rattle.floor_hub.specs.World.{World}
 use Rattle.floor_loop.specs.Loop.{Attended, Loop, Outgoing, outgoing_at, outgoing_in, until_of}
@@ -32,12 +34,13 @@ use Rattle.floor_loop.specs.Done.{AtMost, NoSteps, Steps}
 use Rattle.floor_loop.specs.Written.{IsOver, IsTimed}
 use Rattle.floor_loop.specs.steps.Changed.{carrying, changed}
 use Rattle.floor_loop.specs.steps.Moved.{AreWoken, FewerStays, IsLoop, KeepsAll, KeepsLive, KeptAt, Moved, Went, loop_of}
-use Rattle.floor_loop.specs.steps.Taken.{Took, TakenFor}
+use Rattle.floor_loop.specs.steps.Taken.{TakenFor}
 use Rattle.floor_loop.proofs.Altering.{changed-none, keeps-changed, look-here, look-other}
 use Rattle.floor_loop.proofs.Over.{from-ledgers, over-same}
 use Rattle.floor_loop.proofs.Moving.{moved-on, moved-same, own-same, serves-on, steps-none, went-of, went-one, went-same}
-use Rattle.floor_loop.proofs.Taking.{count_in, over-by, takes-one}
+use Rattle.floor_loop.proofs.Taking.{over-by, takes-each}
 use Rattle.floor_loop.proofs.Stepping.{keeps-live, keeps-refl, left-connections, some-out, stay-same, steps-gone, steps-same, steps-turn, timed-on, went-left, went-none, went-open}
+use Rattle.floor_loop.proofs.Watching.{gathers-ledgers}
 
 -- a call of the hub behind which all were woken whom it concerned
 pub moved-told : (Are : List Step → Type 0) (old new : Loop) → Steps Are old.hub new.hub → Went old.hub new.hub → Concerns old.hub new.hub → KeepsLive new.hub (outgoing_at old) (outgoing_at new) → FewerStays old.attended new.attended → AreWoken new.hub new.attended → Moved Are old new
@@ -45,52 +48,52 @@ moved-told Are old new steps went concerns keeps few woken = moved-on Are old ne
 
 pub moved-serve : (number : ℕ) (old new : Loop) (res : Result Served HubRefusal) →
     ((w : World) → StandsFor old.hub w → MatchResult res (λ found. Turns new.hub w (Serve number) (answer_of found)) (λ r. Fails new.hub w (Serve number) r)) →
-    RoomOf by_broken (refusal_in res) serve_event (connection_at old.hub.connections number) old.hub new.hub → StayLive old.hub.connections new.hub.connections → Concerns old.hub new.hub → KeepsAll (outgoing_at old) (outgoing_at new) → FewerStays old.attended new.attended → AreWoken new.hub new.attended →
+    RoomOf by_broken (refusal_in res) serve_event (connection_at old.hub.connections number) old.hub new.hub → StayLive old.hub.connections new.hub.connections → Concerns old.hub new.hub → Gathers old.hub new.hub → KeepsAll (outgoing_at old) (outgoing_at new) → FewerStays old.attended new.attended → AreWoken new.hub new.attended →
     Moved (AtMost 1 (Serve number)) old new
-moved-serve number old new res next room stay concerns keeps =
-    moved-told (AtMost 1 (Serve number)) old new (steps-turn old.hub new.hub (Serve number) answer_of res next) (went-of by_broken (refusal_in res) serve_event (connection_at old.hub.connections number) old.hub new.hub room stay) concerns
+moved-serve number old new res next room stay concerns gathers keeps =
+    moved-told (AtMost 1 (Serve number)) old new (steps-turn old.hub new.hub (Serve number) answer_of res next) (went-of by_broken (refusal_in res) serve_event (connection_at old.hub.connections number) old.hub new.hub room stay gathers) concerns
     (keeps-live new.hub (outgoing_at old) (outgoing_at new) keeps)
 
 pub moved-took : (number k : ℕ) (old new : Loop) (res : Result (Unit {0}) HubRefusal) →
     ((w : World) → StandsFor old.hub w → MatchResult res (λ _. Turns new.hub w (Takes number k) Done) (λ r. Fails new.hub w (Takes number k) r)) →
-    RoomOf by_broken (refusal_in res) (took_event k) (connection_at old.hub.connections number) old.hub new.hub → StayLive old.hub.connections new.hub.connections → Concerns old.hub new.hub → KeepsAll (outgoing_at old) (outgoing_at new) → FewerStays old.attended new.attended → AreWoken new.hub new.attended →
+    RoomOf by_broken (refusal_in res) (took_event k) (connection_at old.hub.connections number) old.hub new.hub → StayLive old.hub.connections new.hub.connections → Concerns old.hub new.hub → Gathers old.hub new.hub → KeepsAll (outgoing_at old) (outgoing_at new) → FewerStays old.attended new.attended → AreWoken new.hub new.attended →
     Moved (AtMost 1 (Takes number k)) old new
-moved-took number k old new res next room stay concerns keeps =
+moved-took number k old new res next room stay concerns gathers keeps =
     moved-told (AtMost 1 (Takes number k)) old new (steps-turn old.hub new.hub (Takes number k) (λ _. Done) res next)
-    (went-of by_broken (refusal_in res) (took_event k) (connection_at old.hub.connections number) old.hub new.hub room stay) concerns (keeps-live new.hub (outgoing_at old) (outgoing_at new) keeps)
+    (went-of by_broken (refusal_in res) (took_event k) (connection_at old.hub.connections number) old.hub new.hub room stay gathers) concerns (keeps-live new.hub (outgoing_at old) (outgoing_at new) keeps)
 
 pub moved-admin : (conference : ℕ) (act : Act) (old new : Loop) (res : Result (Unit {0}) HubRefusal) →
     ((w : World) → StandsFor old.hub w → MatchResult res (λ _. Turns new.hub w (Admin conference act) Done) (λ r. Fails new.hub w (Admin conference act) r)) →
-    OneRoom by_broken (refusal_in res) (admin_event act) conference old.hub new.hub → StayLive old.hub.connections new.hub.connections → Concerns old.hub new.hub → KeepsAll (outgoing_at old) (outgoing_at new) → FewerStays old.attended new.attended → AreWoken new.hub new.attended →
+    OneRoom by_broken (refusal_in res) (admin_event act) conference old.hub new.hub → StayLive old.hub.connections new.hub.connections → Concerns old.hub new.hub → Gathers old.hub new.hub → KeepsAll (outgoing_at old) (outgoing_at new) → FewerStays old.attended new.attended → AreWoken new.hub new.attended →
     Moved (AtMost 1 (Admin conference act)) old new
-moved-admin conference act old new res next room stay concerns keeps =
-    moved-told (AtMost 1 (Admin conference act)) old new (steps-turn old.hub new.hub (Admin conference act) (λ _. Done) res next) (went-one by_broken (refusal_in res) (admin_event act) conference old.hub new.hub room stay) concerns
+moved-admin conference act old new res next room stay concerns gathers keeps =
+    moved-told (AtMost 1 (Admin conference act)) old new (steps-turn old.hub new.hub (Admin conference act) (λ _. Done) res next) (went-one by_broken (refusal_in res) (admin_event act) conference old.hub new.hub room stay gathers) concerns
     (keeps-live new.hub (outgoing_at old) (outgoing_at new) keeps)
 
 pub moved-say : (conference user : ℕ) (bytes : List ℕ) (old new : Loop) (res : Result room.Said HubRefusal) →
     ((w : World) → StandsFor old.hub w → MatchResult res (λ v. Turns new.hub w (Say conference user bytes) (Said v)) (λ r. Fails new.hub w (Say conference user bytes) r)) →
-    OneRoom by_broken (refusal_in res) (say_event user bytes) conference old.hub new.hub → StayLive old.hub.connections new.hub.connections → Concerns old.hub new.hub → KeepsAll (outgoing_at old) (outgoing_at new) → FewerStays old.attended new.attended → AreWoken new.hub new.attended →
+    OneRoom by_broken (refusal_in res) (say_event user bytes) conference old.hub new.hub → StayLive old.hub.connections new.hub.connections → Concerns old.hub new.hub → Gathers old.hub new.hub → KeepsAll (outgoing_at old) (outgoing_at new) → FewerStays old.attended new.attended → AreWoken new.hub new.attended →
     Moved (AtMost 1 (Say conference user bytes)) old new
-moved-say conference user bytes old new res next room stay concerns keeps =
-    moved-told (AtMost 1 (Say conference user bytes)) old new (steps-turn old.hub new.hub (Say conference user bytes) Said res next) (went-one by_broken (refusal_in res) (say_event user bytes) conference old.hub new.hub room stay) concerns
+moved-say conference user bytes old new res next room stay concerns gathers keeps =
+    moved-told (AtMost 1 (Say conference user bytes)) old new (steps-turn old.hub new.hub (Say conference user bytes) Said res next) (went-one by_broken (refusal_in res) (say_event user bytes) conference old.hub new.hub room stay gathers) concerns
     (keeps-live new.hub (outgoing_at old) (outgoing_at new) keeps)
 
 -- a connection has left, and nothing is on its way to it any more
 pub moved-leave : (number : ℕ) (old new : Loop) (res : Result (Unit {0}) HubRefusal) →
     ((w : World) → StandsFor old.hub w → MatchResult res (λ _. Turns new.hub w (Leave number) Done) (λ r. FailsGone new.hub w (Leave number) r)) →
-    RoomOf None (refusal_in res) leave_event (connection_at old.hub.connections number) old.hub new.hub → Puts old.hub.connections new.hub.connections number None → Concerns old.hub new.hub → KeepsLive new.hub (outgoing_at old) (outgoing_at new) → FewerStays old.attended new.attended → AreWoken new.hub new.attended →
+    RoomOf None (refusal_in res) leave_event (connection_at old.hub.connections number) old.hub new.hub → Puts old.hub.connections new.hub.connections number None → Concerns old.hub new.hub → Gathers old.hub new.hub → KeepsLive new.hub (outgoing_at old) (outgoing_at new) → FewerStays old.attended new.attended → AreWoken new.hub new.attended →
     Moved (AtMost 1 (Leave number)) old new
-moved-leave number old new res next room gone concerns keeps =
+moved-leave number old new res next room gone concerns gathers keeps =
     moved-told (AtMost 1 (Leave number)) old new (steps-gone old.hub new.hub (Leave number) (λ _. Done) res next)
-    (went-left None (refusal_in res) leave_event (connection_at old.hub.connections number) number old.hub new.hub room gone) concerns keeps
+    (went-left None (refusal_in res) leave_event (connection_at old.hub.connections number) number old.hub new.hub room gone gathers) concerns keeps
 
 -- an attach that was refused
 pub moved-unattached : (conference user : ℕ) (old new : Loop) (r : HubRefusal) →
-    ((w : World) → StandsFor old.hub w → Fails new.hub w (Attach conference user) r) → OneRoom by_broken (Some r) (attach_event user) conference old.hub new.hub → LeftAt (attach_event user) conference old.hub new.hub r → Concerns old.hub new.hub →
+    ((w : World) → StandsFor old.hub w → Fails new.hub w (Attach conference user) r) → OneRoom by_broken (Some r) (attach_event user) conference old.hub new.hub → LeftAt (attach_event user) conference old.hub new.hub r → Concerns old.hub new.hub → Gathers old.hub new.hub →
     KeepsAll (outgoing_at old) (outgoing_at new) → FewerStays old.attended new.attended → AreWoken new.hub new.attended → Moved (AtMost 1 (Attach conference user)) old new
-moved-unattached conference user old new r next room left concerns keeps =
+moved-unattached conference user old new r next room left concerns gathers keeps =
     moved-told (AtMost 1 (Attach conference user)) old new (steps-turn {T = ℕ} old.hub new.hub (Attach conference user) Attached (Err r) next)
-    (went-one by_broken (Some r) (attach_event user) conference old.hub new.hub room (stay-same old.hub new.hub (left-connections (attach_event user) conference old.hub new.hub r left))) concerns
+    (went-one by_broken (Some r) (attach_event user) conference old.hub new.hub room (stay-same old.hub new.hub (left-connections (attach_event user) conference old.hub new.hub r left)) gathers) concerns
     (keeps-live new.hub (outgoing_at old) (outgoing_at new) keeps)
 
 -- rooms with the same ledgers, and the same connections: who is to be shut down is so
@@ -108,9 +111,9 @@ same-timed old new went same keeps l number y s p is_y is_s is_p over =
 -- bytes that came
 pub moved-piece : (number : ℕ) (bytes : List ℕ) (old new : Loop) (res : Result (Unit {0}) HubRefusal) →
     ((w : World) → StandsFor old.hub w → MatchResult res (λ _. Turns new.hub w (Piece number bytes) Done) (λ r. FailsSame new.hub w (Piece number bytes) r)) →
-    ((c : ℕ) → room_at new.hub c ≡ room_at old.hub c) → StayLive old.hub.connections new.hub.connections → KeepsAll (outgoing_at old) (outgoing_at new) → FewerStays old.attended new.attended → Moved (AtMost 1 (Piece number bytes)) old new
-moved-piece number bytes old new res next rooms stay keeps few =
-    let went = went-same old.hub new.hub rooms stay in
+    ((c : ℕ) → room_at new.hub c ≡ room_at old.hub c) → StayLive old.hub.connections new.hub.connections → new.hub.gathered ≡ old.hub.gathered → KeepsAll (outgoing_at old) (outgoing_at new) → FewerStays old.attended new.attended → Moved (AtMost 1 (Piece number bytes)) old new
+moved-piece number bytes old new res next rooms stay kept keeps few =
+    let went = went-same old.hub new.hub rooms stay kept in
     let live = keeps-live new.hub (outgoing_at old) (outgoing_at new) keeps in
     moved-on (AtMost 1 (Piece number bytes)) old new (steps-same old.hub new.hub (Piece number bytes) (λ _. Done) res next) went live few
     (same-timed old new went (λ c r s is_r is_s. ap (λ (z : Room). z.ledger) (some_room s r (sym is_s ∙ rooms c ∙ is_r))) live)
@@ -121,9 +124,9 @@ moved-piece number bytes old new res next rooms stay keeps few =
 -- a conference opens, or doesn't
 pub moved-open : (config : Configuration) (old new : Loop) (res : Result (Unit {0}) HubRefusal) →
     ((w : World) → StandsFor old.hub w → MatchResult res (λ _. Turns new.hub w (Open config) Done) (λ r. FailsSame new.hub w (Open config) r)) →
-    OnOk res (Opens config old.hub new.hub) → SameConnections old.hub.connections new.hub.connections → OnErr res (SameHub old.hub new.hub) → KeepsAll (outgoing_at old) (outgoing_at new) → FewerStays old.attended new.attended → Moved (AtMost 1 (Open config)) old new
-moved-open config old new res next opens same left keeps few =
-    let went = went-open config old.hub new.hub res opens same left in
+    OnOk res (Opens config old.hub new.hub) → SameConnections old.hub.connections new.hub.connections → OnErr res (SameHub old.hub new.hub) → new.hub.gathered ≡ old.hub.gathered → KeepsAll (outgoing_at old) (outgoing_at new) → FewerStays old.attended new.attended → Moved (AtMost 1 (Open config)) old new
+moved-open config old new res next opens same left kept keeps few =
+    let went = went-open config old.hub new.hub res opens same left kept in
     let live = keeps-live new.hub (outgoing_at old) (outgoing_at new) keeps in
     moved-on (AtMost 1 (Open config)) old new (steps-same old.hub new.hub (Open config) (λ _. Done) res next) went live few (same-timed old new went (ledgers res opens left) live)
   where
@@ -153,7 +156,7 @@ untaken number a b old new rest parcels o is next same count =
     kept : (q : Outgoing) → o ≡ q → KeptAt (Some q) (Some (carrying rest parcels q))
     kept q e = (record { conference = refl; rest = same ∙ ap (λ (z : Outgoing). z.rest) e; parcels = count ∙ ap (λ (z : Outgoing). z.parcels) e; until = λ h. h }, λ h. h)
 
--- the hub was asked for a parcel
+-- the hub was asked for what waits
 pub moved-taken : (number : ℕ) (a b : Attended) (old new : Hub) → ((w : World) → StandsFor old w → StandsFor new w) → TakenFor number a.outgoing b.outgoing old new → FewerStays a b → Moved NoSteps (loop_of old a) (loop_of new b)
 moved-taken number a b old new stands t few = by (lookup (nat_eq number) a.outgoing) refl
   where
@@ -163,19 +166,19 @@ moved-taken number a b old new stands t few = by (lookup (nat_eq number) a.outgo
     -- the hub is as it was
     idle : SameHub old new → KeepsAll (outgoing_in a) (outgoing_in b) → Moved NoSteps (loop_of old a) (loop_of new b)
     idle same keeps =
-        let went = went-none old new same in
+        let went = went-none old new same t.gathered in
         let live = keeps-live new (outgoing_in a) (outgoing_in b) keeps in
         moved-on NoSteps (loop_of old a) (loop_of new b) (steps-none NoSteps old new refl stands) went live few
         (same-timed (loop_of old a) (loop_of new b) went (λ c r s is_r is_s. ap (λ (z : Room). z.ledger) (some_room s r (sym is_s ∙ same.rooms c ∙ is_r))) live)
 
-    -- a parcel was taken, if one waited
-    given : (o : Outgoing) (x : Connection) (waited : Bool) → lookup (nat_eq number) a.outgoing ≡ Some o → connection_at old.connections number ≡ Some x → ((r : Room) → room_at old x.conference ≡ Some r → IsRoom r) →
-        ((parcel : Option Parcel) × (waited ≡ is_some parcel) × (t.rest ≡ o.rest ++ bytes_in parcel) × TakenFrom x.conference x.n parcel old new) → t.parcels ≡ o.parcels + (if waited then 1 else 0) → Moved NoSteps (loop_of old a) (loop_of new b)
-    given o x waited is live kept g count =
+    -- parcels were taken
+    given : (o : Outgoing) (x : Connection) (taken : Taken) → lookup (nat_eq number) a.outgoing ≡ Some o → connection_at old.connections number ≡ Some x →
+        ((parcels : List Parcel) × (taken.count ≡ length parcels) × (t.rest ≡ o.rest ++ bytes_of parcels) × TakenEach x.conference x.n parcels old new) → t.parcels ≡ o.parcels + taken.count → Moved NoSteps (loop_of old a) (loop_of new b)
+    given o x taken is live g count =
         let here : outgoing_in b number ≡ Some (carrying t.rest t.parcels o) = ap (λ (es : List (ℕ × Outgoing)). looked es number) t.next ∙ look-here (carrying t.rest t.parcels) number a.outgoing ∙ ap (option_map (carrying t.rest t.parcels)) is in
         let others : (k : ℕ) → nat_eq number k ≡ false → outgoing_in b k ≡ outgoing_in a k = λ k ne. ap (λ (es : List (ℕ × Outgoing)). looked es k) t.next ∙ look-other (carrying t.rest t.parcels) number k a.outgoing ne in
-        let parcels : t.parcels ≡ o.parcels + count_in g.0 = count ∙ ap (λ (z : Bool). o.parcels + (if z then 1 else 0)) g.1 ∙ counted o.parcels g.0 in
-        let all = takes-one (loop_of old a) (loop_of new b) number x o g.0 live is g.3 (carrying t.rest t.parcels o, here, g.2, parcels, refl, refl) others kept stands in
+        let parcels : t.parcels ≡ o.parcels + length g.0 = count ∙ ap (λ (k : ℕ). o.parcels + k) g.1 in
+        let all = takes-each (loop_of old a) (loop_of new b) number x o g.0 live is g.3 (carrying t.rest t.parcels o, here, g.2, parcels, refl, refl) others stands in
         record {
           steps = steps-none NoSteps old new refl stands;
           live = λ k z live. record { connection = z; live = sym (g.3.connections k) ∙ live; conference = refl; n = refl };
@@ -193,28 +196,19 @@ moved-taken number a b old new stands t few = by (lookup (nat_eq number) a.outgo
               );
           took = λ l. (all l).2;
           over = λ d r is. let u = from-ledgers x.conference x.n g.0 old new g.3 d r is in (u.0, u.1, λ n. over-same r u.0 n n u.2 refl);
+          gathered = gathers-ledgers old new (λ d r is. let u = from-ledgers x.conference x.n g.0 old new g.3 d r is in (u.0, u.1, u.2)) t.gathered;
         }
-      where
-        counted : (k : ℕ) (parcel : Option Parcel) → k + (if is_some parcel then 1 else 0) ≡ k + count_in parcel
-        counted k None = refl
-        counted k (Some p) = refl
 
-    asked : (o : Outgoing) (y : Option Connection) (res : Result Bool HubRefusal) → lookup (nat_eq number) a.outgoing ≡ Some o → connection_at old.connections number ≡ y → TakenInto y res o.rest t.rest old new → OnOk res (KeptOf y old) →
-        MatchResult res (λ waited. t.parcels ≡ o.parcels + (if waited then 1 else 0)) (λ _. t.parcels ≡ o.parcels) → Moved NoSteps (loop_of old a) (loop_of new b)
-    asked o None (Ok waited) is live g kept count = absurd (not_ok waited g.0)
-      where
-        not_ok : (v : Bool) → ◌≡◌ {A = Result Bool HubRefusal} (Ok v) (Err NoConnection) → ⊥
-        not_ok v e = cc
-    asked o None (Err r) is live g kept count = idle g.2 (untaken number a b old new t.rest t.parcels o is t.next g.1 count)
-    asked o (Some x) (Err r) is live g kept count = idle g.2 (untaken number a b old new t.rest t.parcels o is t.next g.1 count)
-    asked o (Some x) (Ok waited) is live g kept count = given o x waited is live kept g count
+    Counts : Outgoing → Result Taken HubRefusal → Type 0
+    Counts o res = MatchResult res (λ taken. t.parcels ≡ o.parcels + taken.count) (λ _. t.parcels ≡ o.parcels)
 
-    took : (o : Outgoing) → lookup (nat_eq number) a.outgoing ≡ Some o → Took number o t.rest t.parcels old new → Moved NoSteps (loop_of old a) (loop_of new b)
-    took o is (inl h) = moved-kept (loop_of old a) (loop_of new b) h.2 (untaken number a b old new t.rest t.parcels o is t.next h.0 h.1) few
-    took o is (inr h) = asked o (connection_at old.connections number) h.result is refl h.given h.kept h.count
+    asked : (o : Outgoing) (y : Option Connection) (res : Result Taken HubRefusal) → lookup (nat_eq number) a.outgoing ≡ Some o → connection_at old.connections number ≡ y → TakenAll y res o.rest t.rest old new → Counts o res →
+        Moved NoSteps (loop_of old a) (loop_of new b)
+    asked o None res is live g count = idle g.2 (untaken number a b old new t.rest t.parcels o is t.next g.1 (subst (Counts o) g.0 count))
+    asked o (Some x) res is live g count = given o x g.0 is live (g.1, g.3, g.4, g.5) (subst (Counts o) g.2 count)
 
     by : (z : Option Outgoing) → lookup (nat_eq number) a.outgoing ≡ z → Moved NoSteps (loop_of old a) (loop_of new b)
     by None e =
         moved-kept (loop_of old a) (loop_of new b) (t.none e)
         (subst (λ (es : List (ℕ × Outgoing)). KeepsAll (outgoing_in a) (looked es)) (sym (t.next ∙ changed-none (carrying t.rest t.parcels) number a.outgoing e)) (keeps-refl (outgoing_in a))) few
-    by (Some o) e = took o e (t.took o e)
+    by (Some o) e = let h = t.took o e in asked o (connection_at old.connections number) h.result e refl h.given h.count

@@ -5,6 +5,7 @@ use Rattle.std.proofs.lemmas.Bool.Decides.{eqb_tells}
 use Rattle.floor_hub.specs.declared.connection.Connection.{Connection}
 use Rattle.floor_hub.specs.declared.step.Step.{Step}
 use Rattle.floor_hub.specs.Connections.{connection_at}
+use Rattle.floor_hub.specs.Gathers.{Gathers}
 use Rattle.floor_hub.specs.Hub.{Hub}
 use Rattle.floor_hub.specs.Rooms.{Joins}
 use Rattle.floor_hub.specs.Runs.{run}
@@ -17,6 +18,7 @@ use Rattle.floor_loop.specs.steps.Moved.{IsLoop, Moved, WasLive}
 use Rattle.floor_loop.specs.steps.Thrown.{Thrown}
 use Rattle.floor_loop.proofs.Calling.{took-refl}
 use Rattle.floor_loop.proofs.Moving.{loop-moves, steps-both, steps-none, steps-of, took-through}
+use Rattle.floor_loop.proofs.Watching.{gathers-both, gathers-refl}
 
 some_connection : (x y : Connection) → ◌≡◌ {A = Option Connection} (Some x) (Some y) → x ≡ y
 some_connection x y e = cc
@@ -29,6 +31,7 @@ carries-same conference a = record {
   steps = steps-none AnySteps a.hub a.hub tt (λ w st. st);
   loop = λ l. l;
   others = λ l k y is ne. record { was = record { connection = y; live = is; conference = refl; n = refl }; took = took-refl a k };
+  gathered = gathers-refl a.hub;
 }
 
 pub carries-both : (conference : ℕ) (a b c : Loop) → Carries conference a b → Carries conference b c → Carries conference a c
@@ -45,6 +48,7 @@ carries-both conference a b c f g = record {
         was = record { connection = x.connection; live = x.live; conference = y.conference ∙ x.conference; n = y.n ∙ x.n };
         took = subst (λ (j : ℕ). Took a c k [] j) (omega arith) (took-through a b c k [] [] 0 0 y.connection y.live at first.took last.took);
       };
+  gathered = gathers-both a.hub b.hub c.hub f.gathered g.gathered;
 }
 
 pub carries-moved : (conference : ℕ) (Are : List Step → Type 0) (a b : Loop) → Moved Are a b → Carries conference a b
@@ -52,6 +56,7 @@ carries-moved conference Are a b m = record {
   steps = steps-of Are AnySteps a.hub b.hub (λ steps t. tt) m.steps;
   loop = loop-moves Are a b m;
   others = λ l k y is ne. record { was = m.live k y is; took = m.took l k };
+  gathered = m.gathered;
 }
 
 -- what waits for a connection of the conference is thrown away
@@ -60,6 +65,7 @@ carries-thrown conference number a b own t = record {
   steps = steps-of NoSteps AnySteps a.hub b.hub (λ steps h. tt) t.steps;
   loop = t.loop;
   others = λ l k y is ne. by l k y (sym (t.connections k) ∙ is) ne (eqb_tells number k);
+  gathered = t.gathered;
 }
   where
     same : (k : ℕ) → nat_eq k k ≡ true
@@ -71,14 +77,15 @@ carries-thrown conference number a b own t = record {
     by l k y is ne (inr other) = record { was = record { connection = y; live = is; conference = refl; n = refl }; took = t.others l k other.0 }
 
 pub carries-joined : (conference : ℕ) (Are : List Step → Type 0) (a b : Loop) → Steps Are a.hub b.hub → (IsLoop a → IsServing b × IsTimed b × TookNothing a b × StaysAreOwn b) →
-    ((k : ℕ) (y : Connection) → connection_at b.hub.connections k ≡ Some y → nat_eq conference y.conference ≡ false → WasLive a.hub k y) → Carries conference a b
-carries-joined conference Are a b steps moved others = record {
+    ((k : ℕ) (y : Connection) → connection_at b.hub.connections k ≡ Some y → nat_eq conference y.conference ≡ false → WasLive a.hub k y) → Gathers a.hub b.hub → Carries conference a b
+carries-joined conference Are a b steps moved others gathers = record {
   steps = steps-of Are AnySteps a.hub b.hub (λ ss t. tt) steps;
   loop = λ l.
       let g = steps l.world l.stands in
       let m = moved l in
       record { world = run l.world g.steps; stands = g.stands; serving = m.0; timed = m.1; own = m.3 };
   others = λ l k y is ne. record { was = others k y is ne; took = (moved l).2 k };
+  gathered = gathers;
 }
 
 -- whoever isn't of the conference to which a connection was attached was live before

@@ -28,6 +28,7 @@ use Rattle.floor_loop.proofs.Calls.{moved-kept}
 use Rattle.floor_loop.proofs.Moving.{moved-same, steps-both, steps-none, took-then}
 use Rattle.floor_loop.proofs.Sparing.{spared-through, spares-same}
 use Rattle.floor_loop.proofs.Stepping.{alone-both, keeps-live, keeps-passed, some-out, stays-kept, wakes-same}
+use Rattle.floor_loop.proofs.Watching.{gathers-refl}
 
 some-connection : (x y : Connection) → ◌≡◌ {A = Option Connection} (Some x) (Some y) → x ≡ y
 some-connection x y e = cc
@@ -162,6 +163,7 @@ module _ (hub : Hub) (a b : Attended) (number : ℕ) (next : b.outgoing ≡ chan
     own = own;
     took = λ l. took-unended;
     over = λ c r is. (r, is, λ n over. over);
+    gathered = gathers-refl hub;
   }
 
 -- nobody is away, and it is early

@@ -1,6 +1,6 @@
 -- What serving a connection has found: a message, or that none is whole.
-use Rattle.std.proofs.Common.{◌≡◌, ◌⊎◌, ℕ, zero, suc, ◌+◌, Bool, true, false, List, [], ◌∷◌, ◌++◌, length, take, map, inl, inr, refl, sym, ◌∙◌, ap, subst, append-nil, append_assoc, arith, length-append, Some, None}
-use Rattle.std.specs.Prelude.{Option, Result, Ok, Err, IfOk, MatchResult, if◌then◌else◌, nat_eq, not}
+use Rattle.std.proofs.Common.{◌≡◌, ◌⊎◌, ℕ, ◌+◌, Bool, true, false, List, [], ◌∷◌, ◌++◌, length, take, map, inl, inr, refl, sym, ◌∙◌, ap, subst, append-nil, append_assoc, arith, length-append, Some, None}
+use Rattle.std.specs.Prelude.{Option, Result, Ok, Err, IfOk, if◌then◌else◌, nat_eq, not}
 use Rattle.std.specs.List.{concat}
 use Rattle.std.specs.Map.{update}
 use Rattle.std.proofs.lemmas.Map.{update_here}
@@ -13,20 +13,18 @@ use Rattle.floor_room.specs.declared.refusal.RoomRefusal.{RoomRefusal}
 use Rattle.floor_room.specs.Room.{Room}
 use Rattle.floor_hub.specs.declared.connection.Connection.{Connection}
 use Rattle.floor_hub.specs.declared.refusal.HubRefusal.{HubRefusal}
-use Rattle.floor_hub.specs.declared.step.Answer.{Answer}
 use Rattle.floor_hub.specs.declared.step.Answer.TheVariants as answer
 use Rattle.floor_hub.specs.declared.step.Served.{Served}
 use Rattle.floor_hub.specs.declared.step.Served.TheVariants as served
 use Rattle.floor_hub.specs.declared.step.Step.TheVariants.{Serve}
-use Rattle.floor_hub.specs.Calls.{Fails, Turns, answer_of}
+use Rattle.floor_hub.specs.Calls.{Turns, answer_of}
 use Rattle.floor_hub.specs.Connections.{StayLive, connection_at}
 use Rattle.floor_hub.specs.Hub.{Hub, is_forgotten, room_at}
-use Rattle.floor_hub.specs.Rooms.{RoomAfter, RoomAfterIn, RoomOf, by_broken, refusal_in, serve_event}
+use Rattle.floor_hub.specs.Rooms.{RoomAfter, RoomAfterIn, RoomOf, by_broken, serve_event}
 use Rattle.floor_hub.specs.StandsFor.{ArrivalStands, Came, CameTo, ConferenceStands, NumberStands, RoomStands, StandsFor, arrival_in}
 use Rattle.floor_hub.specs.World as world
 use Rattle.floor_hub.specs.World.{Arrival, Part, Place, World, aim, arrival, if_live, messages_of, numbered, place, places_after, put, refused, serve, serve_message, take_message, turn, turn_at, unserved, with_arrival, with_events}
 use Rattle.floor_loop.specs.Done.{AddsMessages, Serves}
-use Rattle.floor_loop.specs.Loop.{HoldsNoMessage}
 use Rattle.floor_loop.specs.steps.Moved.{WasLive}
 use Rattle.floor_loop.specs.steps.Found.{Finds}
 use Rattle.floor_loop.proofs.Moving.{was-live}

@@ -1,5 +1,6 @@
 pub mod Over
 pub mod Front
+pub mod Watching
 pub mod Moving
 pub mod Taking
 pub mod Stepping

@@ -22,6 +22,7 @@ use Rattle.floor_hub.specs.declared.refusal.HubRefusal.TheVariants.{ByRoom}
 use Rattle.floor_hub.specs.declared.step.Step.{Step}
 use Rattle.floor_hub.specs.declared.step.Step.TheVariants.{Piece}
 use Rattle.floor_hub.specs.Connections.{SamePlace, StayLive, connection_at}
+use Rattle.floor_hub.specs.Gathers.{Gathers}
 use Rattle.floor_hub.specs.Hub.{Hub, room_at}
 use Rattle.floor_hub.specs.Rooms.{AddsOwn, Joins, OneRoom, QueuesMore, RoomAfter, RoomAfterIn, RoomOf, taken_of}
 use Rattle.floor_hub.specs.Runs.{run}
@@ -42,6 +43,7 @@ use Rattle.floor_loop.specs.Done.{AtMost, Each, NoSteps, Reads, Steps, Then}
 use Rattle.floor_loop.specs.Written.{Attends, IsOnItsWay, IsServing, IsTimed, Took, TookNothing, acknowledged, called_for, taken_bytes, written}
 use Rattle.floor_loop.specs.steps.Moved.{FewerStays, Grows, IsLoop, Keeps, KeepsLive, Moved, WasLive, Went}
 use Rattle.floor_loop.proofs.Over.{over-grows}
+use Rattle.floor_loop.proofs.Watching.{gathers-both, gathers-ledgers, gathers-refl}
 use Rattle.floor_loop.proofs.Front.{before, taken-stay, within-more}
 
 some_is : {A : Type 0} (x y : A) → ◌≡◌ {A = Option A} (Some x) (Some y) → x ≡ y
@@ -337,6 +339,7 @@ moved-owning Are old new steps went keeps own timed = record {
   own = own;
   took = λ l number. took-on old new number (went.live number) went.rooms (λ y is o. keeps number y o is) l.serving;
   over = λ c r is. let t = went.rooms c r is in (t.0, t.1, λ n. over-grows r t.0 n t.2);
+  gathered = went.gathered;
 }
 
 -- a loop whose hub went on, and which has what it had on its way
@@ -375,6 +378,7 @@ moved-both First Next a b c f g = record {
       let s = f.over c r is in
       let t = g.over c s.0 s.1 in
       (t.0, t.1, λ n h. t.2 n (s.2 n h));
+  gathered = gathers-both a.hub b.hub c.hub f.gathered g.gathered;
 }
   where
     live : (number : ℕ) (z : Connection) → connection_at c.hub.connections number ≡ Some z → WasLive a.hub number z
@@ -384,7 +388,7 @@ moved-both First Next a b c f g = record {
         record { connection = x.connection; live = x.live; conference = y.conference ∙ x.conference; n = y.n ∙ x.n }
 
 pub moved-of : (Are Others : List Step → Type 0) (a b : Loop) → ((steps : List Step) → Are steps → Others steps) → Moved Are a b → Moved Others a b
-moved-of Are Others a b f m = record { steps = steps-of Are Others a.hub b.hub f m.steps; live = m.live; serving = m.serving; timed = m.timed; own = m.own; took = m.took; over = m.over }
+moved-of Are Others a b f m = record { steps = steps-of Are Others a.hub b.hub f m.steps; live = m.live; serving = m.serving; timed = m.timed; own = m.own; took = m.took; over = m.over; gathered = m.gathered }
 
 -- a move behind one without steps, and before one
 pub moved-behind : (Are : List Step → Type 0) (a b c : Loop) → Moved NoSteps a b → Moved Are b c → Moved Are a c
@@ -401,6 +405,7 @@ moved-same a b same keeps own = moved-owning NoSteps a b (steps-none NoSteps a.h
     went = subst (Went a.hub) (sym same) (record {
       rooms = λ c r is. (r, is, grows-same r r refl);
       live = λ number y is. record { connection = y; live = is; conference = refl; n = refl };
+      gathered = gathers-refl a.hub;
     })
 
     timed : IsLoop a → IsTimed b
@@ -412,14 +417,14 @@ moved-same a b same keeps own = moved-owning NoSteps a b (steps-none NoSteps a.h
         subst (λ (z : Outgoing). IsSome (until_of z)) (some_is t.0 p (sym t.1 ∙ is_p)) (t.2.until until)
 
 -- a call of the hub for one room, or for none
-pub went-one : (shut why : Option HubRefusal) (own : Room → List Event) (c : ℕ) (old new : Hub) → OneRoom shut why own c old new → StayLive old.connections new.connections → Went old new
-went-one shut why own c old new one stay = record { rooms = rooms-one shut why own c old new one; live = was-live old new stay }
+pub went-one : (shut why : Option HubRefusal) (own : Room → List Event) (c : ℕ) (old new : Hub) → OneRoom shut why own c old new → StayLive old.connections new.connections → Gathers old new → Went old new
+went-one shut why own c old new one stay gathers = record { rooms = rooms-one shut why own c old new one; live = was-live old new stay; gathered = gathers }
 
-pub went-of : (shut why : Option HubRefusal) (own : Connection → Room → List Event) (x : Option Connection) (old new : Hub) → RoomOf shut why own x old new → StayLive old.connections new.connections → Went old new
-went-of shut why own x old new one stay = record { rooms = rooms-of shut why own x old new one; live = was-live old new stay }
+pub went-of : (shut why : Option HubRefusal) (own : Connection → Room → List Event) (x : Option Connection) (old new : Hub) → RoomOf shut why own x old new → StayLive old.connections new.connections → Gathers old new → Went old new
+went-of shut why own x old new one stay gathers = record { rooms = rooms-of shut why own x old new one; live = was-live old new stay; gathered = gathers }
 
-pub went-same : (old new : Hub) → ((d : ℕ) → room_at new d ≡ room_at old d) → StayLive old.connections new.connections → Went old new
-went-same old new same stay = record { rooms = rooms-same old new same; live = was-live old new stay }
+pub went-same : (old new : Hub) → ((d : ℕ) → room_at new d ≡ room_at old d) → StayLive old.connections new.connections → new.gathered ≡ old.gathered → Went old new
+went-same old new same stay kept = record { rooms = rooms-same old new same; live = was-live old new stay; gathered = gathers-ledgers old new (λ c r is. (r, same c ∙ is, refl)) kept }
 
 -- a connection was attached
 pub joined : (old new : Loop) (c number : ℕ) → Joins c number old.hub new.hub → ((d : ℕ) (r : Room) → room_at old.hub d ≡ Some r → (s : Room) × (room_at new.hub d ≡ Some s) × Grows r s) →

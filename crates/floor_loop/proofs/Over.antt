@@ -18,7 +18,7 @@ use Rattle.floor_room.specs.Ledger.{Ledger, conference_of}
 use Rattle.floor_room.specs.Room.{Room}
 use Rattle.floor_machine.specs.Parcel.{Parcel}
 use Rattle.floor_hub.specs.Hub.{Hub, room_at}
-use Rattle.floor_hub.specs.Rooms.{TakenFrom}
+use Rattle.floor_hub.specs.Rooms.{TakenEach, TookEach}
 use Rattle.floor_loop.specs.Written.{IsOver}
 use Rattle.floor_loop.specs.steps.Moved.{Grows, SameLedgers}
 
@@ -115,9 +115,13 @@ some_room : (r s : Room) → ◌≡◌ {A = Option Room} (Some r) (Some s) → r
 some_room r s e = cc
 
 -- what was taken out of a room leaves its ledger
-pub from-ledgers : (c n : ℕ) (parcel : Option Parcel) (old new : Hub) → TakenFrom c n parcel old new → SameLedgers old new
-from-ledgers c n parcel old new f d r is = by (eqb_tells c d)
+pub each-ledger : (r s : Room) (n : ℕ) (ps : List Parcel) → TookEach r s n ps → s.ledger ≡ r.ledger
+each-ledger r s n [] h = ap (λ (z : Room). z.ledger) h
+each-ledger r s n (p ∷ ps) h = each-ledger h.0 s n ps h.3 ∙ ap (λ (z : Room). z.ledger) h.2.same
+
+pub from-ledgers : (c n : ℕ) (parcels : List Parcel) (old new : Hub) → TakenEach c n parcels old new → SameLedgers old new
+from-ledgers c n parcels old new f d r is = by (eqb_tells c d)
   where
     by : (((nat_eq c d ≡ true) × (c ≡ d)) ⊎ ((nat_eq c d ≡ false) × (c ≢ d))) → (s : Room) × (room_at new d ≡ Some s) × (s.ledger ≡ r.ledger)
-    by (inl t) = (f.after, ap (room_at new) (sym t.1) ∙ f.now, ap (λ (z : Room). z.ledger) f.gave.same ∙ ap (λ (z : Room). z.ledger) (some_room f.before r (sym f.was ∙ ap (room_at old) t.1 ∙ is)))
+    by (inl t) = (f.after, ap (room_at new) (sym t.1) ∙ f.now, each-ledger f.before f.after n parcels f.took ∙ ap (λ (z : Room). z.ledger) (some_room f.before r (sym f.was ∙ ap (room_at old) t.1 ∙ is)))
     by (inr t) = (r, f.others d t.0 ∙ is, refl)

@@ -18,6 +18,7 @@ use Rattle.floor_loop.specs.steps.Moved.{FewerStays, Grows, KeepsAll, Moved, Wen
 use Rattle.floor_loop.proofs.Calls.{same-timed}
 use Rattle.floor_loop.proofs.Moving.{grows-same, moved-on, steps-none, was-live}
 use Rattle.floor_loop.proofs.Stepping.{is_not_none, keeps-live, kept-back, stay-same, went-none}
+use Rattle.floor_loop.proofs.Watching.{gathers-ledgers}
 
 some_room : (r s : Room) → ◌≡◌ {A = Option Room} (Some r) (Some s) → r ≡ s
 some_room r s e = cc
@@ -61,18 +62,22 @@ module _ (count : Room → ℕ) (c : ℕ) (old new : Hub) where
           )
       by (inr t) = (r, k.others d t.0 ∙ is, grows-same r r refl, refl)
 
-  pub went-kept : (res : Result (Unit {0}) HubRefusal) → OnOk res (KeepsIn count c old new) → OnErr res (SameHub old new) → Went old new
-  went-kept (Err e) done left = went-none old new left
-  went-kept (Ok v) done left = record { rooms = λ d r is. let t = rooms-in done d r is in (t.0, t.1, t.2); live = was-live old new (stay-same old new done.connections) }
+  pub went-kept : (res : Result (Unit {0}) HubRefusal) → OnOk res (KeepsIn count c old new) → OnErr res (SameHub old new) → new.gathered ≡ old.gathered → Went old new
+  went-kept (Err e) done left same = went-none old new left same
+  went-kept (Ok v) done left same = record {
+    rooms = λ d r is. let t = rooms-in done d r is in (t.0, t.1, t.2);
+    live = was-live old new (stay-same old new done.connections);
+    gathered = gathers-ledgers old new (λ d r is. let t = rooms-in done d r is in (t.0, t.1, t.3)) same;
+  }
 
   pub ledgers-kept : (res : Result (Unit {0}) HubRefusal) → OnOk res (KeepsIn count c old new) → OnErr res (SameHub old new) → (d : ℕ) (r s : Room) → room_at old d ≡ Some r → room_at new d ≡ Some s → s.ledger ≡ r.ledger
   ledgers-kept (Err e) done left d r s is_r is_s = ap (λ (z : Room). z.ledger) (some_room s r (sym is_s ∙ left.rooms d ∙ is_r))
   ledgers-kept (Ok v) done left d r s is_r is_s = let t = rooms-in done d r is_r in ap (λ (z : Room). z.ledger) (some_room s t.0 (sym is_s ∙ t.1)) ∙ t.3
 
 -- a loop of whose hub some events are kept, and in which some are woken
-pub moved-released : (count : Room → ℕ) (c : ℕ) (old new : Loop) (res : Result (Unit {0}) HubRefusal) → OnOk res (KeepsIn count c old.hub new.hub) → OnErr res (SameHub old.hub new.hub) → ((w : World) → StandsFor old.hub w → StandsFor new.hub w) →
+pub moved-released : (count : Room → ℕ) (c : ℕ) (old new : Loop) (res : Result (Unit {0}) HubRefusal) → OnOk res (KeepsIn count c old.hub new.hub) → OnErr res (SameHub old.hub new.hub) → ((w : World) → StandsFor old.hub w → StandsFor new.hub w) → new.hub.gathered ≡ old.hub.gathered →
     KeepsAll (outgoing_at old) (outgoing_at new) → FewerStays old.attended new.attended → Moved NoSteps old new
-moved-released count c old new res done left stands keeps few =
-    let went = went-kept count c old.hub new.hub res done left in
+moved-released count c old new res done left stands same keeps few =
+    let went = went-kept count c old.hub new.hub res done left same in
     let live = keeps-live new.hub (outgoing_at old) (outgoing_at new) keeps in
     moved-on NoSteps old new (steps-none NoSteps old.hub new.hub refl stands) went live few (same-timed old new went (ledgers-kept count c old.hub new.hub res done left) live)

@@ -16,9 +16,10 @@ use Rattle.floor_room.specs.Room.{Room}
 use Rattle.floor_hub.specs.declared.connection.Connection.{Connection}
 use Rattle.floor_hub.specs.declared.refusal.HubRefusal.{HubRefusal}
 use Rattle.floor_hub.specs.declared.refusal.HubRefusal.TheVariants.{ByRoom}
+use Rattle.floor_hub.specs.declared.step.Taken.{Taken}
 use Rattle.floor_hub.specs.Connections.{Puts, SamePlace, StayLive, connection_at}
 use Rattle.floor_hub.specs.Hub.{Hub, room_at}
-use Rattle.floor_hub.specs.Rooms.{IsRefusedIn, RoomAfter, RoomAfterIn, RoomOf, TakenInto, by_broken, by_memory, refusal_in, took_event}
+use Rattle.floor_hub.specs.Rooms.{IsRefusedIn, RoomAfter, RoomAfterIn, RoomOf, TakenAll, by_broken, by_memory, refusal_in, took_event}
 use Rattle.floor_loop.specs.Loop.{Attended, Loop, Outgoing, outgoing_at, outgoing_in}
 use Rattle.floor_loop.specs.Written.{Acknowledges, IsOver, IsServing, IsSparedOrOver, IsTaken, Spares}
 use Rattle.floor_loop.specs.steps.Changed.{changed, whole_of}
@@ -191,17 +192,13 @@ ledgers-taken number before after old new t = by (lookup (nat_eq number) before)
     unchanged : new ≡ old → SameLedgers old new
     unchanged e = ledgers-same old new (λ c. ap (λ (h : Hub). room_at h c) e)
 
-    asked : (o : Outgoing) (z : Option Connection) (res : Result Bool HubRefusal) → TakenInto z res o.rest t.rest old new → SameLedgers old new
+    asked : (o : Outgoing) (z : Option Connection) (res : Result Taken HubRefusal) → TakenAll z res o.rest t.rest old new → SameLedgers old new
     asked o None res h = ledgers-same old new h.2.rooms
-    asked o (Some x) (Ok waited) h = from-ledgers x.conference x.n h.0 old new h.3
-    asked o (Some x) (Err r) h = ledgers-same old new h.2.rooms
+    asked o (Some x) res h = from-ledgers x.conference x.n h.1 old new h.5
 
     by : (z : Option Outgoing) → lookup (nat_eq number) before ≡ z → SameLedgers old new
     by None e = unchanged (t.none e)
-    by (Some o) e = elim (t.took o e) [
-      | inl same ↦ unchanged same.2
-      | inr a ↦ asked o (connection_at old.connections number) a.result a.given
-    ]
+    by (Some o) e = let a = t.took o e in asked o (connection_at old.connections number) a.result a.given
 
 -- the hub was asked for an acknowledgement, and what its room has done stands there still
 

@@ -15,6 +15,7 @@ use Rattle.floor_hub.specs.declared.step.Answer.{Answer}
 use Rattle.floor_hub.specs.declared.step.Step.{Step}
 use Rattle.floor_hub.specs.Calls.{Fails, FailsGone, FailsSame, Turns}
 use Rattle.floor_hub.specs.Connections.{Puts, SameConnections, SamePlace, StayLive, connection_at}
+use Rattle.floor_hub.specs.Gathers.{Gathers}
 use Rattle.floor_hub.specs.Hub.{Hub, room_at}
 use Rattle.floor_hub.specs.Left.{LeftAt}
 use Rattle.floor_hub.specs.Rooms.{Opens, RoomOf, SameHub}
@@ -28,6 +29,7 @@ use Rattle.floor_hub.specs.Concerned.{Concerns, IsLeftAlone}
 use Rattle.std.specs.List.{Contains}
 use Rattle.std.specs.Map.{lookup}
 use Rattle.floor_loop.proofs.Moving.{grows-same, rooms-of, rooms-same, was-live}
+use Rattle.floor_loop.proofs.Watching.{gathers-ledgers}
 
 -- a step of the world, or want of memory by which the hub stands for the same one
 steps-by : (old new : Hub) (s : Step) → ((w : World) → StandsFor old w → StandsFor new w ⊎ StandsFor new (turn w s).world) → Steps (AtMost 1 s) old new
@@ -59,21 +61,25 @@ stay-same old new same k = subst (SamePlace (connection_at old.connections k)) (
     by (Some x) = (refl, refl)
 
 -- nothing has changed
-pub went-none : (old new : Hub) → SameHub old new → Went old new
-went-none old new same = record { rooms = rooms-same old new same.rooms; live = was-live old new (stay-same old new same.connections) }
+pub went-none : (old new : Hub) → SameHub old new → new.gathered ≡ old.gathered → Went old new
+went-none old new same kept = record { rooms = rooms-same old new same.rooms; live = was-live old new (stay-same old new same.connections); gathered = gathers-ledgers old new (λ c r is. (r, same.rooms c ∙ is, refl)) kept }
 
 -- a conference opens, or doesn't
-pub went-open : (config : Configuration) (old new : Hub) (res : Result (Unit {0}) HubRefusal) → OnOk res (Opens config old new) → SameConnections old.connections new.connections → OnErr res (SameHub old new) → Went old new
-went-open config old new (Err r) opens same left = went-none old new left
-went-open config old new (Ok v) opens same left = record { rooms = λ c r is. rooms c r is (eqb_tells config.conference c); live = was-live old new (stay-same old new same) }
+pub went-open : (config : Configuration) (old new : Hub) (res : Result (Unit {0}) HubRefusal) → OnOk res (Opens config old new) → SameConnections old.connections new.connections → OnErr res (SameHub old new) → new.gathered ≡ old.gathered → Went old new
+went-open config old new (Err r) opens same left kept = went-none old new left kept
+went-open config old new (Ok v) opens same left kept = record { rooms = λ c r is. rooms c r is (eqb_tells config.conference c); live = was-live old new (stay-same old new same); gathered = gathers-ledgers old new (λ c r is. still c r is (eqb_tells config.conference c)) kept }
   where
     rooms : (c : ℕ) (r : Room) → room_at old c ≡ Some r → (((nat_eq config.conference c ≡ true) × (config.conference ≡ c)) ⊎ ((nat_eq config.conference c ≡ false) × (config.conference ≢ c))) → (s : Room) × (room_at new c ≡ Some s) × Grows r s
     rooms c r is (inl t) = absurd (none-some r (sym opens.absent ∙ ap (room_at old) t.1 ∙ is))
     rooms c r is (inr t) = (r, opens.others c t.0 ∙ is, grows-same r r refl)
 
+    still : (c : ℕ) (r : Room) → room_at old c ≡ Some r → (((nat_eq config.conference c ≡ true) × (config.conference ≡ c)) ⊎ ((nat_eq config.conference c ≡ false) × (config.conference ≢ c))) → (s : Room) × (room_at new c ≡ Some s) × (s.ledger ≡ r.ledger)
+    still c r is (inl t) = absurd (none-some r (sym opens.absent ∙ ap (room_at old) t.1 ∙ is))
+    still c r is (inr t) = (r, opens.others c t.0 ∙ is, refl)
+
 -- a connection has left
-pub went-left : (shut why : Option HubRefusal) (own : Connection → Room → List Event) (x : Option Connection) (number : ℕ) (old new : Hub) → RoomOf shut why own x old new → Puts old.connections new.connections number None → Went old new
-went-left shut why own x number old new one gone = record { rooms = rooms-of shut why own x old new one; live = λ k y is. live k y is (eqb_tells number k) }
+pub went-left : (shut why : Option HubRefusal) (own : Connection → Room → List Event) (x : Option Connection) (number : ℕ) (old new : Hub) → RoomOf shut why own x old new → Puts old.connections new.connections number None → Gathers old new → Went old new
+went-left shut why own x number old new one gone gathers = record { rooms = rooms-of shut why own x old new one; live = λ k y is. live k y is (eqb_tells number k); gathered = gathers }
   where
     live : (k : ℕ) (y : Connection) → connection_at new.connections k ≡ Some y → (((nat_eq number k ≡ true) × (number ≡ k)) ⊎ ((nat_eq number k ≡ false) × (number ≢ k))) → WasLive old k y
     live k y is (inl t) = absurd (none-some y (sym gone.here ∙ ap (connection_at new.connections) t.1 ∙ is))

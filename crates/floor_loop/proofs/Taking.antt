@@ -22,7 +22,7 @@ use Rattle.floor_hub.specs.declared.connection.Connection.{Connection}
 use Rattle.floor_hub.specs.Concerned.{IsLeftAlone}
 use Rattle.floor_hub.specs.Connections.{connection_at}
 use Rattle.floor_hub.specs.Hub.{Hub, room_at}
-use Rattle.floor_hub.specs.Rooms.{TakenFrom, bytes_in, taken_of}
+use Rattle.floor_hub.specs.Rooms.{TakenEach, TookEach, bytes_in, taken_of}
 use Rattle.floor_hub.specs.StandsFor.{ArrivalStands, NumberStands, StandsFor, live_at}
 use Rattle.floor_hub.specs.World.{Arrival, Place, World, place}
 use Rattle.floor_loop.specs.Loop.{Loop, Outgoing, outgoing_at, parcels_at, rest_at, until_of}
@@ -30,6 +30,7 @@ use Rattle.floor_loop.specs.Written.{Attends, Follow, IsOnItsWay, IsOver, IsServ
 use Rattle.floor_loop.specs.steps.Moved.{IsLoop}
 use Rattle.floor_loop.specs.steps.Changed.{left_of}
 use Rattle.floor_loop.proofs.Moving.{way-of}
+use Rattle.floor_loop.proofs.Over.{each-ledger}
 use Rattle.floor_loop.proofs.Front.{before, called-is, grown, shortened, takes-next}
 
 some_is : {A : Type 0} (x y : A) → ◌≡◌ {A = Option A} (Some x) (Some y) → x ≡ y
@@ -201,6 +202,26 @@ way-taken r s n rest parcels (Some p) config journal gave kept h =
       behind,
     )
 
+-- parcels were taken for n from this room, one after another, and put behind the rest
+pub way-each : (r s : Room) (n : ℕ) (rest : List ℕ) (parcels : ℕ) (ps : List Parcel) → TookEach r s n ps → IsOnItsWay r n rest parcels →
+    IsOnItsWay s n (rest ++ bytes_of ps) (parcels + length ps) × (written s n (rest ++ bytes_of ps) ≡ written r n rest) × (acknowledged s n (parcels + length ps) ≡ acknowledged r n parcels)
+way-each r s n rest parcels [] e h =
+    let count : parcels ≡ parcels + 0 = omega arith in
+    subst (λ (z : Room). IsOnItsWay z n (rest ++ []) (parcels + 0) × (written z n (rest ++ []) ≡ written r n rest) × (acknowledged z n (parcels + 0) ≡ acknowledged r n parcels)) (sym e)
+    (subst (λ (k : ℕ). IsOnItsWay r n (rest ++ []) k × (written r n (rest ++ []) ≡ written r n rest) × (acknowledged r n k ≡ acknowledged r n parcels)) count
+    (subst (λ (z : List ℕ). IsOnItsWay r n z parcels × (written r n z ≡ written r n rest) × (acknowledged r n parcels ≡ acknowledged r n parcels)) (sym (append-nil rest)) (h, refl, refl)))
+way-each r s n rest parcels (p ∷ ps) h way =
+    let mid : Room = h.0 in
+    let ledger : mid.ledger ≡ r.ledger = ap (λ (z : Room). z.ledger) h.2.same in
+    let t = way-taken r mid n rest parcels (Some p) (ap (λ (z : Ledger). z.config) ledger) (ap (λ (z : Ledger). z.journal) ledger) h.2.given h.1 way in
+    let u = way-each mid s n (rest ++ p.bytes) (parcels + 1) ps h.3 t.0 in
+    let count : parcels + 1 + length ps ≡ parcels + suc (length ps) = omega arith in
+    let bytes : (rest ++ p.bytes) ++ bytes_of ps ≡ rest ++ (p.bytes ++ bytes_of ps) = append_assoc rest p.bytes (bytes_of ps) in (
+      subst (λ (k : ℕ). IsOnItsWay s n (rest ++ (p.bytes ++ bytes_of ps)) k) count (subst (λ (z : List ℕ). IsOnItsWay s n z (parcels + 1 + length ps)) bytes u.0),
+      ap (written s n) (sym bytes) ∙ u.1 ∙ t.1,
+      ap (acknowledged s n) (sym count) ∙ u.2 ∙ t.2,
+    )
+
 -- another member of the room is left
 pub way-beside : (r s : Room) (n m : ℕ) (rest : List ℕ) (parcels : ℕ) (parcel : Option Parcel) → m ≢ n → s.ledger.config ≡ r.ledger.config → s.ledger.journal ≡ r.ledger.journal → GivesIf (is_kept r) r.outboxes s.outboxes n (Ok parcel) →
     IsOnItsWay r m rest parcels → IsOnItsWay s m rest parcels × (written s m rest ≡ written r m rest) × (acknowledged s m parcels ≡ acknowledged r m parcels)
@@ -210,6 +231,17 @@ way-beside r s n m rest parcels (Some p) ne config journal gave h =
     let g = gave-some (is_kept r) r.outboxes s.outboxes n p gave in
     way-same r s m rest parcels config journal
     (ap (λ (os : List Outbox). option_map_or (λ o. o.taken) (outbox_of os m) 0) g.4 ∙ ap (λ (z : Option Outbox). option_map_or (λ o. o.taken) z 0) (outbox-other r.outboxes n m (after_take g.0 g.1) ne)) h
+
+pub beside-each : (r s : Room) (n m : ℕ) (rest : List ℕ) (parcels : ℕ) (ps : List Parcel) → m ≢ n → TookEach r s n ps →
+    IsOnItsWay r m rest parcels → IsOnItsWay s m rest parcels × (written s m rest ≡ written r m rest) × (acknowledged s m parcels ≡ acknowledged r m parcels)
+beside-each r s n m rest parcels [] ne e h =
+    subst (λ (z : Room). IsOnItsWay z m rest parcels × (written z m rest ≡ written r m rest) × (acknowledged z m parcels ≡ acknowledged r m parcels)) (sym e) (h, refl, refl)
+beside-each r s n m rest parcels (p ∷ ps) ne h way =
+    let mid : Room = h.0 in
+    let ledger : mid.ledger ≡ r.ledger = ap (λ (z : Room). z.ledger) h.2.same in
+    let t = way-beside r mid n m rest parcels (Some p) ne (ap (λ (z : Ledger). z.config) ledger) (ap (λ (z : Ledger). z.journal) ledger) h.2.given way in
+    let u = beside-each mid s n m rest parcels ps ne h.3 t.0 in
+    (u.0, u.1 ∙ t.1, u.2 ∙ t.2)
 
 -- the socket took the first of the rest
 pub way-written : (r : Room) (n : ℕ) (rest : List ℕ) (parcels count : ℕ) → IsOnItsWay r n rest parcels →
@@ -271,13 +303,13 @@ beside-waits r s n m parcel ne g =
       shut = λ h. ap (λ (l : Ledger). l.is_broken || not (conference_of l).is_open) (sym ledger) ∙ h;
     }
 
--- a loop of which one connection was given a parcel from the hub, if one waited
+-- a loop of which one connection was given parcels from the hub
 
-abbrev pub TakesOne : Loop → Loop → ℕ → Type 0
-TakesOne old new number =
-    (x : Connection) (o : Outgoing) (parcel : Option Parcel) → connection_at old.hub.connections number ≡ Some x → outgoing_at old number ≡ Some o → TakenFrom x.conference x.n parcel old.hub new.hub →
-    ((p : Outgoing) × (outgoing_at new number ≡ Some p) × (p.rest ≡ o.rest ++ bytes_in parcel) × (p.parcels ≡ o.parcels + count_in parcel) × (p.conference ≡ o.conference) × (until_of p ≡ until_of o)) →
-    ((k : ℕ) → nat_eq number k ≡ false → outgoing_at new k ≡ outgoing_at old k) → ((r : Room) → room_at old.hub x.conference ≡ Some r → IsRoom r) → ((w : World) → StandsFor old.hub w → StandsFor new.hub w) → IsLoop old →
+abbrev pub TakesEach : Loop → Loop → ℕ → Type 0
+TakesEach old new number =
+    (x : Connection) (o : Outgoing) (ps : List Parcel) → connection_at old.hub.connections number ≡ Some x → outgoing_at old number ≡ Some o → TakenEach x.conference x.n ps old.hub new.hub →
+    ((p : Outgoing) × (outgoing_at new number ≡ Some p) × (p.rest ≡ o.rest ++ bytes_of ps) × (p.parcels ≡ o.parcels + length ps) × (p.conference ≡ o.conference) × (until_of p ≡ until_of o)) →
+    ((k : ℕ) → nat_eq number k ≡ false → outgoing_at new k ≡ outgoing_at old k) → ((w : World) → StandsFor old.hub w → StandsFor new.hub w) → IsLoop old →
     IsServing new × IsTimed new × TookNothing old new
 
 -- what a live connection has after that
@@ -293,26 +325,26 @@ record IsAfter (old new : Loop) (k : ℕ) (y : Connection) (r : Room) (q : Outgo
   until : until_of p ≡ until_of q
   ledger : s.ledger ≡ r.ledger
 
-pub takes-one : (old new : Loop) (number : ℕ) → TakesOne old new number
-takes-one old new number x o parcel is_x is_o f out others kept stands l = (serving, timed, took)
+pub takes-each : (old new : Loop) (number : ℕ) → TakesEach old new number
+takes-each old new number x o ps is_x is_o f out others stands l = (serving, timed, took)
   where
-    rooms-agree : (f.after.ledger.config ≡ f.before.ledger.config) × (f.after.ledger.journal ≡ f.before.ledger.journal)
-    rooms-agree = (ap (λ (z : Room). z.ledger.config) f.gave.same, ap (λ (z : Room). z.ledger.journal) f.gave.same)
+    kept_ledger : f.after.ledger ≡ f.before.ledger
+    kept_ledger = each-ledger f.before f.after x.n ps f.took
 
     own : IsOnItsWay f.before x.n o.rest o.parcels → IsAfter old new number x f.before o
     own way =
-        let t = way-taken f.before f.after x.n o.rest o.parcels parcel rooms-agree.0 rooms-agree.1 f.gave.given (kept f.before f.was) way in
+        let t = way-each f.before f.after x.n o.rest o.parcels ps f.took way in
         record {
           s = f.after;
           p = out.0;
           there = f.now;
           found = out.1;
-          way = subst (λ (k : ℕ). IsOnItsWay f.after x.n out.0.rest k) (sym out.3) (subst (λ (z : List ℕ). IsOnItsWay f.after x.n z (o.parcels + count_in parcel)) (sym out.2) t.0);
+          way = subst (λ (k : ℕ). IsOnItsWay f.after x.n out.0.rest k) (sym out.3) (subst (λ (z : List ℕ). IsOnItsWay f.after x.n z (o.parcels + length ps)) (sym out.2) t.0);
           sent = ap (written f.after x.n) out.2 ∙ t.1;
           behind = ap (acknowledged f.after x.n) out.3 ∙ t.2;
           conference = out.4;
           until = out.5;
-          ledger = ap (λ (z : Room). z.ledger) f.gave.same;
+          ledger = kept_ledger;
         }
 
     -- what a live connection k has on its way
@@ -341,7 +373,7 @@ takes-one old new number x o parcel is_x is_o f out others kept stands l = (serv
     at k y r q is_y is_r is_q way (inr differs) (inl near) =
         let r_is : f.before ≡ r = some_is f.before r (sym f.was ∙ ap (room_at old.hub) near.1 ∙ is_r) in
         let ne : y.n ≢ x.n = λ e. differs.1 (apart old.hub l.world l.stands number k x y is_x is_y (sym near.1) e) in
-        let t = way-beside f.before f.after x.n y.n q.rest q.parcels parcel ne rooms-agree.0 rooms-agree.1 f.gave.given (subst (λ (z : Room). IsOnItsWay z y.n q.rest q.parcels) (sym r_is) way) in
+        let t = beside-each f.before f.after x.n y.n q.rest q.parcels ps ne f.took (subst (λ (z : Room). IsOnItsWay z y.n q.rest q.parcels) (sym r_is) way) in
         record {
           s = f.after;
           p = q;
@@ -352,7 +384,7 @@ takes-one old new number x o parcel is_x is_o f out others kept stands l = (serv
           behind = t.2 ∙ ap (λ (z : Room). acknowledged z y.n q.parcels) r_is;
           conference = refl;
           until = refl;
-          ledger = ap (λ (z : Room). z.ledger) f.gave.same ∙ ap (λ (z : Room). z.ledger) r_is;
+          ledger = kept_ledger ∙ ap (λ (z : Room). z.ledger) r_is;
         }
 
     after : (k : ℕ) (y : Connection) (r : Room) (q : Outgoing) → connection_at old.hub.connections k ≡ Some y → room_at old.hub y.conference ≡ Some r → outgoing_at old k ≡ Some q → IsAfter old new k y r q

@@ -1,6 +1,6 @@
 -- What waits for a connection that leaves is thrown away, and nobody else notices.
-use Rattle.std.proofs.Common.{◌≡◌, ◌≢◌, ◌⊎◌, inl, inr, ℕ, true, false, List, [], refl, sym, ◌∙◌, ap, subst, Some, None}
-use Rattle.std.specs.Prelude.{Option, Result, Ok, Err, Bool, nat_eq}
+use Rattle.std.proofs.Common.{◌≡◌, ◌≢◌, ◌⊎◌, inl, inr, ℕ, true, false, List, [], ◌∷◌, refl, sym, ◌∙◌, ap, subst, Some, None}
+use Rattle.std.specs.Prelude.{Option, Result, nat_eq}
 use Rattle.std.specs.Map.{lookup}
 use Rattle.std.specs.Option.{option_map}
 use Rattle.std.proofs.lemmas.Bool.Decides.{eqb_tells}
@@ -10,10 +10,11 @@ use Rattle.floor_room.specs.Room.{Room}
 use Rattle.floor_hub.specs.declared.connection.Connection.{Connection}
 use Rattle.floor_hub.specs.declared.refusal.HubRefusal.{HubRefusal}
 use Rattle.floor_hub.specs.declared.step.Step.{Step}
+use Rattle.floor_hub.specs.declared.step.Taken.{Taken}
 use Rattle.floor_hub.specs.Concerned.{IsLeftAlone}
 use Rattle.floor_hub.specs.Connections.{SameConnections, connection_at}
 use Rattle.floor_hub.specs.Hub.{Hub, room_at}
-use Rattle.floor_hub.specs.Rooms.{TakenFrom, TakenInto}
+use Rattle.floor_hub.specs.Rooms.{TakenAll, TakenEach, TookEach}
 use Rattle.floor_hub.specs.StandsFor.{StandsFor}
 use Rattle.floor_hub.specs.World.{World}
 use Rattle.floor_loop.specs.Done.{NoSteps, Then}
@@ -29,6 +30,7 @@ use Rattle.floor_loop.proofs.Sparing.{ends-found, ledgers-both, ledgers-same, le
 use Rattle.floor_loop.proofs.Stepping.{alone-both, alone-refl, keeps-refl, some-out}
 use Rattle.floor_loop.proofs.Taking.{apart, beside-waits, over-by}
 use Rattle.floor_loop.proofs.Writing.{changed-beside, changed-here, wrote}
+use Rattle.floor_loop.proofs.Watching.{gathers-both, gathers-refl}
 
 some_room : (r s : Room) → ◌≡◌ {A = Option Room} (Some r) (Some s) → r ≡ s
 some_room r s e = cc
@@ -60,6 +62,7 @@ thrown-wrote hub a b number count next few = record {
   ready = ready-found (wrote_of count) number a b next (λ o. refl);
   alone = λ l k x r s ne is_x is_r is_s. alone-refl r s x.n (some_room r s (sym is_r ∙ is_s));
   ledgers = ledgers-same hub hub (λ c. refl);
+  gathered = gathers-refl hub;
 }
 
 -- what a hub that was asked for a parcel has left of its connections
@@ -69,22 +72,23 @@ connections-taken number before after old new t = by (lookup (nat_eq number) bef
     unchanged : new ≡ old → SameConnections old.connections new.connections
     unchanged e k = ap (λ (h : Hub). connection_at h.connections k) e
 
-    asked : (o : Outgoing) (z : Option Connection) (res : Result Bool HubRefusal) → TakenInto z res o.rest t.rest old new → SameConnections old.connections new.connections
+    asked : (o : Outgoing) (z : Option Connection) (res : Result Taken HubRefusal) → TakenAll z res o.rest t.rest old new → SameConnections old.connections new.connections
     asked o None res h = h.2.connections
-    asked o (Some x) (Ok waited) h = h.3.connections
-    asked o (Some x) (Err r) h = h.2.connections
+    asked o (Some x) res h = h.5.connections
 
     by : (z : Option Outgoing) → lookup (nat_eq number) before ≡ z → SameConnections old.connections new.connections
     by None e = unchanged (t.none e)
-    by (Some o) e = elim (t.took o e) [
-      | inl same ↦ unchanged same.2
-      | inr a ↦ asked o (connection_at old.connections number) a.result a.given
-    ]
+    by (Some o) e = let a = t.took o e in asked o (connection_at old.connections number) a.result a.given
 
--- a parcel was taken out of the room of x: whoever isn't x was left alone
-alone-from : (hub new : Hub) (w : World) (number : ℕ) (x : Connection) (parcel : Option Parcel) → StandsFor hub w → connection_at hub.connections number ≡ Some x → TakenFrom x.conference x.n parcel hub new →
+-- whoever isn't n was left alone by what was taken for it
+alone-each : (r s : Room) (n m : ℕ) (ps : List Parcel) → m ≢ n → TookEach r s n ps → IsLeftAlone r s m
+alone-each r s n m [] ne h = alone-refl r s m (sym h)
+alone-each r s n m (p ∷ ps) ne h = alone-both r h.0 s m (beside-waits r h.0 n m (Some p) ne h.2) (alone-each h.0 s n m ps ne h.3)
+
+-- parcels were taken out of the room of x: whoever isn't x was left alone
+alone-from : (hub new : Hub) (w : World) (number : ℕ) (x : Connection) (ps : List Parcel) → StandsFor hub w → connection_at hub.connections number ≡ Some x → TakenEach x.conference x.n ps hub new →
     (k : ℕ) (y : Connection) (r s : Room) → number ≢ k → connection_at hub.connections k ≡ Some y → room_at hub y.conference ≡ Some r → room_at new y.conference ≡ Some s → IsLeftAlone r s y.n
-alone-from hub new w number x parcel st is_x f k y r s differs is_y is_r is_s = by (eqb_tells x.conference y.conference)
+alone-from hub new w number x ps st is_x f k y r s differs is_y is_r is_s = by (eqb_tells x.conference y.conference)
   where
     by : (((nat_eq x.conference y.conference ≡ true) × (x.conference ≡ y.conference)) ⊎ ((nat_eq x.conference y.conference ≡ false) × (x.conference ≢ y.conference))) → IsLeftAlone r s y.n
     by (inr far) = alone-refl r s y.n (some_room r s (sym is_r ∙ sym (f.others y.conference far.0) ∙ is_s))
@@ -92,7 +96,7 @@ alone-from hub new w number x parcel st is_x f k y r s differs is_y is_r is_s = 
         let r_is : f.before ≡ r = some_room f.before r (sym f.was ∙ ap (room_at hub) near.1 ∙ is_r) in
         let s_is : f.after ≡ s = some_room f.after s (sym f.now ∙ ap (room_at new) near.1 ∙ is_s) in
         let ne : y.n ≢ x.n = λ e. differs (apart hub w st number k x y is_x is_y (sym near.1) e) in
-        subst (λ (z : Room). IsLeftAlone z s y.n) r_is (subst (λ (z : Room). IsLeftAlone f.before z y.n) s_is (beside-waits f.before f.after x.n y.n parcel ne f.gave))
+        subst (λ (z : Room). IsLeftAlone z s y.n) r_is (subst (λ (z : Room). IsLeftAlone f.before z y.n) s_is (alone-each f.before f.after x.n y.n ps ne f.took))
 
 alone-taken : (number : ℕ) (before after : List (ℕ × Outgoing)) (old new : Hub) (w : World) → StandsFor old w → TakenFor number before after old new →
     (k : ℕ) (y : Connection) (r s : Room) → nat_eq number k ≡ false → connection_at old.connections k ≡ Some y → room_at old y.conference ≡ Some r → room_at new y.conference ≡ Some s → IsLeftAlone r s y.n
@@ -107,19 +111,15 @@ alone-taken number before after old new w st t k y r s ne is_y is_r is_s = by (l
     same_room : (h : room_at new y.conference ≡ room_at old y.conference) → IsLeftAlone r s y.n
     same_room h = alone-refl r s y.n (some_room r s (sym is_r ∙ sym h ∙ is_s))
 
-    asked : (o : Outgoing) (z : Option Connection) (res : Result Bool HubRefusal) → connection_at old.connections number ≡ z → TakenInto z res o.rest t.rest old new → IsLeftAlone r s y.n
+    asked : (o : Outgoing) (z : Option Connection) (res : Result Taken HubRefusal) → connection_at old.connections number ≡ z → TakenAll z res o.rest t.rest old new → IsLeftAlone r s y.n
     asked o None res e h = same_room (h.2.rooms y.conference)
-    asked o (Some x) (Ok waited) e h = alone-from old new w number x h.0 st e h.3 k y r s differs is_y is_r is_s
-    asked o (Some x) (Err why) e h = same_room (h.2.rooms y.conference)
+    asked o (Some x) res e h = alone-from old new w number x h.1 st e h.5 k y r s differs is_y is_r is_s
 
     by : (z : Option Outgoing) → lookup (nat_eq number) before ≡ z → IsLeftAlone r s y.n
     by None e = same_room (ap (λ (h : Hub). room_at h y.conference) (t.none e))
-    by (Some o) e = elim (t.took o e) [
-      | inl same ↦ same_room (ap (λ (h : Hub). room_at h y.conference) same.2)
-      | inr a ↦ asked o (connection_at old.connections number) a.result refl a.given
-    ]
+    by (Some o) e = let a = t.took o e in asked o (connection_at old.connections number) a.result refl a.given
 
--- a parcel was taken from the hub
+-- what waits was taken from the hub
 pub thrown-taken : (number : ℕ) (a b : Attended) (old new : Hub) → ((w : World) → StandsFor old w → StandsFor new w) → TakenFor number a.outgoing b.outgoing old new → FewerStays a b → Thrown number (loop_of old a) (loop_of new b)
 thrown-taken number a b old new stands t few =
     let m = moved-taken number a b old new stands t few in
@@ -133,6 +133,7 @@ thrown-taken number a b old new stands t few =
       ready = ready-found (carrying t.rest t.parcels) number a b t.next (λ o. refl);
       alone = λ l. alone-taken number a.outgoing b.outgoing old new l.world l.stands t;
       ledgers = ledgers-taken number a.outgoing b.outgoing old new t;
+      gathered = m.gathered;
     }
 
 -- nothing was done
@@ -149,6 +150,7 @@ thrown-none number hub a =
       ready = λ k p is. (p, is, refl);
       alone = λ l k x r s ne is_x is_r is_s. alone-refl r s x.n (some_room r s (sym is_r ∙ is_s));
       ledgers = ledgers-same hub hub (λ c. refl);
+      gathered = m.gathered;
     }
 
 -- one after another
@@ -174,6 +176,7 @@ thrown-both number a b c f g = record {
       let at = f.ledgers x.conference r is_r in
       alone-both r at.0 t x.n (f.alone l k x r at.0 ne is_x is_r at.1) (g.alone (f.loop l) k x at.0 t ne (f.connections k ∙ is_x) at.1 is_t);
   ledgers = ledgers-both a.hub b.hub c.hub f.ledgers g.ledgers;
+  gathered = gathers-both a.hub b.hub c.hub f.gathered g.gathered;
 }
   where
     live : (k : ℕ) (z : Connection) → connection_at c.hub.connections k ≡ Some z → WasLive b.hub k z
@@ -195,6 +198,7 @@ module _ (number : ℕ) (old mid new : Loop) (t : Thrown number old mid) (gone :
         let s = t.ledgers c r is in
         let u = m.over c s.0 s.1 in
         (u.0, u.1, λ n over. u.2 n (over-by r s.0 n (sym s.2) over));
+    gathered = gathers-both old.hub mid.hub new.hub t.gathered m.gathered;
   }
     where
       by : (l : IsLoop old) (k : ℕ) → (((nat_eq number k ≡ true) × (number ≡ k)) ⊎ ((nat_eq number k ≡ false) × (number ≢ k))) → Took old new k [] 0

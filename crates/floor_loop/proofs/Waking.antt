@@ -1,12 +1,10 @@
 -- Whoever is woken, and whoever isn't.
 use Rattle.std.proofs.Common.{◌≡◌, ◌≢◌, ◌⊎◌, inl, inr, ℕ, Bool, true, false, refl, ap, subst, sym, ◌∙◌, Some}
-use Rattle.std.specs.Prelude.{Option, ◌||◌, ◌↔◌, not, nat_eq}
+use Rattle.std.specs.Prelude.{Option, ◌||◌, ◌↔◌, nat_eq}
 use Rattle.std.proofs.lemmas.Bool.Decides.{eqb_tells}
-use Rattle.floor_room.specs.Status.{phase_of}
-use Rattle.floor_room.specs.declared.status.Phase.TheVariants.{Running, Ended, Broken}
 use Rattle.floor_room.specs.Room.{Room}
 use Rattle.floor_hub.specs.Concerned.{is_cut, is_shut}
-use Rattle.floor_hub.specs.Rooms.{CutIs}
+use Rattle.floor_hub.specs.Rooms.{OverIs}
 use Rattle.floor_loop.specs.Written.{IsOver}
 use Rattle.floor_hub.specs.declared.connection.Connection.{Connection}
 use Rattle.floor_hub.specs.Hub.{Hub, room_at}
@@ -37,47 +35,21 @@ spared-refl hub a k x r o p is_x is_r is_o is_p conference = inl (ap (λ (z : Ou
 not_true : false ≡ true → ⊥
 not_true e = cc
 
--- of an open room's member nothing more is told to it if it is cut
-pub over-is : (r : Room) (n : ℕ) (b : Bool) → is_shut r ≡ false → b ≡ is_cut r n → (b ≡ true) ↔ IsOver r n
-over-is r n b opened cut = (λ e. inl (sym cut ∙ e), λ over. by (sym cut) over)
+-- nothing more is told to a member if it is cut or its room is shut
+pub over-both : (r : Room) (n : ℕ) (b : Bool) → b ≡ (is_cut r n || is_shut r) → (b ≡ true) ↔ IsOver r n
+over-both r n b is = (λ e. split (is_cut r n) (is_shut r) refl refl (sym is ∙ e), λ over. is ∙ join (is_cut r n) (is_shut r) over)
   where
-    by : is_cut r n ≡ b → IsOver r n → b ≡ true
-    by same (inl h) = sym same ∙ h
-    by same (inr h) = absurd (not_true (sym opened ∙ h))
+    split : (cut shut : Bool) → is_cut r n ≡ cut → is_shut r ≡ shut → (cut || shut) ≡ true → IsOver r n
+    split true shut is_c is_s e = inl is_c
+    split false true is_c is_s e = inr is_s
+    split false false is_c is_s e = absurd (not_true e)
 
--- and of a closed one whoever is its member
-pub shut-is : (r : Room) (n : ℕ) (b : Bool) → b ≡ true → is_shut r ≡ true → (b ≡ true) ↔ IsOver r n
-shut-is r n b e shut = (λ h. inr shut, λ over. e)
+    join : (cut shut : Bool) → ((cut ≡ true) ⊎ (shut ≡ true)) → (cut || shut) ≡ true
+    join true shut over = refl
+    join false true over = refl
+    join false false (inl h) = absurd (not_true h)
+    join false false (inr h) = absurd (not_true h)
 
--- whether a live connection's member is cut
-pub cut-of : (h : Hub) (z : Option Connection) (x : Connection) (b : Bool) → CutIs h z b → z ≡ Some x → (r : Room) → room_at h x.conference ≡ Some r → b ≡ is_cut r x.n
-cut-of h z x b c e = let t : CutIs h (Some x) b = subst (λ (y : Option Connection). CutIs h y b) e c in t
-
--- what the phase of a room says
-
-pub phase-running : (b o : Bool) → phase_of b o ≡ Running → (b || not o) ≡ false
-phase-running true o e = absurd (apart e)
-  where
-    apart : Broken ≡ Running → ⊥
-    apart h = cc
-phase-running false true e = refl
-phase-running false false e = absurd (apart e)
-  where
-    apart : Ended ≡ Running → ⊥
-    apart h = cc
-
-pub phase-ended : (b o : Bool) → phase_of b o ≡ Ended → (b || not o) ≡ true
-phase-ended true o e = refl
-phase-ended false true e = absurd (apart e)
-  where
-    apart : Running ≡ Ended → ⊥
-    apart h = cc
-phase-ended false false e = refl
-
-pub phase-broken : (b o : Bool) → phase_of b o ≡ Broken → (b || not o) ≡ true
-phase-broken true o e = refl
-phase-broken false true e = absurd (apart e)
-  where
-    apart : Running ≡ Broken → ⊥
-    apart h = cc
-phase-broken false false e = refl
+-- whether nothing more is told to a live connection
+pub over-of : (h : Hub) (z : Option Connection) (x : Connection) (b : Bool) → OverIs h z b → z ≡ Some x → (r : Room) → room_at h x.conference ≡ Some r → b ≡ (is_cut r x.n || is_shut r)
+over-of h z x b c e = let t : OverIs h (Some x) b = subst (λ (y : Option Connection). OverIs h y b) e c in t

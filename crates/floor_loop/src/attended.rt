@@ -19,8 +19,8 @@ use crate::grace::Grace;
 use crate::line::Line;
 use crate::outgoing::{Mark, Outgoing};
 use crate::stay::Stay;
-use floor_hub::{ConnNo, Hub, HubRefusal};
-use indexmap::IndexMap;
+use floor_hub::{ConnNo, Hub, HubRefusal, Taken};
+use floor_numbered::Numbered;
 use std::alloc::{AllocError, Global};
 use std::marker::Model;
 
@@ -33,7 +33,7 @@ const MAX_WAIT: u64 = 10_000;
 /// time, with room for all since their attach, and nobody is looked for.
 #[derive(Drop)]
 pub(crate) struct Attended {
-    outgoing: IndexMap<u64, Outgoing>,
+    outgoing: Numbered<Outgoing>,
     ready: Line,
     ending: Line,
     failed: Line,
@@ -69,7 +69,7 @@ impl Attended {
         } }
     {
         Attended {
-            outgoing: IndexMap::new(alloc),
+            outgoing: Numbered::new(alloc),
             ready: Line::new(alloc),
             ending: Line::new(alloc),
             failed: Line::new(alloc),
@@ -89,7 +89,7 @@ impl Attended {
     pub(crate) fn get(&self, number: ConnNo) -> Option<&Outgoing>
         ensures value { option_copied result ≡ outgoing_in self.now number }
     {
-        self.outgoing.get(&number)
+        self.outgoing.get(number)
     }
 
     /// A connection has something to write or is to be shut down.
@@ -205,7 +205,7 @@ impl Attended {
             → stay_of self.new.away k ≡ stay_of self.old.away k }
         ensures away { self.new.away ≡ record self.old.away { stays = self.new.away.stays } }
     {
-        let _gone = self.outgoing.swap_remove(&number);
+        let _gone = self.outgoing.swap_remove(number);
         self.away.remove(number);
     }
 
@@ -312,12 +312,11 @@ impl Attended {
         let _parcels = self.advance(number, count);
     }
 
-    /// Takes the first parcel that waits for a connection from the hub, and says whether one was taken: none
-    /// where 64 parcels or 64 KiB are on their way.
-    pub(crate) fn take_one(&mut self, hub: &mut Hub, number: ConnNo) -> Result<bool, HubRefusal>
+    /// Takes what the hub hands out to a connection: as much as may be on its way, 64 parcels or 64 KiB.
+    pub(crate) fn take_all(&mut self, hub: &mut Hub, number: ConnNo) -> Result<Taken, HubRefusal>
         ensures next { TakenFor number self.old.outgoing self.new.outgoing hub.old hub.new }
-        ensures filled { IfOk result (λ waited. Fills number waited self.old.outgoing
-            self.new.outgoing hub.new) }
+        ensures filled { IfOk result (λ taken. taken.is_refused ≡ false
+            → Fills number self.new.outgoing hub.new) }
         ensures time { self.new.time ≡ self.old.time }
         ensures away { self.new.away ≡ self.old.away }
         ensures stands { (w : World) → StandsFor hub.old w → StandsFor hub.new w }

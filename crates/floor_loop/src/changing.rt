@@ -13,20 +13,14 @@ ghost use Rattle.floor_loop.specs.steps.Taken.{Fills, TakenFor};
 
 use crate::line::{Entry, Line};
 use crate::outgoing::{Mark, Outgoing};
-use floor_hub::{ConnNo, Hub, HubRefusal};
-use indexmap::IndexMap;
+use floor_hub::{ConnNo, Hub, HubRefusal, Taken};
+use floor_numbered::Numbered;
 use std::alloc::AllocError;
-
-/// How many bytes are handed out to be written at a time: our choice.
-pub(crate) const MAX_WRITE: usize = 65_536;
-
-/// How many parcels are taken from the hub before they are acknowledged: our choice.
-pub(crate) const MAX_PARCELS: u32 = 64;
 
 /// Takes room for one connection more: in the map, and for all that haven't a mark in its line. After an error
 /// everybody stands where they stood.
 pub(crate) fn reserve(
-    outgoing: &mut IndexMap<u64, Outgoing>,
+    outgoing: &mut Numbered<Outgoing>,
     ready: &mut Line,
     ending: &mut Line,
     failed: &mut Line,
@@ -46,7 +40,7 @@ pub(crate) fn reserve(
 }
 
 /// Takes a connection in, for which there is room.
-pub(crate) fn add_in(outgoing: &mut IndexMap<u64, Outgoing>, number: ConnNo, one: Outgoing)
+pub(crate) fn add_in(outgoing: &mut Numbered<Outgoing>, number: ConnNo, one: Outgoing)
     requires { 1 ≤ spare outgoing.old }
     ensures next { outgoing.new.entries ≡ insert_entry nat_eq outgoing.old.entries number one }
     ensures here { get nat_eq outgoing.new number ≡ Some one }
@@ -61,7 +55,7 @@ pub(crate) fn add_in(outgoing: &mut IndexMap<u64, Outgoing>, number: ConnNo, one
 
 /// Marks a connection that hasn't the mark, and says whether there was one.
 pub(crate) fn mark_in(
-    outgoing: &mut IndexMap<u64, Outgoing>,
+    outgoing: &mut Numbered<Outgoing>,
     mark: Mark,
     number: ConnNo,
     time: u64,
@@ -70,14 +64,14 @@ pub(crate) fn mark_in(
     ensures value { result ≡ option_map_or (λ o. is_none (mark_of mark o))
         (get nat_eq outgoing.old number) false }
 {
-    match outgoing.get_mut(&number) {
+    match outgoing.get_mut(number) {
         Some(one) => one.set(mark, time),
         None => false,
     }
 }
 
 /// The connection that is ready since longest isn't any more.
-pub(crate) fn next_in(outgoing: &mut IndexMap<u64, Outgoing>, ready: &mut Line) -> Option<ConnNo>
+pub(crate) fn next_in(outgoing: &mut Numbered<Outgoing>, ready: &mut Line) -> Option<ConnNo>
     ensures next { outgoing.new.entries
         ≡ option_map_or (λ number. changed given number outgoing.old.entries) result
         outgoing.old.entries }
@@ -98,7 +92,7 @@ pub(crate) fn next_in(outgoing: &mut IndexMap<u64, Outgoing>, ready: &mut Line) 
 }
 
 /// A connection that is ready since this time isn't any more. Says whether there was one.
-fn give_in(outgoing: &mut IndexMap<u64, Outgoing>, entry: Entry) -> bool
+fn give_in(outgoing: &mut Numbered<Outgoing>, entry: Entry) -> bool
     ensures next { outgoing.new.entries
         ≡ (if result then changed given entry.number outgoing.old.entries
         else outgoing.old.entries) }
@@ -112,21 +106,17 @@ fn give_in(outgoing: &mut IndexMap<u64, Outgoing>, entry: Entry) -> bool
     true
 }
 
-fn give_one(outgoing: &mut IndexMap<u64, Outgoing>, number: ConnNo)
+fn give_one(outgoing: &mut Numbered<Outgoing>, number: ConnNo)
     ensures next { outgoing.new.entries ≡ changed given number outgoing.old.entries }
 {
-    match outgoing.get_mut(&number) {
+    match outgoing.get_mut(number) {
         Some(one) => one.give(),
         None => {}
     }
 }
 
 /// Who has this mark since longest. Whoever stands before it in the line hasn't it, and goes.
-pub(crate) fn first_of(
-    outgoing: &IndexMap<u64, Outgoing>,
-    line: &mut Line,
-    mark: Mark,
-) -> Option<Entry>
+pub(crate) fn first_of(outgoing: &Numbered<Outgoing>, line: &mut Line, mark: Mark) -> Option<Entry>
     ensures listed { (last : ℕ) → IsListed mark outgoing.now.entries last line.old
         → IsListed mark outgoing.now.entries last line.new }
     ensures found { IfSome result (λ entry. (o : Way)
@@ -151,11 +141,11 @@ pub(crate) fn first_of(
 }
 
 /// Whether a connection has the mark with this time.
-fn stands(outgoing: &IndexMap<u64, Outgoing>, mark: Mark, entry: Entry) -> bool
+fn stands(outgoing: &Numbered<Outgoing>, mark: Mark, entry: Entry) -> bool
     ensures value { result ≡ option_map_or (λ o. is_time entry.time (mark_of mark o))
         (get nat_eq outgoing.now entry.number) false }
 {
-    match outgoing.get(&entry.number) {
+    match outgoing.get(entry.number) {
         Some(one) => match one.mark(mark) {
             Some(time) => time == entry.time,
             None => false,
@@ -165,10 +155,10 @@ fn stands(outgoing: &IndexMap<u64, Outgoing>, mark: Mark, entry: Entry) -> bool
 }
 
 /// A connection isn't to be shut down.
-pub(crate) fn unend_in(outgoing: &mut IndexMap<u64, Outgoing>, number: ConnNo)
+pub(crate) fn unend_in(outgoing: &mut Numbered<Outgoing>, number: ConnNo)
     ensures next { outgoing.new.entries ≡ changed unended number outgoing.old.entries }
 {
-    match outgoing.get_mut(&number) {
+    match outgoing.get_mut(number) {
         Some(one) => one.unend(),
         None => {}
     }
@@ -189,7 +179,7 @@ pub(crate) fn earliest(failed: Option<Entry>, ending: Option<Entry>) -> Option<u
 /// The socket of a connection took so many bytes. Where it took all that was on its way, gives how many
 /// parcels are to be acknowledged.
 pub(crate) fn advance_in(
-    outgoing: &mut IndexMap<u64, Outgoing>,
+    outgoing: &mut Numbered<Outgoing>,
     number: ConnNo,
     count: usize,
 ) -> Option<u32>
@@ -198,39 +188,28 @@ pub(crate) fn advance_in(
     ensures value { result ≡ option_and_then (λ o. whole_of (drop count o.rest) o.parcels)
         (get nat_eq outgoing.old number) }
 {
-    match outgoing.get_mut(&number) {
+    match outgoing.get_mut(number) {
         Some(one) => one.advance(count),
         None => None,
     }
 }
 
-/// Takes the first parcel that waits for a connection from the hub, and says whether one was taken: none
-/// where 64 parcels or 64 KiB are on their way.
+/// Takes what the hub hands out to a connection, as much as may be on its way.
 pub(crate) fn take_in(
-    outgoing: &mut IndexMap<u64, Outgoing>,
+    outgoing: &mut Numbered<Outgoing>,
     hub: &mut Hub,
     number: ConnNo,
-) -> Result<bool, HubRefusal>
+) -> Result<Taken, HubRefusal>
     ensures next { TakenFor number outgoing.old.entries outgoing.new.entries hub.old hub.new }
-    ensures filled { IfOk result (λ waited. Fills number waited outgoing.old.entries
-        outgoing.new.entries hub.new) }
+    ensures filled { IfOk result (λ taken. taken.is_refused ≡ false
+        → Fills number outgoing.new.entries hub.new) }
     ensures stands { (w : World) → StandsFor hub.old w → StandsFor hub.new w }
 {
-    match outgoing.get_mut(&number) {
-        Some(one) => {
-            if is_full(one.parcels(), one.rest().len()) {
-                return Ok(false);
-            }
-            one.take_one(hub, number)
-        }
-        None => Ok(false),
+    match outgoing.get_mut(number) {
+        Some(one) => one.take_all(hub, number),
+        None => Ok(Taken {
+            count: 0,
+            is_refused: false,
+        }),
     }
-}
-
-/// Whether no parcel more is taken from the hub before these are acknowledged.
-fn is_full(parcels: u32, rest: usize) -> bool
-    ensures room { result ≡ false → parcels < 64 }
-    ensures full { result ≡ true → (64 ≤ parcels) ⊎ (65536 ≤ rest) }
-{
-    MAX_PARCELS <= parcels || MAX_WRITE <= rest
 }

@@ -6,6 +6,7 @@ ghost use Rattle.floor_config.specs.Lookup.{is_user};
 ghost use Rattle.floor_room.specs.Room.{Room};
 ghost use Rattle.floor_room.specs.Standing.{config_of};
 ghost use Rattle.floor_hub.specs.Connections.{connection_at};
+ghost use Rattle.floor_hub.specs.Gathers.{Gathers};
 ghost use Rattle.floor_hub.specs.Hub.{room_at};
 ghost use Rattle.floor_hub.specs.Members.{AreMembers, user_of};
 ghost use Rattle.floor_hub.specs.declared.attached.Live.{Live as Listed};
@@ -92,7 +93,7 @@ fn lose(hub: &Hub, attended: &mut Attended, number: ConnNo) -> Lost
     if millis == 0 {
         return Lost::Leaves;
     }
-    if is_over(hub, attended, number) {
+    if is_over(hub, number) {
         return Lost::Leaves;
     }
     keep(hub, attended, number, millis)
@@ -206,6 +207,7 @@ pub(crate) fn come(
     ensures left { OnErr result (attended.new.away.back ≡ []) }
     ensures refused { IfErr result
         (IsRefusedAs conference user attended.old.away.keeps_place hub.old hub.new) }
+    ensures gathered { Gathers hub.old hub.new }
 {
     let back = match gather(hub, attended, alloc, conference, user) {
         Ok(back) => back,
@@ -250,6 +252,7 @@ fn enter(
     ensures left { OnErr result (attended.new.away.back ≡ []) }
     ensures refused { (keeps_place : Bool) → IfErr result
         (IsRefusedAs conference user keeps_place hub.old hub.new) }
+    ensures gathered { Gathers hub.old hub.new }
 {
     match attach(hub, attended, alloc, conference, user) {
         Ok(number) => {

@@ -21,7 +21,7 @@ mod stay;
 mod turn;
 
 pub use floor_hub::{
-    Act, AddedUser, Config, ConnNo, Event, Floor, HubRefusal, Info, Live, Place, Refusal,
+    Act, AddedUser, Config, ConnNo, Event, Floor, HubRefusal, Info, Live, News, Place, Refusal,
     RoomRefusal, Said, SharedInfo, Status, User,
 };
 pub use grace::Grace;

@@ -1,16 +1,22 @@
 //! What is on its way to one connection.
 
-ghost use Rattle.std.specs.Prelude.{◌≡◌, ◌≤◌, ◌<◌, ◌+◌, [], IfOk, None, OnErr, OnOk, drop, if◌then◌else◌, is_none, length};
+ghost use Rattle.std.specs.Prelude.{◌≡◌, ◌⊎◌, ◌≤◌, ◌+◌, [], IfOk, MatchResult, None, drop, false, is_none, length};
 ghost use Rattle.floor_hub.specs.Connections.{connection_at};
-ghost use Rattle.floor_hub.specs.Rooms.{KeptOf, TakenInto};
+ghost use Rattle.floor_hub.specs.Rooms.{TakenAll, first_at};
 ghost use Rattle.floor_hub.specs.StandsFor.{StandsFor};
 ghost use Rattle.floor_hub.specs.World.{World};
-ghost use Rattle.floor_loop.specs.Loop.{until_of};
+ghost use Rattle.floor_loop.specs.Loop.{IsFull, until_of};
 ghost use Rattle.floor_loop.specs.steps.Changed.{given, left_of, mark_of, marked, or_time, unended, whole_of};
 
-use floor_hub::{ConnNo, Hub, HubRefusal};
+use floor_hub::{ConnNo, Hub, HubRefusal, Taken};
 use std::alloc::Global;
 use std::marker::Model;
+
+/// How many bytes are handed out to be written at a time: our choice.
+pub(crate) const MAX_WRITE: usize = 65_536;
+
+/// How many parcels are taken from the hub before they are acknowledged: our choice.
+const MAX_PARCELS: u32 = 64;
 
 /// What a connection is marked with, with a time.
 #[derive(Clone, Copy, Debug)]
@@ -166,27 +172,28 @@ impl Outgoing {
         if parcels == 0 { None } else { Some(parcels) }
     }
 
-    /// Takes the first parcel that waits for it from the hub, and says whether one waited. After an
-    /// error nothing has changed.
-    pub(crate) fn take_one(&mut self, hub: &mut Hub, number: ConnNo) -> Result<bool, HubRefusal>
-        requires { self.old.parcels < 4294967295 }
-        ensures given { TakenInto (connection_at hub.old.connections number) result
+    /// Takes what the hub hands out to it: as much as may be on its way, 64 parcels or 64 KiB. Refused as the
+    /// hub refuses it.
+    pub(crate) fn take_all(&mut self, hub: &mut Hub, number: ConnNo) -> Result<Taken, HubRefusal>
+        ensures given { TakenAll (connection_at hub.old.connections number) result
             self.old.rest self.new.rest hub.old hub.new }
-        ensures kept { OnOk result (KeptOf (connection_at hub.old.connections number) hub.old) }
+        ensures whole { IfOk result (λ taken. taken.is_refused ≡ false → IsFull self.new
+            ⊎ (first_at hub.new (connection_at hub.new.connections number) ≡ None)) }
         ensures stands { (w : World) → StandsFor hub.old w → StandsFor hub.new w }
-        ensures parcels { IfOk result (λ waited. self.new.parcels
-            ≡ self.old.parcels + (if waited then 1 else 0)) }
-        ensures left { OnErr result (self.new.parcels ≡ self.old.parcels) }
+        ensures parcels { MatchResult result
+            (λ taken. self.new.parcels ≡ self.old.parcels + taken.count)
+            (λ _. self.new.parcels ≡ self.old.parcels) }
         ensures same { self.new ≡ record self.old {
           rest = self.new.rest;
           parcels = self.new.parcels;
         } }
+        ensures gathered { hub.new.gathered ≡ hub.old.gathered }
     {
-        let waited = hub.take_into(number, &mut self.bytes)?;
-        if waited {
-            self.parcels += 1;
-        }
-        Ok(waited)
+        let most = MAX_PARCELS.saturating_sub(self.parcels);
+        let enough = self.at.saturating_add(MAX_WRITE);
+        let taken = hub.take_all(number, &mut self.bytes, most, enough)?;
+        self.parcels += taken.count;
+        Ok(taken)
     }
 }
 

@@ -456,7 +456,7 @@ fn keep_one(hub: &mut Hub, attended: &mut Attended, number: ConnNo) -> Result<bo
     ensures carries { (c : ℕ) → Carries c
         (loop_of hub.old attended.old) (loop_of hub.new attended.new) }
 {
-    if is_over(hub, attended, number) {
+    if is_over(hub, number) {
         send_off(hub, attended, number);
         return Ok(false);
     }

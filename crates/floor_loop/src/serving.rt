@@ -2,6 +2,7 @@
 
 ghost use Rattle.std.specs.Prelude.{◌≡◌, ◌≢◌, ◌≤◌, ◌<◌, ℕ, [], Err, IfErr, IfNone, IfOk, IfSome, IsSome, MatchResult, None, Ok, OnErr, OnOk, Some, drop, false, true, length, max, nat_eq, take};
 ghost use Rattle.floor_hub.specs.Connections.{connection_at};
+ghost use Rattle.floor_hub.specs.Gathers.{Gathers};
 ghost use Rattle.floor_hub.specs.Hub.{is_forgotten, room_at};
 ghost use Rattle.floor_hub.specs.Members.{AreMembers, user_of};
 ghost use Rattle.floor_hub.specs.Rooms.{CutIs, Forgets, IsRemembered, OneRoom, Opens, SameHub, admin_event, by_broken, refusal_in, say_event};
@@ -20,11 +21,12 @@ ghost use Rattle.floor_loop.specs.steps.Moved.{IsLoop, loop_of};
 
 mod away;
 mod keeping;
+mod watching;
 
 use crate::attended::Attended;
-use crate::changing::MAX_WRITE;
 use crate::coming::come;
 use crate::grace::Grace;
+use crate::outgoing::MAX_WRITE;
 use crate::turn::{
     acknowledge, end, fail, fill, leave_from, read_turn, serve_turn, throw_away, wake,
 };
@@ -44,6 +46,9 @@ const MAX_LEFT: u32 = 4_294_967_295;
 ///   `backlog` read.
 /// - Keeping: behind `begin_keeping` nothing is written of a conference while an event that told something isn't
 ///   kept; `keep` says how many are, and `end_keeping` that none has to be. `is_kept` reads.
+/// - Watching: behind `watch`, until `unwatch`, what each event of a conference changes is gathered, over as many calls as
+///   it isn't cleared by `clear_news`; `news` lends it, one `News` an event. Nothing is gathered of other
+///   conferences.
 /// - Connections: `attach`; `read` as bytes come, and again without bytes while it says that more
 ///   wait; `ended` and `failed` at the end of the stream and of the socket; `leave` once the
 ///   connection is shut down.
@@ -100,6 +105,7 @@ impl Loop {
             → IfErr result (FailsSame self.new.hub w (Open config)) }
         ensures left { OnErr result (SameHub self.old.hub self.new.hub) }
         ensures attended { self.new.attended ≡ self.old.attended }
+        ensures gathered { Gathers self.old.hub self.new.hub }
     {
         self.hub.open(alloc, config)
     }
@@ -130,6 +136,7 @@ impl Loop {
         ensures refused { IfErr result (IsRefusedAs conference user
             self.old.attended.away.keeps_place self.old.hub self.new.hub) }
         ensures ready { IfOk result (λ number. IsSome (ready_at self.new number)) }
+        ensures gathered { Gathers self.old.hub self.new.hub }
     {
         self.attended.pass(now);
         come(&mut self.hub, &mut self.attended, alloc, conference, user)
@@ -144,6 +151,7 @@ impl Loop {
         ensures refused { IfErr result (IsRemembered conference self.old.hub) }
         ensures left { OnErr result (self.new ≡ self.old) }
         ensures attended { self.new.attended ≡ self.old.attended }
+        ensures gathered { self.new.hub.gathered ≡ self.old.hub.gathered }
     {
         self.hub.forget(conference)
     }
@@ -312,6 +320,7 @@ impl Loop {
         ensures spares { OnOk result (Spares self.old self.new) }
         ensures others { (k : ℕ) → nat_eq number k ≡ false
             → IsSparedOrOver self.old self.new k }
+        ensures gathered { Gathers self.old.hub self.new.hub }
     {
         self.attended.pass(now);
         read_turn(&mut self.hub, &mut self.attended, number, bytes, most)
@@ -325,6 +334,7 @@ impl Loop {
         ensures took { TookNothing self.old self.new }
         ensures woke { Wakes self.old self.new }
         ensures spares { Spares self.old self.new }
+        ensures gathered { Gathers self.old.hub self.new.hub }
     {
         self.attended.pass(now);
         let done = self.hub.admin(conference, act);
@@ -351,6 +361,7 @@ impl Loop {
         ensures took { TookNothing self.old self.new }
         ensures woke { Wakes self.old self.new }
         ensures spares { Spares self.old self.new }
+        ensures gathered { Gathers self.old.hub self.new.hub }
     {
         self.attended.pass(now);
         let said = self.hub.say(alloc, conference, user, message);
@@ -388,6 +399,7 @@ impl Loop {
         ensures others { IfSome result (λ number. (k : ℕ) → nat_eq number k ≡ false
             → outgoing_at self.new k ≡ outgoing_at self.old k) }
         ensures spares { Spares self.old self.new }
+        ensures gathered { Gathers self.old.hub self.new.hub }
     {
         match self.attended.next_ready() {
             Some(number) => {
@@ -416,6 +428,7 @@ impl Loop {
         ensures filled { drop count (rest_at self.old number) ≡ []
             → parcels_at self.old number ≢ 0 → IsFilled self.new number }
         ensures spares { Spares self.old self.new }
+        ensures gathered { Gathers self.old.hub self.new.hub }
     {
         self.attended.pass(now);
         match self.attended.advance(number, count) {
@@ -433,6 +446,7 @@ impl Loop {
         ensures others { (k : ℕ) → nat_eq number k ≡ false
             → IsSparedOrOver self.old self.new k }
         ensures ended { IsEnded self.new.attended number }
+        ensures gathered { Gathers self.old.hub self.new.hub }
     {
         self.attended.pass(now);
         let _served = serve_turn(&mut self.hub, &mut self.attended, number, MAX_LEFT);
@@ -448,6 +462,7 @@ impl Loop {
         ensures others { (k : ℕ) → nat_eq number k ≡ false
             → IsSparedOrOver self.old self.new k }
         ensures failed { HasFailed self.new.attended number }
+        ensures gathered { Gathers self.old.hub self.new.hub }
     {
         self.attended.pass(now);
         let _served = serve_turn(&mut self.hub, &mut self.attended, number, MAX_LEFT);
@@ -464,6 +479,7 @@ impl Loop {
         ensures gone { outgoing_at self.new number ≡ None }
         ensures away { stay_at self.new number ≡ None }
         ensures left { connection_at self.new.hub.connections number ≡ None }
+        ensures gathered { Gathers self.old.hub self.new.hub }
     {
         self.attended.pass(now);
         throw_away(&mut self.hub, &mut self.attended, number);

@@ -2,8 +2,8 @@
 
 ghost use Rattle.std.specs.Prelude.{◌≡◌, ◌↔◌, ℕ, Bool, IfErr, IfOk, IsSome, None, OnErr, OnOk, Some, false, nat_eq, option_and_then, true};
 ghost use Rattle.floor_room.specs.Room.{Room};
-ghost use Rattle.floor_hub.specs.Concerned.{is_shut};
 ghost use Rattle.floor_hub.specs.Connections.{connection_at};
+ghost use Rattle.floor_hub.specs.Gathers.{Gathers};
 ghost use Rattle.floor_hub.specs.Hub.{room_at};
 ghost use Rattle.floor_hub.specs.Members.{Stands};
 ghost use Rattle.floor_hub.specs.Rooms.{Joins};
@@ -19,12 +19,10 @@ ghost use Rattle.floor_loop.specs.steps.Moved.{AreWoken, IsLoop, IsSpared, IsWok
 ghost use Rattle.floor_loop.specs.steps.Thrown.{Thrown};
 
 use crate::attended::Attended;
-use crate::changing::MAX_PARCELS;
 use floor_hub::{ConnNo, Hub, HubRefusal, Live, Served};
-use floor_room::Phase;
 use std::alloc::Global;
 
-/// How many parcels are thrown away at most: whoever is more than 1,024 behind is cut, so no more wait.
+/// How often what waits is thrown away at most: whoever is more than 1,024 parcels behind is cut, so no more wait.
 const MAX_THROWN: u32 = 1_026;
 
 /// Attaches a connection of a user to a conference. After a `Memory` of the loop's own nothing has changed.
@@ -54,6 +52,7 @@ pub(crate) fn attach(
         → nat_eq conference y.conference ≡ false → WasLive hub.old k y }
     ensures refused { (keeps_place : Bool) → IfErr result
         (IsRefusedAs conference user keeps_place hub.old hub.new) }
+    ensures gathered { Gathers hub.old hub.new }
 {
     let joined = match attended.attach(hub, alloc, conference, user) {
         Ok(joined) => joined,
@@ -175,7 +174,7 @@ pub(crate) fn wake_one(hub: &Hub, attended: &mut Attended, number: ConnNo)
     ensures spared { (k : ℕ) → IsSpared hub.now attended.old attended.new k }
     ensures away { attended.new.away ≡ attended.old.away }
 {
-    if is_over(hub, attended, number) {
+    if is_over(hub, number) {
         end(attended, number);
         return;
     }
@@ -225,35 +224,11 @@ fn wake_first(hub: &Hub, attended: &mut Attended, number: ConnNo)
 
 /// Whether nothing more is told to a connection: its member is cut, or its conference is ended or broken
 /// off.
-pub(crate) fn is_over(hub: &Hub, attended: &Attended, number: ConnNo) -> bool
-    ensures { (x : Connection) (r : Room) (o : Way)
-        → connection_at hub.now.connections number ≡ Some x
-        → room_at hub.now x.conference ≡ Some r → outgoing_in attended.now number ≡ Some o
-        → o.conference ≡ x.conference → ((result ≡ true) ↔ IsOver r x.n) }
+pub(crate) fn is_over(hub: &Hub, number: ConnNo) -> bool
+    ensures { (x : Connection) (r : Room) → connection_at hub.now.connections number ≡ Some x
+        → room_at hub.now x.conference ≡ Some r → ((result ≡ true) ↔ IsOver r x.n) }
 {
-    match attended.get(number) {
-        Some(one) => {
-            if is_shut(hub, one.conference()) {
-                return true;
-            }
-            hub.is_cut(number)
-        }
-        None => false,
-    }
-}
-
-/// Whether a conference is ended or broken off.
-fn is_shut(hub: &Hub, conference: u32) -> bool
-    ensures { (r : Room) → room_at hub.now conference ≡ Some r → result ≡ is_shut r }
-{
-    match hub.status(conference) {
-        Ok(status) => match status.phase {
-            Phase::Running => false,
-            Phase::Ended => true,
-            Phase::Broken => true,
-        },
-        Err(_) => false,
-    }
+    hub.is_over(number)
 }
 
 /// Acknowledges so many parcels to a connection, and takes the next ones from the hub.
@@ -303,22 +278,24 @@ pub(crate) fn throw_away(hub: &mut Hub, attended: &mut Attended, number: ConnNo)
     ensures thrown { Thrown number (loop_of hub.old attended.old) (loop_of hub.new attended.new) }
     ensures away { attended.new.away ≡ attended.old.away }
 {
-    for _parcel in 0..MAX_THROWN {
+    for _time in 0..MAX_THROWN {
         if !throw_next(hub, attended, number) {
             return;
         }
     }
 }
 
-/// Throws away what is on its way to a connection, and takes the next parcel that waits for it; says whether one was
-/// taken.
+/// Throws away what is on its way to a connection, and takes what waits for it; says whether anything was taken.
 fn throw_next(hub: &mut Hub, attended: &mut Attended, number: ConnNo) -> bool
     ensures thrown { Thrown number (loop_of hub.old attended.old) (loop_of hub.new attended.new) }
     ensures away { attended.new.away ≡ attended.old.away }
 {
     attended.throw(number);
-    let taken = attended.take_one(hub, number);
-    taken.unwrap_or(false)
+    let count = match attended.take_all(hub, number) {
+        Ok(taken) => taken.count,
+        Err(_) => 0,
+    };
+    count != 0
 }
 
 /// A connection leaves the hub, and nothing is on its way to it any more.
@@ -359,14 +336,12 @@ pub(crate) fn fill(hub: &mut Hub, attended: &mut Attended, number: ConnNo)
     ensures ledgers { SameLedgers hub.old hub.new }
     ensures filled { IsFilled (loop_of hub.new attended.new) number }
 {
-    for _turn in 0..MAX_PARCELS {
-        match attended.take_one(hub, number) {
-            Ok(true) => {}
-            Ok(false) => return,
-            Err(_) => {
+    match attended.take_all(hub, number) {
+        Ok(taken) => {
+            if taken.is_refused {
                 attended.fail(number);
-                return;
             }
         }
+        Err(_) => attended.fail(number),
     }
 }

@@ -4,7 +4,7 @@
 use crate::cases::{assert_told, differing};
 use crate::hexadecimal::{bytes, spelled};
 use floor_config::Config;
-use floor_loop::{Act, ConnNo, HubRefusal, Loop};
+use floor_loop::{Act, ConnNo, HubRefusal, Loop, News};
 use floor_words::{read_u16, read_u32};
 use std::alloc::{AllocError, Global};
 use std::fmt::Write;
@@ -148,6 +148,36 @@ const KEPT: &str = "\
 2 read 1 200b0000000000010004000a > ok false
 2 is_kept > true";
 
+/// What the events of a watched conference change is gathered until it is cleared, one for each, over all messages of a
+/// call: its place, and the requests that it changed with their statuses.
+const WATCHED: &str = "\
+0 watch > NoConference
+0 open > ok
+0 attach 10 > ok 1
+0 news > none
+0 is_watched > false
+0 watch > ok
+0 is_watched > true
+1 read 1 20010001000000010001000a0404000120020001000000010002000a06040001 > ok false
+1 news > 2 1/3; 3 1/6
+1 read 1 200b0000000000010003000a > ok false
+1 news > 2 1/3; 3 1/6; 4
+1 clear > ok
+1 news > none
+1 ready > 1
+1 wrote 1 200 > ok
+1 news > 5
+2 attach 11 > ok 2
+2 leave 2 > ok
+2 news > 5; 6; 7
+3 unwatch > ok
+3 is_watched > false
+3 read 1 20010001000000010004000a04040001 > ok false
+3 news > 5; 6; 7
+4 watch > ok
+4 close > ok
+4 news > 5; 6; 7; 9";
+
 /// What a call answers that gives nothing.
 pub(crate) fn push_done(text: &mut String, done: Result<(), HubRefusal>) -> Result<(), AllocError> {
     match done {
@@ -244,6 +274,17 @@ pub(crate) fn answer(alloc: Global, served: &mut Loop, line: &str) -> Result<Str
         "due" => push_number(&mut text, served.due(now))?,
         "next_due" => push_number(&mut text, served.next_due())?,
         "is_kept" => is_kept(served, &mut text)?,
+        "watch" => push_done(&mut text, served.watch(1))?,
+        "is_watched" => write!(text, "{}", served.is_watched(1))?,
+        "news" => push_news(&mut text, served.news())?,
+        "unwatch" => {
+            served.unwatch(1);
+            text.push_str("ok")?;
+        }
+        "clear" => {
+            served.clear_news();
+            text.push_str("ok")?;
+        }
         "begin_keeping" => push_done(&mut text, served.begin_keeping(1))?,
         "keep" => push_done(&mut text, served.keep(1, read_u32(rest).unwrap_or(0)))?,
         "end_keeping" => push_done(&mut text, served.end_keeping(1))?,
@@ -257,6 +298,36 @@ fn is_kept(served: &Loop, text: &mut String) -> Result<(), AllocError> {
         Ok(kept) => write!(text, "{kept}"),
         Err(refusal) => text.push_str(refusal.name()),
     }
+}
+
+/// What was gathered.
+fn push_news(text: &mut String, news: &[News]) -> Result<(), AllocError> {
+    if news.is_empty() {
+        return text.push_str("none");
+    }
+    for (place, one) in news.iter().enumerate() {
+        if place != 0 {
+            text.push_str("; ")?;
+        }
+        push_one(text, one)?;
+    }
+    Ok(())
+}
+
+/// What an event changed: its place, the requests with their statuses, and whom it cut.
+fn push_one(text: &mut String, news: &News) -> Result<(), AllocError> {
+    write!(text, "{}", news.place)?;
+    for info in news.changed.as_slice() {
+        let status = match info.as_info().overall {
+            Some(overall) => overall.0,
+            None => 0,
+        };
+        write!(text, " {}/{status}", info.as_info().request)?;
+    }
+    for n in news.cut.as_slice() {
+        write!(text, " cut {n}")?;
+    }
+    Ok(())
 }
 
 /// What a line answers that is for one connection.
@@ -395,6 +466,33 @@ fn cut(alloc: Global) -> Result<String, AllocError> {
     Ok(text)
 }
 
+/// A reader that takes nothing, in a conference that is watched: what was gathered by the Hello by which it is cut.
+fn cut_by(alloc: Global) -> Result<String, AllocError> {
+    let mut served = joined(alloc)?;
+    let hello = bytes(alloc, HELLO)?;
+    let _watched = served.watch(1);
+    for _ in 0..1_024 {
+        let _read = served.read(1, &hello, 64, 5);
+    }
+    let mut text = String::new(alloc);
+    write!(
+        text,
+        "{} before; ",
+        served
+            .news()
+            .iter()
+            .filter(|news| news.cut.is_empty())
+            .count()
+    )?;
+    served.clear_news();
+    let _read = served.read(1, &hello, 64, 5);
+    push_news(&mut text, served.news())?;
+    if served.has_missed() {
+        text.push_str(", and more")?;
+    }
+    Ok(text)
+}
+
 #[test]
 fn each_call_answers_as_its_line_says(rt: HostRuntime) {
     assert_told(&rt, run(rt.alloc(), EACH_CALL), "61 cases");
@@ -408,6 +506,12 @@ fn what_is_said_for_a_user_is_answered_to_who_says_it(rt: HostRuntime) {
 #[test]
 fn what_is_told_is_handed_out_once_it_is_kept(rt: HostRuntime) {
     assert_told(&rt, run(rt.alloc(), KEPT), "35 cases");
+}
+
+#[test]
+fn what_the_events_of_a_watched_conference_change_is_gathered(rt: HostRuntime) {
+    assert_told(&rt, run(rt.alloc(), WATCHED), "26 cases");
+    assert_told(&rt, cut_by(rt.alloc()), "1024 before; 1027 cut 1");
 }
 
 #[test]

@@ -1,12 +1,13 @@
 -- What a call has done to one room, by which it does what it has to the worlds.
-use Rattle.std.specs.Prelude.{◌≡◌, ◌≢◌, ◌⊎◌, ℕ, ◌+◌, List, [], ◌∷◌, ◌++◌, length, true, false, Option, Some, None, is_some, Ok, Err, Result, IfOk, OnOk, IfErr, IsErr, MatchResult}
+use Rattle.std.specs.Prelude.{◌≡◌, ◌≢◌, ◌⊎◌, ◌≤◌, ℕ, ◌+◌, List, [], ◌∷◌, ◌++◌, length, Bool, true, false, Option, Some, None, is_some, slice_get, Ok, Err, Result, IfOk, OnOk, IfErr, IsErr, MatchResult}
 use Rattle.floor_wire.specs.Message.{messages}
 use Rattle.floor_machine.specs.Parcel.{Parcel}
 use Rattle.floor_machine.specs.Conference.{is_cut}
 use Rattle.floor_machine.specs.declared.event.Event.{Event}
 use Rattle.floor_machine.specs.declared.event.Event.TheVariants.{Join, Message, Took as Takes, Leave as Leaves, Say as Says}
 use Rattle.floor_room.specs.declared.refusal.RoomRefusal.{RoomRefusal}
-use Rattle.floor_room.specs.Room.{Room, broken_room}
+use Rattle.floor_room.specs.Replay.{bytes_of}
+use Rattle.floor_room.specs.Room.{IsRoom, Room, broken_room}
 use Rattle.floor_room.specs.Ledger.{IsRefusedBy, closed, conference_of, refusal}
 use Rattle.floor_room.specs.Taking.{Gave}
 use Rattle.floor_room.specs.declared.outbox.NoMember.{NoMember}
@@ -14,6 +15,9 @@ use Rattle.floor_room.specs.declared.said.Said.{Said}
 use Rattle.floor_room.specs.Calls.{Applied, Left}
 use Rattle.floor_hub.specs.declared.connection.Connection.{Connection}
 use Rattle.floor_hub.specs.declared.step.Served.{Served}
+use Rattle.floor_hub.specs.declared.step.Taken.{Taken}
+use Rattle.floor_hub.specs.Concerned.{handed}
+use Rattle.floor_hub.specs.Rooms.{StopsAt, TookEach}
 use Rattle.floor_hub.specs.Connections.{Connections, Puts}
 use Rattle.floor_machine.specs.declared.machine.Refusal.TheVariants.{Cut, Memory}
 use Rattle.floor_room.specs.declared.refusal.RoomRefusal.TheVariants.{JournalFull, Refused as ByMachine}
@@ -108,3 +112,21 @@ LeaveOf x y old new result =
 abbrev pub TakeOf : Connection → Option Connection → Room → Room → Result (Option Parcel) HubRefusal → Type 0
 TakeOf x y old new result =
     (y ≡ Some x) × ((given : Result (Option Parcel) NoMember) × Gave old new x.n given × MatchResult given (λ p. result ≡ Ok p) (λ _. IsErr result))
+
+-- of what a room hands out to the member n so many parcels were taken, and their bytes put behind those of a buffer
+abbrev pub TookAll : Room → Room → ℕ → List ℕ → List ℕ → Taken → Type 0
+TookAll old new n before after taken = (parcels : List Parcel) × (taken.count ≡ length parcels) × (after ≡ before ++ bytes_of parcels) × TookEach old new n parcels
+
+-- no more is taken, unless memory was refused for it
+abbrev pub Stops : ℕ → ℕ → List ℕ → Room → ℕ → Taken → Type 0
+Stops most enough bytes new n taken = taken.is_refused ≡ false → StopsAt most enough taken.count bytes (slice_get (handed new n) 0)
+
+-- the first parcel that a room hands out to the member n was taken, and its bytes put behind those of a buffer; or there is none
+abbrev pub TookNext : Room → Room → ℕ → List ℕ → List ℕ → Bool → Type 0
+TookNext old new n before after true = (p : Parcel) × IsRoom old × Gave old new n (Ok (Some p)) × (after ≡ before ++ p.bytes)
+TookNext old new n before after false = (new ≡ old) × (after ≡ before) × (slice_get (handed old n) 0 ≡ None)
+
+-- what is handed out to a connection was taken
+abbrev pub TakeAllOf : ℕ → ℕ → List ℕ → List ℕ → Connection → Option Connection → Room → Room → Result Taken HubRefusal → Type 0
+TakeAllOf most enough before after x y old new result =
+    (y ≡ Some x) × ((taken : Taken) × (result ≡ Ok taken) × (taken.count ≤ most) × TookAll old new x.n before after taken × Stops most enough after new x.n taken)

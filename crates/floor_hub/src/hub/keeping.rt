@@ -14,8 +14,9 @@ ghost use Rattle.floor_hub.specs.steps.KeptBy.{KeptIn, kept_by};
 use crate::forgotten::forgotten_or_none;
 use crate::hub::Hub;
 use crate::refusal::HubRefusal;
+use floor_numbered::Numbered;
 use floor_room::Room;
-use indexmap::{IndexMap, IndexSet};
+use indexmap::IndexSet;
 
 /// What becomes of how many events of a room are kept.
 #[derive(Clone, Copy, Debug)]
@@ -41,6 +42,7 @@ impl Hub {
         ensures concerned { self.new.concerned ≡ self.old.concerned }
         ensures changed { self.new.changed ≡ self.old.changed }
         ensures forgotten { self.new.forgotten ≡ self.old.forgotten }
+        ensures gathered { self.new.gathered ≡ self.old.gathered }
     {
         self.set_kept(conference, Keeping::Begins)
     }
@@ -57,6 +59,7 @@ impl Hub {
         ensures concerned { self.new.concerned ≡ self.old.concerned }
         ensures changed { self.new.changed ≡ self.old.changed }
         ensures forgotten { self.new.forgotten ≡ self.old.forgotten }
+        ensures gathered { self.new.gathered ≡ self.old.gathered }
     {
         self.set_kept(conference, Keeping::Comes(events))
     }
@@ -72,6 +75,7 @@ impl Hub {
         ensures concerned { self.new.concerned ≡ self.old.concerned }
         ensures changed { self.new.changed ≡ self.old.changed }
         ensures forgotten { self.new.forgotten ≡ self.old.forgotten }
+        ensures gathered { self.new.gathered ≡ self.old.gathered }
     {
         self.set_kept(conference, Keeping::Ends)
     }
@@ -86,7 +90,7 @@ impl Hub {
         ensures found { (r : Kept) → room_at self.now conference ≡ Some r
             → result ≡ Ok (is_kept r) }
     {
-        match self.rooms.get(&conference) {
+        match self.rooms.get(u64::from(conference)) {
             Some(room) => Ok(room.is_kept()),
             None => Err(forgotten_or_none(&self.forgotten, conference)),
         }
@@ -101,6 +105,7 @@ impl Hub {
         ensures concerned { self.new.concerned ≡ self.old.concerned }
         ensures changed { self.new.changed ≡ self.old.changed }
         ensures forgotten { self.new.forgotten ≡ self.old.forgotten }
+        ensures gathered { self.new.gathered ≡ self.old.gathered }
     {
         keep_at(&mut self.rooms, &self.forgotten, conference, keeping)
     }
@@ -108,7 +113,7 @@ impl Hub {
 
 /// Sets how many events of the room of a conference are kept.
 fn keep_at(
-    rooms: &mut IndexMap<u32, Room>,
+    rooms: &mut Numbered<Room>,
     forgotten: &IndexSet<u32>,
     conference: u32,
     keeping: Keeping,
@@ -117,7 +122,7 @@ fn keep_at(
         (forgotten_or_none (contains nat_eq forgotten.now conference)) (get nat_eq rooms.old)
         (get nat_eq rooms.new) conference result }
 {
-    match rooms.get_mut(&conference) {
+    match rooms.get_mut(u64::from(conference)) {
         Some(room) => {
             keep_in(room, keeping);
             Ok(())

@@ -29,7 +29,7 @@ impl Hub {
             → MatchResult result (IsStatus r.ledger) (λ _. ⊥) }
         ensures kept { (r : Kept) → room_at self.now conference ≡ Some r → IsRoom r }
     {
-        match self.rooms.get(&conference) {
+        match self.rooms.get(u64::from(conference)) {
             Some(room) => {
                 // What its contract says of the room is handed out.
                 let _journal = room.journal();
@@ -51,7 +51,7 @@ impl Hub {
             → MatchResult result (λ events. events.now ≡ r.ledger.journal) (λ _. ⊥) }
         ensures kept { (r : Kept) → room_at self.now conference ≡ Some r → IsRoom r }
     {
-        match self.rooms.get(&conference) {
+        match self.rooms.get(u64::from(conference)) {
             Some(room) => Ok(room.journal()),
             None => Err(forgotten_or_none(&self.forgotten, conference)),
         }
@@ -67,7 +67,7 @@ impl Hub {
         ensures found { (r : Kept) → room_at self.now conference ≡ Some r
             → MatchResult result (λ live. AreMembers self.now conference live.now) (λ _. ⊥) }
     {
-        if self.rooms.contains_key(&conference) {
+        if self.rooms.contains_key(u64::from(conference)) {
             Ok(self.concerned.live(conference))
         } else {
             Err(forgotten_or_none(&self.forgotten, conference))
@@ -85,7 +85,7 @@ impl Hub {
         ensures found { (r : Kept) → room_at self.now conference ≡ Some r
             → result ≡ Ok (user_of r.ledger.journal n) }
     {
-        match self.rooms.get(&conference) {
+        match self.rooms.get(u64::from(conference)) {
             Some(room) => Ok(user_of(room.journal(), n)),
             None => Err(forgotten_or_none(&self.forgotten, conference)),
         }
@@ -101,7 +101,7 @@ impl Hub {
         ensures found { (r : Kept) → room_at self.now conference ≡ Some r
             → MatchResult result (λ config. config.now ≡ config_of r.ledger) (λ _. ⊥) }
     {
-        match self.rooms.get(&conference) {
+        match self.rooms.get(u64::from(conference)) {
             Some(room) => Ok(room.config()),
             None => Err(forgotten_or_none(&self.forgotten, conference)),
         }
@@ -117,7 +117,7 @@ impl Hub {
         ensures found { (r : Kept) → room_at self.now conference ≡ Some r
             → MatchResult result (λ shown. shown.now ≡ shown_of r.ledger) (λ _. ⊥) }
     {
-        match self.rooms.get(&conference) {
+        match self.rooms.get(u64::from(conference)) {
             Some(room) => Ok(room.shown()),
             None => Err(forgotten_or_none(&self.forgotten, conference)),
         }
@@ -133,7 +133,7 @@ impl Hub {
         ensures found { (r : Kept) → room_at self.now conference ≡ Some r
             → result ≡ Ok (backlog_of r.ledger n) }
     {
-        match self.rooms.get(&conference) {
+        match self.rooms.get(u64::from(conference)) {
             Some(room) => Ok(room.backlog(n)),
             None => Err(forgotten_or_none(&self.forgotten, conference)),
         }

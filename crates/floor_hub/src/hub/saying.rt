@@ -7,6 +7,7 @@ ghost use Rattle.floor_room.specs.Room.{Room as Kept};
 ghost use Rattle.floor_hub.specs.Calls.{Fails, Turns};
 ghost use Rattle.floor_hub.specs.Concerned.{Concerns};
 ghost use Rattle.floor_hub.specs.Connections.{StayLive};
+ghost use Rattle.floor_hub.specs.Gathers.{Gathers};
 ghost use Rattle.floor_hub.specs.Hub.{room_at};
 ghost use Rattle.floor_hub.specs.Left.{LeftAt};
 ghost use Rattle.floor_hub.specs.Rooms.{OneRoom, by_broken, ended_or_none, refusal_in, say_event};
@@ -25,9 +26,10 @@ use crate::concerned::Concerned;
 use crate::forgotten::ended_or_none;
 use crate::hub::Hub;
 use crate::refusal::HubRefusal;
+use floor_numbered::Numbered;
 use floor_room::{Effects, Frame, Refusal, Room, RoomRefusal, Said};
 use floor_wire::HEADER_LEN;
-use indexmap::{IndexMap, IndexSet};
+use indexmap::IndexSet;
 use std::alloc::Global;
 
 impl Hub {
@@ -55,8 +57,10 @@ impl Hub {
         ensures concerned { Concerns self.old self.new }
         ensures changed { Shows self.old self.new }
         ensures forgotten { self.new.forgotten ≡ self.old.forgotten }
+        ensures gathered { Gathers self.old self.new }
     {
-        say_at(
+        let before = self.gathered.before(&self.rooms, conference);
+        let said = say_at(
             alloc,
             &mut self.rooms,
             &self.forgotten,
@@ -65,14 +69,16 @@ impl Hub {
             conference,
             user,
             message,
-        )
+        );
+        self.gathered.gather(&self.rooms, before, &self.effects);
+        said
     }
 }
 
 /// Says a message for a user in the room of a conference.
 fn say_at(
     alloc: Global,
-    rooms: &mut IndexMap<u32, Room>,
+    rooms: &mut Numbered<Room>,
     forgotten: &IndexSet<u32>,
     concerned: &mut Concerned,
     effects: &mut Effects,
@@ -88,7 +94,7 @@ fn say_at(
     ensures changed { HandedBy (get nat_eq rooms.old) (get nat_eq rooms.new) conference
         effects.new.changed.items }
 {
-    match rooms.get_mut(&conference) {
+    match rooms.get_mut(u64::from(conference)) {
         Some(room) => {
             let was_shut = is_shut(room);
             let said = say_in(alloc, room, user, message, effects);

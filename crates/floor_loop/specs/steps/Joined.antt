@@ -7,6 +7,7 @@ use Rattle.floor_hub.specs.declared.step.Step.TheVariants.{Attach}
 use Rattle.floor_hub.specs.Calls.{Fails, Turns}
 use Rattle.floor_hub.specs.Concerned.{Concerns}
 use Rattle.floor_hub.specs.Connections.{connection_at}
+use Rattle.floor_hub.specs.Gathers.{Gathers}
 use Rattle.floor_hub.specs.Hub.{Hub}
 use Rattle.floor_hub.specs.Left.{LeftAt}
 use Rattle.floor_hub.specs.Rooms.{Joins, OneRoom, attach_event, by_broken, refusal_in}
@@ -26,6 +27,7 @@ pub record Attaches (conference user : ℕ) (old new : Hub) (result : Result ℕ
   pub found : IfOk result (λ number. (x : Connection) × (connection_at new.connections number ≡ Some x) × (x.conference ≡ conference))
   pub joined : IfOk result (λ number. Joins conference number old new)
   pub concerned : Concerns old new
+  pub gathered : Gathers old new
 
 -- the connection with this number, if one was attached, is there now, and each other is as it was
 abbrev pub Adds : ℕ → Attended → Attended → Result ℕ HubRefusal → Type 0

@@ -6,6 +6,7 @@ use Rattle.floor_room.specs.Room.{Room}
 use Rattle.floor_hub.specs.declared.connection.Connection.{Connection}
 use Rattle.floor_hub.specs.declared.step.Step.{Step}
 use Rattle.floor_hub.specs.Connections.{connection_at}
+use Rattle.floor_hub.specs.Gathers.{Gathers}
 use Rattle.floor_hub.specs.Hub.{Hub, room_at}
 use Rattle.floor_hub.specs.Rooms.{taken_of}
 use Rattle.floor_hub.specs.StandsFor.{StandsFor}
@@ -41,7 +42,7 @@ pub record WasLive (old : Hub) (number : ℕ) (y : Connection) : Type 0 where
 abbrev pub OverStays : Hub → Hub → Type 0
 OverStays old new = (c : ℕ) (r : Room) → room_at old c ≡ Some r → (s : Room) × (room_at new c ≡ Some s) × ((n : ℕ) → IsOver r n → IsOver s n)
 
--- such steps were done, nobody has come, each connection is attended to, and no socket took anything
+-- such steps were done, nobody has come, each connection is attended to, no socket took anything, and what the events changed was gathered
 pub record Moved (Are : List Step → Type 0) (old new : Loop) : Type 0 where
   pub steps : Steps Are old.hub new.hub
   pub live : (number : ℕ) (y : Connection) → connection_at new.hub.connections number ≡ Some y → WasLive old.hub number y
@@ -50,6 +51,7 @@ pub record Moved (Are : List Step → Type 0) (old new : Loop) : Type 0 where
   pub own : IsLoop old → StaysAreOwn new
   pub took : IsLoop old → TookNothing old new
   pub over : OverStays old.hub new.hub
+  pub gathered : Gathers old.hub new.hub
 
 -- the journal of a room has grown, if it has changed, nothing was taken, and what is broken off stays so
 pub record Grows (r s : Room) : Type 0 where
@@ -59,10 +61,11 @@ pub record Grows (r s : Room) : Type 0 where
   pub taken : (n : ℕ) → taken_of s n ≡ taken_of r n
   pub broken : r.ledger.is_broken ≡ true → s.ledger.is_broken ≡ true
 
--- rooms have grown, and nobody has come
+-- rooms have grown, nobody has come, and what the events changed was gathered
 pub record Went (old new : Hub) : Type 0 where
   pub rooms : (c : ℕ) (r : Room) → room_at old c ≡ Some r → (s : Room) × (room_at new c ≡ Some s) × Grows r s
   pub live : (number : ℕ) (y : Connection) → connection_at new.connections number ≡ Some y → WasLive old number y
+  pub gathered : Gathers old new
 
 -- what is on its way to a connection is what was, and each mark that it had it has
 pub record Keeps (o p : Outgoing) : Type 0 where

@@ -4,6 +4,7 @@ use Rattle.floor_room.specs.Room.{Room}
 use Rattle.floor_hub.specs.declared.connection.Connection.{Connection}
 use Rattle.floor_hub.specs.Concerned.{IsLeftAlone}
 use Rattle.floor_hub.specs.Connections.{connection_at}
+use Rattle.floor_hub.specs.Gathers.{Gathers}
 use Rattle.floor_hub.specs.Hub.{room_at}
 use Rattle.floor_loop.specs.Done.{NoSteps, Steps}
 use Rattle.floor_loop.specs.Loop.{Loop, Outgoing, outgoing_at}
@@ -23,3 +24,4 @@ pub record Thrown (number : ℕ) (old new : Loop) : Type 0 where
   pub alone : IsLoop old → (k : ℕ) (x : Connection) (r s : Room) → nat_eq number k ≡ false → connection_at old.hub.connections k ≡ Some x → room_at old.hub x.conference ≡ Some r → room_at new.hub x.conference ≡ Some s →
       IsLeftAlone r s x.n
   pub ledgers : SameLedgers old.hub new.hub
+  pub gathered : Gathers old.hub new.hub

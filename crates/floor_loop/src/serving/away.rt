@@ -4,6 +4,7 @@ ghost use Rattle.std.specs.Prelude.{◌≡◌, ◌-◌, [], ℕ, IfOk, IfSome, I
 ghost use Rattle.std.specs.Option.{option_map};
 ghost use Rattle.floor_room.specs.Room.{Room};
 ghost use Rattle.floor_hub.specs.Connections.{connection_at};
+ghost use Rattle.floor_hub.specs.Gathers.{Gathers};
 ghost use Rattle.floor_hub.specs.Hub.{room_at};
 ghost use Rattle.floor_hub.specs.Members.{user_of};
 ghost use Rattle.floor_hub.specs.StandsFor.{StandsFor};
@@ -74,6 +75,7 @@ impl Loop {
             → stay_at self.old number ≡ None → IfOk result (λ stays. stays ≡ false) }
         ensures no_grace { self.old.attended.away.grace.lost ≡ 0
             → stay_at self.old number ≡ None → IfOk result (λ stays. stays ≡ false) }
+        ensures gathered { Gathers self.old.hub self.new.hub }
     {
         self.attended.pass(now);
         let lost = stay(&self.hub, &mut self.attended, number);
@@ -93,6 +95,7 @@ impl Loop {
         ensures dropped { Dropped self.old self.new number }
         ensures here { stay_at self.old number ≡ None → self.new ≡ self.old }
         ensures away { self.new.attended.away ≡ self.old.attended.away }
+        ensures gathered { Gathers self.old.hub self.new.hub }
     {
         if !self.is_away(number) {
             return;
@@ -159,6 +162,7 @@ impl Loop {
         ensures spares { Spares self.old self.new }
         ensures found { IfSome result (λ number.
             IsOldestOf self.old.hub self.old.attended.away conference user number) }
+        ensures gathered { Gathers self.old.hub self.new.hub }
     {
         self.attended.pass(now);
         make_room(&mut self.hub, &mut self.attended, alloc, conference, user)
@@ -191,6 +195,7 @@ impl Loop {
             → connection_at self.new.hub.connections k ≡ Some y
             → nat_eq config.conference y.conference ≡ false → Took self.old self.new k [] 0 }
         ensures own { StaysAreOwn self.new }
+        ensures gathered { Gathers self.old.hub self.new.hub }
     {
         self.attended.pass(now);
         resume(&mut self.hub, &mut self.attended, alloc, config, events)

@@ -1,6 +1,7 @@
 //! How many events of a conference are kept, before which nothing that a later one told is written.
 
 ghost use Rattle.std.specs.Prelude.{◌≡◌, Err, IfErr, None, Ok, OnErr, OnOk, Some, false, true};
+ghost use Rattle.floor_hub.specs.Gathers.{Gathers};
 ghost use Rattle.floor_hub.specs.Hub.{is_forgotten, room_at};
 ghost use Rattle.floor_hub.specs.Rooms.{KeepsIn, SameHub, all_so_far, all_to_come, forgotten_or_none, so_many};
 ghost use Rattle.floor_room.specs.Room.{Room, is_kept};
@@ -26,6 +27,7 @@ impl Loop {
         ensures took { TookNothing self.old self.new }
         ensures ready { AreHandedOut conference self.new }
         ensures spares { Spares self.old self.new }
+        ensures gathered { Gathers self.old.hub self.new.hub }
     {
         let done = self.hub.begin_keeping(conference);
         wake_handed(&self.hub, &mut self.attended, conference);
@@ -44,6 +46,7 @@ impl Loop {
         ensures took { TookNothing self.old self.new }
         ensures ready { AreHandedOut conference self.new }
         ensures spares { Spares self.old self.new }
+        ensures gathered { Gathers self.old.hub self.new.hub }
     {
         let done = self.hub.keep(conference, events);
         wake_handed(&self.hub, &mut self.attended, conference);
@@ -62,6 +65,7 @@ impl Loop {
         ensures took { TookNothing self.old self.new }
         ensures ready { AreHandedOut conference self.new }
         ensures spares { Spares self.old self.new }
+        ensures gathered { Gathers self.old.hub self.new.hub }
     {
         let done = self.hub.end_keeping(conference);
         wake_handed(&self.hub, &mut self.attended, conference);

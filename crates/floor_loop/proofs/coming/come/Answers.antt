@@ -12,6 +12,7 @@ use Rattle.floor_loop.specs.steps.Entered.{Entered}
 use Rattle.floor_loop.specs.steps.Moved.{IsLoop, loop_of}
 use Rattle.floor_loop.proofs.Entering.{last-moves, returns-none, still-spares, still-wakes}
 use Rattle.floor_loop.proofs.Gathering.{if-both, named-stands, nobody-away}
+use Rattle.floor_loop.proofs.Watching.{gathers-refl}
 use Rattle.floor_loop.proofs.coming.come.Goals as goal
 
 pub returns-in-Err : goal.returns-in-Err
@@ -33,6 +34,7 @@ returns-in-Err c =
       full = λ l r is k. tt;
       left = back;
       refused = inl refl;
+      gathered = gathers-refl hub;
     }
 
 pub returns-then-is_kept_place : goal.returns-then-is_kept_place
@@ -54,6 +56,7 @@ returns-then-is_kept_place c =
       full = λ l r is k. tt;
       left = back;
       refused = inr (inl (c.full.ensures.value, c.is_kept_place.ensures.keeps c.if-is_kept_place.true, c.is_kept_place.ensures.live c.if-is_kept_place.true));
+      gathered = gathers-refl hub;
     }
 
 not_both : false ≡ true → ⊥
@@ -110,4 +113,5 @@ returns c =
           absurd (not_both (sym c.if-is_kept_place.false ∙ c.is_kept_place.ensures.value r is (c.as_slice.ensures.value ∙ g.2 ∙ none) k.keeps k.live));
       left = c.enter.ensures.left;
       refused = c.enter.ensures.refused c.args.attended.now.away.keeps_place;
+      gathered = c.enter.ensures.gathered;
     }

@@ -6,6 +6,7 @@ use Rattle.floor_loop.specs.Loop.{Attended}
 use Rattle.floor_loop.specs.steps.Moved.{Moved, loop_of}
 use Rattle.floor_loop.proofs.Entering.{enter-moved, enter-new, enter-ready, enter-spares, enter-steps, enter-wakes, last-moves, last-spares, last-wakes}
 use Rattle.floor_loop.proofs.Moving.{moved-before}
+use Rattle.floor_loop.proofs.Watching.{gathers-both}
 use Rattle.floor_loop.proofs.coming.enter.Goals as goal
 
 pub returns-in-Ok : goal.returns-in-Ok
@@ -41,6 +42,7 @@ returns-in-Ok c =
       ready = enter-ready conference user number xs a b e c.attach.ensures.steps moved behind (λ l. last-wakes b hub c.leave_all.new.attended c.set_back.new.self kept (c.leave_all.ensures.woke l)) c.in-Ok.ensures.ready;
       left = tt;
       refused = λ keeps_place. tt;
+      gathered = gathers-both a.hub b.hub hub c.attach.ensures.gathered left.gathered;
     }
 
 pub returns-in-Err : goal.returns-in-Err
@@ -65,4 +67,5 @@ returns-in-Err c =
       ready = λ l. tt;
       left = back;
       refused = c.in-Err.ensures.refused;
+      gathered = c.attach.ensures.gathered;
     }

@@ -12,5 +12,5 @@ returns c =
     let new = loop_of c.admin-done.new.self c.wake.new.attended in
     record {
       carries = carries-moved c.args.conference (AtMost 1 (Admin c.args.conference c.args.act)) old new
-          (moved-admin c.args.conference c.args.act old new c.admin-done.result c.admin-done.ensures.next c.admin-done.ensures.room c.admin-done.ensures.connections c.admin-done.ensures.concerned c.wake.ensures.kept (fewer c.args.attended.now c.wake.new.attended c.wake.ensures.away) c.wake.ensures.woken);
+          (moved-admin c.args.conference c.args.act old new c.admin-done.result c.admin-done.ensures.next c.admin-done.ensures.room c.admin-done.ensures.connections c.admin-done.ensures.concerned c.admin-done.ensures.gathered c.wake.ensures.kept (fewer c.args.attended.now c.wake.new.attended c.wake.ensures.away) c.wake.ensures.woken);
     }

@@ -20,7 +20,7 @@ returns-in-Stays c = record {
   carries = λ conference.
       carries-moved conference NoSteps (loop_of c.args.hub.now c.args.attended.now) (loop_of c.args.hub.now c.keep.new.attended)
       (kept-moves c.args.hub.now c.args.attended.now c.keep.new.attended c.args.number (is_away c.keep.result) c.keep.ensures.outgoing
-      (λ l x r is_x is_r over. let at = l.serving c.args.number x is_x in absurd (not_both (sym c.if-is_over.false ∙ (c.is_over.ensures x r at.outgoing is_x is_r at.found at.conference).1 over))) c.keep.ensures.own);
+      (λ l x r is_x is_r over. absurd (not_both (sym c.if-is_over.false ∙ (c.is_over.ensures x r is_x is_r).1 over))) c.keep.ensures.own);
 }
 
 pub returns-in-Leaves : goal.returns-in-Leaves
@@ -28,5 +28,5 @@ returns-in-Leaves c = record {
   carries = λ conference.
       carries-moved conference NoSteps (loop_of c.args.hub.now c.args.attended.now) (loop_of c.args.hub.now c.keep.new.attended)
       (kept-moves c.args.hub.now c.args.attended.now c.keep.new.attended c.args.number (is_away c.keep.result) c.keep.ensures.outgoing
-      (λ l x r is_x is_r over. let at = l.serving c.args.number x is_x in absurd (not_both (sym c.if-is_over.false ∙ (c.is_over.ensures x r at.outgoing is_x is_r at.found at.conference).1 over))) c.keep.ensures.own);
+      (λ l x r is_x is_r over. absurd (not_both (sym c.if-is_over.false ∙ (c.is_over.ensures x r is_x is_r).1 over))) c.keep.ensures.own);
 }

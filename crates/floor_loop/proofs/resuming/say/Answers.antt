@@ -12,5 +12,5 @@ returns c =
     let new = loop_of c.say-said.new.self c.wake.new.attended in
     record {
       carries = carries-moved c.args.conference (AtMost 1 (Say c.args.conference c.args.user c.args.bytes.now)) old new
-          (moved-say c.args.conference c.args.user c.args.bytes.now old new c.say-said.result c.say-said.ensures.next c.say-said.ensures.room c.say-said.ensures.connections c.say-said.ensures.concerned c.wake.ensures.kept (fewer c.args.attended.now c.wake.new.attended c.wake.ensures.away) c.wake.ensures.woken);
+          (moved-say c.args.conference c.args.user c.args.bytes.now old new c.say-said.result c.say-said.ensures.next c.say-said.ensures.room c.say-said.ensures.connections c.say-said.ensures.concerned c.say-said.ensures.gathered c.wake.ensures.kept (fewer c.args.attended.now c.wake.new.attended c.wake.ensures.away) c.wake.ensures.woken);
     }

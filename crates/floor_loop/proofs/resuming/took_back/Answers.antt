@@ -12,5 +12,5 @@ returns c =
     let new = loop_of c.took-done.new.self c.wake.new.attended in
     record {
       carries = λ conference. carries-moved conference (AtMost 1 (Took c.args.number c.args.k)) old new
-          (moved-took c.args.number c.args.k old new c.took-done.result c.took-done.ensures.next c.took-done.ensures.room c.took-done.ensures.connections c.took-done.ensures.concerned c.wake.ensures.kept (fewer c.args.attended.now c.wake.new.attended c.wake.ensures.away) c.wake.ensures.woken);
+          (moved-took c.args.number c.args.k old new c.took-done.result c.took-done.ensures.next c.took-done.ensures.room c.took-done.ensures.connections c.took-done.ensures.concerned c.took-done.ensures.gathered c.wake.ensures.kept (fewer c.args.attended.now c.wake.new.attended c.wake.ensures.away) c.wake.ensures.woken);
     }

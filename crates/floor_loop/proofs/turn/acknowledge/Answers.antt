@@ -19,7 +19,7 @@ new c = loop_of c.fill.new.hub c.fill.new.attended
 
 asked : (c : goal.After-fill) → Moved (AtMost 1 (Took c.args.number c.args.parcels)) (old c) (mid c)
 asked c =
-    moved-took c.args.number c.args.parcels (old c) (mid c) c.took-acknowledged.result c.took-acknowledged.ensures.next c.took-acknowledged.ensures.room c.took-acknowledged.ensures.connections c.took-acknowledged.ensures.concerned c.wake.ensures.kept (fewer c.args.attended.now c.wake.new.attended c.wake.ensures.away) c.wake.ensures.woken
+    moved-took c.args.number c.args.parcels (old c) (mid c) c.took-acknowledged.result c.took-acknowledged.ensures.next c.took-acknowledged.ensures.room c.took-acknowledged.ensures.connections c.took-acknowledged.ensures.concerned c.took-acknowledged.ensures.gathered c.wake.ensures.kept (fewer c.args.attended.now c.wake.new.attended c.wake.ensures.away) c.wake.ensures.woken
 
 pub returns-in-Some : goal.returns-in-Some
 returns-in-Some c = record {
@@ -43,7 +43,7 @@ behind c = loop_of c.took-acknowledged.new.self c.wake.new.attended
 
 told : (c : goal.In-None) → Moved (AtMost 1 (Took c.args.number c.args.parcels)) (before c) (behind c)
 told c =
-    moved-took c.args.number c.args.parcels (before c) (behind c) c.took-acknowledged.result c.took-acknowledged.ensures.next c.took-acknowledged.ensures.room c.took-acknowledged.ensures.connections c.took-acknowledged.ensures.concerned c.wake.ensures.kept (fewer c.args.attended.now c.wake.new.attended c.wake.ensures.away) c.wake.ensures.woken
+    moved-took c.args.number c.args.parcels (before c) (behind c) c.took-acknowledged.result c.took-acknowledged.ensures.next c.took-acknowledged.ensures.room c.took-acknowledged.ensures.connections c.took-acknowledged.ensures.concerned c.took-acknowledged.ensures.gathered c.wake.ensures.kept (fewer c.args.attended.now c.wake.new.attended c.wake.ensures.away) c.wake.ensures.woken
 
 pub returns-in-None : goal.returns-in-None
 returns-in-None c = record {

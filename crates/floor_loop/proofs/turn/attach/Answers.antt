@@ -1,5 +1,7 @@
-use Rattle.std.proofs.Common.{Some, inl, inr, ap, refl, subst, ◌∙◌}
+use Rattle.floor_hub.specs.Gathers.{Gathers}
+use Rattle.std.proofs.Common.{Some, inl, inr, ap, refl, subst, sym, ◌∙◌}
 use Rattle.std.specs.Prelude.{option_and_then}
+use Rattle.floor_hub.specs.Hub.{Hub}
 use Rattle.floor_loop.specs.Loop.{Attended, Outgoing, outgoing_in}
 use Rattle.floor_loop.specs.steps.Joined.{Adds, Attaches}
 use Rattle.floor_loop.specs.steps.Moved.{AreWoken, loop_of}
@@ -8,6 +10,7 @@ use Rattle.floor_loop.proofs.Calls.{moved-kept}
 use Rattle.floor_loop.proofs.Carrying.{came-not, was-there}
 use Rattle.floor_loop.proofs.Sparing.{come-spared, come-stay, spared-beside, spares-by, spares-same, stay-in}
 use Rattle.floor_loop.proofs.Waking.{spared-both}
+use Rattle.floor_loop.proofs.Watching.{gathers-refl}
 use Rattle.floor_loop.proofs.Stepping.{keeps-both, keeps-passed, stays-kept, wakes-on, woken-on}
 use Rattle.floor_loop.proofs.Moving.{fewer}
 use Rattle.floor_loop.proofs.turn.attach.Goals as goal
@@ -116,3 +119,16 @@ pub returns-in-Err-joined-clause-refused : goal.returns-in-Err-joined-clause-ref
 returns-in-Err-joined-clause-refused c = λ keeps_place.
     let t = subst (Attaches c.args.conference c.args.user c.args.hub.now c.attach.new.hub) c.in-Err-joined.is c.in-Ok.ensures.attached in
     inr (inr (λ w st. t.next w st))
+
+pub returns-in-Err-clause-gathered : goal.returns-in-Err-clause-gathered
+returns-in-Err-clause-gathered c = subst (λ (h : Hub). Gathers c.args.hub.now h) (sym c.in-Err.ensures.left.0) (gathers-refl c.args.hub.now)
+
+pub returns-in-Ok-joined-clause-gathered : goal.returns-in-Ok-joined-clause-gathered
+returns-in-Ok-joined-clause-gathered c =
+    let t = subst (Attaches c.args.conference c.args.user c.args.hub.now c.attach.new.hub) c.in-Ok-joined.is c.in-Ok.ensures.attached in
+    t.gathered
+
+pub returns-in-Err-joined-clause-gathered : goal.returns-in-Err-joined-clause-gathered
+returns-in-Err-joined-clause-gathered c =
+    let t = subst (Attaches c.args.conference c.args.user c.args.hub.now c.attach.new.hub) c.in-Err-joined.is c.in-Ok.ensures.attached in
+    t.gathered

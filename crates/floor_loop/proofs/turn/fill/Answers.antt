@@ -1,75 +1,98 @@
-use Rattle.std.proofs.Common.{◌≡◌, ◌⊎◌, ◌+◌, ◌≤◌, Bool, inl, inr, ap, arith, refl, subst, ◌∙◌}
+use Rattle.std.proofs.Common.{◌≡◌, ℕ, false, ap, refl, ◌∙◌}
+use Rattle.std.specs.Prelude.{nat_eq, option_and_then}
+use Rattle.floor_hub.specs.Hub.{Hub}
+use Rattle.floor_hub.specs.StandsFor.{StandsFor}
+use Rattle.floor_hub.specs.World.{World}
 use Rattle.floor_loop.specs.declared.outgoing.Mark.TheVariants.{Fails}
 use Rattle.floor_loop.specs.Done.{NoSteps}
 use Rattle.floor_loop.specs.Loop.{Attended, outgoing_in}
-use Rattle.floor_loop.specs.steps.Changed.{carrying, marked}
-use Rattle.floor_loop.specs.steps.Moved.{loop_of}
-use Rattle.floor_loop.specs.steps.Taken.{Fills}
+use Rattle.floor_loop.specs.steps.Changed.{carrying, changed, marked}
+use Rattle.floor_loop.specs.steps.Moved.{Moved, SameEnds, SameLedgers, loop_of}
+use Rattle.floor_loop.specs.steps.Taken.{TakenFor}
 use Rattle.floor_loop.proofs.Calls.{moved-kept, moved-taken}
 use Rattle.floor_loop.proofs.Marking.{keeps-marked, ready-changed}
 use Rattle.floor_loop.proofs.Moving.{fewer, moved-before}
-use Rattle.floor_loop.proofs.Sparing.{ends-changed, ledgers-both, ledgers-same, ledgers-taken}
-use Rattle.floor_loop.proofs.Stepping.{keeps-refl}
+use Rattle.floor_loop.proofs.Sparing.{ends-changed, ledgers-taken}
 use Rattle.floor_loop.proofs.Writing.{changed-beside}
 use Rattle.floor_loop.proofs.turn.fill.Goals as goal
 
--- what is said of a connection that takes no more
-either : {A B C : Type 0} → A ⊎ B → B ⊎ (A ⊎ C)
-either (inl full) = inr (inl full)
-either (inr none) = inl none
+-- what was taken
+module _ (number : ℕ) (a b : Attended) (hub new : Hub) (stands : (w : World) → StandsFor hub w → StandsFor new w) (t : TakenFor number a.outgoing b.outgoing hub new) (away : b.away ≡ a.away) where
+  moved : Moved NoSteps (loop_of hub a) (loop_of new b)
+  moved = moved-taken number a b hub new stands t (fewer a b away)
 
-pub loop-turn-init : goal.loop-turn-init
-loop-turn-init c = (moved-kept (loop_of c.args.hub.now c.args.attended.now) (loop_of c.args.hub.now c.args.attended.now) refl (keeps-refl (outgoing_in c.args.attended.now)) (λ k s is. is), λ k. refl, λ k. refl, ledgers-same c.args.hub.now c.args.hub.now (λ d. refl), λ k ne. refl, λ p is. omega arith)
+  ready : (k : ℕ) → option_and_then (λ o. o.ready) (outgoing_in b k) ≡ option_and_then (λ o. o.ready) (outgoing_in a k)
+  ready k = ready-changed (carrying t.rest t.parcels) number a b t.next (λ o. refl) k
 
-pub loop-turn-preserved : goal.loop-turn-preserved
-loop-turn-preserved c =
-    let t = c.take_one.ensures.next in (
-      moved-before NoSteps (loop_of c.args.hub.now c.args.attended.now) (loop_of c.loop-turn.hub c.loop-turn.attended) (loop_of c.take_one.new.hub c.take_one.new.self) c.loop-turn.invariant.0
-          (moved-taken c.args.number c.loop-turn.attended c.take_one.new.self c.loop-turn.hub c.take_one.new.hub c.take_one.ensures.stands t (fewer c.loop-turn.attended c.take_one.new.self c.take_one.ensures.away)),
-      λ k. ready-changed (carrying t.rest t.parcels) c.args.number c.loop-turn.attended c.take_one.new.self t.next (λ o. refl) k ∙ c.loop-turn.invariant.1 k,
-      λ k. ends-changed (carrying t.rest t.parcels) c.args.number c.loop-turn.attended c.take_one.new.self t.next (λ o. refl) k ∙ c.loop-turn.invariant.2 k,
-      ledgers-both c.args.hub.now c.loop-turn.hub c.take_one.new.hub c.loop-turn.invariant.3 (ledgers-taken c.args.number c.loop-turn.attended.outgoing c.take_one.new.self.outgoing c.loop-turn.hub c.take_one.new.hub t),
-      λ k ne. changed-beside (carrying t.rest t.parcels) c.args.number c.loop-turn.attended c.take_one.new.self t.next k ne ∙ c.loop-turn.invariant.4 k ne,
-      λ p is.
-          let q = subst (λ (b : Bool). Fills c.args.number b c.loop-turn.attended.outgoing c.take_one.new.self.outgoing c.take_one.new.hub) c.in-Ok-true.field-0-test c.in-Ok-true.ensures.filled p is in
-          let before : c.loop-turn._turn ≤ q.0.parcels = c.loop-turn.invariant.5 q.0 q.1 in
-          let count : p.parcels ≡ q.0.parcels + 1 = q.2 in
-          omega (arith, before, count),
-    )
+  ends : SameEnds a b
+  ends k = ends-changed (carrying t.rest t.parcels) number a b t.next (λ o. refl) k
 
-pub returns-in-Ok-false : goal.returns-in-Ok-false
-returns-in-Ok-false c =
-    let t = c.take_one.ensures.next in
-    record {
-      moved = moved-before NoSteps (loop_of c.args.hub.now c.args.attended.now) (loop_of c.loop-turn.hub c.loop-turn.attended) (loop_of c.take_one.new.hub c.take_one.new.self) c.loop-turn.invariant.0
-          (moved-taken c.args.number c.loop-turn.attended c.take_one.new.self c.loop-turn.hub c.take_one.new.hub c.take_one.ensures.stands t (fewer c.loop-turn.attended c.take_one.new.self c.take_one.ensures.away));
-      ready = λ k. ready-changed (carrying t.rest t.parcels) c.args.number c.loop-turn.attended c.take_one.new.self t.next (λ o. refl) k ∙ c.loop-turn.invariant.1 k;
-      ends = λ k. ends-changed (carrying t.rest t.parcels) c.args.number c.loop-turn.attended c.take_one.new.self t.next (λ o. refl) k ∙ c.loop-turn.invariant.2 k;
-      ledgers = ledgers-both c.args.hub.now c.loop-turn.hub c.take_one.new.hub c.loop-turn.invariant.3 (ledgers-taken c.args.number c.loop-turn.attended.outgoing c.take_one.new.self.outgoing c.loop-turn.hub c.take_one.new.hub t);
-      others = λ k ne. changed-beside (carrying t.rest t.parcels) c.args.number c.loop-turn.attended c.take_one.new.self t.next k ne ∙ c.loop-turn.invariant.4 k ne;
-      filled = λ p is. either (subst (λ (b : Bool). Fills c.args.number b c.loop-turn.attended.outgoing c.take_one.new.self.outgoing c.take_one.new.hub) c.in-Ok-false.field-0-test c.in-Ok-false.ensures.filled p is);
-    }
+  ledgers : SameLedgers hub new
+  ledgers = ledgers-taken number a.outgoing b.outgoing hub new t
 
-pub returns-in-Err : goal.returns-in-Err
-returns-in-Err c =
-    let t = c.take_one.ensures.next in
-    let old = loop_of c.args.hub.now c.args.attended.now in
-    let mid = loop_of c.take_one.new.hub c.take_one.new.self in
-    let failed = ap (λ (z : Attended). z.outgoing) c.fail.ensures.next in
-    record {
-      moved = moved-before NoSteps old mid (loop_of c.take_one.new.hub c.fail.new.self)
-          (moved-before NoSteps old (loop_of c.loop-turn.hub c.loop-turn.attended) mid c.loop-turn.invariant.0 (moved-taken c.args.number c.loop-turn.attended c.take_one.new.self c.loop-turn.hub c.take_one.new.hub c.take_one.ensures.stands t (fewer c.loop-turn.attended c.take_one.new.self c.take_one.ensures.away)))
-          (moved-kept mid (loop_of c.take_one.new.hub c.fail.new.self) refl (keeps-marked Fails c.take_one.new.self.time c.args.number c.take_one.new.self c.fail.new.self failed) (fewer c.take_one.new.self c.fail.new.self (ap (λ (z : Attended). z.away) c.fail.ensures.next)));
-      ready = λ k.
-          ready-changed (marked Fails c.take_one.new.self.time) c.args.number c.take_one.new.self c.fail.new.self failed (λ o. refl) k
-          ∙ ready-changed (carrying t.rest t.parcels) c.args.number c.loop-turn.attended c.take_one.new.self t.next (λ o. refl) k ∙ c.loop-turn.invariant.1 k;
-      ends = λ k.
-          ends-changed (marked Fails c.take_one.new.self.time) c.args.number c.take_one.new.self c.fail.new.self failed (λ o. refl) k
-          ∙ ends-changed (carrying t.rest t.parcels) c.args.number c.loop-turn.attended c.take_one.new.self t.next (λ o. refl) k ∙ c.loop-turn.invariant.2 k;
-      ledgers = ledgers-both c.args.hub.now c.loop-turn.hub c.take_one.new.hub c.loop-turn.invariant.3 (ledgers-taken c.args.number c.loop-turn.attended.outgoing c.take_one.new.self.outgoing c.loop-turn.hub c.take_one.new.hub t);
-      others = λ k ne. changed-beside (marked Fails c.take_one.new.self.time) c.args.number c.take_one.new.self c.fail.new.self failed k ne ∙ changed-beside (carrying t.rest t.parcels) c.args.number c.loop-turn.attended c.take_one.new.self t.next k ne ∙ c.loop-turn.invariant.4 k ne;
-      filled = λ p is. inr (inr (c.fail.ensures.past p is));
-    }
+  others : (k : ℕ) → nat_eq number k ≡ false → outgoing_in b k ≡ outgoing_in a k
+  others k ne = changed-beside (carrying t.rest t.parcels) number a b t.next k ne
 
-pub returns-clause-filled : goal.returns-clause-filled
-returns-clause-filled c = λ p is. let most : c.loop-turn._turn ≤ p.parcels = c.loop-turn.invariant.5 p is in inr (inl (inl (omega (arith, most))))
+  -- and then it failed
+  module _ (d : Attended) (failed : d ≡ record b { outgoing = changed (marked Fails b.time) number b.outgoing }) where
+    next : d.outgoing ≡ changed (marked Fails b.time) number b.outgoing
+    next = ap (λ (z : Attended). z.outgoing) failed
+
+    moved-on : Moved NoSteps (loop_of hub a) (loop_of new d)
+    moved-on =
+        moved-before NoSteps (loop_of hub a) (loop_of new b) (loop_of new d) moved
+        (moved-kept (loop_of new b) (loop_of new d) refl (keeps-marked Fails b.time number b d next) (fewer b d (ap (λ (z : Attended). z.away) failed)))
+
+    ready-still : (k : ℕ) → option_and_then (λ o. o.ready) (outgoing_in d k) ≡ option_and_then (λ o. o.ready) (outgoing_in a k)
+    ready-still k = ready-changed (marked Fails b.time) number b d next (λ o. refl) k ∙ ready k
+
+    ends-still : SameEnds a d
+    ends-still k = ends-changed (marked Fails b.time) number b d next (λ o. refl) k ∙ ends k
+
+    others-still : (k : ℕ) → nat_eq number k ≡ false → outgoing_in d k ≡ outgoing_in a k
+    others-still k ne = changed-beside (marked Fails b.time) number b d next k ne ∙ others k ne
+
+pub returns-then-taken-clause-moved : goal.returns-then-taken-clause-moved
+returns-then-taken-clause-moved c = moved-on c.args.number c.args.attended.now c.take_all.new.self c.args.hub.now c.take_all.new.hub c.take_all.ensures.stands c.take_all.ensures.next c.take_all.ensures.away c.fail.new.self c.fail.ensures.next
+
+pub returns-then-taken-clause-ready : goal.returns-then-taken-clause-ready
+returns-then-taken-clause-ready c = ready-still c.args.number c.args.attended.now c.take_all.new.self c.args.hub.now c.take_all.new.hub c.take_all.ensures.stands c.take_all.ensures.next c.take_all.ensures.away c.fail.new.self c.fail.ensures.next
+
+pub returns-then-taken-clause-ends : goal.returns-then-taken-clause-ends
+returns-then-taken-clause-ends c = ends-still c.args.number c.args.attended.now c.take_all.new.self c.args.hub.now c.take_all.new.hub c.take_all.ensures.stands c.take_all.ensures.next c.take_all.ensures.away c.fail.new.self c.fail.ensures.next
+
+pub returns-then-taken-clause-ledgers : goal.returns-then-taken-clause-ledgers
+returns-then-taken-clause-ledgers c = ledgers c.args.number c.args.attended.now c.take_all.new.self c.args.hub.now c.take_all.new.hub c.take_all.ensures.stands c.take_all.ensures.next c.take_all.ensures.away
+
+pub returns-then-taken-clause-others : goal.returns-then-taken-clause-others
+returns-then-taken-clause-others c = others-still c.args.number c.args.attended.now c.take_all.new.self c.args.hub.now c.take_all.new.hub c.take_all.ensures.stands c.take_all.ensures.next c.take_all.ensures.away c.fail.new.self c.fail.ensures.next
+
+pub returns-else-taken-clause-moved : goal.returns-else-taken-clause-moved
+returns-else-taken-clause-moved c = moved c.args.number c.args.attended.now c.take_all.new.self c.args.hub.now c.take_all.new.hub c.take_all.ensures.stands c.take_all.ensures.next c.take_all.ensures.away
+
+pub returns-else-taken-clause-ready : goal.returns-else-taken-clause-ready
+returns-else-taken-clause-ready c = ready c.args.number c.args.attended.now c.take_all.new.self c.args.hub.now c.take_all.new.hub c.take_all.ensures.stands c.take_all.ensures.next c.take_all.ensures.away
+
+pub returns-else-taken-clause-ends : goal.returns-else-taken-clause-ends
+returns-else-taken-clause-ends c = ends c.args.number c.args.attended.now c.take_all.new.self c.args.hub.now c.take_all.new.hub c.take_all.ensures.stands c.take_all.ensures.next c.take_all.ensures.away
+
+pub returns-else-taken-clause-ledgers : goal.returns-else-taken-clause-ledgers
+returns-else-taken-clause-ledgers c = ledgers c.args.number c.args.attended.now c.take_all.new.self c.args.hub.now c.take_all.new.hub c.take_all.ensures.stands c.take_all.ensures.next c.take_all.ensures.away
+
+pub returns-else-taken-clause-others : goal.returns-else-taken-clause-others
+returns-else-taken-clause-others c = others c.args.number c.args.attended.now c.take_all.new.self c.args.hub.now c.take_all.new.hub c.take_all.ensures.stands c.take_all.ensures.next c.take_all.ensures.away
+
+pub returns-in-Err-clause-moved : goal.returns-in-Err-clause-moved
+returns-in-Err-clause-moved c = moved-on c.args.number c.args.attended.now c.take_all.new.self c.args.hub.now c.take_all.new.hub c.take_all.ensures.stands c.take_all.ensures.next c.take_all.ensures.away c.fail-in-Err.new.self c.fail-in-Err.ensures.next
+
+pub returns-in-Err-clause-ready : goal.returns-in-Err-clause-ready
+returns-in-Err-clause-ready c = ready-still c.args.number c.args.attended.now c.take_all.new.self c.args.hub.now c.take_all.new.hub c.take_all.ensures.stands c.take_all.ensures.next c.take_all.ensures.away c.fail-in-Err.new.self c.fail-in-Err.ensures.next
+
+pub returns-in-Err-clause-ends : goal.returns-in-Err-clause-ends
+returns-in-Err-clause-ends c = ends-still c.args.number c.args.attended.now c.take_all.new.self c.args.hub.now c.take_all.new.hub c.take_all.ensures.stands c.take_all.ensures.next c.take_all.ensures.away c.fail-in-Err.new.self c.fail-in-Err.ensures.next
+
+pub returns-in-Err-clause-ledgers : goal.returns-in-Err-clause-ledgers
+returns-in-Err-clause-ledgers c = ledgers c.args.number c.args.attended.now c.take_all.new.self c.args.hub.now c.take_all.new.hub c.take_all.ensures.stands c.take_all.ensures.next c.take_all.ensures.away
+
+pub returns-in-Err-clause-others : goal.returns-in-Err-clause-others
+returns-in-Err-clause-others c = others-still c.args.number c.args.attended.now c.take_all.new.self c.args.hub.now c.take_all.new.hub c.take_all.ensures.stands c.take_all.ensures.next c.take_all.ensures.away c.fail-in-Err.new.self c.fail-in-Err.ensures.next

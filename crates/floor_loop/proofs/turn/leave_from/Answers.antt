@@ -29,7 +29,7 @@ returns c =
     let g = outgoing_in c.remove.new.self in
     let h = outgoing_in c.wake.new.attended in
     let moved =
-    moved-leave c.args.number old new c.leave-left.result c.leave-left.ensures.next c.leave-left.ensures.room c.leave-left.ensures.gone c.leave-left.ensures.concerned
+    moved-leave c.args.number old new c.leave-left.result c.leave-left.ensures.next c.leave-left.ensures.room c.leave-left.ensures.gone c.leave-left.ensures.concerned c.leave-left.ensures.gathered
     (live-gone c.leave-left.new.self f g h c.args.number c.leave-left.ensures.gone.here c.remove.ensures.others c.wake.ensures.kept) (left-fewer c.args.attended.now c.remove.new.self c.wake.new.attended c.args.number c.remove.ensures.back c.remove.ensures.stays c.wake.ensures.away) c.wake.ensures.woken in
     record {
       moved = moved;

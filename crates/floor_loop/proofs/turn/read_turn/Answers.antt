@@ -17,10 +17,10 @@ pub returns-in-Err : goal.returns-in-Err
 returns-in-Err c =
     let old = loop_of c.args.hub.now c.args.attended.now in
     let new = loop_of c.piece.new.self c.end.new.attended in
-    let pieced = moved-piece c.args.number c.args.bytes.now old new c.piece.result c.piece.ensures.next c.piece.ensures.rooms c.piece.ensures.connections c.end.ensures.kept (fewer c.args.attended.now c.end.new.attended c.end.ensures.away) in
+    let pieced = moved-piece c.args.number c.args.bytes.now old new c.piece.result c.piece.ensures.next c.piece.ensures.rooms c.piece.ensures.connections c.piece.ensures.gathered c.end.ensures.kept (fewer c.args.attended.now c.end.new.attended c.end.ensures.away) in
     record {
       moved = moved-of (AtMost 1 (Piece c.args.number c.args.bytes.now)) _ old new (piece-alone c.args.number c.args.bytes.now c.args.turns)
-          (moved-piece c.args.number c.args.bytes.now old new c.piece.result c.piece.ensures.next c.piece.ensures.rooms c.piece.ensures.connections c.end.ensures.kept (fewer c.args.attended.now c.end.new.attended c.end.ensures.away));
+          (moved-piece c.args.number c.args.bytes.now old new c.piece.result c.piece.ensures.next c.piece.ensures.rooms c.piece.ensures.connections c.piece.ensures.gathered c.end.ensures.kept (fewer c.args.attended.now c.end.new.attended c.end.ensures.away));
       handed = tt;
       woke = λ l. wakes-same old new c.piece.ensures.rooms (stays-kept (outgoing_in c.args.attended.now) (outgoing_in c.end.new.attended) c.end.ensures.kept);
       refused = c.end.ensures.ended;
@@ -37,7 +37,7 @@ returns c =
     let mid = loop_of c.piece.new.self c.args.attended.now in
     let new = loop_of c.serve_turn.new.hub c.serve_turn.new.attended in
     let keeps = keeps-refl (outgoing_in c.args.attended.now) in
-    let first = moved-piece c.args.number c.args.bytes.now old mid c.piece.result c.piece.ensures.next c.piece.ensures.rooms c.piece.ensures.connections keeps (λ k s is. is) in
+    let first = moved-piece c.args.number c.args.bytes.now old mid c.piece.result c.piece.ensures.next c.piece.ensures.rooms c.piece.ensures.connections c.piece.ensures.gathered keeps (λ k s is. is) in
     record {
       moved = moved-both (AtMost 1 (Piece c.args.number c.args.bytes.now)) (AtMost c.args.turns (Serve c.args.number)) old mid new first c.serve_turn.ensures.moved;
       handed = on-ok (Steps (Hands c.args.number c.args.bytes.now c.args.turns) c.args.hub.now c.serve_turn.new.hub) c.serve_turn.result

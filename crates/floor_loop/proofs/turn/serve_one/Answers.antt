@@ -12,7 +12,7 @@ pub returns-in-Ok : goal.returns-in-Ok
 returns-in-Ok c =
     let old = loop_of c.args.hub.now c.args.attended.now in
     let new = loop_of c.serve-served.new.self c.wake.new.attended in
-    let moved = moved-serve c.args.number old new c.serve-served.result c.serve-served.ensures.next c.serve-served.ensures.room c.serve-served.ensures.connections c.serve-served.ensures.concerned c.wake.ensures.kept (fewer c.args.attended.now c.wake.new.attended c.wake.ensures.away) c.wake.ensures.woken in
+    let moved = moved-serve c.args.number old new c.serve-served.result c.serve-served.ensures.next c.serve-served.ensures.room c.serve-served.ensures.connections c.serve-served.ensures.concerned c.serve-served.ensures.gathered c.wake.ensures.kept (fewer c.args.attended.now c.wake.new.attended c.wake.ensures.away) c.wake.ensures.woken in
     record {
       moved = moved;
       woke = λ l. wakes-on old new c.serve-served.ensures.concerned (stays-kept (outgoing_in c.args.attended.now) (outgoing_in c.wake.new.attended) c.wake.ensures.kept) c.wake.ensures.woken;
@@ -28,7 +28,7 @@ returns-in-Err c =
     let new = loop_of c.serve-served.new.self c.end.new.attended in
     let keeps = keeps-both (outgoing_in c.args.attended.now) (outgoing_in c.wake.new.attended) (outgoing_in c.end.new.attended) c.wake.ensures.kept c.end.ensures.kept in
     let woken : AreWoken c.serve-served.new.self c.end.new.attended = λ k named. woken-on c.serve-served.new.self c.wake.new.attended c.end.new.attended k c.end.ensures.kept (c.wake.ensures.woken k named) in
-    let moved = moved-serve c.args.number old new c.serve-served.result c.serve-served.ensures.next c.serve-served.ensures.room c.serve-served.ensures.connections c.serve-served.ensures.concerned keeps (fewer c.args.attended.now c.end.new.attended (c.end.ensures.away ∙ c.wake.ensures.away)) woken in
+    let moved = moved-serve c.args.number old new c.serve-served.result c.serve-served.ensures.next c.serve-served.ensures.room c.serve-served.ensures.connections c.serve-served.ensures.concerned c.serve-served.ensures.gathered keeps (fewer c.args.attended.now c.end.new.attended (c.end.ensures.away ∙ c.wake.ensures.away)) woken in
     record {
       moved = moved;
       woke = λ l. wakes-on old new c.serve-served.ensures.concerned (stays-kept (outgoing_in c.args.attended.now) (outgoing_in c.end.new.attended) keeps) woken;

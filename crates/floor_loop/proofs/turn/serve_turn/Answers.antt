@@ -1,4 +1,4 @@
-use Rattle.std.proofs.Common.{◌≡◌, refl, arith, ◌+◌, ◌≤◌, ◌<◌, ℕ, true, false, subst, sym, Some}
+use Rattle.std.proofs.Common.{◌≡◌, refl, arith, ◌+◌, ◌≤◌, ℕ, true, false, subst, sym, Some}
 use Rattle.floor_room.specs.Room.{Room}
 use Rattle.floor_hub.specs.Hub.{room_at}
 use Rattle.floor_hub.specs.declared.step.Served.{Served}

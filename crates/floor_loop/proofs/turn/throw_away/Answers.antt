@@ -3,20 +3,20 @@ use Rattle.floor_loop.specs.steps.Moved.{loop_of}
 use Rattle.floor_loop.proofs.Throwing.{thrown-both, thrown-none}
 use Rattle.floor_loop.proofs.turn.throw_away.Goals as goal
 
-pub loop-parcel-init : goal.loop-parcel-init
-loop-parcel-init c = (thrown-none c.args.number c.args.hub.now c.args.attended.now, refl)
+pub loop-time-init : goal.loop-time-init
+loop-time-init c = (thrown-none c.args.number c.args.hub.now c.args.attended.now, refl)
 
-pub loop-parcel-preserved : goal.loop-parcel-preserved
-loop-parcel-preserved c = (
-  thrown-both c.args.number (loop_of c.args.hub.now c.args.attended.now) (loop_of c.loop-parcel.hub c.loop-parcel.attended) (loop_of c.throw_next.new.hub c.throw_next.new.attended) c.loop-parcel.invariant.0 c.throw_next.ensures.thrown,
-  c.throw_next.ensures.away ∙ c.loop-parcel.invariant.1,
+pub loop-time-preserved : goal.loop-time-preserved
+loop-time-preserved c = (
+  thrown-both c.args.number (loop_of c.args.hub.now c.args.attended.now) (loop_of c.loop-time.hub c.loop-time.attended) (loop_of c.throw_next.new.hub c.throw_next.new.attended) c.loop-time.invariant.0 c.throw_next.ensures.thrown,
+  c.throw_next.ensures.away ∙ c.loop-time.invariant.1,
 )
 
 pub returns-then-not-throw_next : goal.returns-then-not-throw_next
 returns-then-not-throw_next c = record {
-  thrown = thrown-both c.args.number (loop_of c.args.hub.now c.args.attended.now) (loop_of c.loop-parcel.hub c.loop-parcel.attended) (loop_of c.throw_next.new.hub c.throw_next.new.attended) c.loop-parcel.invariant.0 c.throw_next.ensures.thrown;
-  away = c.throw_next.ensures.away ∙ c.loop-parcel.invariant.1;
+  thrown = thrown-both c.args.number (loop_of c.args.hub.now c.args.attended.now) (loop_of c.loop-time.hub c.loop-time.attended) (loop_of c.throw_next.new.hub c.throw_next.new.attended) c.loop-time.invariant.0 c.throw_next.ensures.thrown;
+  away = c.throw_next.ensures.away ∙ c.loop-time.invariant.1;
 }
 
 pub returns : goal.returns
-returns c = record { thrown = c.loop-parcel.invariant.0; away = c.loop-parcel.invariant.1 }
+returns c = record { thrown = c.loop-time.invariant.0; away = c.loop-time.invariant.1 }

@@ -1,3 +1,5 @@
+use Rattle.floor_hub.specs.Gathers.{Gathers}
+use Rattle.floor_hub.proofs.WentOn.{gathers-one}
 use Rattle.floor_hub.specs.Shown.{Shows}
 use Rattle.floor_hub.proofs.Handing.{shows-at}
 use Rattle.std.proofs.Common.{◌≡◌, ◌≢◌, ℕ, Bool, true, false, ◌+◌, ◌≤◌, [], Some, None, arith, length, refl, sym, subst}
@@ -39,17 +41,17 @@ overflow_add-number c =
 
 pub attach_at-joined-requires : goal.attach_at-joined-requires
 attach_at-joined-requires c =
-    let h : Hub = record { rooms = c.self.inside.rooms.entries; connections = c.self.inside.connections; arrivals = c.self.inside.arrivals; concerned = c.self.inside.concerned.numbers; changed = c.self.inside.effects.changed.items; forgotten = c.self.inside.forgotten.keys } in
+    let h : Hub = record { rooms = c.self.inside.rooms.entries; connections = c.self.inside.connections; arrivals = c.self.inside.arrivals; concerned = c.self.inside.concerned.numbers; changed = c.self.inside.effects.changed.items; forgotten = c.self.inside.forgotten.keys; gathered = c.self.inside.gathered } in
     record {
       fresh = next-is-free h c.self.invariant.stood.0 c.self.invariant.stood.1;
       within = λ r is. within h c.self.invariant.stood.0 (live_in c.self.inside.concerned) c.self.invariant.stood.1 c.self.invariant.stood.2 c.self.invariant.attached c.args.conference r is;
     }
 
 abbrev old_ok : goal.After-self-1 → Hub
-old_ok c = record { rooms = c.self.inside.rooms.entries; connections = c.self.inside.connections; arrivals = c.self.inside.arrivals; concerned = c.self.inside.concerned.numbers; changed = c.self.inside.effects.changed.items; forgotten = c.self.inside.forgotten.keys }
+old_ok c = record { rooms = c.self.inside.rooms.entries; connections = c.self.inside.connections; arrivals = c.self.inside.arrivals; concerned = c.self.inside.concerned.numbers; changed = c.self.inside.effects.changed.items; forgotten = c.self.inside.forgotten.keys; gathered = c.self.inside.gathered }
 
 abbrev new_ok : goal.After-self-1 → Hub
-new_ok c = record { rooms = c.attach_at-joined.new.rooms.entries; connections = c.attach_at-joined.new.connections; arrivals = c.self.inside.arrivals + 1; concerned = c.attach_at-joined.new.concerned.numbers; changed = c.attach_at-joined.new.effects.changed.items; forgotten = c.self.inside.forgotten.keys }
+new_ok c = record { rooms = c.attach_at-joined.new.rooms.entries; connections = c.attach_at-joined.new.connections; arrivals = c.self.inside.arrivals + 1; concerned = c.attach_at-joined.new.concerned.numbers; changed = c.attach_at-joined.new.effects.changed.items; forgotten = c.self.inside.forgotten.keys; gathered = c.gather.new.self }
 
 room_ok : (c : goal.After-self-1) → OneRoom by_broken None (attach_event c.args.user) c.args.conference (old_ok c) (new_ok c)
 room_ok c =
@@ -159,10 +161,10 @@ pub returns-in-Ok-clause-found : goal.returns-in-Ok-clause-found
 returns-in-Ok-clause-found c = made c (room_at (old_ok c) c.args.conference) refl
 
 abbrev old_err : goal.In-Err → Hub
-old_err c = record { rooms = c.self.inside.rooms.entries; connections = c.self.inside.connections; arrivals = c.self.inside.arrivals; concerned = c.self.inside.concerned.numbers; changed = c.self.inside.effects.changed.items; forgotten = c.self.inside.forgotten.keys }
+old_err c = record { rooms = c.self.inside.rooms.entries; connections = c.self.inside.connections; arrivals = c.self.inside.arrivals; concerned = c.self.inside.concerned.numbers; changed = c.self.inside.effects.changed.items; forgotten = c.self.inside.forgotten.keys; gathered = c.self.inside.gathered }
 
 abbrev new_err : goal.In-Err → Hub
-new_err c = record { rooms = c.attach_at-joined.new.rooms.entries; connections = c.attach_at-joined.new.connections; arrivals = c.self.inside.arrivals; concerned = c.attach_at-joined.new.concerned.numbers; changed = c.attach_at-joined.new.effects.changed.items; forgotten = c.self.inside.forgotten.keys }
+new_err c = record { rooms = c.attach_at-joined.new.rooms.entries; connections = c.attach_at-joined.new.connections; arrivals = c.self.inside.arrivals; concerned = c.attach_at-joined.new.concerned.numbers; changed = c.attach_at-joined.new.effects.changed.items; forgotten = c.self.inside.forgotten.keys; gathered = c.gather.new.self }
 
 room_err : (c : goal.In-Err) → OneRoom by_broken (Some c.in-Err.refusal) (attach_event c.args.user) c.args.conference (old_err c) (new_err c)
 room_err c =
@@ -220,3 +222,19 @@ returns-in-Err-clause-left c =
     subst (λ h. LeftAt (attach_event c.args.user) c.args.conference h (new_err c) c.in-Err.refusal) c.self.view_is
     (left-attach c.args.user c.args.conference (old_err c) (new_err c) (is_forgotten (old_err c) c.args.conference) c.in-Err.refusal refl (room_at (old_err c) c.args.conference) refl c.in-Err.ensures.room.absent
     (λ r is. let t = c.in-Err.ensures.room.there r is in (t.0, t.1, t.2, t.3.1)) c.in-Err.ensures.left)
+
+pub returns-in-Ok-clause-gathered : goal.returns-in-Ok-clause-gathered
+returns-in-Ok-clause-gathered c =
+    subst (λ h. Gathers h (new_ok c)) c.self.view_is
+    (gathers-one by_broken None (attach_event c.args.user) c.args.conference (old_ok c) (new_ok c) c.before-before.result (room_ok c)
+    (λ r is. let t = c.in-Ok.ensures.room.there r is in (t.0, t.1, joined-went r t.0 c.args.user t.3.0.0))
+    (shows-at by_broken None (attach_event c.args.user) c.args.conference (old_ok c) (new_ok c) (room_ok c) c.in-Ok.ensures.changed)
+    c.before-before.ensures.before c.gather.ensures.next)
+
+pub returns-in-Err-clause-gathered : goal.returns-in-Err-clause-gathered
+returns-in-Err-clause-gathered c =
+    subst (λ h. Gathers h (new_err c)) c.self.view_is
+    (gathers-one by_broken (Some c.in-Err.refusal) (attach_event c.args.user) c.args.conference (old_err c) (new_err c) c.before-before.result (room_err c)
+    (λ r is. let t = c.in-Err.ensures.room.there r is in (t.0, t.1, attach-went r t.0 c.args.user t.3.1.0 t.3.1.2))
+    (shows-at by_broken (Some c.in-Err.refusal) (attach_event c.args.user) c.args.conference (old_err c) (new_err c) (room_err c) c.in-Err.ensures.changed)
+    c.before-before.ensures.before c.gather.ensures.next)

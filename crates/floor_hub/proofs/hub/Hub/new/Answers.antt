@@ -11,10 +11,10 @@ use Rattle.floor_hub.specs.steps.Attached.{EachOf, IsKnown, Stands}
 use Rattle.floor_hub.proofs.Recalling.{stands-empty}
 use Rattle.floor_hub.proofs.hub.Hub.new.Goals as goal
 
-abbrev made : goal.After-new-5 → Hub
-made c = record { rooms = c.new.result.entries; connections = c.new-2.result; arrivals = 0; concerned = c.new-3.result.numbers; changed = c.new-4.result.changed.items; forgotten = c.new-5.result.keys }
+abbrev made : goal.After-new-6 → Hub
+made c = record { rooms = c.new.result.entries; connections = c.new-2.result; arrivals = 0; concerned = c.new-3.result.numbers; changed = c.new-4.result.changed.items; forgotten = c.new-5.result.keys; gathered = c.new-6.result }
 
-stands : (c : goal.After-new-5) → StandsFor (made c) nothing
+stands : (c : goal.After-new-6) → StandsFor (made c) nothing
 stands c = stands-empty (made c) (λ d. ap (λ (es : List (ℕ × Room)). lookup (nat_eq d) es) c.new.ensures.empty) c.new-5.ensures.empty c.new-2.ensures.value refl
 
 pub invariant_of-result : goal.invariant_of-result

@@ -18,10 +18,10 @@ use Rattle.floor_hub.specs.declared.step.Answer.{Answer}
 use Rattle.floor_hub.proofs.Attaching.{attached-same, place-same, places-of}
 
 abbrev old : goal.After-push_at → Hub
-old c = record { rooms = c.self.inside.rooms.entries; connections = c.self.inside.connections; arrivals = c.self.inside.arrivals; concerned = c.self.inside.concerned.numbers; changed = c.self.inside.effects.changed.items; forgotten = c.self.inside.forgotten.keys }
+old c = record { rooms = c.self.inside.rooms.entries; connections = c.self.inside.connections; arrivals = c.self.inside.arrivals; concerned = c.self.inside.concerned.numbers; changed = c.self.inside.effects.changed.items; forgotten = c.self.inside.forgotten.keys; gathered = c.self.inside.gathered }
 
 abbrev new : goal.After-push_at → Hub
-new c = record { rooms = c.self.inside.rooms.entries; connections = c.push_at.new.connections; arrivals = c.self.inside.arrivals; concerned = c.self.inside.concerned.numbers; changed = c.self.inside.effects.changed.items; forgotten = c.self.inside.forgotten.keys }
+new c = record { rooms = c.self.inside.rooms.entries; connections = c.push_at.new.connections; arrivals = c.self.inside.arrivals; concerned = c.self.inside.concerned.numbers; changed = c.self.inside.effects.changed.items; forgotten = c.self.inside.forgotten.keys; gathered = c.self.inside.gathered }
 
 abbrev Want : Answer → HubRefusal → Type 0
 Want answer r = (r ≡ NoMemory) × (¬ IsIdle answer)

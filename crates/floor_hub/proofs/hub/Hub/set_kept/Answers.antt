@@ -8,10 +8,10 @@ use Rattle.floor_hub.proofs.KeptRooms.{kept-in, known-kept, left-kept, outboxes-
 use Rattle.floor_hub.proofs.hub.Hub.set_kept.Goals as goal
 
 abbrev old : goal.After-keep_at → Hub
-old c = record { rooms = c.self.inside.rooms.entries; connections = c.self.inside.connections; arrivals = c.self.inside.arrivals; concerned = c.self.inside.concerned.numbers; changed = c.self.inside.effects.changed.items; forgotten = c.self.inside.forgotten.keys }
+old c = record { rooms = c.self.inside.rooms.entries; connections = c.self.inside.connections; arrivals = c.self.inside.arrivals; concerned = c.self.inside.concerned.numbers; changed = c.self.inside.effects.changed.items; forgotten = c.self.inside.forgotten.keys; gathered = c.self.inside.gathered }
 
 abbrev new : goal.After-keep_at → Hub
-new c = record { rooms = c.keep_at.new.rooms.entries; connections = c.self.inside.connections; arrivals = c.self.inside.arrivals; concerned = c.self.inside.concerned.numbers; changed = c.self.inside.effects.changed.items; forgotten = c.self.inside.forgotten.keys }
+new c = record { rooms = c.keep_at.new.rooms.entries; connections = c.self.inside.connections; arrivals = c.self.inside.arrivals; concerned = c.self.inside.concerned.numbers; changed = c.self.inside.effects.changed.items; forgotten = c.self.inside.forgotten.keys; gathered = c.self.inside.gathered }
 
 pub invariant_of-self : goal.invariant_of-self
 invariant_of-self c =

@@ -18,10 +18,10 @@ use Rattle.floor_hub.proofs.hub.Hub.take.Goals as goal
 use Rattle.floor_hub.proofs.Naming.{known-taken}
 
 abbrev old : goal.After-take_at → Hub
-old c = record { rooms = c.self.inside.rooms.entries; connections = c.self.inside.connections; arrivals = c.self.inside.arrivals; concerned = c.self.inside.concerned.numbers; changed = c.self.inside.effects.changed.items; forgotten = c.self.inside.forgotten.keys }
+old c = record { rooms = c.self.inside.rooms.entries; connections = c.self.inside.connections; arrivals = c.self.inside.arrivals; concerned = c.self.inside.concerned.numbers; changed = c.self.inside.effects.changed.items; forgotten = c.self.inside.forgotten.keys; gathered = c.self.inside.gathered }
 
 abbrev new : goal.After-take_at → Hub
-new c = record { rooms = c.take_at.new.rooms.entries; connections = c.self.inside.connections; arrivals = c.self.inside.arrivals; concerned = c.self.inside.concerned.numbers; changed = c.self.inside.effects.changed.items; forgotten = c.self.inside.forgotten.keys }
+new c = record { rooms = c.take_at.new.rooms.entries; connections = c.self.inside.connections; arrivals = c.self.inside.arrivals; concerned = c.self.inside.concerned.numbers; changed = c.self.inside.effects.changed.items; forgotten = c.self.inside.forgotten.keys; gathered = c.self.inside.gathered }
 
 taken : (c : goal.After-take_at) (y : Option Connection) → connection_at (old c).connections c.args.number ≡ y → TakenOf y c.take_at.result (old c) (new c)
 taken c None is = let a = c.take_at.ensures.connection.absent is in (a.0, record { rooms = a.1; connections = a.2; arrivals = refl })

@@ -1,3 +1,4 @@
+use Rattle.floor_hub.specs.Gathers.{Gathers}
 use Rattle.std.proofs.Common.{ℕ, List, ap, subst, ◌∙◌}
 use Rattle.floor_hub.specs.declared.step.Step.TheVariants.{Admin}
 use Rattle.floor_hub.specs.Rooms.{OneRoom, admin_event, by_broken, refusal_in}
@@ -25,7 +26,7 @@ keeps c =
     (keeps-passed c.self.inside.attended c.pass.new.self (ap (λ (z : Attended). z.outgoing) c.pass.ensures.next)) c.wake.ensures.kept
 
 moved : (c : goal.After-wake) → Moved (AtMost 1 (Admin c.args.conference c.args.act)) (old c) (new c)
-moved c = moved-admin c.args.conference c.args.act (old c) (new c) c.admin-done.result c.admin-done.ensures.next c.admin-done.ensures.room c.admin-done.ensures.connections c.admin-done.ensures.concerned (keeps c) (fewer c.self.inside.attended c.wake.new.attended (c.wake.ensures.away ∙ ap (λ (z : Attended). z.away) c.pass.ensures.next)) c.wake.ensures.woken
+moved c = moved-admin c.args.conference c.args.act (old c) (new c) c.admin-done.result c.admin-done.ensures.next c.admin-done.ensures.room c.admin-done.ensures.connections c.admin-done.ensures.concerned c.admin-done.ensures.gathered (keeps c) (fewer c.self.inside.attended c.wake.new.attended (c.wake.ensures.away ∙ ap (λ (z : Attended). z.away) c.pass.ensures.next)) c.wake.ensures.woken
 
 woke : (c : goal.After-wake) → Wakes (old c) (new c)
 woke c = wakes-on (old c) (new c) c.admin-done.ensures.concerned (stays-kept (outgoing_in c.self.inside.attended) (outgoing_in c.wake.new.attended) (keeps c)) c.wake.ensures.woken
@@ -35,6 +36,9 @@ invariant_of-self c = loop-moves (AtMost 1 (Admin c.args.conference c.args.act))
 
 pub returns-clause-steps : goal.returns-clause-steps
 returns-clause-steps c = subst (λ (l : Loop). Steps (AtMost 1 (Admin c.args.conference c.args.act)) l.hub (new c).hub) c.self.view_is (moved c).steps
+
+pub returns-clause-gathered : goal.returns-clause-gathered
+returns-clause-gathered c = subst (λ (l : Loop). Gathers l.hub (new c).hub) c.self.view_is (moved c).gathered
 
 pub returns-clause-took : goal.returns-clause-took
 returns-clause-took c = subst (λ (l : Loop). TookNothing l (new c)) c.self.view_is ((moved c).took c.self.invariant)

@@ -1,3 +1,4 @@
+use Rattle.floor_hub.specs.Gathers.{Gathers}
 use Rattle.std.proofs.Common.{◌≡◌, ℕ, List, ap, refl, subst, Some}
 use Rattle.std.specs.Prelude.{Bool, IfErr, IfOk, OnOk}
 use Rattle.floor_loop.specs.Away.{Away}
@@ -39,6 +40,9 @@ invariant_of-self c =
 
 pub returns-clause-steps : goal.returns-clause-steps
 returns-clause-steps c = subst (λ (l : Loop). Steps (Returns c.args.conference c.args.user (new c).attended.away.back) l.hub (new c).hub) c.self.view_is c.come.ensures.steps
+
+pub returns-clause-gathered : goal.returns-clause-gathered
+returns-clause-gathered c = subst (λ (l : Loop). Gathers l.hub (new c).hub) c.self.view_is c.come.ensures.gathered
 
 -- the time has no part in what sockets take, and whom a call wakes
 same : (c : goal.After-come) → c.pass.new.self.outgoing ≡ c.self.inside.attended.outgoing

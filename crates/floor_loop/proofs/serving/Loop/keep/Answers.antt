@@ -1,3 +1,4 @@
+use Rattle.floor_hub.specs.Gathers.{Gathers}
 use Rattle.std.proofs.Common.{◌≡◌, subst, None}
 use Rattle.std.specs.Prelude.{IfErr, OnErr, OnOk}
 use Rattle.floor_hub.specs.Hub.{is_forgotten, room_at}
@@ -19,7 +20,7 @@ new c = loop_of c.keep-done.new.self c.wake_handed.new.attended
 
 moved : (c : goal.After-wake_handed) → Moved NoSteps (old c) (new c)
 moved c =
-    moved-released (so_many c.args.events) c.args.conference (old c) (new c) c.keep-done.result c.keep-done.ensures.kept c.keep-done.ensures.left c.keep-done.ensures.stands c.wake_handed.ensures.kept
+    moved-released (so_many c.args.events) c.args.conference (old c) (new c) c.keep-done.result c.keep-done.ensures.kept c.keep-done.ensures.left c.keep-done.ensures.stands c.keep-done.ensures.gathered c.wake_handed.ensures.kept
     (fewer c.self.inside.attended c.wake_handed.new.attended c.wake_handed.ensures.away)
 
 pub invariant_of-self : goal.invariant_of-self
@@ -27,6 +28,9 @@ invariant_of-self c = loop-moves NoSteps (old c) (new c) (moved c) c.self.invari
 
 pub returns-clause-steps : goal.returns-clause-steps
 returns-clause-steps c = subst (λ (l : Loop). Steps NoSteps l.hub (new c).hub) c.self.view_is (moved c).steps
+
+pub returns-clause-gathered : goal.returns-clause-gathered
+returns-clause-gathered c = subst (λ (l : Loop). Gathers l.hub (new c).hub) c.self.view_is (moved c).gathered
 
 pub returns-clause-took : goal.returns-clause-took
 returns-clause-took c = subst (λ (l : Loop). TookNothing l (new c)) c.self.view_is ((moved c).took c.self.invariant)

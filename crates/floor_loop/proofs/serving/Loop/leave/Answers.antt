@@ -1,3 +1,4 @@
+use Rattle.floor_hub.specs.Gathers.{Gathers}
 use Rattle.std.proofs.Common.{ap, refl, subst}
 use Rattle.floor_hub.specs.declared.step.Step.TheVariants.{Leave}
 use Rattle.floor_loop.specs.Done.{AtMost, NoSteps, Steps}
@@ -51,6 +52,9 @@ invariant_of-self c = loop-moves (AtMost 1 (Leave c.args.number)) (old c) (new c
 
 pub returns-clause-steps : goal.returns-clause-steps
 returns-clause-steps c = subst (λ (l : Loop). Steps (AtMost 1 (Leave c.args.number)) l.hub (new c).hub) c.self.view_is (moved c).steps
+
+pub returns-clause-gathered : goal.returns-clause-gathered
+returns-clause-gathered c = subst (λ (l : Loop). Gathers l.hub (new c).hub) c.self.view_is (moved c).gathered
 
 pub returns-clause-took : goal.returns-clause-took
 returns-clause-took c = subst (λ (l : Loop). TookNothing l (new c)) c.self.view_is ((moved c).took c.self.invariant)

@@ -1,3 +1,4 @@
+use Rattle.floor_hub.specs.Gathers.{Gathers}
 use Rattle.std.proofs.Common.{◌≡◌, ◌⊎◌, inl, inr, ℕ, [], true, false, ap, refl, subst, sym, ◌∙◌, None, Some, nat_eq}
 use Rattle.std.specs.Prelude.{Result, Ok, Err, IfOk, OnOk}
 use Rattle.floor_room.specs.Room.{Room}
@@ -18,6 +19,7 @@ use Rattle.floor_loop.proofs.Calls.{moved-kept}
 use Rattle.floor_loop.proofs.Losing.{dropped-gone, dropped-loop, dropped-own, dropped-took, lost-moves}
 use Rattle.floor_loop.proofs.Moving.{fewer, loop-moves, moved-behind}
 use Rattle.floor_loop.proofs.Stepping.{keeps-passed}
+use Rattle.floor_loop.proofs.Watching.{gathers-both}
 use Rattle.floor_loop.proofs.serving.Loop.lost.Goals as goal
 
 pub invariant_of-self : goal.invariant_of-self
@@ -132,3 +134,13 @@ returns-then-is_away-clause-user c =
     c.self.view_is
     (λ none e x r s is_x is_r is_s.
     c.stay-lost.ensures.user (ap (λ (z : Attended). stay_of z.away number) c.pass.ensures.next ∙ none) (sym c.is_away.ensures.value ∙ c.if-is_away.true) x r s is_x is_r (ap (λ (z : Away). stay_of z number) (sym c.throw_away.ensures.away) ∙ is_s))
+
+-- what was gathered
+
+pub returns-then-is_away-clause-gathered : goal.returns-then-is_away-clause-gathered
+returns-then-is_away-clause-gathered c = subst (λ (l : Loop). Gathers l.hub c.throw_away.new.hub) c.self.view_is c.throw_away.ensures.thrown.gathered
+
+pub returns-clause-gathered : goal.returns-clause-gathered
+returns-clause-gathered c =
+    subst (λ (l : Loop). Gathers l.hub c.leave_from-left.new.hub) c.self.view_is
+    (gathers-both c.self.inside.hub c.throw_away.new.hub c.leave_from-left.new.hub c.throw_away.ensures.thrown.gathered c.leave_from-left.ensures.moved.gathered)

@@ -1,3 +1,4 @@
+use Rattle.floor_hub.specs.Gathers.{Gathers}
 use Rattle.std.proofs.Common.{ap, subst}
 use Rattle.floor_hub.specs.declared.step.Step.TheVariants.{Open}
 use Rattle.floor_hub.specs.declared.refusal.HubRefusal.{HubRefusal}
@@ -23,13 +24,16 @@ abbrev new : goal.After-open → Loop
 new c = loop_of c.open.new.self c.self.inside.attended
 
 moved : (c : goal.After-open) → Moved (AtMost 1 (Open c.args.config)) (old c) (new c)
-moved c = moved-open c.args.config (old c) (new c) c.open.result c.open.ensures.next c.open.ensures.took c.open.ensures.connections c.open.ensures.left (keeps-refl (outgoing_in c.self.inside.attended)) (λ k s is. is)
+moved c = moved-open c.args.config (old c) (new c) c.open.result c.open.ensures.next c.open.ensures.took c.open.ensures.connections c.open.ensures.left c.open.ensures.gathered (keeps-refl (outgoing_in c.self.inside.attended)) (λ k s is. is)
 
 pub invariant_of-self : goal.invariant_of-self
 invariant_of-self c = loop-moves (AtMost 1 (Open c.args.config)) (old c) (new c) (moved c) c.self.invariant
 
 pub returns-clause-steps : goal.returns-clause-steps
 returns-clause-steps c = subst (λ (l : Loop). Steps (AtMost 1 (Open c.args.config)) l.hub (new c).hub) c.self.view_is (moved c).steps
+
+pub returns-clause-gathered : goal.returns-clause-gathered
+returns-clause-gathered c = subst (λ (l : Loop). Gathers l.hub (new c).hub) c.self.view_is (moved c).gathered
 
 pub returns-clause-took : goal.returns-clause-took
 returns-clause-took c = subst (λ (l : Loop). TookNothing l (new c)) c.self.view_is ((moved c).took c.self.invariant)

@@ -1,3 +1,4 @@
+use Rattle.floor_hub.specs.Gathers.{Gathers}
 use Rattle.std.proofs.Common.{◌≡◌, ℕ, Some, ap, refl, subst}
 use Rattle.std.specs.Prelude.{IfOk, OnOk}
 use Rattle.floor_loop.specs.Done.{Hands, NoSteps, Reads, Serves, Steps}
@@ -42,6 +43,9 @@ invariant_of-self c = loop-moves (Reads c.args.number c.args.bytes.now c.args.mo
 
 pub returns-clause-steps : goal.returns-clause-steps
 returns-clause-steps c = subst (λ (l : Loop). Steps (Reads c.args.number c.args.bytes.now c.args.most) l.hub (new c).hub) c.self.view_is (moved c).steps
+
+pub returns-clause-gathered : goal.returns-clause-gathered
+returns-clause-gathered c = subst (λ (l : Loop). Gathers l.hub (new c).hub) c.self.view_is (moved c).gathered
 
 pub returns-clause-took : goal.returns-clause-took
 returns-clause-took c = subst (λ (l : Loop). TookNothing l (new c)) c.self.view_is ((moved c).took c.self.invariant)

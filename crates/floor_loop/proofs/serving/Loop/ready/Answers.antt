@@ -1,3 +1,4 @@
+use Rattle.floor_hub.specs.Gathers.{Gathers}
 use Rattle.std.proofs.Common.{◌≡◌, ap, refl, subst, ◌∙◌}
 use Rattle.std.specs.Prelude.{IsSome}
 use Rattle.floor_loop.specs.Done.{NoSteps, Steps}
@@ -7,6 +8,7 @@ use Rattle.floor_loop.specs.steps.Changed.{changed, given}
 use Rattle.floor_loop.specs.steps.Moved.{Moved, loop_of}
 use Rattle.floor_loop.proofs.Moving.{fewer, loop-moves, moved-before, moved-same, own-same}
 use Rattle.floor_loop.proofs.Sparing.{ends-changed, spares-same}
+use Rattle.floor_loop.proofs.Watching.{gathers-refl}
 use Rattle.floor_loop.proofs.Writing.{changed-beside, given-ready, keeps-given, live-changed, ready-some-at}
 use Rattle.floor_loop.proofs.serving.Loop.ready.Goals as goal
 
@@ -45,4 +47,8 @@ returns-in-Some c =
       filled = c.fill.ensures.filled;
       others = λ k ne. c.fill.ensures.others k ne ∙ changed-beside given c.in-Some.number a b (given-to c) k ne ∙ ap (λ (l : Loop). outgoing_at l k) c.self.view_is;
       spares = subst (λ (l : Loop). Spares l (new c)) c.self.view_is (spares-same (old c) (new c) (λ k. c.fill.ensures.ends k ∙ ends-changed given c.in-Some.number a b (given-to c) (λ o. refl) k));
+      gathered = subst (λ (l : Loop). Gathers l.hub (new c).hub) c.self.view_is (moved c).gathered;
     }
+
+pub returns-in-None-clause-gathered : goal.returns-in-None-clause-gathered
+returns-in-None-clause-gathered c = subst (λ (l : Loop). Gathers l.hub c.self.inside.hub) c.self.view_is (gathers-refl c.self.inside.hub)

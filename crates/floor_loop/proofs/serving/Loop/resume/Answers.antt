@@ -1,3 +1,4 @@
+use Rattle.floor_hub.specs.Gathers.{Gathers}
 use Rattle.std.proofs.Common.{◌≡◌, ℕ, [], Some, false, ap, refl, subst}
 use Rattle.std.specs.Prelude.{nat_eq}
 use Rattle.floor_hub.specs.declared.connection.Connection.{Connection}
@@ -39,4 +40,5 @@ returns c = record {
   took = c.resume.ensures.resumed ((first c).loop c.self.invariant);
   others = subst (λ (l : Loop). (k : ℕ) (y : Connection) → connection_at (new c).hub.connections k ≡ Some y → nat_eq c.args.config.conference y.conference ≡ false → Took l (new c) k [] 0) c.self.view_is
       (λ k y is ne. ((carries c).others c.self.invariant k y is ne).took);
+  gathered = subst (λ (l : Loop). Gathers l.hub (new c).hub) c.self.view_is (carries c).gathered;
 }

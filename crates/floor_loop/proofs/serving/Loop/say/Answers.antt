@@ -1,3 +1,4 @@
+use Rattle.floor_hub.specs.Gathers.{Gathers}
 use Rattle.std.proofs.Common.{◌≡◌, ℕ, List, ap, subst, ◌∙◌, Some}
 use Rattle.floor_hub.specs.declared.step.Step.TheVariants.{Say}
 use Rattle.floor_hub.specs.Rooms.{OneRoom, say_event, by_broken, refusal_in}
@@ -28,7 +29,7 @@ keeps c =
     (keeps-passed c.self.inside.attended c.pass.new.self (ap (λ (z : Attended). z.outgoing) c.pass.ensures.next)) c.wake.ensures.kept
 
 moved : (c : goal.After-wake) → Moved (AtMost 1 (Say c.args.conference c.args.user c.args.message.now)) (old c) (new c)
-moved c = moved-say c.args.conference c.args.user c.args.message.now (old c) (new c) c.say-said.result c.say-said.ensures.next c.say-said.ensures.room c.say-said.ensures.connections c.say-said.ensures.concerned (keeps c) (fewer c.self.inside.attended c.wake.new.attended (c.wake.ensures.away ∙ ap (λ (z : Attended). z.away) c.pass.ensures.next)) c.wake.ensures.woken
+moved c = moved-say c.args.conference c.args.user c.args.message.now (old c) (new c) c.say-said.result c.say-said.ensures.next c.say-said.ensures.room c.say-said.ensures.connections c.say-said.ensures.concerned c.say-said.ensures.gathered (keeps c) (fewer c.self.inside.attended c.wake.new.attended (c.wake.ensures.away ∙ ap (λ (z : Attended). z.away) c.pass.ensures.next)) c.wake.ensures.woken
 
 woke : (c : goal.After-wake) → Wakes (old c) (new c)
 woke c = wakes-on (old c) (new c) c.say-said.ensures.concerned (stays-kept (outgoing_in c.self.inside.attended) (outgoing_in c.wake.new.attended) (keeps c)) c.wake.ensures.woken
@@ -38,6 +39,9 @@ invariant_of-self c = loop-moves (AtMost 1 (Say c.args.conference c.args.user c.
 
 pub returns-clause-steps : goal.returns-clause-steps
 returns-clause-steps c = subst (λ (l : Loop). Steps (AtMost 1 (Say c.args.conference c.args.user c.args.message.now)) l.hub (new c).hub) c.self.view_is (moved c).steps
+
+pub returns-clause-gathered : goal.returns-clause-gathered
+returns-clause-gathered c = subst (λ (l : Loop). Gathers l.hub (new c).hub) c.self.view_is (moved c).gathered
 
 pub returns-clause-took : goal.returns-clause-took
 returns-clause-took c = subst (λ (l : Loop). TookNothing l (new c)) c.self.view_is ((moved c).took c.self.invariant)

@@ -1,3 +1,4 @@
+use Rattle.floor_hub.specs.Gathers.{Gathers}
 use Rattle.std.proofs.Common.{◌≡◌, ℕ, [], ap, drop, refl, subst, sym, ◌∙◌}
 use Rattle.std.specs.Prelude.{option_and_then, take}
 use Rattle.floor_hub.specs.declared.step.Step.TheVariants.{Took as Takes}
@@ -9,6 +10,7 @@ use Rattle.floor_loop.specs.steps.Moved.{loop_of}
 use Rattle.floor_loop.proofs.Moving.{fewer, loop-moves, took-then}
 use Rattle.floor_loop.proofs.Sparing.{ends-changed, ends-found, none-whole, spares-behind, spares-same}
 use Rattle.floor_loop.proofs.Taking.{acked_at}
+use Rattle.floor_loop.proofs.Watching.{gathers-refl}
 use Rattle.floor_loop.proofs.Writing.{Wrote, all-written, whole-of, wrote}
 use Rattle.floor_loop.proofs.serving.Loop.wrote.Goals as goal
 
@@ -106,3 +108,11 @@ returns-in-None-clause-spares c =
     (spares-same (loop_of c.self.inside.hub c.self.inside.attended) (loop_of c.self.inside.hub c.advance.new.self)
     (ends-changed (wrote_of c.args.count) c.args.number c.self.inside.attended c.advance.new.self
     (ap (λ (z : Attended). z.outgoing) c.advance.ensures.next ∙ ap (λ (z : Attended). changed (wrote_of c.args.count) c.args.number z.outgoing) c.pass.ensures.next) (λ o. refl)))
+
+-- what was gathered
+
+pub returns-in-Some-clause-gathered : goal.returns-in-Some-clause-gathered
+returns-in-Some-clause-gathered c = subst (λ (l : Loop). Gathers l.hub (new c).hub) c.self.view_is c.acknowledge.ensures.moved.gathered
+
+pub returns-in-None-clause-gathered : goal.returns-in-None-clause-gathered
+returns-in-None-clause-gathered c = subst (λ (l : Loop). Gathers l.hub c.self.inside.hub) c.self.view_is (gathers-refl c.self.inside.hub)

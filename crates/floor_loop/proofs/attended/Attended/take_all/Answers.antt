@@ -4,7 +4,7 @@ use Rattle.floor_loop.specs.Loop.{Outgoing}
 use Rattle.floor_loop.specs.steps.Changed.{carrying}
 use Rattle.floor_loop.specs.steps.Listed.{AreListed, deadline}
 use Rattle.floor_loop.proofs.Listing.{listed-beside}
-use Rattle.floor_loop.proofs.attended.Attended.take_one.Goals as goal
+use Rattle.floor_loop.proofs.attended.Attended.take_all.Goals as goal
 
 pub invariant_of-self : goal.invariant_of-self
 invariant_of-self c =

@@ -1,0 +1,2 @@
+-- What a value ends as that was lent to be changed.
+pub mod Lending
