@@ -51,6 +51,22 @@ pub fn attach(serving: &mut Loop, alloc: Global, user: u16) -> Result<ConnNo, En
     }
 }
 
+/// Has what the events change gathered.
+pub fn watch(serving: &mut Loop) -> Result<(), Ended> {
+    match serving.watch(1) {
+        Ok(()) => Ok(()),
+        Err(_) => Err(Ended),
+    }
+}
+
+/// A connection is shut down.
+pub fn leave(serving: &mut Loop, number: ConnNo) -> Result<(), Ended> {
+    match serving.leave(number, 0) {
+        Ok(()) => Ok(()),
+        Err(_) => Err(Ended),
+    }
+}
+
 /// Hands in what came from a connection, and says whether more may wait.
 pub fn read(serving: &mut Loop, number: ConnNo, bytes: &[u8]) -> Result<bool, Ended> {
     match serving.read(number, bytes, 64, 0) {

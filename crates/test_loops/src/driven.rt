@@ -1,6 +1,6 @@
 //! What a server does for a loop, with sockets that take all that they are given.
 
-use crate::calls::{Ended, attach, configuration, open, read, write};
+use crate::calls::{Ended, attach, configuration, leave, open, read, watch, write};
 use crate::words::{Run, Turn};
 use floor_loop::{ConnNo, Loop};
 use std::alloc::{AllocError, Global};
@@ -26,7 +26,13 @@ pub fn run(alloc: Global, run: Run) -> Result<u64, Ended> {
     let first = attach(&mut serving, alloc, 10)?;
     attach_others(&mut serving, alloc, run)?;
     let _told = write_all(&mut serving);
-    send_all(&mut serving, alloc, run, first)
+    if run.is_watched {
+        watch(&mut serving)?;
+    }
+    match run.turn {
+        Turn::Hello | Turn::Pair => send_all(&mut serving, alloc, run, first),
+        Turn::Coming => come_all(&mut serving, alloc, run),
+    }
 }
 
 fn open_one(serving: &mut Loop, alloc: Global) -> Result<(), Ended> {
@@ -61,19 +67,36 @@ fn send_all(serving: &mut Loop, alloc: Global, run: Run, connection: ConnNo) -> 
         push_message(&mut bytes, run.turn, place)?;
         waiting = waiting.wrapping_add(1);
         if run.depth <= waiting {
-            taken = taken.wrapping_add(exchange(serving, connection, bytes.as_slice())?);
+            let told = exchange(serving, connection, bytes.as_slice(), run)?;
+            taken = taken.wrapping_add(told);
             bytes.clear();
             waiting = 0;
         }
     }
-    let last = exchange(serving, connection, bytes.as_slice())?;
+    let last = exchange(serving, connection, bytes.as_slice(), run)?;
     Ok(taken.wrapping_add(last))
+}
+
+/// Has connections come, say Hello and leave, one after another.
+fn come_all(serving: &mut Loop, alloc: Global, run: Run) -> Result<u64, Ended> {
+    let mut taken = 0u64;
+    for _ in 0..run.turns {
+        taken = taken.wrapping_add(come(serving, alloc, run)?);
+    }
+    Ok(taken)
+}
+
+fn come(serving: &mut Loop, alloc: Global, run: Run) -> Result<u64, Ended> {
+    let connection = attach(serving, alloc, 10)?;
+    let taken = exchange(serving, connection, &HELLO, run)?;
+    leave(serving, connection)?;
+    Ok(taken)
 }
 
 /// Puts the message at this place behind those that come with it.
 fn push_message(bytes: &mut Vec<u8>, turn: Turn, place: u32) -> Result<(), AllocError> {
     match turn {
-        Turn::Hello => bytes.extend_from_slice(&HELLO),
+        Turn::Hello | Turn::Coming => bytes.extend_from_slice(&HELLO),
         Turn::Pair if place % 2 == 0 => bytes.extend_from_slice(&REQUEST),
         Turn::Pair => bytes.extend_from_slice(&release_of(place / 2)),
     }
@@ -86,9 +109,13 @@ fn release_of(before: u32) -> [u8; 16] {
 }
 
 /// Hands in what came from a connection, writes what that tells, and gives how many bytes the sockets took.
-fn exchange(serving: &mut Loop, connection: ConnNo, bytes: &[u8]) -> Result<u64, Ended> {
+fn exchange(serving: &mut Loop, connection: ConnNo, bytes: &[u8], run: Run) -> Result<u64, Ended> {
     receive(serving, connection, bytes)?;
-    Ok(write_all(serving))
+    let taken = write_all(serving);
+    if run.is_watched {
+        serving.clear_news();
+    }
+    Ok(taken)
 }
 
 /// Hands in what came from a connection, and reads on while more may wait.

@@ -1,8 +1,9 @@
 //! A loop over a hub, driven as a server drives it, so that what it costs can be counted.
 //!
 //! Its words are how many members a conference has, how many of them watch floor 1, how many messages
-//! come at a time, how many turns there are, and what the first member does in each: `hellos`, a Hello,
-//! or `pairs`, a FloorRequest and its FloorRelease. Each socket takes all that it is given. Standard
+//! come at a time, how many turns there are, and what is done in each: `hellos`, the first member says Hello,
+//! `pairs`, it asks for a floor and gives it back, or `comings`, another one comes, says Hello and leaves.
+//! With `watched` behind them what the events change is gathered. Each socket takes all that it is given. Standard
 //! output has how many bytes all sockets took of what the turns tell. Status 1 where something is
 //! refused, 2 at other words.
 #![tactic(auto)]
