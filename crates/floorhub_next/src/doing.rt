@@ -20,6 +20,8 @@ impl Shell {
             Deed::Read(socket) => self.read(socket),
             Deed::Write(socket) => self.write(socket),
             Deed::Shut(number) | Deed::Unlisten(number) => self.shut(number),
+            // No client connects, since no socket of theirs is listened on: so none has a turn left over.
+            Deed::Serve(socket) => self.server.client_served(socket, false),
             Deed::Log(entry) => self.tell(entry),
             Deed::Turn => {}
             Deed::End(_) => self.end(),

@@ -57,10 +57,11 @@ pub fn done_by(alloc: Global, act: &Act) -> Result<Option<String>, AllocError> {
     Ok(Some(told))
 }
 
-/// The port of a place.
+/// The port of a place, 0 where it has none.
 pub fn port_of(place: Place) -> u16 {
     match place {
         Place::Port { port, .. } | Place::Door { port, .. } | Place::Health { port } => port,
+        Place::Control | Place::Observe => 0,
     }
 }
 
@@ -77,6 +78,8 @@ fn of_place(alloc: Global, place: Place, told: &str) -> Result<String, AllocErro
         } => format!(in alloc; "conference {conference} user {user} port {port} {told}"),
         Place::Door { port, .. } => format!(in alloc; "door {port} {told}"),
         Place::Health { port } => format!(in alloc; "health {port} {told}"),
+        Place::Control => format!(in alloc; "control {told}"),
+        Place::Observe => format!(in alloc; "observe {told}"),
     }
 }
 
