@@ -4,7 +4,7 @@ use crate::made::run_made;
 use crate::scripts::Scripts;
 use std::io::Write;
 use std::rt::Files;
-use test_cases::{run_word, tell};
+use test_cases::{Fault, run_word, tell};
 
 /// Runs the cases that the words name, up to the first that differs, and gives the exit status.
 pub fn run_words<R, W, E>(rt: &R, words: &[String], output: &mut W, errors: &mut E) -> u8
@@ -33,6 +33,10 @@ where
     }
     match run_made(rt.alloc(), output) {
         Ok(()) => true,
+        Err(Fault::Wrong(what)) => {
+            let _told = writeln!(errors, "{word}: {what}");
+            false
+        }
         Err(fault) => {
             tell(errors, word, &fault);
             false

@@ -1,7 +1,7 @@
-//! The worked example of what is acknowledged, by the calls of a hub.
+//! The worked example of what is acknowledged, by the calls of a hub, and how much is taken at once.
 
 use floor_config::Config;
-use floor_hub::{Hub, HubRefusal, Refusal, RoomRefusal};
+use floor_hub::{Hub, HubRefusal, Refusal, RoomRefusal, Taken};
 use std::alloc::Global;
 use test_cases::Fault;
 
@@ -29,6 +29,24 @@ fn take_all(hub: &mut Hub) -> u32 {
         }
     }
     taken
+}
+
+/// Takes the first of what waits for the connection of user 11, and then as much as it takes to have so many bytes
+/// again: one more, where two have as many.
+fn take_as_many_bytes(hub: &mut Hub, alloc: Global) -> Result<(), Fault> {
+    let one = Ok(Taken {
+        count: 1,
+        is_refused: false,
+    });
+    let mut buffer = Vec::new(alloc);
+    let first = hub.take_all(2, &mut buffer, 1, usize::MAX);
+    let enough = buffer.len();
+    buffer.clear();
+    let second = hub.take_all(2, &mut buffer, BACKLOG, enough);
+    if [first, second] != [one, one] || buffer.len() != enough {
+        return Err(Fault::Wrong("how many bytes are taken"));
+    }
+    Ok(())
 }
 
 /// A hub whose conference users 10 and 11 have joined.
@@ -64,7 +82,8 @@ pub fn run(alloc: Global) -> Result<usize, Fault> {
     if done != [Ok(()), bad_count, bad_count, Ok(()), Ok(()), Ok(()), cut] {
         return Err(Fault::Wrong("what is acknowledged"));
     }
-    if take_all(&mut hub) != BACKLOG + 1 {
+    take_as_many_bytes(&mut hub, alloc)?;
+    if take_all(&mut hub) != BACKLOG - 1 {
         return Err(Fault::Wrong("how many parcels are told"));
     }
     // Two joins, as many Hellos as were told and the one that cuts, and one acknowledgement.
