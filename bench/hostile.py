@@ -872,6 +872,47 @@ def stopped_while_blocked(case):
     return 'stopped in %.0f ms, with its report' % (1000 * took)
 
 
+def reset_at_the_end(case):
+    """Peers that take nothing are reset once nothing is read of them: cut, half closed, or at a stop."""
+    neighbour = case.member(11)
+    case.exchange(neighbour, hello(1, 11), ack(1, 11))
+    held = case.server.held()
+    client = case.member(narrow=True)
+    case.wait_for(2)
+    try:
+        for _ in range(100):
+            client.sendall(hello() * 100)
+            time.sleep(0.01)
+    except ConnectionError:
+        pass
+    reset(client)
+    took = [wait_until_gone(case, held, neighbour)]
+    told_until_cut(case, 2)
+    neighbour.close()
+    case.wait_for(0)
+    members = crowd(case)
+    held = case.server.held()
+    clients = unread_queries(case, 20)
+    for client in clients:
+        client.shutdown(socket.SHUT_WR)
+    time.sleep(1)
+    for client in clients:
+        reset(client)
+    took.append(wait_until_gone(case, held))
+    clients = unread_queries(case, 20)
+    case.wait_for_members(24, 256)
+    time.sleep(1)
+    ending = threading.Timer(1, lambda: [reset(client) for client in clients + members])
+    ending.start()
+    took.append(max(0, case.stop(leaving=24) - 1))
+    case.is_stopped = True
+    ending.join()
+    told = 'gone %.1f s, %.1f s and %.1f s after that' % tuple(took)
+    if max(took) > GONE / 2:
+        raise Failed(told)
+    return told
+
+
 def fill(case, client):
     """Sends Hellos until one finds the journal full and ends the connection."""
     # So many Hellos are at most twice as many events, with their acknowledgements.
@@ -1439,6 +1480,7 @@ CASES = (
     (half_closed, {}),
     (closed_while_blocked, {}),
     (stopped_while_blocked, {}),
+    (reset_at_the_end, {}),
     (journal_full, {}),
     (full_while_blocked, {}),
     (beyond_descriptors, {'limits': {resource.RLIMIT_NOFILE: 40}}),
