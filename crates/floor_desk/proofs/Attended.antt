@@ -1,5 +1,5 @@
 -- Calls behind calls, and calls that do nothing.
-use Rattle.std.proofs.Common.{◌≡◌, ◌≢◌, ◌⊎◌, ℕ, Bool, true, false, List, [], ◌∷◌, ◌++◌, Option, Some, None, Result, nat_eq, refl, sym, ◌∙◌, subst, ap, inl, inr, ◌||◌, ◌&&◌}
+use Rattle.std.proofs.Common.{◌≡◌, ◌≢◌, ◌⊎◌, ℕ, Bool, true, false, List, [], ◌∷◌, ◌++◌, Option, Some, None, Result, Ok, Err, OnOk, OnErr, nat_eq, refl, sym, ◌∙◌, subst, ap, inl, inr, ◌||◌, ◌&&◌}
 use Rattle.std.proofs.lemmas.Bool.Decides.{eqb_tells}
 use Rattle.floor_clients.specs.Clients.{Client, answered_by, closed}
 use Rattle.floor_clients.specs.Runs.{Step, Runs, Does, Answer, Close, Pass, Tell, Unwatch, Watch, WatchAll, is_next, is_told, response_to}
@@ -170,3 +170,8 @@ watched_carried conference place slot a b here others =
 pub watched_all_carried : (all : Bool) (slot : ℕ) (a b : Callers) → GoesOnBy (λ old new. new ≡ record old { watched = record old.watched { all = all } }) (caller_at a slot) (caller_at b slot) → OthersStay slot a b → Attends (carried slot) a b
 watched_all_carried all slot a b here others =
     attends_at (carried slot) slot a b others (goes_on_by (carried slot slot) (λ old new. new ≡ record old { watched = record old.watched { all = all } }) (λ c d u. one_call (carried slot slot) (WatchAll all) c d (own_is slot) u) (caller_at a slot) (caller_at b slot) here)
+
+pub watch_carried : {T E : Type 0} (conference place slot : ℕ) (a b : Callers) (r : Result T E)
+    → OnOk r (GoesOnBy (Watches conference (Some place)) (caller_at a slot) (caller_at b slot)) → OnErr r (Same a b) → OthersStay slot a b → Attends (carried slot) a b
+watch_carried conference place slot a b (Ok x) here left others = watched_carried conference place slot a b here others
+watch_carried conference place slot a b (Err x) here left others = attends_stay (carried slot) a b left

@@ -1,5 +1,5 @@
 //! Lines of clients are served and answered, and what waits for them is lent.
-#![tactic(auto, using(crate::proofs::Attended::attends_same, crate::proofs::Attended::attends_then, crate::proofs::Attended::attends_stay, crate::proofs::Attended::answered_beside, crate::proofs::Attended::waits_beside))]
+#![tactic(auto, using(crate::proofs::Attended::attends_same, crate::proofs::Attended::attends_then))]
 
 ghost use Rattle.std.specs.Prelude.{◌≡◌, OnErr, OnOk, Some};
 ghost use Rattle.floor_desk.specs.Answering.{EndsBy, EndsWhereTold, IsAnswered};

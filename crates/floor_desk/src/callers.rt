@@ -1,11 +1,11 @@
 //! Who is at which socket, of the control clients.
-#![tactic(auto, using(crate::proofs::Attended::attends_same, crate::proofs::Attended::attends_then, crate::proofs::Attended::told_beside, crate::proofs::Attended::closed_beside, crate::proofs::Attended::passed_beside, crate::proofs::Attended::unwatched_beside))]
+#![tactic(auto)]
 
 ghost use Rattle.std.specs.Prelude.{◌≡◌, ◌≢◌, ◌<◌, ◌⊎◌, ℕ, IfOk, None, OnErr, OnOk, Some, length, min, option_map, slice_index_or};
 ghost use Rattle.floor_clients.specs.Clients.{answered_by, came, closed, ended, full, new_client, took_by};
 ghost use Rattle.floor_clients.specs.Outgoing.{lent};
 ghost use Rattle.floor_clients.specs.declared.standing.CloseReason.TheVariants as reason;
-ghost use Rattle.floor_desk.specs.Attending.{Attends, beside};
+ghost use Rattle.floor_desk.specs.Attending.{Attends, beside, carried};
 ghost use Rattle.std.specs.Option.{option_copied};
 ghost use Rattle.floor_desk.specs.Clients.{OrCloses, PassesOrStays, ServesOrCloses, TellsOrCloses, Watches};
 ghost use Rattle.floor_desk.specs.Callers.{EndsTask, GoesOnBy, IsNew, OthersStay, Same, caller_at, is_told_to, lent_to, task_at, told_at};
@@ -233,6 +233,21 @@ impl Callers {
         ensures here { EndsTask tasks.Nothing (OrCloses (answered_by outcome))
             (caller_at self.old slot) (caller_at self.new slot) }
         ensures others { OthersStay slot self.old self.new }
+        ensures attends { Attends beside self.old self.new }
+    {
+        self.answer_at(alloc, work, slot, outcome);
+    }
+
+    fn answer_at(
+        &mut self,
+        alloc: Global,
+        work: &mut Workspace,
+        slot: usize,
+        outcome: Result<Answer, Failure>,
+    )
+        ensures here { EndsTask tasks.Nothing (OrCloses (answered_by outcome))
+            (caller_at self.old slot) (caller_at self.new slot) }
+        ensures others { OthersStay slot self.old self.new }
     {
         let Some(place) = self.slots.get_mut(slot) else {
             return;
@@ -247,6 +262,15 @@ impl Callers {
         ensures here { EndsTask task (λ old new. new ≡ old)
             (caller_at self.old slot) (caller_at self.new slot) }
         ensures others { OthersStay slot self.old self.new }
+        ensures attends { Attends beside self.old self.new }
+    {
+        self.wait_at(slot, task);
+    }
+
+    fn wait_at(&mut self, slot: usize, task: Task)
+        ensures here { EndsTask task (λ old new. new ≡ old)
+            (caller_at self.old slot) (caller_at self.new slot) }
+        ensures others { OthersStay slot self.old self.new }
     {
         if let Some(place) = self.slots.get_mut(slot) {
             if let Some(caller) = place {
@@ -257,6 +281,16 @@ impl Callers {
 
     /// What the answer to a client waits for, which is awaited no more.
     pub fn take_task(&mut self, slot: usize) -> Task
+        ensures value { result ≡ task_at (caller_at self.old slot) }
+        ensures here { EndsTask tasks.Nothing (λ old new. new ≡ old)
+            (caller_at self.old slot) (caller_at self.new slot) }
+        ensures others { OthersStay slot self.old self.new }
+        ensures attends { Attends beside self.old self.new }
+    {
+        self.take_task_at(slot)
+    }
+
+    fn take_task_at(&mut self, slot: usize) -> Task
         ensures value { result ≡ task_at (caller_at self.old slot) }
         ensures here { EndsTask tasks.Nothing (λ old new. new ≡ old)
             (caller_at self.old slot) (caller_at self.new slot) }
@@ -368,6 +402,16 @@ impl Callers {
             (caller_at self.old slot) (caller_at self.new slot)) }
         ensures others { OthersStay slot self.old self.new }
         ensures left { OnErr result (Same self.old self.new) }
+        ensures attends { Attends (carried slot) self.old self.new }
+    {
+        self.watch_at(slot, conference, place)
+    }
+
+    fn watch_at(&mut self, slot: usize, conference: u32, place: u64) -> Result<(), AllocError>
+        ensures here { OnOk result (GoesOnBy (Watches conference (Some place))
+            (caller_at self.old slot) (caller_at self.new slot)) }
+        ensures others { OthersStay slot self.old self.new }
+        ensures left { OnErr result (Same self.old self.new) }
     {
         let Some(place_of) = self.slots.get_mut(slot) else {
             return Ok(());
@@ -380,6 +424,15 @@ impl Callers {
 
     /// A client doesn't watch a conference by its number any more.
     pub fn unwatch(&mut self, slot: usize, conference: u32)
+        ensures here { GoesOnBy (Watches conference None)
+            (caller_at self.old slot) (caller_at self.new slot) }
+        ensures others { OthersStay slot self.old self.new }
+        ensures attends { Attends beside self.old self.new }
+    {
+        self.unwatch_at(slot, conference);
+    }
+
+    fn unwatch_at(&mut self, slot: usize, conference: u32)
         ensures here { GoesOnBy (Watches conference None)
             (caller_at self.old slot) (caller_at self.new slot) }
         ensures others { OthersStay slot self.old self.new }
@@ -403,6 +456,16 @@ impl Callers {
 
     /// A client watches all other conferences too, or doesn't.
     pub fn watch_all(&mut self, slot: usize, all: bool)
+        ensures here { GoesOnBy (λ old new. new
+            ≡ record old { watched = record old.watched { all = all } })
+            (caller_at self.old slot) (caller_at self.new slot) }
+        ensures others { OthersStay slot self.old self.new }
+        ensures attends { Attends (carried slot) self.old self.new }
+    {
+        self.watch_all_at(slot, all);
+    }
+
+    fn watch_all_at(&mut self, slot: usize, all: bool)
         ensures here { GoesOnBy (λ old new. new
             ≡ record old { watched = record old.watched { all = all } })
             (caller_at self.old slot) (caller_at self.new slot) }
@@ -445,6 +508,15 @@ impl Callers {
         ensures here { GoesOnBy (TellsOrCloses told.now)
             (caller_at self.old slot) (caller_at self.new slot) }
         ensures others { OthersStay slot self.old self.new }
+        ensures attends { Attends beside self.old self.new }
+    {
+        self.tell_at(slot, told);
+    }
+
+    fn tell_at(&mut self, slot: usize, told: &Told)
+        ensures here { GoesOnBy (TellsOrCloses told.now)
+            (caller_at self.old slot) (caller_at self.new slot) }
+        ensures others { OthersStay slot self.old self.new }
     {
         let Some(place) = self.slots.get_mut(slot) else {
             return;
@@ -469,6 +541,15 @@ impl Callers {
         ensures here { GoesOnBy (PassesOrStays told)
             (caller_at self.old slot) (caller_at self.new slot) }
         ensures others { OthersStay slot self.old self.new }
+        ensures attends { Attends beside self.old self.new }
+    {
+        self.pass_at(slot, told);
+    }
+
+    fn pass_at(&mut self, slot: usize, told: PlaceOf)
+        ensures here { GoesOnBy (PassesOrStays told)
+            (caller_at self.old slot) (caller_at self.new slot) }
+        ensures others { OthersStay slot self.old self.new }
     {
         if let Some(place) = self.slots.get_mut(slot) {
             if let Some(caller) = place {
@@ -489,6 +570,15 @@ impl Callers {
 
     /// A client is to be closed.
     pub fn close(&mut self, slot: usize, reason: CloseReason)
+        ensures here { GoesOnBy (λ old new. new ≡ closed reason old)
+            (caller_at self.old slot) (caller_at self.new slot) }
+        ensures others { OthersStay slot self.old self.new }
+        ensures attends { Attends beside self.old self.new }
+    {
+        self.close_at(slot, reason);
+    }
+
+    fn close_at(&mut self, slot: usize, reason: CloseReason)
         ensures here { GoesOnBy (λ old new. new ≡ closed reason old)
             (caller_at self.old slot) (caller_at self.new slot) }
         ensures others { OthersStay slot self.old self.new }
@@ -533,6 +623,15 @@ impl Callers {
         ensures here { GoesOnBy (λ old new. new ≡ old)
             (caller_at self.old slot) (caller_at self.new slot) }
         ensures others { OthersStay slot self.old self.new }
+        ensures attends { Attends beside self.old self.new }
+    {
+        self.add_lack_at(slot, lack)
+    }
+
+    fn add_lack_at(&mut self, slot: usize, lack: Lack) -> Result<(), AllocError>
+        ensures here { GoesOnBy (λ old new. new ≡ old)
+            (caller_at self.old slot) (caller_at self.new slot) }
+        ensures others { OthersStay slot self.old self.new }
     {
         let Some(place) = self.slots.get_mut(slot) else {
             return Ok(());
@@ -545,6 +644,15 @@ impl Callers {
 
     /// What a client lacks first, or first of a conference, which it is told now.
     pub fn take_lack(&mut self, slot: usize, conference: Option<u32>) -> Option<Lack>
+        ensures here { GoesOnBy (λ old new. new ≡ old)
+            (caller_at self.old slot) (caller_at self.new slot) }
+        ensures others { OthersStay slot self.old self.new }
+        ensures attends { Attends beside self.old self.new }
+    {
+        self.take_lack_at(slot, conference)
+    }
+
+    fn take_lack_at(&mut self, slot: usize, conference: Option<u32>) -> Option<Lack>
         ensures here { GoesOnBy (λ old new. new ≡ old)
             (caller_at self.old slot) (caller_at self.new slot) }
         ensures others { OthersStay slot self.old self.new }

@@ -1,5 +1,5 @@
 //! Who watches a conference from an earlier place on is told what it lacks, as it takes it.
-#![tactic(auto, using(crate::proofs::Attended::attends_same, crate::proofs::Attended::attends_then, crate::proofs::Attended::attends_stay, crate::proofs::Attended::told_beside, crate::proofs::Attended::passed_beside, crate::proofs::Attended::closed_beside, crate::proofs::Attended::stays_beside))]
+#![tactic(auto, using(crate::proofs::Attended::attends_same, crate::proofs::Attended::attends_then))]
 
 ghost use Rattle.floor_desk.specs.Attending.{Attends, beside};
 

@@ -1,5 +1,5 @@
 //! The requests about the server itself.
-#![tactic(auto, using(crate::proofs::Attended::attends_same, crate::proofs::Attended::attends_then, crate::proofs::Attended::attends_stay))]
+#![tactic(auto, using(crate::proofs::Attended::attends_same, crate::proofs::Attended::attends_then))]
 
 ghost use Rattle.floor_desk.specs.Attending.{Attends, beside};
 

@@ -1,5 +1,5 @@
 //! What the events of a conference show is told to who watches it, and what happens beside them.
-#![tactic(auto, using(crate::proofs::Attended::attends_same, crate::proofs::Attended::attends_then, crate::proofs::Attended::attends_stay))]
+#![tactic(auto, using(crate::proofs::Attended::attends_same, crate::proofs::Attended::attends_then))]
 
 ghost use Rattle.floor_desk.specs.Attending.{Attends, beside};
 

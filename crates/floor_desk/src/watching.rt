@@ -1,5 +1,5 @@
 //! Conferences are watched: from a place on each, or from the next one.
-#![tactic(auto, using(crate::proofs::Attended::attends_same, crate::proofs::Attended::attends_then, crate::proofs::Attended::attends_stay, crate::proofs::Attended::watched_carried, crate::proofs::Attended::watched_all_carried, crate::proofs::Attended::unwatched_beside, crate::proofs::Attended::beside_is_carried))]
+#![tactic(auto, using(crate::proofs::Attended::attends_same, crate::proofs::Attended::attends_then, crate::proofs::Attended::beside_is_carried))]
 
 ghost use Rattle.floor_desk.specs.Attending.{Attends, carried};
 

@@ -4,10 +4,9 @@
 ghost use Rattle.floor_turn.specs.Moves.{Moves, nothing_taken};
 ghost use Rattle.floor_desk.specs.Attending.{Attends, beside, carried};
 
+use crate::looking::{get, journal, list, words};
 use crate::{asking, changing, opening, removing};
-use floor_desk::{
-    Desk, Done, drain, get, journal, list, set_word, status, stop, unwatch, watch, words,
-};
+use floor_desk::{Desk, Done, drain, set_word, status, stop, unwatch, watch};
 use floor_message::Verdict;
 use floor_rpc::{Answer, Call, OfConference};
 use floor_shown::Refused;

@@ -11,6 +11,7 @@ mod carrying;
 mod changing;
 mod deed;
 mod happening;
+mod looking;
 mod next;
 mod opening;
 mod removing;

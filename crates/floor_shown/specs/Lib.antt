@@ -4,5 +4,7 @@ pub mod Numbers
 pub mod Errors
 pub mod Opening
 pub mod Requests
+pub mod Floors
 pub mod Asking
 pub mod Events
+pub mod Followed

@@ -1,5 +1,5 @@
 -- A floor request, as it is shown to control clients.
-use Rattle.std.specs.Prelude.{◌==◌, ℕ, Bool, false, List, Option, if◌then◌else◌, map, option_map, unwrap_or}
+use Rattle.std.specs.Prelude.{◌≡◌, ◌==◌, ℕ, Bool, false, None, List, Option, if◌then◌else◌, map, option_map, unwrap_or}
 use Rattle.std.specs.Option.{option_map_or}
 use Rattle.floor_message.specs.declared.information.Info.{Info}
 use Rattle.floor_message.specs.declared.information.Who.{Who}
@@ -51,3 +51,11 @@ shown_of since granted info =
       since = since;
       granted = granted;
     }
+
+-- what is shown, but for the times when it was made and granted
+abbrev pub untimed : RequestShown → RequestShown
+untimed r = record r { since = None; granted = None }
+
+-- They are shown so, in their order, whatever their times.
+abbrev pub AreShown : List Info → List RequestShown → Type 0
+AreShown infos shown = map untimed shown ≡ map (shown_of None None) infos

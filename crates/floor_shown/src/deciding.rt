@@ -1,5 +1,9 @@
 //! Which chair decides on a floor request, and on which of its floors.
 
+ghost use Rattle.std.specs.Prelude.{◌≡◌, ℕ, IfOk, List, Some, filter, map};
+ghost use Rattle.floor_config.specs.Lookup.{chair_is};
+ghost use Rattle.floor_shown.specs.Asking.{verdicts_on};
+
 use crate::refused::Refused;
 use crate::request::info_of;
 use floor_config::Config;
@@ -22,7 +26,12 @@ pub fn chair_of(
     hub: &Loop,
     decision: &Decision,
     verdict: Verdict,
-) -> Result<Chair, Refused> {
+) -> Result<Chair, Refused>
+    ensures by { (user : ℕ) → decision.now.by ≡ Some user
+        → IfOk result (λ chair. chair.user ≡ user) }
+    ensures given { (floors : List ℕ) → decision.now.floors ≡ Some floors
+        → IfOk result (λ chair. chair.verdicts.items ≡ verdicts_on verdict floors) }
+{
     let config = match hub.config(decision.conference) {
         Ok(config) => config,
         Err(refusal) => return Err(Refused::of_conference(refusal, decision.conference)),
@@ -47,12 +56,14 @@ pub fn chair_of(
 }
 
 /// The floors of a floor request.
-fn floors_of(alloc: Global, info: &Info) -> Result<Vec<u16>, AllocError> {
-    let mut floors = Vec::new(alloc);
-    for floor in info.floors.as_slice() {
-        floors.push(floor.0)?;
-    }
-    Ok(floors)
+fn floors_of(alloc: Global, info: &Info) -> Result<Vec<u16>, AllocError>
+    ensures value { IfOk result (λ floors. floors.items ≡ map (λ f. f.0) info.now.floors) }
+{
+    info.floors
+        .as_slice()
+        .iter()
+        .map(|floor| floor.0)
+        .collect(alloc)
 }
 
 /// Those of the floors whose chair this user is.
@@ -61,14 +72,15 @@ fn floors_with(
     config: &Config,
     floors: &[u16],
     user: u16,
-) -> Result<Vec<u16>, AllocError> {
-    let mut own = Vec::new(alloc);
-    for floor in floors {
-        if config.has_chair(*floor, user) {
-            own.push(*floor)?;
-        }
-    }
-    Ok(own)
+) -> Result<Vec<u16>, AllocError>
+    ensures value { IfOk result (λ own. own.items
+        ≡ filter (λ floor. chair_is config.now floor user) floors.now) }
+{
+    floors
+        .iter()
+        .filter(|floor| config.has_chair(**floor, user))
+        .copied()
+        .collect(alloc)
 }
 
 /// The same verdict on each floor.
@@ -76,12 +88,10 @@ fn verdicts_of(
     alloc: Global,
     floors: &[u16],
     verdict: Verdict,
-) -> Result<Vec<(u16, Verdict)>, AllocError> {
-    let mut verdicts = Vec::new(alloc);
-    for floor in floors {
-        verdicts.push((*floor, verdict))?;
-    }
-    Ok(verdicts)
+) -> Result<Vec<(u16, Verdict)>, AllocError>
+    ensures value { IfOk result (λ verdicts. verdicts.items ≡ verdicts_on verdict floors.now) }
+{
+    floors.iter().map(|floor| (*floor, verdict)).collect(alloc)
 }
 
 /// The one chair of those of the floors that have one.

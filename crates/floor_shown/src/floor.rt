@@ -1,5 +1,8 @@
 //! Floors, as they are shown: who holds each, who waits for it, and of whom its chair hasn't decided.
 
+ghost use Rattle.std.specs.Prelude.{◌≡◌, IfOk};
+ghost use Rattle.floor_shown.specs.Floors.{holders, holds, pending, pends, place_of, places, position_of, status_in, waits};
+
 use crate::request::is_granted_at;
 use crate::title::floor_key;
 use crate::words::Words;
@@ -7,15 +10,6 @@ use floor_config::{Config, Floor};
 use floor_message::{Info, SharedInfo};
 use floor_rpc::{FloorShown, List};
 use std::alloc::{AllocError, Global};
-
-/// What a floor request is to a floor.
-#[derive(Clone, Copy, Debug, PartialEq, Eq)]
-enum Part {
-    Holds,
-    /// It waits, at this queue position (RFC 8855, section 5.2.5).
-    Waits(u8),
-    Pends,
-}
 
 /// The floors of a conference, each with the floor requests for it.
 pub(crate) fn floors_shown(
@@ -39,9 +33,9 @@ fn floor_shown(
 ) -> Result<FloorShown, AllocError> {
     let key = floor_key(alloc, floor.id)?;
     let title = words.title(alloc, key.as_str())?;
-    let holders = those(alloc, floor.id, shown, Part::Holds)?;
+    let holders = holders(alloc, floor.id, shown)?;
     let waiting = waiting(alloc, floor.id, shown)?;
-    let pending = those(alloc, floor.id, shown, Part::Pends)?;
+    let pending = pending(alloc, floor.id, shown)?;
     Ok(FloorShown {
         floor: floor.id,
         title,
@@ -53,50 +47,97 @@ fn floor_shown(
     })
 }
 
+/// Those that hold a floor, ascending.
+fn holders(alloc: Global, floor: u16, shown: &[SharedInfo]) -> Result<Vec<u16>, AllocError>
+    ensures value { IfOk result (λ found. found.items ≡ holders floor shown.now) }
+{
+    shown
+        .iter()
+        .filter(|info| holds(floor, info))
+        .map(|info| number_of(info))
+        .collect(alloc)
+}
+
+/// Those of which the chair of a floor hasn't decided, ascending.
+fn pending(alloc: Global, floor: u16, shown: &[SharedInfo]) -> Result<Vec<u16>, AllocError>
+    ensures value { IfOk result (λ found. found.items ≡ pending floor shown.now) }
+{
+    shown
+        .iter()
+        .filter(|info| pends(floor, info))
+        .map(|info| number_of(info))
+        .collect(alloc)
+}
+
 /// Those that wait for a floor, by ascending position.
 fn waiting(alloc: Global, floor: u16, shown: &[SharedInfo]) -> Result<Vec<u16>, AllocError> {
-    let mut found = Vec::new(alloc);
-    for info in shown {
-        if let Some(Part::Waits(position)) = part_in(floor, info.as_info()) {
-            found.push((position, info.as_info().request))?;
-        }
-    }
+    let mut found = places(alloc, floor, shown)?;
     found.sort()?;
-    let mut requests = Vec::new(alloc);
-    for one in &found {
-        requests.push(one.1)?;
-    }
-    Ok(requests)
+    found.iter().map(|one| one.1).collect(alloc)
 }
 
-/// Those that are this to a floor, ascending.
-fn those(
-    alloc: Global,
-    floor: u16,
-    shown: &[SharedInfo],
-    part: Part,
-) -> Result<Vec<u16>, AllocError> {
-    let mut requests = Vec::new(alloc);
-    for info in shown {
-        if part_in(floor, info.as_info()) == Some(part) {
-            requests.push(info.as_info().request)?;
-        }
-    }
-    Ok(requests)
-}
-
-/// What a floor request is to a floor; nothing where it isn't for it.
-fn part_in(floor: u16, info: &Info) -> Option<Part> {
-    let shown = info
-        .floors
-        .as_slice()
+/// Those that wait for a floor, each behind its queue position.
+fn places(alloc: Global, floor: u16, shown: &[SharedInfo]) -> Result<Vec<(u8, u16)>, AllocError>
+    ensures value { IfOk result (λ found. found.items ≡ places floor shown.now) }
+{
+    shown
         .iter()
-        .find(|shown| shown.0 == floor)?;
-    if is_granted_at(shown.1) {
-        return Some(Part::Holds);
+        .filter(|info| waits(floor, info))
+        .map(|info| place_of(floor, info))
+        .collect(alloc)
+}
+
+fn number_of(info: &SharedInfo) -> u16
+    ensures value { result ≡ info.now.request }
+{
+    info.as_info().request
+}
+
+/// Its queue position for a floor, and its number.
+fn place_of(floor: u16, info: &SharedInfo) -> (u8, u16)
+    ensures value { result ≡ place_of floor info.now }
+{
+    let info = info.as_info();
+    (position_of(status_in(floor, info)), info.request)
+}
+
+/// Whether a floor request holds a floor.
+fn holds(floor: u16, info: &SharedInfo) -> bool
+    ensures value { result ≡ holds floor info.now }
+{
+    is_granted_at(status_in(floor, info.as_info()).unwrap_or(None))
+}
+
+/// Whether it waits for a floor.
+fn waits(floor: u16, info: &SharedInfo) -> bool
+    ensures value { result ≡ waits floor info.now }
+{
+    !holds(floor, info) && position_of(status_in(floor, info.as_info())) != 0
+}
+
+/// Whether it is for a floor of which the chair hasn't decided.
+fn pends(floor: u16, info: &SharedInfo) -> bool
+    ensures value { result ≡ pends floor info.now }
+{
+    status_in(floor, info.as_info()).is_some() && !holds(floor, info) && !waits(floor, info)
+}
+
+/// How a floor request stands with a floor, where it is for it.
+fn status_in(floor: u16, info: &Info) -> Option<Option<(u8, u8)>>
+    ensures value { result ≡ status_in floor info.now }
+{
+    match info.floors.as_slice().iter().find(|shown| shown.0 == floor) {
+        Some(shown) => Some(shown.1),
+        None => None,
     }
-    match shown.1 {
-        Some((_status, position)) if position != 0 => Some(Part::Waits(position)),
-        _ => Some(Part::Pends),
+}
+
+/// The queue position; 0 where there is none.
+fn position_of(status: Option<Option<(u8, u8)>>) -> u8
+    ensures value { result ≡ position_of status }
+{
+    match status {
+        Some(Some((_status, position))) => position,
+        Some(None) | None => 0,
     }
 }

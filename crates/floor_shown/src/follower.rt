@@ -1,5 +1,10 @@
 //! What the events of a conference show, found out by running them again beside its room.
 
+ghost use Rattle.std.specs.Prelude.{◌≡◌, IfOk};
+ghost use Rattle.floor_machine.specs.Machine.{infos_changed};
+ghost use Rattle.floor_shown.specs.Followed.{TellsOf};
+ghost use Rattle.floor_shown.specs.Requests.{AreShown};
+
 use crate::event::{is_told_always, sender_of, what_of};
 use crate::holding::Holdings;
 use crate::request::request_shown;
@@ -10,6 +15,7 @@ use floor_machine::{Event, Machine, Refusal};
 use floor_message::{RequestStatus, SharedInfo};
 use floor_rpc::{EventTold, List, MemberOf, RequestShown};
 use std::alloc::{AllocError, Global};
+use std::marker::Model;
 
 /// Follows the events of a conference from its opening on, and finds what each shows.
 #[derive(Drop)]
@@ -21,6 +27,14 @@ pub struct Follower {
     cut: Vec<u32>,
     holdings: Holdings,
     requests: Vec<RequestTimes>,
+}
+
+impl Model for Follower {
+    ghost use Rattle.floor_shown.specs.Followed.{Followed};
+
+    ghost Value = { Followed };
+
+    ghost view = { λ f. record { place = f.place; machine = f.machine } };
 }
 
 impl Follower {
@@ -38,7 +52,9 @@ impl Follower {
     }
 
     /// The place of the last event that it took, 0 before the first.
-    pub fn place(&self) -> usize {
+    pub fn place(&self) -> usize
+        ensures value { result ≡ self.now.place }
+    {
         self.place
     }
 
@@ -48,7 +64,9 @@ impl Follower {
         &mut self,
         event: &Event,
         time: Option<u64>,
-    ) -> Result<Option<EventTold>, AllocError> {
+    ) -> Result<Option<EventTold>, AllocError>
+        ensures told { IfOk result (TellsOf event.now self.old self.new) }
+    {
         let member = number_behind(self.machine.joins());
         let user = sender_of(&self.machine, event);
         let changed = self.apply(event)?;
@@ -62,6 +80,7 @@ impl Follower {
         }
         let what = what_of(self.alloc, event, member, user, made)?;
         let time = time_where(self.alloc, time)?;
+        let floors = self.holdings.told(&floors)?;
         Ok(Some(EventTold {
             conference: self.machine.config().conference(),
             place: self.place as u64,
@@ -69,12 +88,15 @@ impl Follower {
             what,
             requests: List::from_vec(requests),
             cut: List::from_vec(cut),
-            floors: List::from_vec(self.holdings.told(&floors)?),
+            floors: List::from_vec(floors),
         }))
     }
 
     /// The machine takes an event. Gives what is shown of the floor requests that it changed.
-    fn apply(&mut self, event: &Event) -> Result<Vec<SharedInfo>, AllocError> {
+    fn apply(&mut self, event: &Event) -> Result<Vec<SharedInfo>, AllocError>
+        ensures changed { IfOk result (λ changed. changed.items
+            ≡ infos_changed self.old.machine.conference event.now) }
+    {
         // No journal has so many members.
         if u32::MAX as usize <= self.machine.joins() {
             return Err(AllocError);
@@ -91,7 +113,9 @@ impl Follower {
     }
 
     /// The members that are cut since this was asked last, ascending.
-    fn newly_cut(&mut self) -> Result<Vec<MemberOf>, AllocError> {
+    fn newly_cut(&mut self) -> Result<Vec<MemberOf>, AllocError>
+        ensures same { self.new ≡ self.old }
+    {
         let mut told = Vec::new(self.alloc);
         let mut cut = Vec::new(self.alloc);
         if !self.machine.cut_numbers().is_empty() {
@@ -107,7 +131,9 @@ impl Follower {
     }
 
     /// Who holds what behind an event that changed these. Gives the floors whose holders it changed, ascending.
-    fn hold(&mut self, event: &Event, changed: &[SharedInfo]) -> Result<Vec<u16>, AllocError> {
+    fn hold(&mut self, event: &Event, changed: &[SharedInfo]) -> Result<Vec<u16>, AllocError>
+        ensures same { self.new ≡ self.old }
+    {
         if event.is_close() {
             return self.holdings.end();
         }
@@ -119,17 +145,24 @@ impl Follower {
         &self,
         changed: &[SharedInfo],
         time: Option<u64>,
-    ) -> Result<Vec<RequestShown>, AllocError> {
+    ) -> Result<Vec<RequestShown>, AllocError>
+        ensures value { IfOk result (λ told. AreShown changed.now told.items) }
+    {
         let mut told = Vec::new(self.alloc);
         for info in changed {
-            let times = if is_over(info) {
-                times_in(&self.requests, info.as_info().request)
-            } else {
-                noted(&self.requests, info, time)
-            };
+            let times = times_told(&self.requests, info, time);
             told.push(request_shown(self.alloc, info.as_info(), times)?)?;
         }
         Ok(told)
+    }
+}
+
+/// The times of a floor request that an event changed, at this time. One that ended keeps those that it had.
+fn times_told(requests: &[RequestTimes], info: &SharedInfo, time: Option<u64>) -> RequestTimes {
+    if is_over(info) {
+        times_in(requests, info.as_info().request)
+    } else {
+        noted(requests, info, time)
     }
 }
 

@@ -1,7 +1,7 @@
 //! A conference that is to be opened: out of its parts, or out of a configuration.
 
 ghost use Rattle.std.specs.Prelude.{◌≡◌, IfOk};
-ghost use Rattle.floor_shown.specs.Opening.{opened_of};
+ghost use Rattle.floor_shown.specs.Opening.{floor_of, opened_of, user_of};
 
 use crate::free::numbered;
 use crate::refused::Refused;
@@ -111,11 +111,15 @@ fn users_of(alloc: Global, given: &[NewUser]) -> Result<Vec<User>, AllocError> {
 }
 
 /// A user with this number.
-pub fn user_of(alloc: Global, id: u16, user: &NewUser) -> Result<User, AllocError> {
+pub fn user_of(alloc: Global, id: u16, user: &NewUser) -> Result<User, AllocError>
+    ensures value { IfOk result (λ made. made ≡ user_of id user.now) }
+{
+    let name = text_where(alloc, &user.name)?;
+    let uri = text_where(alloc, &user.uri)?;
     Ok(User {
         id,
-        name: text_where(alloc, &user.name)?,
-        uri: text_where(alloc, &user.uri)?,
+        name,
+        uri,
         proxy: user.proxy,
         port: user.port,
     })
@@ -136,7 +140,9 @@ fn floors_of(alloc: Global, given: &[NewFloor]) -> Result<Vec<Floor>, AllocError
 }
 
 /// A floor with this number, of which one floor request is a holder at a time where it isn't said.
-pub fn floor_of(id: u16, floor: &NewFloor) -> Floor {
+pub fn floor_of(id: u16, floor: &NewFloor) -> Floor
+    ensures value { result ≡ floor_of id floor.now }
+{
     Floor {
         id,
         room: floor.room.unwrap_or(1),

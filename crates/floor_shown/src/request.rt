@@ -1,7 +1,7 @@
 //! Floor requests, as they are shown.
 
-ghost use Rattle.std.specs.Prelude.{◌≡◌, IfOk, map, option_map};
-ghost use Rattle.floor_shown.specs.Requests.{floor_in, is_granted_at, overall_of, shown_of, status_of, user_in};
+ghost use Rattle.std.specs.Prelude.{◌≡◌, IfOk, None, map, option_map};
+ghost use Rattle.floor_shown.specs.Requests.{floor_in, is_granted_at, overall_of, shown_of, status_of, untimed, user_in};
 
 use crate::refused::Refused;
 use crate::texts::text_of;
@@ -52,7 +52,9 @@ pub(crate) fn request_shown(
     alloc: Global,
     info: &Info,
     times: RequestTimes,
-) -> Result<RequestShown, AllocError> {
+) -> Result<RequestShown, AllocError>
+    ensures value { IfOk result (λ shown. untimed shown ≡ shown_of None None info.now) }
+{
     let since = time_where(alloc, times.since)?;
     let granted = time_where(alloc, times.granted)?;
     shown_of(alloc, info, since, granted)

@@ -1,6 +1,6 @@
 //! The requests that look: at conferences, at one, at its words and at its journal.
 
-use crate::desk::Desk;
+use floor_desk::Desk;
 use floor_loop::Loop;
 use floor_rpc::{
     Answer, ConferenceStanding, Conferences, JournalFrom, List, Listing, OfConference, WordsOf,
@@ -12,7 +12,7 @@ use floor_shown::{Refused, journal_of, picture_of, standing_of};
 const MAX_LISTED: usize = 1_000;
 
 /// `conference.list`: one conference, or the first thousand, ascending, or those behind one.
-pub fn list(desk: &Desk, hub: &Loop, listing: &Listing) -> Result<Answer, Refused> {
+pub(crate) fn list(desk: &Desk, hub: &Loop, listing: &Listing) -> Result<Answer, Refused> {
     let conferences = match listing {
         Listing::Only(conference) => list_one(desk, hub, *conference)?,
         Listing::First => list_from(desk, hub, 0)?,
@@ -65,7 +65,12 @@ fn standing(desk: &Desk, hub: &Loop, conference: u32) -> Result<ConferenceStandi
 }
 
 /// `conference.get`: a conference as it stands. Whoever comes as one of the users that are removed isn't let in.
-pub fn get(desk: &Desk, hub: &Loop, of: &OfConference, removed: &[u16]) -> Result<Answer, Refused> {
+pub(crate) fn get(
+    desk: &Desk,
+    hub: &Loop,
+    of: &OfConference,
+    removed: &[u16],
+) -> Result<Answer, Refused> {
     let known = &desk.known(hub, of.conference)?.known;
     let millis = desk.now.micros / 1_000;
     let picture = picture_of(desk.alloc, hub, of.conference, known, removed, millis)?;
@@ -73,7 +78,7 @@ pub fn get(desk: &Desk, hub: &Loop, of: &OfConference, removed: &[u16]) -> Resul
 }
 
 /// `word.get`: the words beside a conference, or the one of a key.
-pub fn words(desk: &Desk, hub: &Loop, of: &WordsOf) -> Result<Answer, Refused> {
+pub(crate) fn words(desk: &Desk, hub: &Loop, of: &WordsOf) -> Result<Answer, Refused> {
     let words = &desk.known(hub, of.conference)?.known.words;
     let key = match &of.key {
         Some(key) => Some(key.as_str()),
@@ -84,7 +89,7 @@ pub fn words(desk: &Desk, hub: &Loop, of: &WordsOf) -> Result<Answer, Refused> {
 }
 
 /// `journal`: what happened in a conference, from a place on.
-pub fn journal(desk: &Desk, hub: &Loop, asked: &JournalFrom) -> Result<Answer, Refused> {
+pub(crate) fn journal(desk: &Desk, hub: &Loop, asked: &JournalFrom) -> Result<Answer, Refused> {
     let known = &desk.known(hub, asked.conference)?.known;
     Ok(Answer::Journal(journal_of(desk.alloc, hub, known, asked)?))
 }

@@ -1,0 +1,18 @@
+-- What the events of a conference show.
+use Rattle.std.specs.Prelude.{◌≡◌, ℕ, false, List, [], Option, Some, None}
+use Rattle.floor_machine.specs.Machine.{Machine, infos_changed}
+use Rattle.floor_machine.specs.declared.event.Event.{Event}
+use Rattle.floor_rpc.specs.declared.notification.EventTold.{EventTold}
+use Rattle.floor_shown.specs.Events.{is_told_always}
+use Rattle.floor_shown.specs.Requests.{AreShown}
+
+-- how many events were taken, and the floor machine that took them
+pub record Followed : Type 0 where
+  pub place : ℕ
+  pub machine : Machine
+
+-- What an event shows stands at its place, with each floor request that it changed as it is shown, in their order. An event that shows nothing changed none, and
+-- is none that is told always.
+abbrev pub TellsOf : Event → Followed → Followed → Option EventTold → Type 0
+TellsOf event old new None = (is_told_always event ≡ false) × (infos_changed old.machine.conference event ≡ [])
+TellsOf event old new (Some told) = (told.place ≡ new.place) × AreShown (infos_changed old.machine.conference event) told.requests
