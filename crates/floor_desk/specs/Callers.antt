@@ -38,8 +38,9 @@ EndsTask next by None new = new ≡ None
 EndsTask next by (Some old) new = (c : Caller) × (new ≡ Some c) × (c.number ≡ old.number) × (c.task ≡ next) × by old.client c.client
 
 -- somebody new, of whom nothing came; for whom there is no place is told so
-abbrev pub IsNew : Mode → Caller → Type 0
-IsNew mode c = (c.task ≡ task.Nothing) × ((c.client ≡ new_client mode) ⊎ (c.client ≡ full mode))
+pub record IsNew (mode : Mode) (c : Caller) : Type 0 where
+  pub task : c.task ≡ task.Nothing
+  pub client : (c.client ≡ new_client mode) ⊎ (c.client ≡ full mode)
 
 -- what the answer to who is at a socket waits for
 abbrev pub task_at : Option Caller → Task

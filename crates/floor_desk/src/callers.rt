@@ -54,13 +54,8 @@ impl Callers {
         ensures others { OthersStay slot self.old self.new }
         ensures left { OnErr result (Same self.old self.new) }
     {
-        let client = client_at(alloc, work, mode, self.count(mode))?;
-        let caller = Caller {
-            number: self.given.saturating_add(1),
-            client,
-            task: Task::Nothing,
-            lacks: Vec::new(alloc),
-        };
+        let number = self.given.saturating_add(1);
+        let caller = new_caller(alloc, work, number, mode, self.count(mode))?;
         self.put_caller(slot, caller)
     }
 
@@ -72,10 +67,18 @@ impl Callers {
         grow(&mut self.slots, slot)?;
         self.taken.push(slot)?;
         self.given = caller.number;
+        self.write(slot, caller);
+        Ok(())
+    }
+
+    fn write(&mut self, slot: usize, caller: Caller)
+        ensures there { slot < length self.old.slots.items
+            → caller_at self.new slot ≡ Some caller }
+        ensures others { OthersStay slot self.old self.new }
+    {
         if let Some(place) = self.slots.get_mut(slot) {
             *place = Some(caller);
         }
-        Ok(())
     }
 
     /// How many are there that came by the same socket.
@@ -702,6 +705,25 @@ fn grow(slots: &mut Vec<Option<Caller>>, slot: usize) -> Result<(), AllocError>
         }
     }
     Ok(())
+}
+
+/// Somebody new, where so many are there that came by the same socket.
+fn new_caller(
+    alloc: Global,
+    work: &mut Workspace,
+    number: u64,
+    mode: Mode,
+    count: usize,
+) -> Result<Caller, AllocError>
+    ensures value { IfOk result (IsNew mode) }
+{
+    let client = client_at(alloc, work, mode, count)?;
+    Ok(Caller {
+        number,
+        client,
+        task: Task::Nothing,
+        lacks: Vec::new(alloc),
+    })
 }
 
 /// A client, where so many are there that came by the same socket.

@@ -6,4 +6,4 @@ pub loop-one-init : goal.loop-one-init
 loop-one-init c = attends_same beside c.args.callers.now
 
 pub loop-one-preserved : goal.loop-one-preserved
-loop-one-preserved c = attends_then beside _ _ _ c.loop-one.invariant c.tell_where.ensures.attends
+loop-one-preserved c = attends_then beside c.args.callers.now c.loop-one.callers c.tell_where.new.callers c.loop-one.invariant c.tell_where.ensures.attends

@@ -6,4 +6,4 @@ pub loop-index-init : goal.loop-index-init
 loop-index-init c = attends_same beside c.args.self.now
 
 pub loop-index-preserved : goal.loop-index-preserved
-loop-index-preserved c = attends_then beside _ _ _ c.loop-index.invariant c.unwatch.ensures.attends
+loop-index-preserved c = attends_then beside c.args.self.now c.loop-index.self c.unwatch.new.self c.loop-index.invariant c.unwatch.ensures.attends
