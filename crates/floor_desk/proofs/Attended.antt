@@ -36,7 +36,7 @@ stays_at may None = refl
 stays_at may (Some c) = (c, refl, record { steps = []; run = refl; each = tt; number = refl })
 
 pub attends_same : (may : ℕ → Step → Bool) (a : Callers) → Attends may a a
-attends_same may a slot = stays_at (may slot) (caller_at a slot)
+attends_same may a = record { here = λ slot. stays_at (may slot) (caller_at a slot) }
 
 -- of a client that is there
 pub goes_on_then : (may : Step → Bool) (c d e : Caller) → GoesOn may c d → GoesOn may d e → GoesOn may c e
@@ -55,7 +55,7 @@ then_at may (Some c) p q f g =
 
 -- one behind another
 pub attends_then : (may : ℕ → Step → Bool) (a b c : Callers) → Attends may a b → Attends may b c → Attends may a c
-attends_then may a b c f g slot = then_at (may slot) (caller_at a slot) (caller_at b slot) (caller_at c slot) (f slot) (g slot)
+attends_then may a b c f g = record { here = λ slot. then_at (may slot) (caller_at a slot) (caller_at b slot) (caller_at c slot) (f.here slot) (g.here slot) }
 
 -- where more may be
 more_at : (may more : Step → Bool) → ((s : Step) → may s ≡ true → more s ≡ true) → (o p : Option Caller) → GoesOnAt may o p → GoesOnAt more o p
@@ -66,19 +66,20 @@ or_more : (a b : Bool) → a ≡ true → (a || b) ≡ true
 or_more a b e = ap (λ (x : Bool). x || b) e
 
 pub beside_is_carried : (socket : ℕ) (a b : Callers) → Attends beside a b → Attends (carried socket) a b
-beside_is_carried socket a b f slot =
-    more_at is_beside (carried socket slot) (λ s e. or_more (is_beside s) (nat_eq socket slot && is_carried s) e) (caller_at a slot) (caller_at b slot) (f slot)
+beside_is_carried socket a b f = record {
+  here = λ slot. more_at is_beside (carried socket slot) (λ s e. or_more (is_beside s) (nat_eq socket slot && is_carried s) e) (caller_at a slot) (caller_at b slot) (f.here slot);
+}
 
 -- where one client alone went on
 pub attends_at : (may : ℕ → Step → Bool) (slot : ℕ) (a b : Callers) → OthersStay slot a b → GoesOnAt (may slot) (caller_at a slot) (caller_at b slot) → Attends may a b
-attends_at may slot a b others here k = by (eqb_tells slot k)
+attends_at may slot a b others here = record { here = λ k. by k (eqb_tells slot k) }
   where
-    by : (((nat_eq slot k ≡ true) × (slot ≡ k)) ⊎ ((nat_eq slot k ≡ false) × (slot ≢ k))) → GoesOnAt (may k) (caller_at a k) (caller_at b k)
-    by (inl u) = subst (λ (z : ℕ). GoesOnAt (may z) (caller_at a z) (caller_at b z)) u.1 here
-    by (inr u) = subst (λ (x : Option Caller). GoesOnAt (may k) (caller_at a k) x) (sym (others k u.0)) (stays_at (may k) (caller_at a k))
+    by : (k : ℕ) → (((nat_eq slot k ≡ true) × (slot ≡ k)) ⊎ ((nat_eq slot k ≡ false) × (slot ≢ k))) → GoesOnAt (may k) (caller_at a k) (caller_at b k)
+    by k (inl u) = subst (λ (z : ℕ). GoesOnAt (may z) (caller_at a z) (caller_at b z)) u.1 here
+    by k (inr u) = subst (λ (x : Option Caller). GoesOnAt (may k) (caller_at a k) x) (sym (others k u.0)) (stays_at (may k) (caller_at a k))
 
 pub attends_stay : (may : ℕ → Step → Bool) (a b : Callers) → Same a b → Attends may a b
-attends_stay may a b same slot = subst (λ (x : Option Caller). GoesOnAt (may slot) (caller_at a slot) x) (sym (same slot)) (stays_at (may slot) (caller_at a slot))
+attends_stay may a b same = record { here = λ slot. subst (λ (x : Option Caller). GoesOnAt (may slot) (caller_at a slot) x) (sym (same slot)) (stays_at (may slot) (caller_at a slot)) }
 
 -- ---- who is at a socket, once its caller has gone on
 

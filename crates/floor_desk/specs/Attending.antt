@@ -44,8 +44,8 @@ GoesOnAt may None new = new ≡ None
 GoesOnAt may (Some old) new = (c : Caller) × (new ≡ Some c) × GoesOn may old c
 
 -- Whoever is at a socket went on by calls that may be there.
-abbrev pub Attends : (ℕ → Step → Bool) → Callers → Callers → Type 0
-Attends may old new = (slot : ℕ) → GoesOnAt (may slot) (caller_at old slot) (caller_at new slot)
+pub record Attends (may : ℕ → Step → Bool) (old new : Callers) : Type 0 where
+  pub here : (slot : ℕ) → GoesOnAt (may slot) (caller_at old slot) (caller_at new slot)
 
 -- of nobody more may be than beside its own line
 abbrev pub beside : ℕ → Step → Bool
