@@ -195,6 +195,7 @@ impl Run {
             Deed::Read(slot) => self.read(slot),
             Deed::Write(slot) => self.write(slot),
             Deed::Shut(slot) => self.shut(slot),
+            Deed::Serve(slot) => Err(Fault::of("a client is served, and none is there", slot)),
             Deed::Log(entry) => self.model.hear_log(entry),
             Deed::Turn => Ok(()),
             Deed::End(fault) => {
