@@ -1,0 +1,49 @@
+//! What is written to sockets.
+#![tactic(auto, using(crate::proofs::Moving::unmoved, crate::proofs::Moving::moved_then, crate::proofs::Moving::moved_and_same))]
+
+ghost use Rattle.std.specs.Prelude.{◌≡◌, ◌≢◌, None};
+ghost use Rattle.floor_connections.specs.Asked.{writes};
+ghost use Rattle.floor_connections.specs.Table.{client_of, socket_at};
+ghost use Rattle.floor_meetings.specs.Meetings.{lent_at};
+ghost use Rattle.floor_sockets.specs.Sockets.{life_at};
+ghost use Rattle.floor_turn.specs.Moves.{Moves, taken_at, taken_of};
+
+use crate::service::{Now, Service};
+
+impl Service {
+    /// What is to be written to a socket, 64 KiB at most: of a client what waits for it, else what is lent to its member.
+    pub fn lent(&self, socket: usize) -> &[u8]
+        ensures member { client_of (socket_at self.now.server.connections.table socket) ≡ None
+            → result.now ≡ lent_at self.now.server.meetings socket }
+    {
+        match self.server.client(socket) {
+            Some(_) => match self.desk.seats.get(socket) {
+                Some(Some(seat)) => seat.client.lent(),
+                _ => &[],
+            },
+            None => self.server.lent(socket),
+        }
+    }
+
+    /// A socket took so many of the bytes that were lent; a count above them counts as all.
+    pub fn took(&mut self, socket: usize, count: usize, now: Now)
+        ensures member { client_of (socket_at self.old.server.connections.table socket) ≡ None
+            → Moves (taken_at socket
+            (taken_of (writes (life_at self.old.server.connections.sockets socket)) count
+            (lent_at self.old.server.meetings socket)))
+            self.old.server.meetings self.new.server.meetings }
+        ensures client { client_of (socket_at self.old.server.connections.table socket) ≢ None
+            → self.new.server.meetings ≡ self.old.server.meetings }
+    {
+        self.desk.pass(now);
+        if self.is_client(socket) {
+            if self.server.is_written(socket) {
+                self.client_took(socket, count, now);
+            }
+            return;
+        }
+        self.server.took(socket, count, now.micros);
+        self.see_to_touched();
+        self.settle_told();
+    }
+}
