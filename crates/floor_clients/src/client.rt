@@ -8,7 +8,7 @@ ghost use Rattle.floor_clients.specs.Clients.{answered_by, asked_of, came, close
 ghost use Rattle.floor_clients.specs.Lines.{line_len};
 ghost use Rattle.floor_clients.specs.Outgoing.{answered, lent, notices_len};
 ghost use Rattle.floor_clients.specs.Served.{Goes, Passes, Serves, Tells, asked_after, given, outgoing_after};
-ghost use Rattle.floor_clients.specs.Watched.{Sets, next_of, passed_at};
+ghost use Rattle.floor_clients.specs.Watched.{Sets, next_of, passed_at, watches};
 
 use crate::incoming::Incoming;
 use crate::mode::Mode;
@@ -307,6 +307,13 @@ impl Client {
         ensures value { result ≡ next_of self.now.watched conference }
     {
         self.watched.next_of(conference)
+    }
+
+    /// Whether it watches a conference, by its number or with all others.
+    pub fn watches(&self, conference: u32) -> bool
+        ensures value { result ≡ watches self.now.watched conference }
+    {
+        self.watched.has_all() || self.watched.next_of(conference).is_some()
     }
 
     /// How many bytes of notifications wait for it.

@@ -1,14 +1,17 @@
-//! Requests are carried out.
+//! Requests are carried out: what is answered by looking, what is kept beside conferences, and what the server does.
 #![tactic(auto, using(crate::proofs::Moving::unmoved, crate::proofs::Moving::moved_then, crate::proofs::Moving::moved_and_same))]
 
 ghost use Rattle.floor_turn.specs.Moves.{Moves, nothing_taken};
 
-use crate::desk::Desk;
-use crate::refusing::Refused;
-use crate::seat::Done;
-use crate::{conferences, listing, picture, requests, server, watching, words};
-use floor_rpc::Call;
+use crate::{asking, changing, opening, removing};
+use floor_desk::{
+    Desk, Done, drain, get, journal, list, set_word, status, stop, unwatch, watch, words,
+};
+use floor_message::Verdict;
+use floor_rpc::{Answer, Call, OfConference};
+use floor_shown::Refused;
 use floor_turn::Server;
+use std::alloc::{AllocError, Global};
 
 /// Carries out what the client at a socket asks for.
 pub(crate) fn carry_out(
@@ -20,30 +23,57 @@ pub(crate) fn carry_out(
     ensures moves { Moves nothing_taken server.old.meetings server.new.meetings }
 {
     match call {
-        Call::ConferenceOpen(opening) => conferences::open(server, desk, opening),
-        Call::ConferenceList(listed) => listing::list(desk, server.hub(), &listed),
-        Call::ConferenceGet(of) => picture::get(desk, server, &of),
-        Call::ConferenceClose(of) => conferences::close(server, desk, &of),
-        Call::ConferenceForget(of) => conferences::forget(server, desk, &of),
-        Call::UserAdd(addition) => conferences::add_user(server, desk, addition),
-        Call::FloorAdd(addition) => conferences::add_floor(server, desk, addition),
-        Call::FloorChair(setting) => conferences::set_chair(server, desk, &setting),
-        Call::MemberRemove(removal) => conferences::remove(server, desk, &removal),
-        Call::UserAdmit(of) => conferences::admit(server, desk, &of),
-        Call::RequestCreate(creation) => requests::create(server, desk, creation),
-        Call::RequestRelease(release) => requests::release(server, desk, &release),
-        Call::RequestAccept(decision) => requests::accept(server, desk, decision),
-        Call::RequestGrant(decision) => requests::grant(server, desk, decision),
-        Call::RequestDeny(decision) => requests::deny(server, desk, decision),
-        Call::RequestRevoke(of) => requests::revoke(server, desk, &of),
-        Call::WordSet(setting) => words::set(desk, server.hub(), setting),
-        Call::WordGet(of) => words::get(desk, server.hub(), &of),
-        Call::Watch(watching) => watching::watch(desk, server.hub(), socket, &watching),
-        Call::Unwatch(unwatching) => watching::unwatch(desk, socket, &unwatching),
-        Call::Journal(from) => watching::journal(desk, server.hub(), &from),
-        Call::ServerStatus => server::status(desk),
-        Call::ServerDrain => server::drain(desk),
-        Call::ServerStop => server::stop(desk, socket),
-        Call::Help => server::help(),
+        Call::ConferenceOpen(opening) => opening::open(server, desk, opening),
+        Call::ConferenceList(listing) => now(list(desk, server.hub(), &listing)),
+        Call::ConferenceGet(of) => look(desk, server, &of),
+        Call::ConferenceClose(of) => changing::close(server, desk, &of),
+        Call::ConferenceForget(of) => changing::forget(server, desk, &of),
+        Call::UserAdd(addition) => changing::add_user(server, desk, &addition),
+        Call::FloorAdd(addition) => changing::add_floor(server, desk, &addition),
+        Call::FloorChair(setting) => changing::set_chair(server, desk, &setting),
+        Call::MemberRemove(removal) => removing::remove(server, desk, &removal),
+        Call::UserAdmit(of) => removing::admit(server, desk, &of),
+        Call::RequestCreate(creation) => asking::create(server, desk, &creation),
+        Call::RequestRelease(release) => asking::release(server, desk, &release),
+        Call::RequestAccept(decision) => asking::decide(server, desk, &decision, Verdict::Accepted),
+        Call::RequestGrant(decision) => asking::decide(server, desk, &decision, Verdict::Granted),
+        Call::RequestDeny(decision) => asking::decide(server, desk, &decision, Verdict::Denied),
+        Call::RequestRevoke(of) => changing::revoke(server, desk, &of),
+        Call::WordSet(setting) => now(set_word(desk, server.hub(), setting)),
+        Call::WordGet(of) => now(words(desk, server.hub(), &of)),
+        Call::Watch(watching) => now(watch(desk, server.hub(), socket, &watching)),
+        Call::Unwatch(unwatching) => now(unwatch(desk, socket, &unwatching)),
+        Call::Journal(asked) => now(journal(desk, server.hub(), &asked)),
+        Call::ServerStatus => status(desk),
+        Call::ServerDrain => now(drain(desk)),
+        Call::ServerStop => stop(desk),
+        Call::Help => Ok(Done::Now(Answer::Help)),
+    }
+}
+
+/// `conference.get`: with the users who aren't let in.
+fn look(desk: &Desk, server: &Server, of: &OfConference) -> Result<Done, Refused> {
+    let removed = removed_of(desk.alloc, server, of.conference)?;
+    now(get(desk, server.hub(), of, &removed))
+}
+
+/// The users of a conference who aren't let in.
+fn removed_of(alloc: Global, server: &Server, conference: u32) -> Result<Vec<u16>, AllocError> {
+    let mut removed = Vec::new(alloc);
+    if let Ok(config) = server.hub().config(conference) {
+        for user in config.users() {
+            if server.is_banned(conference, user.id) {
+                removed.push(user.id)?;
+            }
+        }
+    }
+    Ok(removed)
+}
+
+/// It is answered at once.
+fn now(answer: Result<Answer, Refused>) -> Result<Done, Refused> {
+    match answer {
+        Ok(answer) => Ok(Done::Now(answer)),
+        Err(refused) => Err(refused),
     }
 }

@@ -1,6 +1,8 @@
 //! What is to be done.
 
 use floor_config::{Config, ConfigFault};
+use floor_desk::Act;
+use floor_shown::Words;
 
 /// What is to be done next: as `floor_turn` says it, and what the control clients' requests need besides.
 #[derive(Clone, Copy, Debug, PartialEq, Eq)]
@@ -12,15 +14,17 @@ pub enum Deed {
     Configure(u64),
     /// Find out how much memory the process has. Answered by `figures`.
     Figures,
+    /// Tell the log what a client had done. Not answered.
+    Tell(Act),
 }
 
 /// What a configuration's text is.
 #[derive(Drop)]
 pub enum Configured {
-    /// It has this conference, and no other.
-    One(Config),
-    /// It has none, or several.
-    Others,
+    /// It has this conference, and no other, and gives it and its floors these titles, which `titles_of` finds.
+    One { config: Config, titles: Words },
+    /// It has no conference, or several, or more titles than there is room for.
+    Unfit,
     /// It is no configuration: why, and at which line, from 1 on.
     Faulty { fault: ConfigFault, line: u64 },
     /// Memory was refused.

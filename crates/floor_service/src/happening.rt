@@ -1,14 +1,13 @@
-//! What happened to the sockets and listeners, and what is to be done next.
+//! What happened to the sockets and listeners.
 #![tactic(auto, using(crate::proofs::Moving::unmoved, crate::proofs::Moving::moved_then, crate::proofs::Moving::moved_and_same))]
 
 ghost use Rattle.std.specs.Prelude.{◌≡◌};
 ghost use Rattle.floor_turn.specs.Moves.{Moves, nothing_taken};
 
-use crate::deed::Deed;
-use crate::desk::Wanted;
-use crate::service::{Now, Service};
-use floor_rpc::{Happened, MemberOf};
-use floor_turn::{Entry, Refusal};
+use crate::service::Service;
+use floor_clients::Mode;
+use floor_desk::Now;
+use floor_turn::{Place, Refusal};
 
 impl Service {
     /// It is so late, unless it was later before.
@@ -25,8 +24,8 @@ impl Service {
     {
         let due = self.server.due();
         match (due, self.desk.stop) {
-            (Some(due), Some(stop)) => Some(due.min(stop.until)),
-            (None, Some(stop)) => Some(stop.until),
+            (Some(due), Some(until)) => Some(due.min(until)),
+            (None, Some(until)) => Some(until),
             (due, None) => due,
         }
     }
@@ -65,14 +64,9 @@ impl Service {
     {
         self.desk.pass(now);
         let accepted = self.server.accepted(listener, port, now.micros);
-        self.see_to_touched();
-        self.settle_told();
-        match accepted {
-            Ok(socket) => match self.server.client(socket) {
-                Some(place) => self.seat_client(socket, place),
-                None => {}
-            },
-            Err(_) => {}
+        self.follow();
+        if let Ok(socket) = accepted {
+            self.seat_client(socket);
         }
         accepted
     }
@@ -98,14 +92,11 @@ impl Service {
     {
         self.desk.pass(now);
         if self.is_client(socket) {
-            if self.server.is_read(socket) {
-                self.client_came(socket, bytes, now);
-            }
+            self.client_came(socket, bytes, now);
             return;
         }
         self.server.came(socket, bytes, now.micros);
-        self.see_to_touched();
-        self.settle_told();
+        self.follow();
     }
 
     /// Nothing is there to be read.
@@ -121,14 +112,11 @@ impl Service {
     {
         self.desk.pass(now);
         if self.is_client(socket) {
-            if self.server.is_read(socket) {
-                self.client_ended(socket, now);
-            }
+            self.client_ended(socket, now);
             return;
         }
         self.server.ended(socket, now.micros);
-        self.see_to_touched();
-        self.settle_told();
+        self.follow();
     }
 
     /// A read of a socket failed.
@@ -137,8 +125,7 @@ impl Service {
     {
         self.desk.pass(now);
         self.server.failed(socket, now.micros);
-        self.see_to_touched();
-        self.settle_told();
+        self.follow();
     }
 
     /// A socket was shut, or a listener isn't listened on any more: its number is free.
@@ -147,92 +134,53 @@ impl Service {
     {
         self.server.shut(socket);
         if !self.is_client(socket) {
-            if let Some(place) = self.desk.seats.get_mut(socket) {
-                *place = None;
-            }
+            self.desk.callers.remove(socket);
         }
-        self.see_to_touched();
-        self.settle_told();
+        self.follow();
     }
 
-    /// What is to be done next. Where it gives nothing, nothing is to be done before something happens or `due` has come.
-    pub fn next(&mut self) -> Option<Deed>
-        ensures moves { Moves nothing_taken self.old.server.meetings self.new.server.meetings }
-    {
-        match self.desk.wanted.pop_front() {
-            Some(Wanted::Configuration(number)) => return Some(Deed::Configure(number)),
-            Some(Wanted::Figures) => return Some(Deed::Figures),
-            None => {}
-        }
-        if self.see_to_stop() {
-            return Some(turn());
-        }
-        if self.desk.follow_next(self.server.hub()) {
-            self.settle_told();
-            return Some(turn());
-        }
-        let deed = self.next_of_server();
-        if deed.is_none() && !self.desk.behind.is_empty() {
-            return Some(turn());
-        }
-        deed
+    /// Whether a client is at a socket.
+    pub(crate) fn is_client(&self, socket: usize) -> bool {
+        self.server.client(socket).is_some()
     }
 
-    /// What the server has to be done. A turn of a client is served here.
-    fn next_of_server(&mut self) -> Option<Deed>
-        ensures moves { Moves nothing_taken self.old.server.meetings self.new.server.meetings }
-    {
-        let deed = self.server.next();
-        self.see_to_touched();
-        match deed {
-            Some(floor_turn::Deed::Serve(socket)) => {
-                self.serve_client(socket);
-                self.settle_told();
-                Some(turn())
-            }
-            Some(floor_turn::Deed::Log(entry)) => {
-                self.hear(&entry);
-                self.settle_told();
-                Some(Deed::Of(floor_turn::Deed::Log(entry)))
-            }
-            Some(deed) => {
-                self.settle_told();
-                Some(Deed::Of(deed))
-            }
-            None => {
-                self.settle_told();
-                None
-            }
-        }
-    }
-
-    /// What the log is told of members that are away is told to who watches.
-    fn hear(&mut self, entry: &Entry)
+    /// Where a client was accepted it is at its socket from now on; one of which nobody can be told is shut.
+    fn seat_client(&mut self, socket: usize)
         ensures meetings { self.new.server.meetings ≡ self.old.server.meetings }
     {
-        match entry {
-            Entry::Away { who, .. } => {
-                let member = MemberOf {
-                    member: who.n,
-                    user: who.user,
-                };
-                self.desk
-                    .tell_happened(who.conference, Happened::Away(member));
-            }
-            Entry::Back(who) => {
-                let member = MemberOf {
-                    member: who.n,
-                    user: who.user,
-                };
-                self.desk
-                    .tell_happened(who.conference, Happened::Back(member));
-            }
-            _ => {}
+        let mode = match self.server.client(socket) {
+            Some(Place::Observe) => Mode::Observer,
+            Some(_) => Mode::Control,
+            None => return,
+        };
+        match self.desk.join(socket, mode) {
+            Ok(()) => self.settle(socket),
+            Err(_) => self.server.lend_client(socket, false, true, true),
         }
     }
-}
 
-/// Something was done without a call of the system.
-fn turn() -> Deed {
-    Deed::Of(floor_turn::Deed::Turn)
+    /// Bytes came of a client, where they were asked for.
+    fn client_came(&mut self, socket: usize, bytes: &[u8], now: Now)
+        ensures meetings { self.new.server.meetings ≡ self.old.server.meetings }
+    {
+        if !self.server.is_read(socket) {
+            return;
+        }
+        let has_more = self.desk.callers.came(socket, bytes);
+        self.server
+            .client_came(socket, bytes.len(), has_more, now.micros);
+        self.settle(socket);
+    }
+
+    /// The stream of a client has ended: its whole lines are answered yet.
+    fn client_ended(&mut self, socket: usize, now: Now)
+        ensures meetings { self.new.server.meetings ≡ self.old.server.meetings }
+    {
+        if !self.server.is_read(socket) {
+            return;
+        }
+        self.desk.callers.ended(socket);
+        self.server.client_ended(socket, now.micros);
+        self.settle(socket);
+    }
 }

@@ -1,28 +1,17 @@
 //! The server and its control clients.
 #![tactic(auto, using(crate::proofs::Moving::unmoved, crate::proofs::Moving::moved_then, crate::proofs::Moving::moved_and_same))]
 
-ghost use Rattle.std.specs.Prelude.{◌≡◌, None, ℕ};
-ghost use Rattle.floor_hub.specs.StandsFor.{StandsFor};
-ghost use Rattle.floor_hub.specs.World.{nothing};
-ghost use Rattle.floor_meetings.specs.Meetings.{member_at};
+ghost use Rattle.std.specs.Prelude.{◌≡◌};
 ghost use Rattle.floor_turn.specs.Moves.{Moves, nothing_taken};
 
-use crate::conferences::open_here;
-use crate::desk::Desk;
-use crate::refusing::Refused;
+use crate::deed::Configured;
+use crate::opening::{open_here, open_read};
 use floor_config::Config;
+use floor_desk::{Act, Desk, Now, standing_now};
 use floor_rpc::Text;
+use floor_shown::{NewConference, Words};
 use floor_turn::{HubRefusal, Loop, Place, Server};
 use std::alloc::{AllocError, Global};
-
-/// How late it is.
-#[derive(Clone, Copy, Debug, PartialEq, Eq)]
-pub struct Now {
-    /// In microseconds of a clock that doesn't go back.
-    pub micros: u64,
-    /// The time of day, in milliseconds since 1970-01-01T00:00:00Z, for what is told.
-    pub unix_millis: u64,
-}
 
 /// A floor control server and its control clients.
 ///
@@ -50,10 +39,8 @@ impl Service {
         version: Text,
         now: Now,
     ) -> Result<Service, AllocError> {
-        Ok(Service {
-            server,
-            desk: Desk::new(alloc, seed, version, now)?,
-        })
+        let desk = Desk::new(alloc, seed, version, now)?;
+        Ok(Service { server, desk })
     }
 
     /// Has the control clients' socket listened on, or that of those that read alone.
@@ -63,11 +50,15 @@ impl Service {
         self.server.clients(place)
     }
 
-    /// Opens a conference, as the server does; whoever watches all is told of it.
-    pub fn open(&mut self, config: Config) -> Result<(), HubRefusal>
+    /// Opens a conference, as the server does, with these titles; whoever watches all is told of it.
+    pub fn open(&mut self, config: Config, titles: Words) -> Result<(), HubRefusal>
         ensures moves { Moves nothing_taken self.old.server.meetings self.new.server.meetings }
     {
-        open_here(&mut self.server, &mut self.desk, config)
+        let new = NewConference {
+            config,
+            words: titles,
+        };
+        open_here(&mut self.server, &mut self.desk, new)
     }
 
     /// Lends the loop, by which conferences are read.
@@ -82,5 +73,52 @@ impl Service {
         ensures value { result.now ≡ self.now.server }
     {
         &self.server
+    }
+
+    /// Lends the text that is to be read under this number: none where nobody awaits it.
+    pub fn configuration(&self, number: u64) -> &str {
+        match self.desk.callers.configuring(number) {
+            Some(socket) => self.desk.callers.text(socket, number).unwrap_or(""),
+            None => "",
+        }
+    }
+
+    /// The text under this number was read. Where nobody awaits it nothing is opened.
+    pub fn configured(&mut self, number: u64, read: Configured, now: Now)
+        ensures moves { Moves nothing_taken self.old.server.meetings self.new.server.meetings }
+    {
+        self.desk.pass(now);
+        let Some(socket) = self.desk.callers.configuring(number) else {
+            return;
+        };
+        let act = Act::opening(self.desk.callers.number(socket), socket);
+        self.desk.user = None;
+        let done = open_read(&mut self.server, &mut self.desk, read);
+        self.end_call(socket, Some(act), done);
+    }
+
+    /// The process has so many bytes of memory: whoever asked how the server stands is answered.
+    pub fn figures(&mut self, memory: u64)
+        ensures meetings { self.new.server.meetings ≡ self.old.server.meetings }
+    {
+        let members = self.server.members_len();
+        for index in 0..self.desk.callers.taken().len() {
+            if let Some(socket) = self.desk.callers.taken().get(index) {
+                let socket = *socket;
+                self.tell_figures(socket, members, memory);
+            }
+        }
+    }
+
+    /// A client is answered how the server stands, where it asked so.
+    fn tell_figures(&mut self, socket: usize, members: usize, memory: u64)
+        ensures meetings { self.new.server.meetings ≡ self.old.server.meetings }
+    {
+        if !self.desk.callers.awaits_figures(socket) {
+            return;
+        }
+        let done = standing_now(&self.desk, members, memory);
+        self.desk.end(socket, None, done);
+        self.settle(socket);
     }
 }

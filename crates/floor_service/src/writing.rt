@@ -8,7 +8,8 @@ ghost use Rattle.floor_meetings.specs.Meetings.{lent_at};
 ghost use Rattle.floor_sockets.specs.Sockets.{life_at};
 ghost use Rattle.floor_turn.specs.Moves.{Moves, taken_at, taken_of};
 
-use crate::service::{Now, Service};
+use crate::service::Service;
+use floor_desk::Now;
 
 impl Service {
     /// What is to be written to a socket, 64 KiB at most: of a client what waits for it, else what is lent to its member.
@@ -17,10 +18,7 @@ impl Service {
             → result.now ≡ lent_at self.now.server.meetings socket }
     {
         match self.server.client(socket) {
-            Some(_) => match self.desk.seats.get(socket) {
-                Some(Some(seat)) => seat.client.lent(),
-                _ => &[],
-            },
+            Some(_) => self.desk.callers.lent(socket),
             None => self.server.lent(socket),
         }
     }
@@ -37,13 +35,22 @@ impl Service {
     {
         self.desk.pass(now);
         if self.is_client(socket) {
-            if self.server.is_written(socket) {
-                self.client_took(socket, count, now);
-            }
+            self.client_took(socket, count, now);
             return;
         }
         self.server.took(socket, count, now.micros);
-        self.see_to_touched();
-        self.settle_told();
+        self.follow();
+    }
+
+    /// The socket of a client took so many of the bytes that were lent, where a write was asked.
+    fn client_took(&mut self, socket: usize, count: usize, now: Now)
+        ensures meetings { self.new.server.meetings ≡ self.old.server.meetings }
+    {
+        if !self.server.is_written(socket) {
+            return;
+        }
+        let lent = self.desk.callers.took(socket, count);
+        self.server.client_took(socket, count, lent, now.micros);
+        self.settle(socket);
     }
 }

@@ -2,10 +2,12 @@
 //! that port. `a> LINE` is a line of a client, `x> WORDS` what a member sends, `a< LINE` what comes to a client, and
 //! `a closed` that its socket is shut. `time 1500` is the time in milliseconds, behind 2026-11-29T16:00:00Z. What else
 //! stands there says what is done: `- a` that the stream of a client or member ends, `! x` that it fails, `hold` and `let`
-//! that texts of configurations wait to be read, and are read; `& a> LINE` that a line is sent, and nothing is done yet. Lines with `#` say what it is about.
+//! that texts of configurations wait to be read, and are read; `& a> LINE` that a line is sent, and nothing is done yet; `log` that what the log is told is printed from there on, as `log LINE`. Lines with `#` say what it is about.
 
 use floor_config::read_configs;
-use floor_service::{Bounds, Configured, Deed, Grace, Now, Place, Server, Service, Text};
+use floor_service::{
+    Act, Bounds, Configured, Deed, Grace, Now, Place, Server, Service, Text, titles_of,
+};
 use std::alloc::{AllocError, Global};
 
 const BOUNDS: Bounds = Bounds {
@@ -41,6 +43,8 @@ struct Paged {
     listeners: Vec<(u64, usize)>,
     is_holding: bool,
     held: Vec<u64>,
+    is_logging: bool,
+    logged: Vec<String>,
     has_ended: bool,
 }
 
@@ -179,6 +183,7 @@ impl Paged {
                 Some(Deed::Of(deed)) => self.answer(deed)?,
                 Some(Deed::Configure(number)) => self.held.push(number)?,
                 Some(Deed::Figures) => self.service.figures(1_234),
+                Some(Deed::Tell(act)) => self.log(act)?,
             }
             if !self.is_holding {
                 self.read_texts()?;
@@ -190,9 +195,18 @@ impl Paged {
     /// Reads the texts that wait to be read.
     fn read_texts(&mut self) -> Result<(), AllocError> {
         while let Some(number) = self.held.pop() {
-            let read = read_text(self.alloc, self.service.configuration(number));
+            let read = read_text(self.alloc, self.service.configuration(number))?;
             let now = self.now();
             self.service.configured(number, read, now);
+        }
+        Ok(())
+    }
+
+    /// Keeps what the log is told, where that is printed.
+    fn log(&mut self, act: Act) -> Result<(), AllocError> {
+        if self.is_logging {
+            let line = act.text(self.alloc)?;
+            self.logged.push(line)?;
         }
         Ok(())
     }
@@ -254,6 +268,7 @@ impl Paged {
                     peer.is_slow = true;
                 }
             }
+            "log" if second.is_empty() => self.is_logging = true,
             "hold" => self.is_holding = true,
             "let" => {
                 self.is_holding = false;
@@ -283,8 +298,12 @@ impl Paged {
         Ok(true)
     }
 
-    /// Writes what came to each client, and who was shut.
+    /// Writes what the log was told, what came to each client, and who was shut.
     fn tell(&mut self, text: &mut String) -> Result<(), AllocError> {
+        for line in &self.logged {
+            write!(text, "log {line}\n")?;
+        }
+        self.logged.clear();
         for peer in self.peers.iter_mut() {
             if peer.place < 3 {
                 tell_peer(text, peer)?;
@@ -314,13 +333,17 @@ fn tell_peer(text: &mut String, peer: &mut Peer) -> Result<(), AllocError> {
 }
 
 /// What a text is as a configuration.
-fn read_text(alloc: Global, text: &str) -> Configured {
-    match read_configs(alloc, text) {
-        Ok(mut configs) => match configs.pop() {
-            Some(config) if configs.is_empty() => Configured::One(config),
-            _ => Configured::Others,
+fn read_text(alloc: Global, text: &str) -> Result<Configured, AllocError> {
+    let mut configs = match read_configs(alloc, text) {
+        Ok(configs) => configs,
+        Err(fault) => return Ok(Configured::Faulty { fault, line: 1 }),
+    };
+    match configs.pop() {
+        Some(config) if configs.is_empty() => match titles_of(alloc, text, config.conference())? {
+            Some(titles) => Ok(Configured::One { config, titles }),
+            None => Ok(Configured::Unfit),
         },
-        Err(fault) => Configured::Faulty { fault, line: 1 },
+        _ => Ok(Configured::Unfit),
     }
 }
 
@@ -372,6 +395,8 @@ fn printed(alloc: Global, page: &str) -> Result<String, AllocError> {
         listeners: Vec::new(alloc),
         is_holding: false,
         held: Vec::new(alloc),
+        is_logging: false,
+        logged: Vec::new(alloc),
         has_ended: false,
     };
     run.run()?;

@@ -1,0 +1,63 @@
+//! The requests about the server itself.
+
+use crate::caller::{Done, Task};
+use crate::desk::{Desk, Wanted};
+use floor_clients::CloseReason;
+use floor_rpc::{Answer, ServerStanding, Stopped};
+use floor_shown::Refused;
+
+/// How long a stop waits for what is carried out for others, in microseconds: our choice.
+const MAX_STOP_MICROS: u64 = 1_000_000;
+
+/// `server.status`: how the server stands, once it is known how much memory it has.
+pub fn status(desk: &mut Desk) -> Result<Done, Refused> {
+    desk.wanted.push_back(Wanted::Figures)?;
+    Ok(Done::Later(Task::Figures))
+}
+
+/// How the server stands, with so many sockets of members and so many bytes of memory.
+pub fn standing_now(desk: &Desk, members: usize, memory: u64) -> Result<Done, Refused> {
+    let version = desk.version.copy(desk.alloc)?;
+    let since = desk.since.copy(desk.alloc)?;
+    Ok(Done::Now(Answer::Server(ServerStanding {
+        version,
+        since,
+        conferences: desk.meetings.len() as u64,
+        connections: members as u64,
+        memory,
+        draining: desk.is_draining,
+    })))
+}
+
+/// `server.drain`: no conference is opened any more.
+pub fn drain(desk: &mut Desk) -> Result<Answer, Refused> {
+    desk.is_draining = true;
+    Ok(Answer::Done)
+}
+
+/// `server.stop`: the server stops, once what is carried out for others is answered, a second later at most. Nothing
+/// further is begun.
+pub fn stop(desk: &mut Desk) -> Result<Done, Refused> {
+    if desk.stop.is_none() {
+        desk.stop = Some(desk.now.micros.saturating_add(MAX_STOP_MICROS));
+    }
+    Ok(Done::Later(Task::Stopping))
+}
+
+/// Whoever asked for a stop is answered, and each client is to be closed.
+pub fn answer_stop(desk: &mut Desk) {
+    desk.stop = None;
+    for index in 0..desk.callers.taken().len() {
+        if let Some(socket) = desk.callers.taken().get(index) {
+            let socket = *socket;
+            if desk.callers.awaits_stop(socket) {
+                let stopped = Stopped {
+                    seats: desk.joins,
+                    events: desk.events,
+                };
+                desk.answer(socket, Ok(Answer::Stopped(stopped)));
+            }
+        }
+    }
+    desk.callers.close_all(CloseReason::Stopped);
+}

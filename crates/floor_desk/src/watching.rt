@@ -1,0 +1,88 @@
+//! Conferences are watched: from a place on each, or from the next one.
+
+use crate::catching_up::add_lack;
+use crate::desk::Desk;
+use floor_loop::Loop;
+use floor_rpc::{
+    About, Answer, ErrorName, List, NextPlace, Unwatching, Watched, WatchedFrom, Watching,
+};
+use floor_shown::Refused;
+use std::alloc::AllocError;
+
+/// `watch`: conferences are watched from a place on each, or from the next one, and all others.
+pub fn watch(
+    desk: &mut Desk,
+    hub: &Loop,
+    socket: usize,
+    watching: &Watching,
+) -> Result<Answer, Refused> {
+    let next = places_of(desk, hub, socket, watching.conferences.as_slice())?;
+    for one in &next {
+        watch_one(desk, socket, one)?;
+    }
+    if watching.all {
+        desk.callers.watch_all(socket, true);
+    }
+    Ok(Answer::Watched(WatchedFrom {
+        next: List::from_vec(next),
+    }))
+}
+
+/// The places from which on conferences are to be watched.
+fn places_of(
+    desk: &Desk,
+    hub: &Loop,
+    socket: usize,
+    watched: &[Watched],
+) -> Result<Vec<NextPlace>, Refused> {
+    let mut next = Vec::new(desk.alloc);
+    for one in watched {
+        let place = place_of(desk, hub, socket, one)?;
+        if is_among(&next, one.conference) {
+            return Err(watching_already(one.conference));
+        }
+        next.push(NextPlace {
+            conference: one.conference,
+            next: place,
+        })?;
+    }
+    Ok(next)
+}
+
+fn is_among(next: &Vec<NextPlace>, conference: u32) -> bool {
+    next.iter().any(|other| other.conference == conference)
+}
+
+fn watching_already(conference: u32) -> Refused {
+    Refused::of(ErrorName::Watching, About::Conference(conference))
+}
+
+/// The place from which on a conference is to be watched.
+fn place_of(desk: &Desk, hub: &Loop, socket: usize, watched: &Watched) -> Result<u64, Refused> {
+    let next = desk.known(hub, watched.conference)?.known.next();
+    if desk.callers.next_of(socket, watched.conference).is_some() {
+        return Err(watching_already(watched.conference));
+    }
+    match watched.from {
+        None => Ok(next),
+        Some(from) if 1 <= from && from <= next => Ok(from),
+        Some(from) => Err(Refused::of(ErrorName::BadPlace, About::Place(from))),
+    }
+}
+
+/// A conference is watched from a place on.
+fn watch_one(desk: &mut Desk, socket: usize, from: &NextPlace) -> Result<(), AllocError> {
+    desk.callers.watch(socket, from.conference, from.next)?;
+    add_lack(desk, socket, from.conference, from.next)
+}
+
+/// `unwatch`: conferences are watched no more, and all others.
+pub fn unwatch(desk: &mut Desk, socket: usize, unwatching: &Unwatching) -> Result<Answer, Refused> {
+    for of in unwatching.conferences.as_slice() {
+        desk.callers.unwatch(socket, of.conference);
+    }
+    if unwatching.all {
+        desk.callers.watch_all(socket, false);
+    }
+    Ok(Answer::Done)
+}

@@ -1,0 +1,106 @@
+//! The requests about floor requests: each is said for a user, as that user's message.
+#![tactic(auto, using(crate::proofs::Moving::unmoved, crate::proofs::Moving::moved_then, crate::proofs::Moving::moved_and_same))]
+
+ghost use Rattle.std.specs.Prelude.{◌≡◌};
+ghost use Rattle.floor_turn.specs.Moves.{Moves, nothing_taken};
+
+use crate::changing::placed;
+use floor_desk::{Desk, Done, PlaceOf};
+use floor_message::{Ask, Info, Verdict};
+use floor_rpc::{About, Answer, Creation, Decision, Placed, Release};
+use floor_shown::{
+    Refused, chair_of, created_of, creation_ask, decision_ask, info_of, message_of, reply_of,
+    requester_of,
+};
+use floor_turn::Server;
+
+/// What was said and taken: its place, and the floor request that its answer shows.
+#[derive(Drop)]
+struct Taken {
+    place: u64,
+    info: Option<Info>,
+}
+
+/// `request.create`: asks for floors (RFC 8855, section 10.1), by the beneficiary itself where nobody else is named.
+pub(crate) fn create(
+    server: &mut Server,
+    desk: &mut Desk,
+    creation: &Creation,
+) -> Result<Done, Refused>
+    ensures moves { Moves nothing_taken server.old.meetings server.new.meetings }
+{
+    let conference = creation.conference;
+    let by = creation.by.unwrap_or(creation.beneficiary);
+    let ask = creation_ask(desk.alloc, creation, by)?;
+    let taken = say(server, desk, conference, by, &ask)?;
+    let place = taken.place;
+    let answer = match &taken.info {
+        Some(info) => Answer::Created(created_of(info, place)),
+        // A FloorRequest is answered by a FloorRequestStatus, or by an Error.
+        None => Answer::Placed(Placed { place }),
+    };
+    Ok(Done::At {
+        told: PlaceOf { conference, place },
+        answer,
+    })
+}
+
+/// `request.release`: gives a floor request back (section 10.2), by its requester where nobody else is named.
+pub(crate) fn release(
+    server: &mut Server,
+    desk: &mut Desk,
+    release: &Release,
+) -> Result<Done, Refused>
+    ensures moves { Moves nothing_taken server.old.meetings server.new.meetings }
+{
+    let Release {
+        conference,
+        request,
+        by,
+    } = *release;
+    let by = match by {
+        Some(by) => by,
+        None => requester_of(info_of(server.hub(), conference, request)?),
+    };
+    let taken = say(server, desk, conference, by, &Ask::FloorRelease { request })?;
+    Ok(placed(conference, taken.place))
+}
+
+/// `request.accept`, `request.grant` and `request.deny`: a chair decides so (section 11.1).
+pub(crate) fn decide(
+    server: &mut Server,
+    desk: &mut Desk,
+    decision: &Decision,
+    verdict: Verdict,
+) -> Result<Done, Refused>
+    ensures moves { Moves nothing_taken server.old.meetings server.new.meetings }
+{
+    let conference = decision.conference;
+    let chair = chair_of(desk.alloc, server.hub(), decision, verdict)?;
+    let by = chair.user;
+    let ask = decision_ask(desk.alloc, decision.request, chair, &decision.reason)?;
+    let taken = say(server, desk, conference, by, &ask)?;
+    Ok(placed(conference, taken.place))
+}
+
+/// Says a message for a user of a conference. An Error that answers it is its code's name, about its place.
+fn say(
+    server: &mut Server,
+    desk: &mut Desk,
+    conference: u32,
+    by: u16,
+    ask: &Ask,
+) -> Result<Taken, Refused>
+    ensures moves { Moves nothing_taken server.old.meetings server.new.meetings }
+{
+    desk.user = Some(by);
+    let message = message_of(desk.alloc, conference, by, ask)?;
+    match server.say(conference, by, message.bytes(), desk.now.micros) {
+        Ok(said) => {
+            let place = u64::from(said.place);
+            let info = reply_of(desk.alloc, place, &said.reply)?;
+            Ok(Taken { place, info })
+        }
+        Err(refusal) => Err(Refused::by_hub(refusal, conference, About::User(by))),
+    }
+}

@@ -1,0 +1,133 @@
+//! Conferences are opened: of their parts, or of the text of a configuration, once that is read.
+#![tactic(auto, using(crate::proofs::Moving::unmoved, crate::proofs::Moving::moved_then, crate::proofs::Moving::moved_and_same))]
+
+ghost use Rattle.std.specs.Prelude.{◌≡◌};
+ghost use Rattle.floor_turn.specs.Moves.{Moves, nothing_taken};
+
+use crate::deed::Configured;
+use floor_config::Config;
+use floor_desk::{Desk, Done, Meeting, Task, Wanted, tell_happened};
+use floor_hub::HubRefusal;
+use floor_loop::Loop;
+use floor_rpc::{About, Answer, ErrorName, Happened, Opening, Parts, Text, Why};
+use floor_shown::{NewConference, Refused, Words, conference_of, opened_of};
+use floor_turn::Server;
+use std::alloc::Global;
+
+/// `conference.open`: opens a conference of these parts, or has the text of its configuration read.
+pub(crate) fn open(server: &mut Server, desk: &mut Desk, opening: Opening) -> Result<Done, Refused>
+    ensures moves { Moves nothing_taken server.old.meetings server.new.meetings }
+{
+    match opening {
+        Opening::Toml(text) => have_read(desk, text),
+        Opening::Parts(parts) => open_parts(server, desk, &parts),
+    }
+}
+
+/// The text of a configuration is to be read.
+fn have_read(desk: &mut Desk, text: Text) -> Result<Done, Refused> {
+    desk.texts = desk.texts.saturating_add(1);
+    let number = desk.texts;
+    desk.wanted.push_back(Wanted::Configuration(number))?;
+    Ok(Done::Later(Task::Configuring { number, text }))
+}
+
+/// The text of a configuration was read: its conference is opened, unless the server drains by now.
+pub(crate) fn open_read(
+    server: &mut Server,
+    desk: &mut Desk,
+    read: Configured,
+) -> Result<Done, Refused>
+    ensures moves { Moves nothing_taken server.old.meetings server.new.meetings }
+{
+    if desk.is_draining {
+        return Err(Refused::whole(ErrorName::Draining));
+    }
+    let new = conference_read(desk.alloc, read)?;
+    open_new(server, desk, new)
+}
+
+/// The conference of a text that was read.
+fn conference_read(alloc: Global, read: Configured) -> Result<NewConference, Refused> {
+    match read {
+        Configured::One { config, titles } => Ok(NewConference {
+            config,
+            words: titles,
+        }),
+        Configured::Unfit => Err(Refused::param(alloc, "toml", Why::OutOfRange)),
+        Configured::Faulty { fault, line } => Err(Refused::of(
+            ErrorName::of_configuration(fault),
+            About::Line(line),
+        )),
+        Configured::Memory => Err(Refused::whole(ErrorName::Memory)),
+    }
+}
+
+/// Opens a conference of these parts.
+fn open_parts(server: &mut Server, desk: &mut Desk, parts: &Parts) -> Result<Done, Refused>
+    ensures moves { Moves nothing_taken server.old.meetings server.new.meetings }
+{
+    let conference = number_of(desk, server.hub(), parts.id)?;
+    let new = conference_of(desk.alloc, conference, parts)?;
+    open_new(server, desk, new)
+}
+
+/// The number that is given, or one that is drawn.
+fn number_of(desk: &mut Desk, hub: &Loop, given: Option<u32>) -> Result<u32, Refused> {
+    match given {
+        Some(conference) => Ok(conference),
+        None => desk.drawing.draw(hub),
+    }
+}
+
+/// Opens a new conference, and answers with its numbers.
+fn open_new(server: &mut Server, desk: &mut Desk, new: NewConference) -> Result<Done, Refused>
+    ensures moves { Moves nothing_taken server.old.meetings server.new.meetings }
+{
+    let opened = opened_of(desk.alloc, &new.config)?;
+    let conference = opened.conference;
+    match open_here(server, desk, new) {
+        Ok(()) => Ok(Done::Now(Answer::Opened(opened))),
+        Err(refusal) => Err(Refused::of_conference(refusal, conference)),
+    }
+}
+
+/// Opens a conference, and keeps how it was opened. Whoever watches all is told. After an error nothing has changed.
+pub(crate) fn open_here(
+    server: &mut Server,
+    desk: &mut Desk,
+    new: NewConference,
+) -> Result<(), HubRefusal>
+    ensures moves { Moves nothing_taken server.old.meetings server.new.meetings }
+{
+    let NewConference { config, words } = new;
+    let conference = config.conference();
+    match server.hub().status(conference) {
+        Err(HubRefusal::NoConference) => {}
+        Ok(_) | Err(_) => return Err(HubRefusal::Used),
+    }
+    // First what memory may be refused for beside the server.
+    add_meeting(desk, &config, words)?;
+    match server.open(config) {
+        Ok(()) => {
+            tell_happened(desk, conference, Happened::Opened);
+            Ok(())
+        }
+        Err(refusal) => {
+            let _none = desk.meetings.remove(&conference);
+            Err(refusal)
+        }
+    }
+}
+
+/// Keeps how a conference is opened.
+fn add_meeting(desk: &mut Desk, config: &Config, words: Words) -> Result<(), HubRefusal> {
+    let Ok(opening) = config.copy(desk.alloc) else {
+        return Err(HubRefusal::Memory);
+    };
+    let meeting = Meeting::new(desk.alloc, opening, words);
+    match desk.meetings.insert(config.conference(), meeting) {
+        Ok(_none) => Ok(()),
+        Err(_) => Err(HubRefusal::Memory),
+    }
+}

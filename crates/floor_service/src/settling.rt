@@ -1,0 +1,62 @@
+//! What waits for clients is lent to them, once it is there.
+
+ghost use Rattle.std.specs.Prelude.{◌≡◌};
+
+use crate::service::Service;
+use floor_desk::{note, queue_or_close};
+
+impl Service {
+    /// The conference of which something was asked is looked at: what its journal has grown by is noted and told.
+    pub(crate) fn see_to_touched(&mut self)
+        ensures meetings { self.new.server.meetings ≡ self.old.server.meetings }
+    {
+        match self.server.take_touched() {
+            Some(conference) => note(&mut self.desk, self.server.hub(), conference),
+            None => {}
+        }
+    }
+
+    /// What a call asked of a conference is noted and told, and lent to whom it was told.
+    pub(crate) fn follow(&mut self)
+        ensures meetings { self.new.server.meetings ≡ self.old.server.meetings }
+    {
+        self.see_to_touched();
+        self.settle_told();
+    }
+
+    /// Where clients were told something, that is lent to them.
+    pub(crate) fn settle_told(&mut self)
+        ensures meetings { self.new.server.meetings ≡ self.old.server.meetings }
+    {
+        if !self.desk.has_told {
+            return;
+        }
+        self.desk.has_told = false;
+        self.settle_all();
+    }
+
+    /// What waits for each client is lent to it.
+    pub(crate) fn settle_all(&mut self)
+        ensures meetings { self.new.server.meetings ≡ self.old.server.meetings }
+    {
+        for index in 0..self.desk.callers.taken().len() {
+            if let Some(socket) = self.desk.callers.taken().get(index) {
+                let socket = *socket;
+                self.settle(socket);
+            }
+        }
+    }
+
+    /// A client is answered what its answer waited for, and what waits for it is lent to it.
+    pub(crate) fn settle(&mut self, socket: usize)
+        ensures meetings { self.new.server.meetings ≡ self.old.server.meetings }
+    {
+        self.desk.answer_told(socket);
+        queue_or_close(&mut self.desk, socket);
+        let Some(lending) = self.desk.lending(socket) else {
+            return;
+        };
+        self.server
+            .lend_client(socket, lending.has_bytes, lending.is_held, lending.ends);
+    }
+}
