@@ -1,0 +1,4 @@
+-- What a reader has to believe, in the order of reading.
+pub mod Callers
+pub mod Answering
+pub mod Attending

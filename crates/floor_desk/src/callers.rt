@@ -1,5 +1,14 @@
 //! Who is at which socket, of the control clients.
+#![tactic(auto, using(crate::proofs::Attended::attends_same, crate::proofs::Attended::attends_then, crate::proofs::Attended::told_beside, crate::proofs::Attended::closed_beside, crate::proofs::Attended::passed_beside, crate::proofs::Attended::unwatched_beside))]
 
+ghost use Rattle.std.specs.Prelude.{◌≡◌, ◌≢◌, ◌<◌, ◌⊎◌, ℕ, IfOk, None, OnErr, OnOk, Some, length, min, option_map, slice_index_or};
+ghost use Rattle.floor_clients.specs.Clients.{answered_by, came, closed, ended, full, new_client, took_by};
+ghost use Rattle.floor_clients.specs.Outgoing.{lent};
+ghost use Rattle.floor_clients.specs.declared.standing.CloseReason.TheVariants as reason;
+ghost use Rattle.floor_desk.specs.Attending.{Attends, beside};
+ghost use Rattle.floor_desk.specs.Callers.{EndsTask, GoesOnBy, IsNew, OrCloses, OthersStay, PassesOrStays, Same, ServesOrCloses, TellsOrCloses, Watches, caller_at, is_told_to, lent_to, task_at, told_at};
+ghost use Rattle.floor_desk.specs.declared.caller.Caller.{Caller as Known};
+ghost use Rattle.floor_desk.specs.declared.caller.Task.TheVariants as tasks;
 
 use crate::caller::{Caller, Lack, PlaceOf, Task};
 use floor_clients::{
@@ -21,7 +30,9 @@ pub struct Callers {
 
 impl Callers {
     /// Nobody. Takes no memory.
-    pub fn new(alloc: Global) -> Callers {
+    pub fn new(alloc: Global) -> Callers
+        ensures none { (slot : ℕ) → caller_at result slot ≡ None }
+    {
         Callers {
             slots: Vec::new(alloc),
             taken: Vec::new(alloc),
@@ -37,7 +48,11 @@ impl Callers {
         work: &mut Workspace,
         slot: usize,
         mode: Mode,
-    ) -> Result<(), AllocError> {
+    ) -> Result<(), AllocError>
+        ensures there { OnOk result ((c : Known) × (caller_at self.new slot ≡ Some c) × IsNew mode c) }
+        ensures others { OthersStay slot self.old self.new }
+        ensures left { OnErr result (Same self.old self.new) }
+    {
         grow(&mut self.slots, slot)?;
         self.taken.reserve(1)?;
         let client = client_at(alloc, work, mode, self.count(mode))?;
@@ -69,7 +84,10 @@ impl Callers {
     }
 
     /// Nobody is at a socket any more.
-    pub fn remove(&mut self, slot: usize) {
+    pub fn remove(&mut self, slot: usize)
+        ensures gone { caller_at self.new slot ≡ None }
+        ensures others { OthersStay slot self.old self.new }
+    {
         if let Some(place) = self.slots.get_mut(slot) {
             *place = None;
         }
@@ -98,7 +116,9 @@ impl Callers {
     }
 
     /// The bytes that wait for who is at a socket.
-    pub fn lent(&self, slot: usize) -> &[u8] {
+    pub fn lent(&self, slot: usize) -> &[u8]
+        ensures value { result.now ≡ lent_to (caller_at self.now slot) }
+    {
         match self.get(slot) {
             Some(caller) => caller.client.lent(),
             None => &[],
@@ -106,7 +126,11 @@ impl Callers {
     }
 
     /// Bytes came from a socket. A client for which memory is refused is to be closed. Says whether a line may be served.
-    pub fn came(&mut self, slot: usize, bytes: &[u8]) -> bool {
+    pub fn came(&mut self, slot: usize, bytes: &[u8]) -> bool
+        ensures here { GoesOnBy (OrCloses (came bytes.now))
+            (caller_at self.old slot) (caller_at self.new slot) }
+        ensures others { OthersStay slot self.old self.new }
+    {
         let Some(place) = self.slots.get_mut(slot) else {
             return false;
         };
@@ -122,7 +146,11 @@ impl Callers {
     }
 
     /// The stream of a socket has ended: its whole lines are answered yet.
-    pub fn ended(&mut self, slot: usize) {
+    pub fn ended(&mut self, slot: usize)
+        ensures here { GoesOnBy (λ old new. new ≡ ended old)
+            (caller_at self.old slot) (caller_at self.new slot) }
+        ensures others { OthersStay slot self.old self.new }
+    {
         if let Some(place) = self.slots.get_mut(slot) {
             if let Some(caller) = place {
                 caller.client.ended();
@@ -131,7 +159,13 @@ impl Callers {
     }
 
     /// A socket took so many of the bytes that were lent. Says how many were.
-    pub fn took(&mut self, slot: usize, count: usize) -> usize {
+    pub fn took(&mut self, slot: usize, count: usize) -> usize
+        ensures value { result ≡ length (lent_to (caller_at self.old slot)) }
+        ensures here { GoesOnBy (λ old new. new
+            ≡ took_by (min count (length (lent old.outgoing))) old)
+            (caller_at self.old slot) (caller_at self.new slot) }
+        ensures others { OthersStay slot self.old self.new }
+    {
         let Some(place) = self.slots.get_mut(slot) else {
             return 0;
         };
@@ -146,7 +180,9 @@ impl Callers {
     }
 
     /// Whether the socket of a client is to be shut once nothing waits for it.
-    pub fn is_done(&mut self, slot: usize) -> bool {
+    pub fn is_done(&mut self, slot: usize) -> bool
+        ensures same { Same self.old self.new }
+    {
         let Some(place) = self.slots.get_mut(slot) else {
             return false;
         };
@@ -163,7 +199,11 @@ impl Callers {
         work: &mut Workspace,
         slot: usize,
         is_draining: bool,
-    ) -> Next {
+    ) -> Next
+        ensures here { GoesOnBy (ServesOrCloses is_draining result)
+            (caller_at self.old slot) (caller_at self.new slot) }
+        ensures others { OthersStay slot self.old self.new }
+    {
         let Some(place) = self.slots.get_mut(slot) else {
             return Next::Nothing;
         };
@@ -186,7 +226,11 @@ impl Callers {
         work: &mut Workspace,
         slot: usize,
         outcome: Result<Answer, Failure>,
-    ) {
+    )
+        ensures here { EndsTask tasks.Nothing (OrCloses (answered_by outcome))
+            (caller_at self.old slot) (caller_at self.new slot) }
+        ensures others { OthersStay slot self.old self.new }
+    {
         let Some(place) = self.slots.get_mut(slot) else {
             return;
         };
@@ -199,7 +243,11 @@ impl Callers {
     }
 
     /// The answer to a client waits for this.
-    pub fn wait(&mut self, slot: usize, task: Task) {
+    pub fn wait(&mut self, slot: usize, task: Task)
+        ensures here { EndsTask task (λ old new. new ≡ old)
+            (caller_at self.old slot) (caller_at self.new slot) }
+        ensures others { OthersStay slot self.old self.new }
+    {
         if let Some(place) = self.slots.get_mut(slot) {
             if let Some(caller) = place {
                 caller.task = task;
@@ -208,7 +256,12 @@ impl Callers {
     }
 
     /// What the answer to a client waits for, which is awaited no more.
-    pub fn take_task(&mut self, slot: usize) -> Task {
+    pub fn take_task(&mut self, slot: usize) -> Task
+        ensures value { result ≡ task_at (caller_at self.old slot) }
+        ensures here { EndsTask tasks.Nothing (λ old new. new ≡ old)
+            (caller_at self.old slot) (caller_at self.new slot) }
+        ensures others { OthersStay slot self.old self.new }
+    {
         let Some(place) = self.slots.get_mut(slot) else {
             return Task::Nothing;
         };
@@ -219,7 +272,9 @@ impl Callers {
     }
 
     /// The place that a client is to be told before it is answered.
-    pub fn told(&self, slot: usize) -> Option<PlaceOf> {
+    pub fn told(&self, slot: usize) -> Option<PlaceOf>
+        ensures value { result ≡ told_at (caller_at self.now slot) }
+    {
         match self.get(slot) {
             Some(caller) => match &caller.task {
                 Task::Told { told, .. } => Some(*told),
@@ -230,7 +285,9 @@ impl Callers {
     }
 
     /// Whether a client has been told each place of a conference up to this one, so far as it watches it.
-    pub fn is_told(&self, slot: usize, told: PlaceOf) -> bool {
+    pub fn is_told(&self, slot: usize, told: PlaceOf) -> bool
+        ensures value { result ≡ is_told_to told (caller_at self.now slot) }
+    {
         let Some(caller) = self.get(slot) else {
             return true;
         };
@@ -306,7 +363,12 @@ impl Callers {
     }
 
     /// A client watches a conference from a place on. After an error nothing has changed.
-    pub fn watch(&mut self, slot: usize, conference: u32, place: u64) -> Result<(), AllocError> {
+    pub fn watch(&mut self, slot: usize, conference: u32, place: u64) -> Result<(), AllocError>
+        ensures here { OnOk result (GoesOnBy (Watches conference (Some place))
+            (caller_at self.old slot) (caller_at self.new slot)) }
+        ensures others { OthersStay slot self.old self.new }
+        ensures left { OnErr result (Same self.old self.new) }
+    {
         let Some(place_of) = self.slots.get_mut(slot) else {
             return Ok(());
         };
@@ -317,7 +379,11 @@ impl Callers {
     }
 
     /// A client doesn't watch a conference by its number any more.
-    pub fn unwatch(&mut self, slot: usize, conference: u32) {
+    pub fn unwatch(&mut self, slot: usize, conference: u32)
+        ensures here { GoesOnBy (Watches conference None)
+            (caller_at self.old slot) (caller_at self.new slot) }
+        ensures others { OthersStay slot self.old self.new }
+    {
         if let Some(place) = self.slots.get_mut(slot) {
             if let Some(caller) = place {
                 caller.lacks.retain(|lack| lack.conference != conference);
@@ -327,7 +393,9 @@ impl Callers {
     }
 
     /// Nobody watches a conference by its number any more.
-    pub fn unwatch_for_all(&mut self, conference: u32) {
+    pub fn unwatch_for_all(&mut self, conference: u32)
+        ensures attends { Attends beside self.old self.new }
+    {
         for index in 0..self.taken.len() {
             if let Some(slot) = self.taken.get(index) {
                 let slot = *slot;
@@ -337,7 +405,12 @@ impl Callers {
     }
 
     /// A client watches all other conferences too, or doesn't.
-    pub fn watch_all(&mut self, slot: usize, all: bool) {
+    pub fn watch_all(&mut self, slot: usize, all: bool)
+        ensures here { GoesOnBy (λ old new. new
+            ≡ record old { watched = record old.watched { all = all } })
+            (caller_at self.old slot) (caller_at self.new slot) }
+        ensures others { OthersStay slot self.old self.new }
+    {
         if let Some(place) = self.slots.get_mut(slot) {
             if let Some(caller) = place {
                 caller.client.watch_all(all);
@@ -371,7 +444,11 @@ impl Callers {
     }
 
     /// A client is told what happened, if it watches that; one for which memory is refused is to be closed.
-    pub fn tell(&mut self, slot: usize, told: &Told) {
+    pub fn tell(&mut self, slot: usize, told: &Told)
+        ensures here { GoesOnBy (TellsOrCloses told.now)
+            (caller_at self.old slot) (caller_at self.new slot) }
+        ensures others { OthersStay slot self.old self.new }
+    {
         let Some(place) = self.slots.get_mut(slot) else {
             return;
         };
@@ -383,7 +460,9 @@ impl Callers {
     }
 
     /// Whoever watches it is told what happened.
-    pub fn tell_all(&mut self, told: &Told) {
+    pub fn tell_all(&mut self, told: &Told)
+        ensures attends { Attends beside self.old self.new }
+    {
         for index in 0..self.taken.len() {
             if let Some(slot) = self.taken.get(index) {
                 let slot = *slot;
@@ -393,7 +472,11 @@ impl Callers {
     }
 
     /// An event shows nothing: to a client that watches it it is past.
-    pub fn pass(&mut self, slot: usize, told: PlaceOf) {
+    pub fn pass(&mut self, slot: usize, told: PlaceOf)
+        ensures here { GoesOnBy (PassesOrStays told)
+            (caller_at self.old slot) (caller_at self.new slot) }
+        ensures others { OthersStay slot self.old self.new }
+    {
         // No journal is so long.
         if told.place == u64::MAX {
             return;
@@ -406,7 +489,9 @@ impl Callers {
     }
 
     /// To whoever watches it it is past.
-    pub fn pass_all(&mut self, told: PlaceOf) {
+    pub fn pass_all(&mut self, told: PlaceOf)
+        ensures attends { Attends beside self.old self.new }
+    {
         for index in 0..self.taken.len() {
             if let Some(slot) = self.taken.get(index) {
                 let slot = *slot;
@@ -416,7 +501,11 @@ impl Callers {
     }
 
     /// A client is to be closed.
-    pub fn close(&mut self, slot: usize, reason: CloseReason) {
+    pub fn close(&mut self, slot: usize, reason: CloseReason)
+        ensures here { GoesOnBy (λ old new. new ≡ closed reason old)
+            (caller_at self.old slot) (caller_at self.new slot) }
+        ensures others { OthersStay slot self.old self.new }
+    {
         if let Some(place) = self.slots.get_mut(slot) {
             if let Some(caller) = place {
                 caller.client.close(reason);
@@ -425,7 +514,9 @@ impl Callers {
     }
 
     /// Each client is to be closed.
-    pub fn close_all(&mut self, reason: CloseReason) {
+    pub fn close_all(&mut self, reason: CloseReason)
+        ensures attends { Attends beside self.old self.new }
+    {
         for index in 0..self.taken.len() {
             if let Some(slot) = self.taken.get(index) {
                 let slot = *slot;
@@ -435,7 +526,9 @@ impl Callers {
     }
 
     /// Memory was refused for what is told of a conference: whoever watches it is to be closed.
-    pub fn close_watching(&mut self, conference: u32) {
+    pub fn close_watching(&mut self, conference: u32)
+        ensures attends { Attends beside self.old self.new }
+    {
         for index in 0..self.taken.len() {
             if let Some(slot) = self.taken.get(index) {
                 let slot = *slot;
@@ -447,7 +540,11 @@ impl Callers {
     }
 
     /// A client lacks this too. After an error nothing has changed.
-    pub fn add_lack(&mut self, slot: usize, lack: Lack) -> Result<(), AllocError> {
+    pub fn add_lack(&mut self, slot: usize, lack: Lack) -> Result<(), AllocError>
+        ensures here { GoesOnBy (λ old new. new ≡ old)
+            (caller_at self.old slot) (caller_at self.new slot) }
+        ensures others { OthersStay slot self.old self.new }
+    {
         let Some(place) = self.slots.get_mut(slot) else {
             return Ok(());
         };
@@ -458,7 +555,11 @@ impl Callers {
     }
 
     /// What a client lacks first, which it is told now.
-    pub fn take_lack(&mut self, slot: usize) -> Option<Lack> {
+    pub fn take_lack(&mut self, slot: usize) -> Option<Lack>
+        ensures here { GoesOnBy (λ old new. new ≡ old)
+            (caller_at self.old slot) (caller_at self.new slot) }
+        ensures others { OthersStay slot self.old self.new }
+    {
         let place = self.slots.get_mut(slot)?;
         match place {
             Some(caller) => {
@@ -472,7 +573,11 @@ impl Callers {
     }
 
     /// What a client lacks of a conference.
-    pub fn take_lack_of(&mut self, slot: usize, conference: u32) -> Option<Lack> {
+    pub fn take_lack_of(&mut self, slot: usize, conference: u32) -> Option<Lack>
+        ensures here { GoesOnBy (λ old new. new ≡ old)
+            (caller_at self.old slot) (caller_at self.new slot) }
+        ensures others { OthersStay slot self.old self.new }
+    {
         let place = self.slots.get_mut(slot)?;
         match place {
             Some(caller) => {
@@ -510,7 +615,11 @@ impl Callers {
 }
 
 /// Has a place for this slot, and for all before it.
-fn grow(slots: &mut Vec<Option<Caller>>, slot: usize) -> Result<(), AllocError> {
+fn grow(slots: &mut Vec<Option<Caller>>, slot: usize) -> Result<(), AllocError>
+    ensures room { OnOk result (slot < length slots.new.items) }
+    ensures same { (k : ℕ) → slice_index_or slots.new.items k None
+        ≡ slice_index_or slots.old.items k None }
+{
     while slots.len() <= slot {
         match slots.push(None) {
             Ok(()) => {}
@@ -526,7 +635,9 @@ fn client_at(
     work: &mut Workspace,
     mode: Mode,
     count: usize,
-) -> Result<Client, AllocError> {
+) -> Result<Client, AllocError>
+    ensures value { IfOk result (λ c. (c ≡ new_client mode) ⊎ (c ≡ full mode)) }
+{
     if count < MAX_CLIENTS {
         return Ok(Client::new(alloc, mode));
     }

@@ -1,4 +1,7 @@
 //! Who watches a conference from an earlier place on is told what it lacks, as it takes it.
+#![tactic(auto, using(crate::proofs::Attended::attends_same, crate::proofs::Attended::attends_then, crate::proofs::Attended::attends_stay, crate::proofs::Attended::told_beside, crate::proofs::Attended::passed_beside, crate::proofs::Attended::closed_beside, crate::proofs::Attended::stays_beside))]
+
+ghost use Rattle.floor_desk.specs.Attending.{Attends, beside};
 
 use crate::caller::{Lack, PlaceOf};
 use crate::callers::Callers;
@@ -27,7 +30,9 @@ pub fn add_lack(
     socket: usize,
     conference: u32,
     from: u64,
-) -> Result<(), AllocError> {
+) -> Result<(), AllocError>
+    ensures attends { Attends beside desk.old.callers desk.new.callers }
+{
     let Some(meeting) = desk.meetings.get(&conference) else {
         return Ok(());
     };
@@ -43,7 +48,9 @@ pub fn add_lack(
 }
 
 /// A client that lacks events and has room for some is told them, in its turn.
-fn queue(desk: &mut Desk, socket: usize) -> Result<(), AllocError> {
+fn queue(desk: &mut Desk, socket: usize) -> Result<(), AllocError>
+    ensures attends { Attends beside desk.old.callers desk.new.callers }
+{
     if !desk.callers.is_lacking_any(socket) || !desk.callers.has_room(socket) {
         return Ok(());
     }
@@ -55,14 +62,18 @@ fn queue(desk: &mut Desk, socket: usize) -> Result<(), AllocError> {
 }
 
 /// The same; where memory is refused it is to be closed.
-pub fn queue_or_close(desk: &mut Desk, socket: usize) {
+pub fn queue_or_close(desk: &mut Desk, socket: usize)
+    ensures attends { Attends beside desk.old.callers desk.new.callers }
+{
     if queue(desk, socket).is_err() {
         desk.callers.close(socket, CloseReason::Memory);
     }
 }
 
 /// Who lacks events is told a few, where it is its turn: every other time. Says whether it was.
-pub fn tell_next(desk: &mut Desk, hub: &Loop) -> bool {
+pub fn tell_next(desk: &mut Desk, hub: &Loop) -> bool
+    ensures attends { Attends beside desk.old.callers desk.new.callers }
+{
     desk.is_turn_of_lacking = !desk.is_turn_of_lacking;
     if !desk.is_turn_of_lacking {
         return false;
@@ -78,7 +89,9 @@ pub fn tell_next(desk: &mut Desk, hub: &Loop) -> bool {
 }
 
 /// Whoever lacks events of a conference is told them all, at once.
-pub fn tell_all(desk: &mut Desk, hub: &Loop, conference: u32) {
+pub fn tell_all(desk: &mut Desk, hub: &Loop, conference: u32)
+    ensures attends { Attends beside desk.old.callers desk.new.callers }
+{
     for index in 0..desk.callers.taken().len() {
         if let Some(socket) = desk.callers.taken().get(index) {
             let socket = *socket;
@@ -90,7 +103,9 @@ pub fn tell_all(desk: &mut Desk, hub: &Loop, conference: u32) {
 }
 
 /// A client is told what it lacks. What it lacks then is told later; where memory is refused it is to be closed.
-fn tell_lack(desk: &mut Desk, hub: &Loop, socket: usize, mut lack: Lack, part: Part) {
+fn tell_lack(desk: &mut Desk, hub: &Loop, socket: usize, mut lack: Lack, part: Part)
+    ensures attends { Attends beside desk.old.callers desk.new.callers }
+{
     let Ok(events) = hub.journal(lack.conference) else {
         return;
     };
@@ -127,13 +142,15 @@ fn tell_part(
     events: &[Event],
     follower: &mut Follower,
     part: Part,
-) -> Result<(), AllocError> {
+) -> Result<(), AllocError>
+    ensures attends { Attends beside callers.old callers.new }
+{
     let mut count = 0usize;
     for event in events.get(follower.place()..).unwrap_or(&[]) {
         if part == Part::Some && (MAX_FOLLOWED <= count || !callers.has_room(socket)) {
             break;
         }
-        count += 1;
+        count = count.saturating_add(1);
         let told = place_behind(follower, meeting);
         let shown = follower.take(event, meeting.known.time_at(told.place))?;
         if callers.next_of(socket, told.conference) == Some(told.place) {
@@ -148,7 +165,9 @@ fn tell_part(
 }
 
 /// What happened beside the events behind this place is told.
-fn tell_untold(callers: &mut Callers, socket: usize, untold: &Vec<(u64, Told)>, told: PlaceOf) {
+fn tell_untold(callers: &mut Callers, socket: usize, untold: &Vec<(u64, Told)>, told: PlaceOf)
+    ensures attends { Attends beside callers.old callers.new }
+{
     for one in untold {
         if one.0 == told.place.saturating_add(1) {
             callers.tell(socket, &one.1);

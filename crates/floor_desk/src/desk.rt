@@ -1,6 +1,8 @@
 //! The clients, and what is known of the conferences besides their rooms. The server of members isn't among it: what is
 //! here is read of it, and changes nothing there.
 
+ghost use Rattle.std.specs.Prelude.{◌≡◌};
+
 use crate::act::Act;
 use crate::callers::Callers;
 use crate::drawing::Drawing;
@@ -93,7 +95,10 @@ impl Desk {
     }
 
     /// It is so late, unless it was later before.
-    pub fn pass(&mut self, now: Now) {
+    pub fn pass(&mut self, now: Now)
+        ensures callers { self.new.callers ≡ self.old.callers }
+        ensures draining { self.new.is_draining ≡ self.old.is_draining }
+    {
         self.now = Now {
             micros: self.now.micros.max(now.micros),
             unix_millis: self.now.unix_millis.max(now.unix_millis),
@@ -113,7 +118,9 @@ impl Desk {
     }
 
     /// The log is told what a client had done, unless memory is refused for it.
-    pub fn log(&mut self, act: Act) {
+    pub fn log(&mut self, act: Act)
+        ensures callers { self.new.callers ≡ self.old.callers }
+    {
         let _told = self.wanted.push_back(Wanted::Log(act));
     }
 }

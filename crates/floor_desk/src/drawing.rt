@@ -1,6 +1,5 @@
 //! Numbers that are drawn.
 
-
 use floor_hub::HubRefusal;
 use floor_loop::Loop;
 use floor_rpc::ErrorName;
@@ -28,8 +27,7 @@ impl Drawing {
     }
 
     /// A number that is no conference's and was none's.
-    pub fn draw(&mut self, hub: &Loop) -> Result<u32, Refused>
-    {
+    pub fn draw(&mut self, hub: &Loop) -> Result<u32, Refused> {
         for _ in 0..MAX_DRAWN {
             let conference = self.generator.next_word();
             if conference != 0 && is_free(hub, conference) {

@@ -1,4 +1,7 @@
 //! The requests about the server itself.
+#![tactic(auto, using(crate::proofs::Attended::attends_same, crate::proofs::Attended::attends_then, crate::proofs::Attended::attends_stay))]
+
+ghost use Rattle.floor_desk.specs.Attending.{Attends, beside};
 
 use crate::caller::{Done, Task};
 use crate::desk::{Desk, Wanted};
@@ -10,7 +13,9 @@ use floor_shown::Refused;
 const MAX_STOP_MICROS: u64 = 1_000_000;
 
 /// `server.status`: how the server stands, once it is known how much memory it has.
-pub fn status(desk: &mut Desk) -> Result<Done, Refused> {
+pub fn status(desk: &mut Desk) -> Result<Done, Refused>
+    ensures attends { Attends beside desk.old.callers desk.new.callers }
+{
     desk.wanted.push_back(Wanted::Figures)?;
     Ok(Done::Later(Task::Figures))
 }
@@ -30,14 +35,18 @@ pub fn standing_now(desk: &Desk, members: usize, memory: u64) -> Result<Done, Re
 }
 
 /// `server.drain`: no conference is opened any more.
-pub fn drain(desk: &mut Desk) -> Result<Answer, Refused> {
+pub fn drain(desk: &mut Desk) -> Result<Answer, Refused>
+    ensures attends { Attends beside desk.old.callers desk.new.callers }
+{
     desk.is_draining = true;
     Ok(Answer::Done)
 }
 
 /// `server.stop`: the server stops, once what is carried out for others is answered, a second later at most. Nothing
 /// further is begun.
-pub fn stop(desk: &mut Desk) -> Result<Done, Refused> {
+pub fn stop(desk: &mut Desk) -> Result<Done, Refused>
+    ensures attends { Attends beside desk.old.callers desk.new.callers }
+{
     if desk.stop.is_none() {
         desk.stop = Some(desk.now.micros.saturating_add(MAX_STOP_MICROS));
     }
@@ -45,7 +54,9 @@ pub fn stop(desk: &mut Desk) -> Result<Done, Refused> {
 }
 
 /// Whoever asked for a stop is answered, and each client is to be closed.
-pub fn answer_stop(desk: &mut Desk) {
+pub fn answer_stop(desk: &mut Desk)
+    ensures attends { Attends beside desk.old.callers desk.new.callers }
+{
     desk.stop = None;
     for index in 0..desk.callers.taken().len() {
         if let Some(socket) = desk.callers.taken().get(index) {

@@ -1,4 +1,7 @@
 //! What the events of a conference show is told to who watches it, and what happens beside them.
+#![tactic(auto, using(crate::proofs::Attended::attends_same, crate::proofs::Attended::attends_then, crate::proofs::Attended::attends_stay))]
+
+ghost use Rattle.floor_desk.specs.Attending.{Attends, beside};
 
 use crate::caller::PlaceOf;
 use crate::callers::Callers;
@@ -12,13 +15,17 @@ use floor_shown::Follower;
 use std::alloc::{AllocError, Global};
 
 /// The journal of a conference may have grown: that is noted, and who watches it is told.
-pub fn note(desk: &mut Desk, hub: &Loop, conference: u32) {
+pub fn note(desk: &mut Desk, hub: &Loop, conference: u32)
+    ensures attends { Attends beside desk.old.callers desk.new.callers }
+{
     note_events(desk, hub, conference);
     note_broken(desk, hub, conference);
 }
 
 /// Its events behind those that were noted are noted, and told.
-fn note_events(desk: &mut Desk, hub: &Loop, conference: u32) {
+fn note_events(desk: &mut Desk, hub: &Loop, conference: u32)
+    ensures attends { Attends beside desk.old.callers desk.new.callers }
+{
     let Ok(events) = hub.journal(conference) else {
         return;
     };
@@ -62,7 +69,9 @@ fn tell_events(
     meeting: &mut Meeting,
     events: &[Event],
     before: usize,
-) -> Result<(), AllocError> {
+) -> Result<(), AllocError>
+    ensures attends { Attends beside callers.old callers.new }
+{
     let mut follower = match meeting.follower.take() {
         Some(follower) => follower,
         None => Follower::new(alloc, &meeting.opening)?,
@@ -93,7 +102,9 @@ fn tell_shown(
     callers: &mut Callers,
     told: PlaceOf,
     shown: Option<EventTold>,
-) -> Result<(), AllocError> {
+) -> Result<(), AllocError>
+    ensures attends { Attends beside callers.old callers.new }
+{
     match told_of(alloc, shown)? {
         Some(told) => callers.tell_all(&told),
         None => callers.pass_all(told),
@@ -112,7 +123,9 @@ pub fn told_of(alloc: Global, shown: Option<EventTold>) -> Result<Option<Told>, 
 }
 
 /// That a conference is broken off is told, once.
-fn note_broken(desk: &mut Desk, hub: &Loop, conference: u32) {
+fn note_broken(desk: &mut Desk, hub: &Loop, conference: u32)
+    ensures attends { Attends beside desk.old.callers desk.new.callers }
+{
     let is_broken = match hub.status(conference) {
         Ok(status) => status.phase == Phase::Broken,
         Err(_) => false,
@@ -132,7 +145,9 @@ fn note_broken(desk: &mut Desk, hub: &Loop, conference: u32) {
 
 /// What happened beside the events of a conference is told to who watches it, behind all events before it: to who lacks
 /// some of them, once it doesn't.
-pub fn tell_happened(desk: &mut Desk, conference: u32, what: Happened) {
+pub fn tell_happened(desk: &mut Desk, conference: u32, what: Happened)
+    ensures attends { Attends beside desk.old.callers desk.new.callers }
+{
     let is_lacked = desk.callers.are_lacking(conference);
     let Some(meeting) = desk.meetings.get_mut(&conference) else {
         return;
@@ -150,7 +165,9 @@ fn tell_beside(
     meeting: &mut Meeting,
     what: Happened,
     is_lacked: bool,
-) -> Result<(), AllocError> {
+) -> Result<(), AllocError>
+    ensures attends { Attends beside callers.old callers.new }
+{
     let next = meeting.known.next();
     // No journal is so long.
     if next == u64::MAX {

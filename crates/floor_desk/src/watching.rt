@@ -1,4 +1,7 @@
 //! Conferences are watched: from a place on each, or from the next one.
+#![tactic(auto, using(crate::proofs::Attended::attends_same, crate::proofs::Attended::attends_then, crate::proofs::Attended::attends_stay, crate::proofs::Attended::watched_carried, crate::proofs::Attended::watched_all_carried, crate::proofs::Attended::unwatched_beside, crate::proofs::Attended::beside_is_carried))]
+
+ghost use Rattle.floor_desk.specs.Attending.{Attends, carried};
 
 use crate::catching_up::add_lack;
 use crate::desk::Desk;
@@ -15,7 +18,9 @@ pub fn watch(
     hub: &Loop,
     socket: usize,
     watching: &Watching,
-) -> Result<Answer, Refused> {
+) -> Result<Answer, Refused>
+    ensures attends { Attends (carried socket) desk.old.callers desk.new.callers }
+{
     let next = places_of(desk, hub, socket, watching.conferences.as_slice())?;
     for one in &next {
         watch_one(desk, socket, one)?;
@@ -71,13 +76,17 @@ fn place_of(desk: &Desk, hub: &Loop, socket: usize, watched: &Watched) -> Result
 }
 
 /// A conference is watched from a place on.
-fn watch_one(desk: &mut Desk, socket: usize, from: &NextPlace) -> Result<(), AllocError> {
+fn watch_one(desk: &mut Desk, socket: usize, from: &NextPlace) -> Result<(), AllocError>
+    ensures attends { Attends (carried socket) desk.old.callers desk.new.callers }
+{
     desk.callers.watch(socket, from.conference, from.next)?;
     add_lack(desk, socket, from.conference, from.next)
 }
 
 /// `unwatch`: conferences are watched no more, and all others.
-pub fn unwatch(desk: &mut Desk, socket: usize, unwatching: &Unwatching) -> Result<Answer, Refused> {
+pub fn unwatch(desk: &mut Desk, socket: usize, unwatching: &Unwatching) -> Result<Answer, Refused>
+    ensures attends { Attends (carried socket) desk.old.callers desk.new.callers }
+{
     for of in unwatching.conferences.as_slice() {
         desk.callers.unwatch(socket, of.conference);
     }

@@ -1,4 +1,7 @@
 //! Words are kept beside conferences.
+#![tactic(auto, using(crate::proofs::Attended::attends_same, crate::proofs::Attended::attends_then, crate::proofs::Attended::attends_stay))]
+
+ghost use Rattle.floor_desk.specs.Attending.{Attends, beside};
 
 use crate::desk::Desk;
 use crate::telling::tell_happened;
@@ -7,7 +10,9 @@ use floor_rpc::{About, Answer, ErrorName, Happened, Text, Why, WordSetting, Word
 use floor_shown::Refused;
 
 /// `word.set`: keeps a word beside a conference, or takes it away.
-pub fn set_word(desk: &mut Desk, hub: &Loop, setting: WordSetting) -> Result<Answer, Refused> {
+pub fn set_word(desk: &mut Desk, hub: &Loop, setting: WordSetting) -> Result<Answer, Refused>
+    ensures attends { Attends beside desk.old.callers desk.new.callers }
+{
     let WordSetting {
         conference,
         key,
@@ -23,7 +28,9 @@ pub fn set_word(desk: &mut Desk, hub: &Loop, setting: WordSetting) -> Result<Ans
     Ok(Answer::Done)
 }
 
-fn keep(desk: &mut Desk, conference: u32, key: &Text, text: &Option<Text>) -> Result<(), Refused> {
+fn keep(desk: &mut Desk, conference: u32, key: &Text, text: &Option<Text>) -> Result<(), Refused>
+    ensures attends { Attends beside desk.old.callers desk.new.callers }
+{
     let Some(meeting) = desk.meetings.get_mut(&conference) else {
         return Err(Refused::of(ErrorName::NoConference, About::Conference(conference)));
     };

@@ -1,8 +1,9 @@
 //! The requests about floor requests: each is said for a user, as that user's message.
-#![tactic(auto, using(crate::proofs::Moving::unmoved, crate::proofs::Moving::moved_then, crate::proofs::Moving::moved_and_same))]
+#![tactic(auto, using(crate::proofs::Moving::unmoved, crate::proofs::Moving::moved_then, crate::proofs::Moving::moved_and_same, crate::proofs::Attending::unattended, crate::proofs::Attending::attended_then, crate::proofs::Attending::attended_and_same, crate::proofs::Attending::carried_too))]
 
 ghost use Rattle.std.specs.Prelude.{◌≡◌};
 ghost use Rattle.floor_turn.specs.Moves.{Moves, nothing_taken};
+ghost use Rattle.floor_desk.specs.Attending.{Attends, beside};
 
 use crate::changing::placed;
 use floor_desk::{Desk, Done, PlaceOf};
@@ -28,6 +29,7 @@ pub(crate) fn create(
     creation: &Creation,
 ) -> Result<Done, Refused>
     ensures moves { Moves nothing_taken server.old.meetings server.new.meetings }
+    ensures attends { Attends beside desk.old.callers desk.new.callers }
 {
     let conference = creation.conference;
     let by = creation.by.unwrap_or(creation.beneficiary);
@@ -52,6 +54,7 @@ pub(crate) fn release(
     release: &Release,
 ) -> Result<Done, Refused>
     ensures moves { Moves nothing_taken server.old.meetings server.new.meetings }
+    ensures attends { Attends beside desk.old.callers desk.new.callers }
 {
     let Release {
         conference,
@@ -74,6 +77,7 @@ pub(crate) fn decide(
     verdict: Verdict,
 ) -> Result<Done, Refused>
     ensures moves { Moves nothing_taken server.old.meetings server.new.meetings }
+    ensures attends { Attends beside desk.old.callers desk.new.callers }
 {
     let conference = decision.conference;
     let chair = chair_of(desk.alloc, server.hub(), decision, verdict)?;
@@ -92,6 +96,7 @@ fn say(
     ask: &Ask,
 ) -> Result<Taken, Refused>
     ensures moves { Moves nothing_taken server.old.meetings server.new.meetings }
+    ensures attends { Attends beside desk.old.callers desk.new.callers }
 {
     desk.user = Some(by);
     let message = message_of(desk.alloc, conference, by, ask)?;

@@ -1,7 +1,8 @@
 //! Requests are carried out: what is answered by looking, what is kept beside conferences, and what the server does.
-#![tactic(auto, using(crate::proofs::Moving::unmoved, crate::proofs::Moving::moved_then, crate::proofs::Moving::moved_and_same))]
+#![tactic(auto, using(crate::proofs::Moving::unmoved, crate::proofs::Moving::moved_then, crate::proofs::Moving::moved_and_same, crate::proofs::Attending::unattended, crate::proofs::Attending::attended_then, crate::proofs::Attending::attended_and_same, crate::proofs::Attending::carried_too))]
 
 ghost use Rattle.floor_turn.specs.Moves.{Moves, nothing_taken};
+ghost use Rattle.floor_desk.specs.Attending.{Attends, beside, carried};
 
 use crate::{asking, changing, opening, removing};
 use floor_desk::{
@@ -21,6 +22,7 @@ pub(crate) fn carry_out(
     call: Call,
 ) -> Result<Done, Refused>
     ensures moves { Moves nothing_taken server.old.meetings server.new.meetings }
+    ensures attends { Attends (carried socket) desk.old.callers desk.new.callers }
 {
     match call {
         Call::ConferenceOpen(opening) => opening::open(server, desk, opening),

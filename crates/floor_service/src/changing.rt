@@ -1,8 +1,9 @@
 //! What an administrator does in a conference: each is an event of it, or its end.
-#![tactic(auto, using(crate::proofs::Moving::unmoved, crate::proofs::Moving::moved_then, crate::proofs::Moving::moved_and_same))]
+#![tactic(auto, using(crate::proofs::Moving::unmoved, crate::proofs::Moving::moved_then, crate::proofs::Moving::moved_and_same, crate::proofs::Attending::unattended, crate::proofs::Attending::attended_then, crate::proofs::Attending::attended_and_same, crate::proofs::Attending::carried_too))]
 
 ghost use Rattle.std.specs.Prelude.{◌≡◌};
 ghost use Rattle.floor_turn.specs.Moves.{Moves, nothing_taken};
+ghost use Rattle.floor_desk.specs.Attending.{Attends, beside};
 
 use floor_config::Config;
 use floor_desk::{Desk, Done, PlaceOf, tell_all, tell_happened};
@@ -54,6 +55,7 @@ pub(crate) fn close(
     of: &OfConference,
 ) -> Result<Done, Refused>
     ensures moves { Moves nothing_taken server.old.meetings server.new.meetings }
+    ensures attends { Attends beside desk.old.callers desk.new.callers }
 {
     match server.close(of.conference, desk.now.micros) {
         Ok(()) => Ok(placed(of.conference, last_place(server.hub(), of.conference))),
@@ -69,6 +71,7 @@ pub(crate) fn forget(
     of: &OfConference,
 ) -> Result<Done, Refused>
     ensures moves { Moves nothing_taken server.old.meetings server.new.meetings }
+    ensures attends { Attends beside desk.old.callers desk.new.callers }
 {
     tell_all(desk, server.hub(), of.conference);
     match server.forget(of.conference) {
@@ -102,6 +105,8 @@ pub(crate) fn add_user(
     addition: &UserAddition,
 ) -> Result<Done, Refused>
     ensures moves { Moves nothing_taken server.old.meetings server.new.meetings }
+    ensures attends { Attends beside desk.old.callers desk.new.callers }
+    ensures attends { Attends beside desk.old.callers desk.new.callers }
 {
     let conference = addition.conference;
     let config = config_of(server.hub(), conference)?;
@@ -145,6 +150,8 @@ fn listen_for(
     port: u16,
 ) -> Result<(), Refused>
     ensures meetings { server.new.meetings ≡ server.old.meetings }
+    ensures attends { Attends beside desk.old.callers desk.new.callers }
+    ensures attends { Attends beside desk.old.callers desk.new.callers }
 {
     match server.port(conference, user, port) {
         Ok(()) => {}
@@ -163,6 +170,7 @@ pub(crate) fn add_floor(
     addition: &FloorAddition,
 ) -> Result<Done, Refused>
     ensures moves { Moves nothing_taken server.old.meetings server.new.meetings }
+    ensures attends { Attends beside desk.old.callers desk.new.callers }
 {
     let conference = addition.conference;
     let config = config_of(server.hub(), conference)?;
@@ -217,6 +225,8 @@ pub(crate) fn set_chair(
     setting: &ChairSetting,
 ) -> Result<Done, Refused>
     ensures moves { Moves nothing_taken server.old.meetings server.new.meetings }
+    ensures attends { Attends beside desk.old.callers desk.new.callers }
+    ensures attends { Attends beside desk.old.callers desk.new.callers }
 {
     let (conference, floor) = (setting.conference, setting.floor);
     let set = Act::SetChair(floor, setting.chair);
@@ -230,6 +240,7 @@ pub(crate) fn set_chair(
 /// `request.revoke`: the administrator takes the floors of a floor request away, or denies it.
 pub(crate) fn revoke(server: &mut Server, desk: &mut Desk, of: &OfRequest) -> Result<Done, Refused>
     ensures moves { Moves nothing_taken server.old.meetings server.new.meetings }
+    ensures attends { Attends beside desk.old.callers desk.new.callers }
 {
     let revoked = Act::Revoke(of.request);
     let place = act(

@@ -1,8 +1,16 @@
 //! What happened to the sockets and listeners.
-#![tactic(auto, using(crate::proofs::Moving::unmoved, crate::proofs::Moving::moved_then, crate::proofs::Moving::moved_and_same))]
+#![tactic(auto, using(crate::proofs::Moving::unmoved, crate::proofs::Moving::moved_then, crate::proofs::Moving::moved_and_same, crate::proofs::Attending::unattended, crate::proofs::Attending::attended_then, crate::proofs::Attending::attended_and_same, crate::proofs::Attending::carried_too))]
 
 ghost use Rattle.std.specs.Prelude.{◌≡◌};
 ghost use Rattle.floor_turn.specs.Moves.{Moves, nothing_taken};
+ghost use Rattle.std.specs.Prelude.{◌≢◌, IfOk, None, OnErr, false, is_some, true};
+ghost use Rattle.floor_clients.specs.Clients.{came, ended};
+ghost use Rattle.floor_connections.specs.Asked.{reads};
+ghost use Rattle.floor_connections.specs.Table.{client_of, socket_at};
+ghost use Rattle.floor_desk.specs.Attending.{Attends, beside};
+ghost use Rattle.floor_desk.specs.Callers.{OrCloses};
+ghost use Rattle.floor_service.specs.Calls.{FirstAt, OthersAttend};
+ghost use Rattle.floor_sockets.specs.Sockets.{life_at};
 
 use crate::service::Service;
 use floor_clients::Mode;
@@ -13,6 +21,7 @@ impl Service {
     /// It is so late, unless it was later before.
     pub fn time(&mut self, now: Now)
         ensures meetings { self.new.server.meetings ≡ self.old.server.meetings }
+        ensures callers { self.new.desk.callers ≡ self.old.desk.callers }
     {
         self.desk.pass(now);
         self.server.time(now.micros);
@@ -21,6 +30,7 @@ impl Service {
     /// When the time is wanted next, in microseconds.
     pub fn due(&mut self) -> Option<u64>
         ensures moves { Moves nothing_taken self.old.server.meetings self.new.server.meetings }
+        ensures callers { self.new.desk.callers ≡ self.old.desk.callers }
     {
         let due = self.server.due();
         match (due, self.desk.stop) {
@@ -33,6 +43,7 @@ impl Service {
     /// The poll told that something may be read of a socket, and whether its stream ends.
     pub fn readable(&mut self, socket: usize, ends: bool)
         ensures meetings { self.new.server.meetings ≡ self.old.server.meetings }
+        ensures callers { self.new.desk.callers ≡ self.old.desk.callers }
     {
         self.server.readable(socket, ends);
     }
@@ -40,6 +51,7 @@ impl Service {
     /// The poll told that a socket takes bytes.
     pub fn writable(&mut self, socket: usize)
         ensures meetings { self.new.server.meetings ≡ self.old.server.meetings }
+        ensures callers { self.new.desk.callers ≡ self.old.desk.callers }
     {
         self.server.writable(socket);
     }
@@ -47,6 +59,7 @@ impl Service {
     /// The poll told that somebody waits at a listener.
     pub fn knocked(&mut self, listener: usize)
         ensures meetings { self.new.server.meetings ≡ self.old.server.meetings }
+        ensures callers { self.new.desk.callers ≡ self.old.desk.callers }
     {
         self.server.knocked(listener);
     }
@@ -54,6 +67,7 @@ impl Service {
     /// The place of a listener is listened on, or can't be.
     pub fn listened(&mut self, listener: usize, is_listening: bool)
         ensures meetings { self.new.server.meetings ≡ self.old.server.meetings }
+        ensures callers { self.new.desk.callers ≡ self.old.desk.callers }
     {
         self.server.listened(listener, is_listening);
     }
@@ -61,6 +75,10 @@ impl Service {
     /// One was accepted at a listener, from this port of its own.
     pub fn accepted(&mut self, listener: usize, port: u16, now: Now) -> Result<usize, Refusal>
         ensures moves { Moves nothing_taken self.old.server.meetings self.new.server.meetings }
+        ensures refused { OnErr result
+            (Attends beside self.old.desk.callers self.new.desk.callers) }
+        ensures others { IfOk result (λ socket. OthersAttend socket
+            self.old.desk.callers self.new.desk.callers) }
     {
         self.desk.pass(now);
         let accepted = self.server.accepted(listener, port, now.micros);
@@ -74,6 +92,7 @@ impl Service {
     /// Nobody waits at a listener.
     pub fn nobody(&mut self, listener: usize)
         ensures meetings { self.new.server.meetings ≡ self.old.server.meetings }
+        ensures callers { self.new.desk.callers ≡ self.old.desk.callers }
     {
         self.server.nobody(listener);
     }
@@ -81,6 +100,7 @@ impl Service {
     /// An accept failed at a listener.
     pub fn unaccepted(&mut self, listener: usize, now: Now)
         ensures meetings { self.new.server.meetings ≡ self.old.server.meetings }
+        ensures callers { self.new.desk.callers ≡ self.old.desk.callers }
     {
         self.desk.pass(now);
         self.server.unaccepted(listener, now.micros);
@@ -89,6 +109,14 @@ impl Service {
     /// Bytes came from a socket.
     pub fn came(&mut self, socket: usize, bytes: &[u8], now: Now)
         ensures moves { Moves nothing_taken self.old.server.meetings self.new.server.meetings }
+        ensures heard { client_of (socket_at self.old.server.connections.table socket) ≢ None
+            → reads (life_at self.old.server.connections.sockets socket) ≡ true
+            → FirstAt socket (OrCloses (came bytes.now))
+            self.old.desk.callers self.new.desk.callers }
+        ensures unasked { reads (life_at self.old.server.connections.sockets socket) ≡ false
+            → Attends beside self.old.desk.callers self.new.desk.callers }
+        ensures member { client_of (socket_at self.old.server.connections.table socket) ≡ None
+            → Attends beside self.old.desk.callers self.new.desk.callers }
     {
         self.desk.pass(now);
         if self.is_client(socket) {
@@ -102,6 +130,7 @@ impl Service {
     /// Nothing is there to be read.
     pub fn nothing(&mut self, socket: usize)
         ensures meetings { self.new.server.meetings ≡ self.old.server.meetings }
+        ensures callers { self.new.desk.callers ≡ self.old.desk.callers }
     {
         self.server.nothing(socket);
     }
@@ -109,6 +138,14 @@ impl Service {
     /// The stream of a socket is over.
     pub fn ended(&mut self, socket: usize, now: Now)
         ensures moves { Moves nothing_taken self.old.server.meetings self.new.server.meetings }
+        ensures heard { client_of (socket_at self.old.server.connections.table socket) ≢ None
+            → reads (life_at self.old.server.connections.sockets socket) ≡ true
+            → FirstAt socket (λ old new. new ≡ ended old)
+            self.old.desk.callers self.new.desk.callers }
+        ensures unasked { reads (life_at self.old.server.connections.sockets socket) ≡ false
+            → Attends beside self.old.desk.callers self.new.desk.callers }
+        ensures member { client_of (socket_at self.old.server.connections.table socket) ≡ None
+            → Attends beside self.old.desk.callers self.new.desk.callers }
     {
         self.desk.pass(now);
         if self.is_client(socket) {
@@ -122,6 +159,7 @@ impl Service {
     /// A read of a socket failed.
     pub fn failed(&mut self, socket: usize, now: Now)
         ensures moves { Moves nothing_taken self.old.server.meetings self.new.server.meetings }
+        ensures attends { Attends beside self.old.desk.callers self.new.desk.callers }
     {
         self.desk.pass(now);
         self.server.failed(socket, now.micros);
@@ -131,6 +169,7 @@ impl Service {
     /// A socket was shut, or a listener isn't listened on any more: its number is free.
     pub fn shut(&mut self, socket: usize)
         ensures moves { Moves nothing_taken self.old.server.meetings self.new.server.meetings }
+        ensures others { OthersAttend socket self.old.desk.callers self.new.desk.callers }
     {
         self.server.shut(socket);
         if !self.is_client(socket) {
@@ -147,6 +186,9 @@ impl Service {
     /// Where a client was accepted it is at its socket from now on; one of which nobody can be told is shut.
     fn seat_client(&mut self, socket: usize)
         ensures meetings { self.new.server.meetings ≡ self.old.server.meetings }
+        ensures others { OthersAttend socket self.old.desk.callers self.new.desk.callers }
+        ensures value { result ≡ is_some (client_of
+            (socket_at self.now.server.connections.table socket)) }
     {
         let mode = match self.server.client(socket) {
             Some(Place::Observe) => Mode::Observer,
@@ -162,6 +204,11 @@ impl Service {
     /// Bytes came of a client, where they were asked for.
     fn client_came(&mut self, socket: usize, bytes: &[u8], now: Now)
         ensures meetings { self.new.server.meetings ≡ self.old.server.meetings }
+        ensures heard { reads (life_at self.old.server.connections.sockets socket) ≡ true
+            → FirstAt socket (OrCloses (came bytes.now))
+            self.old.desk.callers self.new.desk.callers }
+        ensures unasked { reads (life_at self.old.server.connections.sockets socket) ≡ false
+            → self.new.desk.callers ≡ self.old.desk.callers }
     {
         if !self.server.is_read(socket) {
             return;
@@ -175,6 +222,11 @@ impl Service {
     /// The stream of a client has ended: its whole lines are answered yet.
     fn client_ended(&mut self, socket: usize, now: Now)
         ensures meetings { self.new.server.meetings ≡ self.old.server.meetings }
+        ensures heard { reads (life_at self.old.server.connections.sockets socket) ≡ true
+            → FirstAt socket (λ old new. new ≡ ended old)
+            self.old.desk.callers self.new.desk.callers }
+        ensures unasked { reads (life_at self.old.server.connections.sockets socket) ≡ false
+            → self.new.desk.callers ≡ self.old.desk.callers }
     {
         if !self.server.is_read(socket) {
             return;

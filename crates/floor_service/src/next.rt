@@ -1,8 +1,10 @@
 //! What is to be done next.
-#![tactic(auto, using(crate::proofs::Moving::unmoved, crate::proofs::Moving::moved_then, crate::proofs::Moving::moved_and_same))]
+#![tactic(auto, using(crate::proofs::Moving::unmoved, crate::proofs::Moving::moved_then, crate::proofs::Moving::moved_and_same, crate::proofs::Attending::unattended, crate::proofs::Attending::attended_then, crate::proofs::Attending::attended_and_same, crate::proofs::Attending::carried_too))]
 
-ghost use Rattle.std.specs.Prelude.{◌≡◌};
+ghost use Rattle.std.specs.Prelude.{◌≡◌, ◌⊎◌, ℕ};
 ghost use Rattle.floor_turn.specs.Moves.{Moves, nothing_taken};
+ghost use Rattle.floor_desk.specs.Attending.{Attends, beside};
+ghost use Rattle.floor_service.specs.Calls.{ServesAfter};
 
 use crate::deed::Deed;
 use crate::service::Service;
@@ -14,6 +16,8 @@ impl Service {
     /// What is to be done next. Where it gives nothing, nothing is to be done before something happens or `due` has come.
     pub fn next(&mut self) -> Option<Deed>
         ensures moves { Moves nothing_taken self.old.server.meetings self.new.server.meetings }
+        ensures served { (Attends beside self.old.desk.callers self.new.desk.callers)
+            ⊎ ((socket : ℕ) × ServesAfter socket self.old.desk self.new.desk.callers) }
     {
         if let Some(wanted) = self.desk.wanted.pop_front() {
             return Some(deed_of(wanted));
@@ -42,6 +46,8 @@ impl Service {
     /// What the server has to be done. A turn of a client is served here.
     fn next_of_server(&mut self) -> Option<Deed>
         ensures moves { Moves nothing_taken self.old.server.meetings self.new.server.meetings }
+        ensures served { (Attends beside self.old.desk.callers self.new.desk.callers)
+            ⊎ ((socket : ℕ) × ServesAfter socket self.old.desk self.new.desk.callers) }
     {
         let deed = self.server.next()?;
         self.follow();
@@ -51,6 +57,8 @@ impl Service {
     /// What the server has to be done, once what is done here of it is.
     fn done_here(&mut self, deed: floor_turn::Deed) -> Deed
         ensures moves { Moves nothing_taken self.old.server.meetings self.new.server.meetings }
+        ensures served { (Attends beside self.old.desk.callers self.new.desk.callers)
+            ⊎ ((socket : ℕ) × ServesAfter socket self.old.desk self.new.desk.callers) }
     {
         match deed {
             floor_turn::Deed::Serve(socket) => {
@@ -68,6 +76,7 @@ impl Service {
     /// What the log is told of members that are away is told to who watches.
     fn hear(&mut self, entry: &Entry)
         ensures meetings { self.new.server.meetings ≡ self.old.server.meetings }
+        ensures attends { Attends beside self.old.desk.callers self.new.desk.callers }
     {
         let (who, is_away) = match entry {
             Entry::Away { who, .. } => (*who, true),

@@ -1,8 +1,9 @@
 //! Conferences are opened: of their parts, or of the text of a configuration, once that is read.
-#![tactic(auto, using(crate::proofs::Moving::unmoved, crate::proofs::Moving::moved_then, crate::proofs::Moving::moved_and_same))]
+#![tactic(auto, using(crate::proofs::Moving::unmoved, crate::proofs::Moving::moved_then, crate::proofs::Moving::moved_and_same, crate::proofs::Attending::unattended, crate::proofs::Attending::attended_then, crate::proofs::Attending::attended_and_same, crate::proofs::Attending::carried_too))]
 
 ghost use Rattle.std.specs.Prelude.{◌≡◌};
 ghost use Rattle.floor_turn.specs.Moves.{Moves, nothing_taken};
+ghost use Rattle.floor_desk.specs.Attending.{Attends, beside};
 
 use crate::deed::Configured;
 use floor_config::Config;
@@ -17,6 +18,7 @@ use std::alloc::Global;
 /// `conference.open`: opens a conference of these parts, or has the text of its configuration read.
 pub(crate) fn open(server: &mut Server, desk: &mut Desk, opening: Opening) -> Result<Done, Refused>
     ensures moves { Moves nothing_taken server.old.meetings server.new.meetings }
+    ensures attends { Attends beside desk.old.callers desk.new.callers }
 {
     match opening {
         Opening::Toml(text) => have_read(desk, text),
@@ -39,6 +41,8 @@ pub(crate) fn open_read(
     read: Configured,
 ) -> Result<Done, Refused>
     ensures moves { Moves nothing_taken server.old.meetings server.new.meetings }
+    ensures attends { Attends beside desk.old.callers desk.new.callers }
+    ensures attends { Attends beside desk.old.callers desk.new.callers }
 {
     if desk.is_draining {
         return Err(Refused::whole(ErrorName::Draining));
@@ -66,6 +70,7 @@ fn conference_read(alloc: Global, read: Configured) -> Result<NewConference, Ref
 /// Opens a conference of these parts.
 fn open_parts(server: &mut Server, desk: &mut Desk, parts: &Parts) -> Result<Done, Refused>
     ensures moves { Moves nothing_taken server.old.meetings server.new.meetings }
+    ensures attends { Attends beside desk.old.callers desk.new.callers }
 {
     let conference = number_of(desk, server.hub(), parts.id)?;
     let new = conference_of(desk.alloc, conference, parts)?;
@@ -83,6 +88,8 @@ fn number_of(desk: &mut Desk, hub: &Loop, given: Option<u32>) -> Result<u32, Ref
 /// Opens a new conference, and answers with its numbers.
 fn open_new(server: &mut Server, desk: &mut Desk, new: NewConference) -> Result<Done, Refused>
     ensures moves { Moves nothing_taken server.old.meetings server.new.meetings }
+    ensures attends { Attends beside desk.old.callers desk.new.callers }
+    ensures attends { Attends beside desk.old.callers desk.new.callers }
 {
     let opened = opened_of(desk.alloc, &new.config)?;
     let conference = opened.conference;
@@ -99,6 +106,7 @@ pub(crate) fn open_here(
     new: NewConference,
 ) -> Result<(), HubRefusal>
     ensures moves { Moves nothing_taken server.old.meetings server.new.meetings }
+    ensures attends { Attends beside desk.old.callers desk.new.callers }
 {
     let NewConference { config, words } = new;
     let conference = config.conference();
@@ -121,7 +129,9 @@ pub(crate) fn open_here(
 }
 
 /// Keeps how a conference is opened.
-fn add_meeting(desk: &mut Desk, config: &Config, words: Words) -> Result<(), HubRefusal> {
+fn add_meeting(desk: &mut Desk, config: &Config, words: Words) -> Result<(), HubRefusal>
+    ensures attends { Attends beside desk.old.callers desk.new.callers }
+{
     let Ok(opening) = config.copy(desk.alloc) else {
         return Err(HubRefusal::Memory);
     };

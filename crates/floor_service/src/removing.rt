@@ -1,8 +1,9 @@
 //! Members are shown out, and users aren't let in, or are again.
-#![tactic(auto, using(crate::proofs::Moving::unmoved, crate::proofs::Moving::moved_then, crate::proofs::Moving::moved_and_same))]
+#![tactic(auto, using(crate::proofs::Moving::unmoved, crate::proofs::Moving::moved_then, crate::proofs::Moving::moved_and_same, crate::proofs::Attending::unattended, crate::proofs::Attending::attended_then, crate::proofs::Attending::attended_and_same, crate::proofs::Attending::carried_too))]
 
 ghost use Rattle.std.specs.Prelude.{◌≡◌};
 ghost use Rattle.floor_turn.specs.Moves.{Moves, nothing_taken};
+ghost use Rattle.floor_desk.specs.Attending.{Attends, beside};
 
 use crate::changing::{last_place, placed};
 use floor_desk::{Desk, Done, note, tell_happened};
@@ -19,6 +20,7 @@ pub(crate) fn remove(
     removal: &Removal,
 ) -> Result<Done, Refused>
     ensures moves { Moves nothing_taken server.old.meetings server.new.meetings }
+    ensures attends { Attends beside desk.old.callers desk.new.callers }
 {
     let conference = removal.conference;
     match removal.whom {
@@ -61,6 +63,7 @@ fn remove_user(
     user: u16,
 ) -> Result<(), Refused>
     ensures moves { Moves nothing_taken server.old.meetings server.new.meetings }
+    ensures attends { Attends beside desk.old.callers desk.new.callers }
 {
     has_user(server.hub(), conference, user)?;
     let numbers = members_of(server.hub(), desk, conference, user)?;
@@ -100,6 +103,7 @@ fn has_user(hub: &Loop, conference: u32, user: u16) -> Result<(), Refused> {
 /// `user.admit`: whoever comes as this user is let in again.
 pub(crate) fn admit(server: &mut Server, desk: &mut Desk, of: &OfUser) -> Result<Done, Refused>
     ensures meetings { server.new.meetings ≡ server.old.meetings }
+    ensures attends { Attends beside desk.old.callers desk.new.callers }
 {
     let OfUser { conference, user } = *of;
     has_user(server.hub(), conference, user)?;

@@ -1,8 +1,9 @@
 //! The server and its control clients.
-#![tactic(auto, using(crate::proofs::Moving::unmoved, crate::proofs::Moving::moved_then, crate::proofs::Moving::moved_and_same))]
+#![tactic(auto, using(crate::proofs::Moving::unmoved, crate::proofs::Moving::moved_then, crate::proofs::Moving::moved_and_same, crate::proofs::Attending::unattended, crate::proofs::Attending::attended_then, crate::proofs::Attending::attended_and_same, crate::proofs::Attending::carried_too))]
 
 ghost use Rattle.std.specs.Prelude.{◌≡◌};
 ghost use Rattle.floor_turn.specs.Moves.{Moves, nothing_taken};
+ghost use Rattle.floor_desk.specs.Attending.{Attends, beside};
 
 use crate::deed::Configured;
 use crate::opening::{open_here, open_read};
@@ -53,6 +54,7 @@ impl Service {
     /// Opens a conference, as the server does, with these titles; whoever watches all is told of it.
     pub fn open(&mut self, config: Config, titles: Words) -> Result<(), HubRefusal>
         ensures moves { Moves nothing_taken self.old.server.meetings self.new.server.meetings }
+        ensures attends { Attends beside self.old.desk.callers self.new.desk.callers }
     {
         let new = NewConference {
             config,
@@ -86,6 +88,7 @@ impl Service {
     /// The text under this number was read. Where nobody awaits it nothing is opened.
     pub fn configured(&mut self, number: u64, read: Configured, now: Now)
         ensures moves { Moves nothing_taken self.old.server.meetings self.new.server.meetings }
+        ensures attends { Attends beside self.old.desk.callers self.new.desk.callers }
     {
         self.desk.pass(now);
         let Some(socket) = self.desk.callers.configuring(number) else {
@@ -100,6 +103,7 @@ impl Service {
     /// The process has so many bytes of memory: whoever asked how the server stands is answered.
     pub fn figures(&mut self, memory: u64)
         ensures meetings { self.new.server.meetings ≡ self.old.server.meetings }
+        ensures attends { Attends beside self.old.desk.callers self.new.desk.callers }
     {
         let members = self.server.members_len();
         for index in 0..self.desk.callers.taken().len() {
@@ -113,6 +117,7 @@ impl Service {
     /// A client is answered how the server stands, where it asked so.
     fn tell_figures(&mut self, socket: usize, members: usize, memory: u64)
         ensures meetings { self.new.server.meetings ≡ self.old.server.meetings }
+        ensures attends { Attends beside self.old.desk.callers self.new.desk.callers }
     {
         if !self.desk.callers.awaits_figures(socket) {
             return;

@@ -1,8 +1,10 @@
 //! Lines of clients are served, and answered.
-#![tactic(auto, using(crate::proofs::Moving::unmoved, crate::proofs::Moving::moved_then, crate::proofs::Moving::moved_and_same))]
+#![tactic(auto, using(crate::proofs::Moving::unmoved, crate::proofs::Moving::moved_then, crate::proofs::Moving::moved_and_same, crate::proofs::Attending::unattended, crate::proofs::Attending::attended_then, crate::proofs::Attending::attended_and_same, crate::proofs::Attending::carried_too))]
 
 ghost use Rattle.std.specs.Prelude.{◌≡◌};
 ghost use Rattle.floor_turn.specs.Moves.{Moves, nothing_taken};
+ghost use Rattle.floor_desk.specs.Attending.{Attends, beside, carried};
+ghost use Rattle.floor_service.specs.Calls.{ServesAt};
 
 use crate::carrying::carry_out;
 use crate::service::Service;
@@ -15,6 +17,8 @@ impl Service {
     /// The next line of a client is served.
     pub(crate) fn serve_client(&mut self, socket: usize)
         ensures moves { Moves nothing_taken self.old.server.meetings self.new.server.meetings }
+        ensures served { ServesAt socket self.old.desk.is_draining
+            self.old.desk.callers self.new.desk.callers }
     {
         let next = self.desk.next_line(socket);
         self.server.client_served(socket, is_any(&next));
@@ -27,6 +31,7 @@ impl Service {
     /// What a client asks for is carried out. Whoever watches is told what it showed before it is answered.
     fn serve_call(&mut self, socket: usize, call: Call)
         ensures moves { Moves nothing_taken self.old.server.meetings self.new.server.meetings }
+        ensures attends { Attends (carried socket) self.old.desk.callers self.new.desk.callers }
     {
         let act = Act::of(self.desk.callers.number(socket), socket, &call);
         self.desk.user = None;
@@ -37,6 +42,7 @@ impl Service {
     /// What a client asked for has come to this.
     pub(crate) fn end_call(&mut self, socket: usize, act: Option<Act>, done: Result<Done, Refused>)
         ensures meetings { self.new.server.meetings ≡ self.old.server.meetings }
+        ensures attends { Attends beside self.old.desk.callers self.new.desk.callers }
     {
         self.see_to_touched();
         self.desk.end(socket, act, done);

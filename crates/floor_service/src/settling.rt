@@ -1,6 +1,8 @@
 //! What waits for clients is lent to them, once it is there.
+#![tactic(auto, using(crate::proofs::Moving::unmoved, crate::proofs::Moving::moved_then, crate::proofs::Moving::moved_and_same, crate::proofs::Attending::unattended, crate::proofs::Attending::attended_then, crate::proofs::Attending::attended_and_same, crate::proofs::Attending::carried_too))]
 
 ghost use Rattle.std.specs.Prelude.{◌≡◌};
+ghost use Rattle.floor_desk.specs.Attending.{Attends, beside};
 
 use crate::service::Service;
 use floor_desk::{note, queue_or_close};
@@ -9,6 +11,7 @@ impl Service {
     /// The conference of which something was asked is looked at: what its journal has grown by is noted and told.
     pub(crate) fn see_to_touched(&mut self)
         ensures meetings { self.new.server.meetings ≡ self.old.server.meetings }
+        ensures attends { Attends beside self.old.desk.callers self.new.desk.callers }
     {
         match self.server.take_touched() {
             Some(conference) => note(&mut self.desk, self.server.hub(), conference),
@@ -19,6 +22,7 @@ impl Service {
     /// What a call asked of a conference is noted and told, and lent to whom it was told.
     pub(crate) fn follow(&mut self)
         ensures meetings { self.new.server.meetings ≡ self.old.server.meetings }
+        ensures attends { Attends beside self.old.desk.callers self.new.desk.callers }
     {
         self.see_to_touched();
         self.settle_told();
@@ -27,6 +31,7 @@ impl Service {
     /// Where clients were told something, that is lent to them.
     pub(crate) fn settle_told(&mut self)
         ensures meetings { self.new.server.meetings ≡ self.old.server.meetings }
+        ensures attends { Attends beside self.old.desk.callers self.new.desk.callers }
     {
         if !self.desk.has_told {
             return;
@@ -38,6 +43,7 @@ impl Service {
     /// What waits for each client is lent to it.
     pub(crate) fn settle_all(&mut self)
         ensures meetings { self.new.server.meetings ≡ self.old.server.meetings }
+        ensures attends { Attends beside self.old.desk.callers self.new.desk.callers }
     {
         for index in 0..self.desk.callers.taken().len() {
             if let Some(socket) = self.desk.callers.taken().get(index) {
@@ -50,6 +56,7 @@ impl Service {
     /// A client is answered what its answer waited for, and what waits for it is lent to it.
     pub(crate) fn settle(&mut self, socket: usize)
         ensures meetings { self.new.server.meetings ≡ self.old.server.meetings }
+        ensures attends { Attends beside self.old.desk.callers self.new.desk.callers }
     {
         self.desk.answer_told(socket);
         queue_or_close(&mut self.desk, socket);

@@ -1,5 +1,5 @@
 //! What is written to sockets.
-#![tactic(auto, using(crate::proofs::Moving::unmoved, crate::proofs::Moving::moved_then, crate::proofs::Moving::moved_and_same))]
+#![tactic(auto, using(crate::proofs::Moving::unmoved, crate::proofs::Moving::moved_then, crate::proofs::Moving::moved_and_same, crate::proofs::Attending::unattended, crate::proofs::Attending::attended_then, crate::proofs::Attending::attended_and_same, crate::proofs::Attending::carried_too))]
 
 ghost use Rattle.std.specs.Prelude.{◌≡◌, ◌≢◌, None};
 ghost use Rattle.floor_connections.specs.Asked.{writes};
@@ -7,6 +7,10 @@ ghost use Rattle.floor_connections.specs.Table.{client_of, socket_at};
 ghost use Rattle.floor_meetings.specs.Meetings.{lent_at};
 ghost use Rattle.floor_sockets.specs.Sockets.{life_at};
 ghost use Rattle.floor_turn.specs.Moves.{Moves, taken_at, taken_of};
+ghost use Rattle.std.specs.Prelude.{false, true};
+ghost use Rattle.floor_desk.specs.Attending.{Attends, beside};
+ghost use Rattle.floor_desk.specs.Callers.{caller_at, lent_to};
+ghost use Rattle.floor_service.specs.Calls.{FirstAt, Takes};
 
 use crate::service::Service;
 use floor_desk::Now;
@@ -16,6 +20,8 @@ impl Service {
     pub fn lent(&self, socket: usize) -> &[u8]
         ensures member { client_of (socket_at self.now.server.connections.table socket) ≡ None
             → result.now ≡ lent_at self.now.server.meetings socket }
+        ensures client { client_of (socket_at self.now.server.connections.table socket) ≢ None
+            → result.now ≡ lent_to (caller_at self.now.desk.callers socket) }
     {
         match self.server.client(socket) {
             Some(_) => self.desk.callers.lent(socket),
@@ -32,6 +38,14 @@ impl Service {
             self.old.server.meetings self.new.server.meetings }
         ensures client { client_of (socket_at self.old.server.connections.table socket) ≢ None
             → self.new.server.meetings ≡ self.old.server.meetings }
+        ensures taken { client_of (socket_at self.old.server.connections.table socket) ≢ None
+            → writes (life_at self.old.server.connections.sockets socket) ≡ true
+            → FirstAt socket (Takes count)
+            self.old.desk.callers self.new.desk.callers }
+        ensures unasked { writes (life_at self.old.server.connections.sockets socket) ≡ false
+            → Attends beside self.old.desk.callers self.new.desk.callers }
+        ensures others { client_of (socket_at self.old.server.connections.table socket) ≡ None
+            → Attends beside self.old.desk.callers self.new.desk.callers }
     {
         self.desk.pass(now);
         if self.is_client(socket) {
@@ -45,6 +59,11 @@ impl Service {
     /// The socket of a client took so many of the bytes that were lent, where a write was asked.
     fn client_took(&mut self, socket: usize, count: usize, now: Now)
         ensures meetings { self.new.server.meetings ≡ self.old.server.meetings }
+        ensures taken { writes (life_at self.old.server.connections.sockets socket) ≡ true
+            → FirstAt socket (Takes count)
+            self.old.desk.callers self.new.desk.callers }
+        ensures unasked { writes (life_at self.old.server.connections.sockets socket) ≡ false
+            → self.new.desk.callers ≡ self.old.desk.callers }
     {
         if !self.server.is_written(socket) {
             return;

@@ -1,0 +1,38 @@
+-- What a call of the service does to the control clients.
+use Rattle.std.specs.Prelude.{◌≡◌, ℕ, Bool, false, min, length, nat_eq}
+use Rattle.floor_clients.specs.Clients.{Client, took_by}
+use Rattle.floor_clients.specs.Outgoing.{lent}
+use Rattle.floor_clients.specs.declared.standing.Next.{Next}
+use Rattle.floor_desk.specs.Attending.{Attends, GoesOnAt, beside, carried, is_beside}
+use Rattle.floor_desk.specs.Callers.{GoesOnBy, OthersStay, ServesOrCloses, caller_at}
+use Rattle.floor_desk.specs.declared.callers.Callers.{Callers}
+use Rattle.floor_desk.specs.declared.desk.Desk.{Desk}
+
+-- First the client at the socket alone went on so, once; and then each client as it may besides its own line.
+pub record FirstAt (socket : ℕ) (by : Client → Client → Type 0) (old new : Callers) : Type 0 where
+  pub between : Callers
+  pub here : GoesOnBy by (caller_at old socket) (caller_at between socket)
+  pub others : OthersStay socket old between
+  pub rest : Attends beside between new
+
+-- The next line of the client at the socket alone was served, once; and then its request was carried out, where it is one for that.
+pub record ServesAt (socket : ℕ) (draining : Bool) (old new : Callers) : Type 0 where
+  pub next : Next
+  pub between : Callers
+  pub here : GoesOnBy (ServesOrCloses draining next) (caller_at old socket) (caller_at between socket)
+  pub others : OthersStay socket old between
+  pub rest : Attends (carried socket) between new
+
+-- The same, once each client had gone on as it may besides.
+pub record ServesAfter (socket : ℕ) (old : Desk) (new : Callers) : Type 0 where
+  pub before : Callers
+  pub attends : Attends beside old.callers before
+  pub serves : ServesAt socket old.is_draining before new
+
+-- so many of the bytes that were lent to it were taken, or all
+abbrev pub Takes : ℕ → Client → Client → Type 0
+Takes count old new = new ≡ took_by (min count (length (lent old.outgoing))) old
+
+-- At each other socket whoever is there went on as it may besides its own line.
+abbrev pub OthersAttend : ℕ → Callers → Callers → Type 0
+OthersAttend socket old new = (slot : ℕ) → nat_eq socket slot ≡ false → GoesOnAt is_beside (caller_at old slot) (caller_at new slot)

@@ -1,0 +1,2 @@
+-- What a reader has to believe, in the order of reading.
+pub mod Calls
