@@ -1,5 +1,5 @@
 -- Calls behind calls, and calls that do nothing.
-use Rattle.std.proofs.Common.{◌≡◌, ◌≢◌, ◌⊎◌, ℕ, Bool, true, false, List, [], ◌∷◌, ◌++◌, Option, Some, None, Result, nat_eq, refl, sym, ◌∙◌, subst, ap, tt, absurd, inl, inr, ◌||◌, ◌&&◌}
+use Rattle.std.proofs.Common.{◌≡◌, ◌≢◌, ◌⊎◌, ℕ, Bool, true, false, List, [], ◌∷◌, ◌++◌, Option, Some, None, Result, nat_eq, refl, sym, ◌∙◌, subst, ap, inl, inr, ◌||◌, ◌&&◌}
 use Rattle.std.proofs.lemmas.Bool.Decides.{eqb_tells}
 use Rattle.floor_clients.specs.Clients.{Client, answered_by, closed}
 use Rattle.floor_clients.specs.Runs.{Step, Runs, Does, Answer, Close, Pass, Tell, Unwatch, Watch, WatchAll, is_next, is_told, response_to}
@@ -10,7 +10,8 @@ use Rattle.floor_clients.specs.declared.standing.CloseReason.TheVariants as reas
 use Rattle.floor_rpc.specs.declared.answer.Answer.{Answer as Said}
 use Rattle.floor_rpc.specs.declared.failure.Failure.{Failure}
 use Rattle.floor_desk.specs.Attending.{Attends, Each, GoesOn, GoesOnAt, beside, carried, is_beside, is_carried}
-use Rattle.floor_desk.specs.Callers.{EndsTask, GoesOnBy, OrCloses, OthersStay, PassesOrStays, Same, TellsOrCloses, Watches, caller_at}
+use Rattle.floor_desk.specs.Callers.{EndsTask, GoesOnBy, OthersStay, Same, caller_at}
+use Rattle.floor_desk.specs.Clients.{OrCloses, PassesOrStays, TellsOrCloses, Watches}
 use Rattle.floor_desk.specs.declared.caller.Caller.{Caller}
 use Rattle.floor_desk.specs.declared.caller.PlaceOf.{PlaceOf}
 use Rattle.floor_desk.specs.declared.caller.Task.{Task}
@@ -79,6 +80,16 @@ attends_at may slot a b others here k = by (eqb_tells slot k)
 pub attends_stay : (may : ℕ → Step → Bool) (a b : Callers) → Same a b → Attends may a b
 attends_stay may a b same slot = subst (λ (x : Option Caller). GoesOnAt (may slot) (caller_at a slot) x) (sym (same slot)) (stays_at (may slot) (caller_at a slot))
 
+-- ---- who is at a socket, once its caller has gone on
+
+pub goes_on_one : (by : Client → Client → Type 0) (o p : Option Caller) (c d : Caller) → o ≡ Some c → p ≡ Some d → d.number ≡ c.number → d.task ≡ c.task → by c.client d.client → GoesOnBy by o p
+goes_on_one by o p c d there after number task client =
+    subst (λ (x : Option Caller). GoesOnBy by x p) (sym there) (d, after, number, task, client)
+
+pub ends_task_one : (t : Task) (by : Client → Client → Type 0) (o p : Option Caller) (c d : Caller) → o ≡ Some c → p ≡ Some d → d.number ≡ c.number → d.task ≡ t → by c.client d.client → EndsTask t by o p
+ends_task_one t by o p c d there after number task client =
+    subst (λ (x : Option Caller). EndsTask t by x p) (sym there) (d, after, number, task, client)
+
 -- ---- one call of one client
 
 -- the calls that a relation of clients is
@@ -91,19 +102,19 @@ no_calls : (may : Step → Bool) (c d : Client) → d ≡ c → IsCalls may c d
 no_calls may c d same = record { steps = []; run = same; each = tt }
 
 one_call : (may : Step → Bool) (s : Step) (c d : Client) → may s ≡ true → Does s c d → IsCalls may c d
-one_call may s c d yes does = record { steps = s ∷ []; run = (d, does, refl); each = (yes, tt) }
+one_call may s c d allowed does = record { steps = s ∷ []; run = (d, does, refl); each = (allowed, tt) }
 
 goes_on_by : (may : Step → Bool) (by : Client → Client → Type 0) → ((c d : Client) → by c d → IsCalls may c d) → (o p : Option Caller) → GoesOnBy by o p → GoesOnAt may o p
 goes_on_by may by is None p g = g
 goes_on_by may by is (Some c) p g =
-    let k = is c.client g.0.client g.2.2.2 in
-    (g.0, g.1, record { steps = k.steps; run = k.run; each = k.each; number = g.2.1 })
+    let k = is c.client g.0.client g.4 in
+    (g.0, g.1, record { steps = k.steps; run = k.run; each = k.each; number = g.2 })
 
 ends_task_by : (may : Step → Bool) (t : Task) (by : Client → Client → Type 0) → ((c d : Client) → by c d → IsCalls may c d) → (o p : Option Caller) → EndsTask t by o p → GoesOnAt may o p
 ends_task_by may t by is None p g = g
 ends_task_by may t by is (Some c) p g =
-    let k = is c.client g.0.client g.2.2.2 in
-    (g.0, g.1, record { steps = k.steps; run = k.run; each = k.each; number = g.2.1 })
+    let k = is c.client g.0.client g.4 in
+    (g.0, g.1, record { steps = k.steps; run = k.run; each = k.each; number = g.2 })
 
 tells_or_closes : (t : Told) (c d : Client) → TellsOrCloses t c d → IsCalls is_beside c d
 tells_or_closes t c d (inl u) = one_call is_beside (Tell t (is_told t c)) c d refl (u, refl)
@@ -111,7 +122,7 @@ tells_or_closes t c d (inr u) = one_call is_beside (Close reason.Memory) c d ref
 
 passes_or_stays : (p : PlaceOf) (c d : Client) → PassesOrStays p c d → IsCalls is_beside c d
 passes_or_stays p c d (inl u) = no_calls is_beside c d u
-passes_or_stays p c d (inr u) = one_call is_beside (Pass p.conference p.place (is_next (next_of c.watched p.conference) p.place)) c d refl (u.0, (u.1, refl))
+passes_or_stays p c d (inr u) = one_call is_beside (Pass p.conference p.place (is_next (next_of c.watched p.conference) p.place)) c d refl (u.0, u.1, refl)
 
 answers_or_closes : (o : Result Said Failure) (c d : Client) → OrCloses (answered_by o) c d → IsCalls is_beside c d
 answers_or_closes o c d (inl u) = one_call is_beside (Answer o (response_to o c)) c d refl (u, refl)

@@ -4,7 +4,8 @@ use Rattle.floor_rpc.specs.declared.answer.Answer.{Answer}
 use Rattle.floor_rpc.specs.declared.failure.Failure.{Failure}
 use Rattle.floor_clients.specs.Clients.{answered_by}
 use Rattle.floor_shown.specs.declared.refused.Refused.{Refused}
-use Rattle.floor_desk.specs.Callers.{EndsTask, OrCloses, is_told_to}
+use Rattle.floor_desk.specs.Callers.{EndsTask, is_told_to}
+use Rattle.floor_desk.specs.Clients.{OrCloses}
 use Rattle.floor_desk.specs.declared.caller.Caller.{Caller}
 use Rattle.floor_desk.specs.declared.caller.Done.{Done}
 use Rattle.floor_desk.specs.declared.caller.Done.TheVariants as done

@@ -4,7 +4,8 @@
 ghost use Rattle.std.specs.Prelude.{◌≡◌, OnErr, OnOk, Some};
 ghost use Rattle.floor_desk.specs.Answering.{EndsBy, EndsWhereTold, IsAnswered};
 ghost use Rattle.floor_desk.specs.Attending.{Attends, beside};
-ghost use Rattle.floor_desk.specs.Callers.{GoesOnBy, IsNew, OthersStay, Same, ServesOrCloses, caller_at};
+ghost use Rattle.floor_desk.specs.Callers.{GoesOnBy, IsNew, OthersStay, Same, caller_at};
+ghost use Rattle.floor_desk.specs.Clients.{ServesOrCloses};
 ghost use Rattle.floor_desk.specs.declared.caller.Caller.{Caller as Known};
 
 use crate::act::Act;

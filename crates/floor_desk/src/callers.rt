@@ -6,7 +6,9 @@ ghost use Rattle.floor_clients.specs.Clients.{answered_by, came, closed, ended, 
 ghost use Rattle.floor_clients.specs.Outgoing.{lent};
 ghost use Rattle.floor_clients.specs.declared.standing.CloseReason.TheVariants as reason;
 ghost use Rattle.floor_desk.specs.Attending.{Attends, beside};
-ghost use Rattle.floor_desk.specs.Callers.{EndsTask, GoesOnBy, IsNew, OrCloses, OthersStay, PassesOrStays, Same, ServesOrCloses, TellsOrCloses, Watches, caller_at, is_told_to, lent_to, task_at, told_at};
+ghost use Rattle.std.specs.Option.{option_copied};
+ghost use Rattle.floor_desk.specs.Clients.{OrCloses, PassesOrStays, ServesOrCloses, TellsOrCloses, Watches};
+ghost use Rattle.floor_desk.specs.Callers.{EndsTask, GoesOnBy, IsNew, OthersStay, Same, caller_at, is_told_to, lent_to, task_at, told_at};
 ghost use Rattle.floor_desk.specs.declared.caller.Caller.{Caller as Known};
 ghost use Rattle.floor_desk.specs.declared.caller.Task.TheVariants as tasks;
 
@@ -16,7 +18,6 @@ use floor_clients::{
 };
 use floor_rpc::{Answer, Failure};
 use std::alloc::{AllocError, Global};
-use std::mem::replace;
 
 /// The control clients, by the slots of their sockets.
 #[derive(Drop)]
@@ -53,17 +54,24 @@ impl Callers {
         ensures others { OthersStay slot self.old self.new }
         ensures left { OnErr result (Same self.old self.new) }
     {
-        grow(&mut self.slots, slot)?;
-        self.taken.reserve(1)?;
         let client = client_at(alloc, work, mode, self.count(mode))?;
-        let _taken = self.taken.push(slot);
-        self.given = self.given.saturating_add(1);
         let caller = Caller {
-            number: self.given,
+            number: self.given.saturating_add(1),
             client,
             task: Task::Nothing,
             lacks: Vec::new(alloc),
         };
+        self.put_caller(slot, caller)
+    }
+
+    fn put_caller(&mut self, slot: usize, caller: Caller) -> Result<(), AllocError>
+        ensures there { OnOk result (caller_at self.new slot ≡ Some caller) }
+        ensures others { OthersStay slot self.old self.new }
+        ensures left { OnErr result (Same self.old self.new) }
+    {
+        grow(&mut self.slots, slot)?;
+        self.taken.push(slot)?;
+        self.given = caller.number;
         if let Some(place) = self.slots.get_mut(slot) {
             *place = Some(caller);
         }
@@ -95,7 +103,9 @@ impl Callers {
     }
 
     /// Who is at a socket.
-    pub fn get(&self, slot: usize) -> Option<&Caller> {
+    pub fn get(&self, slot: usize) -> Option<&Caller>
+        ensures found { option_copied result ≡ caller_at self.now slot }
+    {
         match self.slots.get(slot) {
             Some(Some(caller)) => Some(caller),
             Some(None) | None => None,
@@ -110,9 +120,17 @@ impl Callers {
         }
     }
 
-    /// The slots where somebody is.
-    pub fn taken(&self) -> &[usize] {
-        self.taken.as_slice()
+    /// How many there are.
+    pub fn len(&self) -> usize {
+        self.taken.len()
+    }
+
+    /// The slot of one of them; one where nobody is behind the last.
+    pub fn slot_of(&self, index: usize) -> usize {
+        match self.taken.get(index) {
+            Some(slot) => *slot,
+            None => usize::MAX,
+        }
     }
 
     /// The bytes that wait for who is at a socket.
@@ -135,12 +153,7 @@ impl Callers {
             return false;
         };
         match place {
-            Some(caller) => {
-                if caller.client.came(bytes).is_err() {
-                    caller.client.close(CloseReason::Memory);
-                }
-                caller.client.is_ready()
-            }
+            Some(caller) => caller.came(bytes),
             None => false,
         }
     }
@@ -153,7 +166,7 @@ impl Callers {
     {
         if let Some(place) = self.slots.get_mut(slot) {
             if let Some(caller) = place {
-                caller.client.ended();
+                caller.ended();
             }
         }
     }
@@ -170,11 +183,7 @@ impl Callers {
             return 0;
         };
         match place {
-            Some(caller) => {
-                let lent = caller.client.lent().len();
-                caller.client.took(count);
-                lent
-            }
+            Some(caller) => caller.took(count),
             None => 0,
         }
     }
@@ -208,13 +217,7 @@ impl Callers {
             return Next::Nothing;
         };
         match place {
-            Some(caller) => match caller.client.next(alloc, work, is_draining) {
-                Ok(next) => next,
-                Err(_) => {
-                    caller.client.close(CloseReason::Memory);
-                    Next::Nothing
-                }
-            },
+            Some(caller) => caller.next(alloc, work, is_draining),
             None => Next::Nothing,
         }
     }
@@ -235,10 +238,7 @@ impl Callers {
             return;
         };
         if let Some(caller) = place {
-            caller.task = Task::Nothing;
-            if caller.client.answer(alloc, work, outcome).is_err() {
-                caller.client.close(CloseReason::Memory);
-            }
+            caller.answer(alloc, work, outcome);
         }
     }
 
@@ -250,7 +250,7 @@ impl Callers {
     {
         if let Some(place) = self.slots.get_mut(slot) {
             if let Some(caller) = place {
-                caller.task = task;
+                caller.wait(task);
             }
         }
     }
@@ -266,7 +266,7 @@ impl Callers {
             return Task::Nothing;
         };
         match place {
-            Some(caller) => replace(&mut caller.task, Task::Nothing),
+            Some(caller) => caller.take_task(),
             None => Task::Nothing,
         }
     }
@@ -373,7 +373,7 @@ impl Callers {
             return Ok(());
         };
         match place_of {
-            Some(caller) => caller.client.watch(conference, place),
+            Some(caller) => caller.watch(conference, place),
             None => Ok(()),
         }
     }
@@ -386,8 +386,7 @@ impl Callers {
     {
         if let Some(place) = self.slots.get_mut(slot) {
             if let Some(caller) = place {
-                caller.lacks.retain(|lack| lack.conference != conference);
-                caller.client.unwatch(conference);
+                caller.unwatch(conference);
             }
         }
     }
@@ -396,11 +395,9 @@ impl Callers {
     pub fn unwatch_for_all(&mut self, conference: u32)
         ensures attends { Attends beside self.old self.new }
     {
-        for index in 0..self.taken.len() {
-            if let Some(slot) = self.taken.get(index) {
-                let slot = *slot;
-                self.unwatch(slot, conference);
-            }
+        for index in 0..self.len() {
+            let slot = self.slot_of(index);
+            self.unwatch(slot, conference);
         }
     }
 
@@ -413,7 +410,7 @@ impl Callers {
     {
         if let Some(place) = self.slots.get_mut(slot) {
             if let Some(caller) = place {
-                caller.client.watch_all(all);
+                caller.watch_all(all);
             }
         }
     }
@@ -453,9 +450,7 @@ impl Callers {
             return;
         };
         if let Some(caller) = place {
-            if caller.client.tell(told).is_err() {
-                caller.client.close(CloseReason::Memory);
-            }
+            caller.tell(told);
         }
     }
 
@@ -463,11 +458,9 @@ impl Callers {
     pub fn tell_all(&mut self, told: &Told)
         ensures attends { Attends beside self.old self.new }
     {
-        for index in 0..self.taken.len() {
-            if let Some(slot) = self.taken.get(index) {
-                let slot = *slot;
-                self.tell(slot, told);
-            }
+        for index in 0..self.len() {
+            let slot = self.slot_of(index);
+            self.tell(slot, told);
         }
     }
 
@@ -477,13 +470,9 @@ impl Callers {
             (caller_at self.old slot) (caller_at self.new slot) }
         ensures others { OthersStay slot self.old self.new }
     {
-        // No journal is so long.
-        if told.place == u64::MAX {
-            return;
-        }
         if let Some(place) = self.slots.get_mut(slot) {
             if let Some(caller) = place {
-                caller.client.pass(told.conference, told.place);
+                caller.pass(told);
             }
         }
     }
@@ -492,11 +481,9 @@ impl Callers {
     pub fn pass_all(&mut self, told: PlaceOf)
         ensures attends { Attends beside self.old self.new }
     {
-        for index in 0..self.taken.len() {
-            if let Some(slot) = self.taken.get(index) {
-                let slot = *slot;
-                self.pass(slot, told);
-            }
+        for index in 0..self.len() {
+            let slot = self.slot_of(index);
+            self.pass(slot, told);
         }
     }
 
@@ -508,7 +495,7 @@ impl Callers {
     {
         if let Some(place) = self.slots.get_mut(slot) {
             if let Some(caller) = place {
-                caller.client.close(reason);
+                caller.close(reason);
             }
         }
     }
@@ -517,11 +504,9 @@ impl Callers {
     pub fn close_all(&mut self, reason: CloseReason)
         ensures attends { Attends beside self.old self.new }
     {
-        for index in 0..self.taken.len() {
-            if let Some(slot) = self.taken.get(index) {
-                let slot = *slot;
-                self.close(slot, reason);
-            }
+        for index in 0..self.len() {
+            let slot = self.slot_of(index);
+            self.close(slot, reason);
         }
     }
 
@@ -529,17 +514,21 @@ impl Callers {
     pub fn close_watching(&mut self, conference: u32)
         ensures attends { Attends beside self.old self.new }
     {
-        for index in 0..self.taken.len() {
-            if let Some(slot) = self.taken.get(index) {
-                let slot = *slot;
-                if is_watching(self.get(slot), conference) {
-                    self.close(slot, CloseReason::Memory);
-                }
-            }
+        for index in 0..self.len() {
+            let slot = self.slot_of(index);
+            self.close_where_watching(slot, conference);
         }
     }
 
-    /// A client lacks this too. After an error nothing has changed.
+    fn close_where_watching(&mut self, slot: usize, conference: u32)
+        ensures attends { Attends beside self.old self.new }
+    {
+        if is_watching(self.get(slot), conference) {
+            self.close(slot, CloseReason::Memory);
+        }
+    }
+
+    /// A client lacks this too. Where memory is refused it doesn't.
     pub fn add_lack(&mut self, slot: usize, lack: Lack) -> Result<(), AllocError>
         ensures here { GoesOnBy (λ old new. new ≡ old)
             (caller_at self.old slot) (caller_at self.new slot) }
@@ -548,45 +537,23 @@ impl Callers {
         let Some(place) = self.slots.get_mut(slot) else {
             return Ok(());
         };
-        if let Some(caller) = place {
-            caller.lacks.push(lack)?;
+        match place {
+            Some(caller) => caller.add_lack(lack),
+            None => Ok(()),
         }
-        Ok(())
     }
 
-    /// What a client lacks first, which it is told now.
-    pub fn take_lack(&mut self, slot: usize) -> Option<Lack>
+    /// What a client lacks first, or first of a conference, which it is told now.
+    pub fn take_lack(&mut self, slot: usize, conference: Option<u32>) -> Option<Lack>
         ensures here { GoesOnBy (λ old new. new ≡ old)
             (caller_at self.old slot) (caller_at self.new slot) }
         ensures others { OthersStay slot self.old self.new }
     {
-        let place = self.slots.get_mut(slot)?;
+        let Some(place) = self.slots.get_mut(slot) else {
+            return None;
+        };
         match place {
-            Some(caller) => {
-                if caller.lacks.is_empty() {
-                    return None;
-                }
-                Some(caller.lacks.remove(0))
-            }
-            None => None,
-        }
-    }
-
-    /// What a client lacks of a conference.
-    pub fn take_lack_of(&mut self, slot: usize, conference: u32) -> Option<Lack>
-        ensures here { GoesOnBy (λ old new. new ≡ old)
-            (caller_at self.old slot) (caller_at self.new slot) }
-        ensures others { OthersStay slot self.old self.new }
-    {
-        let place = self.slots.get_mut(slot)?;
-        match place {
-            Some(caller) => {
-                let index = caller
-                    .lacks
-                    .iter()
-                    .position(|lack| lack.conference == conference)?;
-                Some(caller.lacks.remove(index))
-            }
+            Some(caller) => caller.take_lack(conference),
             None => None,
         }
     }

@@ -81,25 +81,37 @@ pub fn tell_next(desk: &mut Desk, hub: &Loop) -> bool
     let Some(socket) = desk.lacking.pop_front() else {
         return false;
     };
-    if let Some(lack) = desk.callers.take_lack(socket) {
-        tell_lack(desk, hub, socket, lack, Part::Some);
-        queue_or_close(desk, socket);
-    }
+    tell_some_to(desk, hub, socket);
     true
+}
+
+fn tell_some_to(desk: &mut Desk, hub: &Loop, socket: usize)
+    ensures attends { Attends beside desk.old.callers desk.new.callers }
+{
+    let Some(lack) = desk.callers.take_lack(socket, None) else {
+        return;
+    };
+    tell_lack(desk, hub, socket, lack, Part::Some);
+    queue_or_close(desk, socket);
 }
 
 /// Whoever lacks events of a conference is told them all, at once.
 pub fn tell_all(desk: &mut Desk, hub: &Loop, conference: u32)
     ensures attends { Attends beside desk.old.callers desk.new.callers }
 {
-    for index in 0..desk.callers.taken().len() {
-        if let Some(socket) = desk.callers.taken().get(index) {
-            let socket = *socket;
-            if let Some(lack) = desk.callers.take_lack_of(socket, conference) {
-                tell_lack(desk, hub, socket, lack, Part::All);
-            }
-        }
+    for index in 0..desk.callers.len() {
+        let socket = desk.callers.slot_of(index);
+        tell_all_to(desk, hub, socket, conference);
     }
+}
+
+fn tell_all_to(desk: &mut Desk, hub: &Loop, socket: usize, conference: u32)
+    ensures attends { Attends beside desk.old.callers desk.new.callers }
+{
+    let Some(lack) = desk.callers.take_lack(socket, Some(conference)) else {
+        return;
+    };
+    tell_lack(desk, hub, socket, lack, Part::All);
 }
 
 /// A client is told what it lacks. What it lacks then is told later; where memory is refused it is to be closed.
@@ -151,17 +163,41 @@ fn tell_part(
             break;
         }
         count = count.saturating_add(1);
-        let told = place_behind(follower, meeting);
-        let shown = follower.take(event, meeting.known.time_at(told.place))?;
-        if callers.next_of(socket, told.conference) == Some(told.place) {
-            match told_of(alloc, shown)? {
-                Some(event) => callers.tell(socket, &event),
-                None => callers.pass(socket, told),
-            }
-            tell_untold(callers, socket, &meeting.untold, told);
-        }
+        tell_event(alloc, callers, socket, meeting, event, follower)?;
     }
     Ok(())
+}
+
+/// The next event is followed. A client that is told its place next is told what it shows.
+fn tell_event(
+    alloc: Global,
+    callers: &mut Callers,
+    socket: usize,
+    meeting: &Meeting,
+    event: &Event,
+    follower: &mut Follower,
+) -> Result<(), AllocError>
+    ensures attends { Attends beside callers.old callers.new }
+{
+    let told = place_behind(follower, meeting);
+    let shown = follower.take(event, meeting.known.time_at(told.place))?;
+    if callers.next_of(socket, told.conference) != Some(told.place) {
+        return Ok(());
+    }
+    let shown = told_of(alloc, shown)?;
+    tell_place(callers, socket, told, &shown);
+    tell_untold(callers, socket, &meeting.untold, told);
+    Ok(())
+}
+
+/// A client is told what an event shows; one that shows nothing is past.
+fn tell_place(callers: &mut Callers, socket: usize, told: PlaceOf, shown: &Option<Told>)
+    ensures attends { Attends beside callers.old callers.new }
+{
+    match shown {
+        Some(event) => callers.tell(socket, event),
+        None => callers.pass(socket, told),
+    }
 }
 
 /// What happened beside the events behind this place is told.
@@ -169,8 +205,14 @@ fn tell_untold(callers: &mut Callers, socket: usize, untold: &Vec<(u64, Told)>, 
     ensures attends { Attends beside callers.old callers.new }
 {
     for one in untold {
-        if one.0 == told.place.saturating_add(1) {
-            callers.tell(socket, &one.1);
-        }
+        tell_where(callers, socket, one, told);
+    }
+}
+
+fn tell_where(callers: &mut Callers, socket: usize, one: &(u64, Told), told: PlaceOf)
+    ensures attends { Attends beside callers.old callers.new }
+{
+    if one.0 == told.place.saturating_add(1) {
+        callers.tell(socket, &one.1);
     }
 }

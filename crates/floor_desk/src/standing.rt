@@ -58,17 +58,22 @@ pub fn answer_stop(desk: &mut Desk)
     ensures attends { Attends beside desk.old.callers desk.new.callers }
 {
     desk.stop = None;
-    for index in 0..desk.callers.taken().len() {
-        if let Some(socket) = desk.callers.taken().get(index) {
-            let socket = *socket;
-            if desk.callers.awaits_stop(socket) {
-                let stopped = Stopped {
-                    seats: desk.joins,
-                    events: desk.events,
-                };
-                desk.answer(socket, Ok(Answer::Stopped(stopped)));
-            }
-        }
+    for index in 0..desk.callers.len() {
+        let socket = desk.callers.slot_of(index);
+        answer_where_stopping(desk, socket);
     }
     desk.callers.close_all(CloseReason::Stopped);
+}
+
+fn answer_where_stopping(desk: &mut Desk, socket: usize)
+    ensures attends { Attends beside desk.old.callers desk.new.callers }
+{
+    if !desk.callers.awaits_stop(socket) {
+        return;
+    }
+    let stopped = Stopped {
+        seats: desk.joins,
+        events: desk.events,
+    };
+    desk.answer(socket, Ok(Answer::Stopped(stopped)));
 }

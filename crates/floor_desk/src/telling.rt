@@ -77,15 +77,30 @@ fn tell_events(
         None => Follower::new(alloc, &meeting.opening)?,
     };
     for event in events.get(follower.place()..).unwrap_or(&[]) {
-        let is_new = before <= follower.place();
-        let told = place_behind(&follower, meeting);
-        let shown = follower.take(event, meeting.known.time_at(told.place))?;
-        if is_new {
-            tell_shown(alloc, callers, told, shown)?;
-        }
+        tell_event(alloc, callers, meeting, event, &mut follower, before)?;
     }
     meeting.follower = Some(follower);
     Ok(())
+}
+
+/// The next event is followed, and told where it is new: behind so many.
+fn tell_event(
+    alloc: Global,
+    callers: &mut Callers,
+    meeting: &Meeting,
+    event: &Event,
+    follower: &mut Follower,
+    before: usize,
+) -> Result<(), AllocError>
+    ensures attends { Attends beside callers.old callers.new }
+{
+    let is_new = before <= follower.place();
+    let told = place_behind(follower, meeting);
+    let shown = follower.take(event, meeting.known.time_at(told.place))?;
+    if !is_new {
+        return Ok(());
+    }
+    tell_shown(alloc, callers, told, shown)
 }
 
 /// The place of the event that a follower takes next.

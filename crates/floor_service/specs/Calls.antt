@@ -4,7 +4,8 @@ use Rattle.floor_clients.specs.Clients.{Client, took_by}
 use Rattle.floor_clients.specs.Outgoing.{lent}
 use Rattle.floor_clients.specs.declared.standing.Next.{Next}
 use Rattle.floor_desk.specs.Attending.{Attends, GoesOnAt, beside, carried, is_beside}
-use Rattle.floor_desk.specs.Callers.{GoesOnBy, OthersStay, ServesOrCloses, caller_at}
+use Rattle.floor_desk.specs.Callers.{GoesOnBy, OthersStay, caller_at}
+use Rattle.floor_desk.specs.Clients.{ServesOrCloses}
 use Rattle.floor_desk.specs.declared.callers.Callers.{Callers}
 use Rattle.floor_desk.specs.declared.desk.Desk.{Desk}
 

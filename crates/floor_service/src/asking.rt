@@ -1,7 +1,13 @@
 //! The requests about floor requests: each is said for a user, as that user's message.
-#![tactic(auto, using(crate::proofs::Moving::unmoved, crate::proofs::Moving::moved_then, crate::proofs::Moving::moved_and_same, crate::proofs::Attending::unattended, crate::proofs::Attending::attended_then, crate::proofs::Attending::attended_and_same, crate::proofs::Attending::carried_too))]
+#![tactic(auto, using(crate::proofs::Moving::unmoved, crate::proofs::Moving::moved_then, crate::proofs::Moving::moved_and_same, crate::proofs::Attending::unattended, crate::proofs::Attending::attended_then, crate::proofs::Attending::attended_and_same, crate::proofs::Attending::carried_too, crate::proofs::Quietly::quiet_none))]
 
-ghost use Rattle.std.specs.Prelude.{◌≡◌};
+ghost use Rattle.std.specs.Prelude.{◌≡◌, ℕ, Some};
+ghost use Rattle.floor_hub.specs.declared.step.Step.TheVariants.{Say};
+ghost use Rattle.floor_loop.specs.Done.{AtMost};
+ghost use Rattle.floor_meetings.specs.Calls.{Quiet};
+ghost use Rattle.floor_message.specs.Written.{ask_bytes};
+ghost use Rattle.floor_service.specs.Said.{creation_step, release_step};
+ghost use Rattle.floor_shown.specs.Asking.{head_of};
 ghost use Rattle.floor_turn.specs.Moves.{Moves, nothing_taken};
 ghost use Rattle.floor_desk.specs.Attending.{Attends, beside};
 
@@ -28,6 +34,8 @@ pub(crate) fn create(
     desk: &mut Desk,
     creation: &Creation,
 ) -> Result<Done, Refused>
+    ensures said { Quiet (AtMost 1 (creation_step creation.now))
+        server.old.meetings.hub server.new.meetings.hub }
     ensures moves { Moves nothing_taken server.old.meetings server.new.meetings }
     ensures attends { Attends beside desk.old.callers desk.new.callers }
 {
@@ -53,6 +61,9 @@ pub(crate) fn release(
     desk: &mut Desk,
     release: &Release,
 ) -> Result<Done, Refused>
+    ensures said { (by : ℕ) → release.now.by ≡ Some by
+        → Quiet (AtMost 1 (release_step by release.now))
+        server.old.meetings.hub server.new.meetings.hub }
     ensures moves { Moves nothing_taken server.old.meetings server.new.meetings }
     ensures attends { Attends beside desk.old.callers desk.new.callers }
 {
@@ -95,6 +106,8 @@ fn say(
     by: u16,
     ask: &Ask,
 ) -> Result<Taken, Refused>
+    ensures said { Quiet (AtMost 1 (Say conference by (ask_bytes (head_of conference by) ask.now)))
+        server.old.meetings.hub server.new.meetings.hub }
     ensures moves { Moves nothing_taken server.old.meetings server.new.meetings }
     ensures attends { Attends beside desk.old.callers desk.new.callers }
 {

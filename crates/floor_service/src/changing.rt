@@ -1,7 +1,11 @@
 //! What an administrator does in a conference: each is an event of it, or its end.
-#![tactic(auto, using(crate::proofs::Moving::unmoved, crate::proofs::Moving::moved_then, crate::proofs::Moving::moved_and_same, crate::proofs::Attending::unattended, crate::proofs::Attending::attended_then, crate::proofs::Attending::attended_and_same, crate::proofs::Attending::carried_too))]
+#![tactic(auto, using(crate::proofs::Moving::unmoved, crate::proofs::Moving::moved_then, crate::proofs::Moving::moved_and_same, crate::proofs::Attending::unattended, crate::proofs::Attending::attended_then, crate::proofs::Attending::attended_and_same, crate::proofs::Attending::carried_too, crate::proofs::Quietly::quiet_none))]
 
 ghost use Rattle.std.specs.Prelude.{◌≡◌};
+ghost use Rattle.floor_hub.specs.declared.step.Step.TheVariants.{Admin};
+ghost use Rattle.floor_loop.specs.Done.{AtMost};
+ghost use Rattle.floor_machine.specs.declared.act.Act.TheVariants as acts;
+ghost use Rattle.floor_meetings.specs.Calls.{Quiet};
 ghost use Rattle.floor_turn.specs.Moves.{Moves, nothing_taken};
 ghost use Rattle.floor_desk.specs.Attending.{Attends, beside};
 
@@ -40,6 +44,8 @@ fn act(
     act: Act,
     asked: About,
 ) -> Result<u64, Refused>
+    ensures quiet { Quiet (AtMost 1 (Admin conference act))
+        server.old.meetings.hub server.new.meetings.hub }
     ensures moves { Moves nothing_taken server.old.meetings server.new.meetings }
 {
     match server.act(conference, act, desk.now.micros) {
@@ -54,6 +60,8 @@ pub(crate) fn close(
     desk: &mut Desk,
     of: &OfConference,
 ) -> Result<Done, Refused>
+    ensures quiet { Quiet (AtMost 1 (Admin of.now.conference acts.Close))
+        server.old.meetings.hub server.new.meetings.hub }
     ensures moves { Moves nothing_taken server.old.meetings server.new.meetings }
     ensures attends { Attends beside desk.old.callers desk.new.callers }
 {
@@ -224,6 +232,9 @@ pub(crate) fn set_chair(
     desk: &mut Desk,
     setting: &ChairSetting,
 ) -> Result<Done, Refused>
+    ensures quiet { Quiet (AtMost 1 (Admin setting.now.conference
+        (acts.SetChair setting.now.floor setting.now.chair)))
+        server.old.meetings.hub server.new.meetings.hub }
     ensures moves { Moves nothing_taken server.old.meetings server.new.meetings }
     ensures attends { Attends beside desk.old.callers desk.new.callers }
     ensures attends { Attends beside desk.old.callers desk.new.callers }
@@ -239,6 +250,8 @@ pub(crate) fn set_chair(
 
 /// `request.revoke`: the administrator takes the floors of a floor request away, or denies it.
 pub(crate) fn revoke(server: &mut Server, desk: &mut Desk, of: &OfRequest) -> Result<Done, Refused>
+    ensures quiet { Quiet (AtMost 1 (Admin of.now.conference (acts.Revoke of.now.request)))
+        server.old.meetings.hub server.new.meetings.hub }
     ensures moves { Moves nothing_taken server.old.meetings server.new.meetings }
     ensures attends { Attends beside desk.old.callers desk.new.callers }
 {

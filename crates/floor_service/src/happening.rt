@@ -8,7 +8,7 @@ ghost use Rattle.floor_clients.specs.Clients.{came, ended};
 ghost use Rattle.floor_connections.specs.Asked.{reads};
 ghost use Rattle.floor_connections.specs.Table.{client_of, socket_at};
 ghost use Rattle.floor_desk.specs.Attending.{Attends, beside};
-ghost use Rattle.floor_desk.specs.Callers.{OrCloses};
+ghost use Rattle.floor_desk.specs.Clients.{OrCloses};
 ghost use Rattle.floor_service.specs.Calls.{FirstAt, OthersAttend};
 ghost use Rattle.floor_sockets.specs.Sockets.{life_at};
 

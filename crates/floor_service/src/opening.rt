@@ -1,7 +1,11 @@
 //! Conferences are opened: of their parts, or of the text of a configuration, once that is read.
 #![tactic(auto, using(crate::proofs::Moving::unmoved, crate::proofs::Moving::moved_then, crate::proofs::Moving::moved_and_same, crate::proofs::Attending::unattended, crate::proofs::Attending::attended_then, crate::proofs::Attending::attended_and_same, crate::proofs::Attending::carried_too))]
 
-ghost use Rattle.std.specs.Prelude.{◌≡◌};
+ghost use Rattle.std.specs.Prelude.{◌≡◌, IfOk, OnOk, false, true};
+ghost use Rattle.floor_desk.specs.declared.caller.Done.TheVariants as dones;
+ghost use Rattle.floor_hub.specs.Rooms.{Opens};
+ghost use Rattle.floor_rpc.specs.declared.answer.Answer.TheVariants as answers;
+ghost use Rattle.floor_shown.specs.Opening.{opened_of};
 ghost use Rattle.floor_turn.specs.Moves.{Moves, nothing_taken};
 ghost use Rattle.floor_desk.specs.Attending.{Attends, beside};
 
@@ -40,6 +44,8 @@ pub(crate) fn open_read(
     desk: &mut Desk,
     read: Configured,
 ) -> Result<Done, Refused>
+    ensures draining { OnOk result (desk.old.is_draining ≡ false) }
+    ensures unopened { desk.old.is_draining ≡ true → server.new.meetings ≡ server.old.meetings }
     ensures moves { Moves nothing_taken server.old.meetings server.new.meetings }
     ensures attends { Attends beside desk.old.callers desk.new.callers }
     ensures attends { Attends beside desk.old.callers desk.new.callers }
@@ -87,6 +93,8 @@ fn number_of(desk: &mut Desk, hub: &Loop, given: Option<u32>) -> Result<u32, Ref
 
 /// Opens a new conference, and answers with its numbers.
 fn open_new(server: &mut Server, desk: &mut Desk, new: NewConference) -> Result<Done, Refused>
+    ensures opened { IfOk result (λ done. (done ≡ dones.Now (answers.Opened (opened_of new.config)))
+        × Opens new.config server.old.meetings.hub.hub server.new.meetings.hub.hub) }
     ensures moves { Moves nothing_taken server.old.meetings server.new.meetings }
     ensures attends { Attends beside desk.old.callers desk.new.callers }
     ensures attends { Attends beside desk.old.callers desk.new.callers }
@@ -105,6 +113,8 @@ pub(crate) fn open_here(
     desk: &mut Desk,
     new: NewConference,
 ) -> Result<(), HubRefusal>
+    ensures opened { OnOk result (Opens new.config
+        server.old.meetings.hub.hub server.new.meetings.hub.hub) }
     ensures moves { Moves nothing_taken server.old.meetings server.new.meetings }
     ensures attends { Attends beside desk.old.callers desk.new.callers }
 {

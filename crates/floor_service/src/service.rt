@@ -1,7 +1,7 @@
 //! The server and its control clients.
 #![tactic(auto, using(crate::proofs::Moving::unmoved, crate::proofs::Moving::moved_then, crate::proofs::Moving::moved_and_same, crate::proofs::Attending::unattended, crate::proofs::Attending::attended_then, crate::proofs::Attending::attended_and_same, crate::proofs::Attending::carried_too))]
 
-ghost use Rattle.std.specs.Prelude.{◌≡◌};
+ghost use Rattle.std.specs.Prelude.{◌≡◌, true};
 ghost use Rattle.floor_turn.specs.Moves.{Moves, nothing_taken};
 ghost use Rattle.floor_desk.specs.Attending.{Attends, beside};
 
@@ -87,6 +87,8 @@ impl Service {
 
     /// The text under this number was read. Where nobody awaits it nothing is opened.
     pub fn configured(&mut self, number: u64, read: Configured, now: Now)
+        ensures draining { self.old.desk.is_draining ≡ true
+            → self.new.server.meetings ≡ self.old.server.meetings }
         ensures moves { Moves nothing_taken self.old.server.meetings self.new.server.meetings }
         ensures attends { Attends beside self.old.desk.callers self.new.desk.callers }
     {
@@ -106,11 +108,9 @@ impl Service {
         ensures attends { Attends beside self.old.desk.callers self.new.desk.callers }
     {
         let members = self.server.members_len();
-        for index in 0..self.desk.callers.taken().len() {
-            if let Some(socket) = self.desk.callers.taken().get(index) {
-                let socket = *socket;
-                self.tell_figures(socket, members, memory);
-            }
+        for index in 0..self.desk.callers.len() {
+            let socket = self.desk.callers.slot_of(index);
+            self.tell_figures(socket, members, memory);
         }
     }
 

@@ -45,11 +45,9 @@ impl Service {
         ensures meetings { self.new.server.meetings ≡ self.old.server.meetings }
         ensures attends { Attends beside self.old.desk.callers self.new.desk.callers }
     {
-        for index in 0..self.desk.callers.taken().len() {
-            if let Some(socket) = self.desk.callers.taken().get(index) {
-                let socket = *socket;
-                self.settle(socket);
-            }
+        for index in 0..self.desk.callers.len() {
+            let socket = self.desk.callers.slot_of(index);
+            self.settle(socket);
         }
     }
 

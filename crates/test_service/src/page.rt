@@ -2,7 +2,10 @@
 //! that port. `a> LINE` is a line of a client, `x> WORDS` what a member sends, `a< LINE` what comes to a client, and
 //! `a closed` that its socket is shut. `time 1500` is the time in milliseconds, behind 2026-11-29T16:00:00Z. What else
 //! stands there says what is done: `- a` that the stream of a client or member ends, `! x` that it fails, `hold` and `let`
-//! that texts of configurations wait to be read, and are read; `& a> LINE` that a line is sent, and nothing is done yet; `log` that what the log is told is printed from there on, as `log LINE`. Lines with `#` say what it is about.
+//! that texts of configurations wait to be read, and are read; `& a> LINE` that a line is sent, and nothing is done yet,
+//! `times 10 a> LINE` that it is sent so many times; `slow a` that a client takes nothing, and `fast a` that it does again,
+//! and `a< 10 lines` how many it was told then; `log` that what the log is told is printed from there on, as `log LINE`.
+//! Lines with `#` say what it is about.
 
 use floor_config::read_configs;
 use floor_service::{
@@ -31,6 +34,7 @@ struct Peer {
     has_failed: bool,
     is_shut: bool,
     is_slow: bool,
+    is_counted: bool,
 }
 
 /// The service of a page, who is connected, and where it listens.
@@ -228,6 +232,7 @@ impl Paged {
             has_failed: false,
             is_shut: false,
             is_slow: false,
+            is_counted: false,
         })?;
         match self.listeners.iter().find(|one| one.0 == number) {
             Some(one) => self.service.knocked(one.1),
@@ -266,6 +271,28 @@ impl Paged {
             "slow" => {
                 if let Some(peer) = self.peer_named(named) {
                     peer.is_slow = true;
+                }
+            }
+            "fast" => {
+                let mut socket = None;
+                if let Some(peer) = self.peer_named(named) {
+                    peer.is_slow = false;
+                    peer.is_counted = true;
+                    socket = peer.socket;
+                }
+                if let Some(socket) = socket {
+                    self.service.writable(socket);
+                }
+            }
+            "times" => {
+                let count: u32 = second.parse().unwrap_or(0);
+                let name = third.as_bytes().first().copied().unwrap_or(b' ');
+                if let Some((_name, text)) = line.split_once("> ") {
+                    let bytes = sent_of(self.alloc, name, text)?;
+                    for _ in 0..count {
+                        self.send(name, &bytes, false, false)?;
+                        self.run()?;
+                    }
                 }
             }
             "log" if second.is_empty() => self.is_logging = true,
@@ -320,8 +347,13 @@ impl Paged {
 fn tell_peer(text: &mut String, peer: &mut Peer) -> Result<(), AllocError> {
     let name = char::from(peer.name);
     let came = std::str::from_utf8(&peer.came).unwrap_or("not UTF-8\n");
-    for line in came.lines() {
-        write!(text, "{name}< {line}\n")?;
+    if peer.is_counted {
+        write!(text, "{name}< {} lines\n", came.lines().count())?;
+        peer.is_counted = false;
+    } else {
+        for line in came.lines() {
+            write!(text, "{name}< {line}\n")?;
+        }
     }
     peer.came.clear();
     if peer.is_shut && peer.place < 3 {

@@ -1,0 +1,6 @@
+use Rattle.std.proofs.Common.{◌≡◌, Some, refl}
+use Rattle.floor_desk.proofs.Attended.{ends_task_one, goes_on_one}
+use Rattle.floor_desk.proofs.callers.Callers.close.Goals as goal
+
+pub returns-in-Some-place-clause-here : goal.returns-in-Some-place-clause-here
+returns-in-Some-place-clause-here c = goes_on_one _ _ _ c.in-Some-place.caller c.close.new.self search search c.close.ensures.number c.close.ensures.task c.close.ensures.client

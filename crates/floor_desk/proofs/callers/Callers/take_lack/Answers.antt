@@ -1,0 +1,6 @@
+use Rattle.std.proofs.Common.{◌≡◌, Some, refl}
+use Rattle.floor_desk.proofs.Attended.{ends_task_one, goes_on_one}
+use Rattle.floor_desk.proofs.callers.Callers.take_lack.Goals as goal
+
+pub returns-in-Some-place-clause-here : goal.returns-in-Some-place-clause-here
+returns-in-Some-place-clause-here c = goes_on_one _ _ _ c.in-Some-place.caller c.take_lack.new.self search search c.take_lack.ensures.number c.take_lack.ensures.task c.take_lack.ensures.client
