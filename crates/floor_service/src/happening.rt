@@ -156,12 +156,17 @@ impl Service {
         self.follow();
     }
 
-    /// A read of a socket failed.
+    /// A read of a socket failed. Of a client a write may have failed as well: nothing more is read of it or written to it,
+    /// and it is shut at once.
     pub fn failed(&mut self, socket: usize, now: Now)
         ensures moves { Moves nothing_taken self.old.server.meetings self.new.server.meetings }
         ensures attends { Attends beside self.old.desk.callers self.new.desk.callers }
     {
         self.desk.pass(now);
+        if self.is_client(socket) {
+            self.server.lend_client(socket, false, true, true);
+            return;
+        }
         self.server.failed(socket, now.micros);
         self.follow();
     }

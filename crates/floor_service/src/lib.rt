@@ -6,6 +6,7 @@
 //! or thread, and waits for nothing: whoever calls it asks the system, and says what it answered.
 #![tactic(auto)]
 
+mod administering;
 mod asking;
 mod carrying;
 mod changing;
@@ -23,7 +24,7 @@ mod writing;
 pub use deed::{Configured, Deed};
 pub use floor_clients::MAX_CLIENTS;
 pub use floor_desk::{Act, Named, Now, Outcome};
-pub use floor_rpc::{ConfigFault, ErrorName, Method, Text};
+pub use floor_rpc::{ConfigFault, ErrorName, Method, Stopped, Text};
 pub use floor_shown::{Words, titles_of};
 pub use floor_turn::{
     Bounds, Config, Entry, Fault, Grace, HubRefusal, Loop, MAX_READ, Member, NamedBy, Place,
