@@ -2,11 +2,12 @@
 
 use crate::console::Telling;
 use crate::lines::done_by;
+use crate::reading::titles_in;
 use crate::shell::Shell;
 use floor_config::{Config, Floor, Text, User};
 use floor_console::{Board, BoardRefusal, StopRefusal, Stopped};
 use floor_machine::AddedUser;
-use floor_room::{Phase, Status, add_end, add_lines};
+use floor_room::{Status, add_end, add_lines};
 use floor_server::{Reason, configurations, read_text};
 use floor_turn::{Act, HubRefusal};
 use std::alloc::AllocError;
@@ -20,28 +21,26 @@ impl Shell {
         let configs = system.checked(configurations(alloc, path, text.as_str()))?;
         let count = configs.len();
         for config in configs {
-            self.open_one(config)?;
+            self.open_one(config, text.as_str())?;
         }
         Ok(count)
     }
 
     /// Opens a conference, once its ports are had.
-    fn open_one(&mut self, config: Config) -> Result<(), BoardRefusal> {
+    fn open_one(&mut self, config: Config, text: &str) -> Result<(), BoardRefusal> {
         match self.server.hub().status(config.conference()) {
             Err(HubRefusal::NoConference) => {}
             _ => return Err(BoardRefusal::Used),
         }
         let before = self.system.bound.len();
-        let opened = self.open_bound(config);
+        let opened = self.open_bound(config, text);
         self.system.unbind(before, opened)
     }
 
-    fn open_bound(&mut self, config: Config) -> Result<(), BoardRefusal> {
-        let conference = config.conference();
-        self.conferences.reserve(1)?;
+    fn open_bound(&mut self, config: Config, text: &str) -> Result<(), BoardRefusal> {
         self.system.bind_all(&config)?;
-        self.server.open(config).map_err(refused_by)?;
-        self.conferences.push_reserved(conference);
+        let titles = titles_in(self.system.alloc, text, config.conference())?;
+        self.server.open(config, titles).map_err(refused_by)?;
         let _is_done = self.settle();
         Ok(())
     }
@@ -100,19 +99,13 @@ impl Shell {
 
     /// What the server had.
     pub fn report(&self) -> Result<Stopped, StopRefusal> {
-        let mut events = 0u128;
-        for conference in self.conferences.iter() {
-            if let Ok(status) = self.server.hub().status(*conference) {
-                events = events.saturating_add(u128::from(status.events));
-                if status.phase == Phase::Broken {
-                    let conference = *conference;
-                    return Err(StopRefusal::Broken { conference });
-                }
-            }
+        if let Some(conference) = self.server.broken() {
+            return Err(StopRefusal::Broken { conference });
         }
+        let totals = self.server.totals();
         Ok(Stopped {
-            seats: self.joined,
-            events,
+            seats: totals.seats as usize,
+            events: u128::from(totals.events),
         })
     }
 }

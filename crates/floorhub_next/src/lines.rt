@@ -1,5 +1,6 @@
 //! What the log says, a line each: of what the value tells, and of what an administrator does.
 
+use floor_service::{Act as Asked, Named, Outcome};
 use floor_turn::{Act, Entry, Peer, Place, Who};
 use std::alloc::{AllocError, Global};
 
@@ -57,10 +58,38 @@ pub fn done_by(alloc: Global, act: &Act) -> Result<Option<String>, AllocError> {
     Ok(Some(told))
 }
 
-/// The port of a place.
+/// What the log says that a client had done, or was refused: in which conference, by which method, about what, as which
+/// user, at which place, and which client that was.
+pub fn text_of_act(alloc: Global, act: &Asked) -> Result<String, AllocError> {
+    let mut text = String::from_str(alloc, "act ")?;
+    if let Some(conference) = act.conference {
+        write!(text, "conference {conference} ")?;
+    }
+    text.push_str(act.method.name())?;
+    match act.named {
+        Named::Nothing => {}
+        Named::User(number) | Named::Floor(number) | Named::Request(number) => {
+            write!(text, " {number}")?;
+        }
+        Named::Member(number) => write!(text, " member {number}")?,
+    }
+    if let Some(user) = act.user {
+        write!(text, " as {user}")?;
+    }
+    match act.outcome {
+        Outcome::Done => {}
+        Outcome::At(place) => write!(text, " at {place}")?,
+        Outcome::Refused(error) => write!(text, " refused {}", error.name())?,
+    }
+    write!(text, " by client {}", act.client)?;
+    Ok(text)
+}
+
+/// The port of a place; 0 of the sockets of control clients.
 pub fn port_of(place: Place) -> u16 {
     match place {
         Place::Port { port, .. } | Place::Door { port, .. } | Place::Health { port } => port,
+        Place::Control | Place::Observe => 0,
     }
 }
 
@@ -77,6 +106,8 @@ fn of_place(alloc: Global, place: Place, told: &str) -> Result<String, AllocErro
         } => format!(in alloc; "conference {conference} user {user} port {port} {told}"),
         Place::Door { port, .. } => format!(in alloc; "door {port} {told}"),
         Place::Health { port } => format!(in alloc; "health {port} {told}"),
+        Place::Control => format!(in alloc; "control {told}"),
+        Place::Observe => format!(in alloc; "observe {told}"),
     }
 }
 

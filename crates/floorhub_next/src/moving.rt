@@ -3,19 +3,19 @@
 ghost use Rattle.std.specs.Prelude.{◌≡◌};
 ghost use Rattle.floorhub_next.specs.Moving.{Heard, Wrote, count_of};
 
+use floor_service::{Now, Service};
 use floor_streams::{Found, Written, read_some, write_some};
-use floor_turn::Server;
 use std::io::{Read, Write};
 
 /// Reads once from a socket's stream, and tells the value what the read found. Of a stream of which a write has failed
 /// nothing more comes than what is there, and its end is no end in order: the write was told why.
 pub fn read_once<S: Read>(
-    server: &mut Server,
+    server: &mut Service,
     stream: &mut S,
     has_failed: bool,
     buffer: &mut [u8],
     socket: usize,
-    now: u64,
+    now: Now,
 )
     ensures value { Heard socket server.old server.new
         (S.remaining stream.old) (S.remaining stream.new) }
@@ -35,7 +35,7 @@ pub fn read_once<S: Read>(
 
 /// Writes once what is lent to a socket, and tells the value how much its stream took. Says whether the write failed: then
 /// it took none, and what the system has of the peer is read first.
-pub fn write_once<S: Write>(server: &mut Server, stream: &mut S, socket: usize, now: u64) -> bool
+pub fn write_once<S: Write>(server: &mut Service, stream: &mut S, socket: usize, now: Now) -> bool
     ensures value { Wrote socket server.old server.new
         (S.contents stream.old) (S.contents stream.new) }
 {

@@ -2,16 +2,16 @@
 //! which may take seconds and so has a thread of its own, how much memory there is, and numbers that nobody guesses.
 
 use crate::shell::Shell;
-use floor_config::read_configs;
+use floor_config::{Config, read_configs};
 use floor_diagnosis::line_of_fault;
-use floor_service::{ConfigFault, Configured};
+use floor_service::{ConfigFault, Configured, Words, titles_of};
 use mio::{Poll, Token, Waker};
 use std::alloc::{AllocError, Global};
 use std::collections::VecDeque;
 use std::fs::File;
 use std::io::Read;
-use std::sync::Arc;
-use std::thread::JoinHandle;
+use std::sync::{Arc, Wait};
+use std::thread::{JoinHandle, Threads};
 use std::{fs, io, thread};
 
 /// The token by which the poll tells that a text was read.
@@ -59,30 +59,34 @@ impl Shell {
     }
 
     /// Hands in what the thread has read, and has it read the next text, where one waits.
-    pub fn see_to_reading(&mut self) {
+    pub fn see_to_reading<R: Threads + Wait>(&mut self, waits: &R) {
         if self.system.reader.is_done {
             self.system.reader.is_done = false;
             if let Some((number, thread)) = self.system.reader.thread.take() {
-                let read = thread.join(&self.system.rt);
+                let read = thread.join(waits);
                 self.server.configured(number, read, self.now);
             }
         }
         if self.system.reader.thread.is_none() {
             if let Some(number) = self.system.reader.waits.pop_front() {
-                self.read_next(number);
+                self.read_next(waits, number);
             }
         }
     }
 
     /// Has a thread read the text under this number.
-    fn read_next(&mut self, number: u64) {
-        match self.start_reader(number) {
+    fn read_next<R: Threads + Wait>(&mut self, waits: &R, number: u64) {
+        match self.start_reader(waits, number) {
             Ok(thread) => self.system.reader.thread = Some((number, thread)),
             Err(_) => self.server.configured(number, Configured::Memory, self.now),
         }
     }
 
-    fn start_reader(&mut self, number: u64) -> Result<JoinHandle<Configured>, AllocError> {
+    fn start_reader<R: Threads + Wait>(
+        &mut self,
+        waits: &R,
+        number: u64,
+    ) -> Result<JoinHandle<Configured>, AllocError> {
         let alloc = self.system.alloc;
         let text = String::from_str(alloc, self.server.configuration(number))?;
         let waker = Arc::try_clone(&self.system.reader.waker)?;
@@ -91,7 +95,7 @@ impl Shell {
             let _woken = waker.wake();
             read
         };
-        match thread::spawn(&self.system.rt, read) {
+        match thread::spawn(waits, read) {
             Ok(thread) => Ok(thread),
             Err(_) => Err(AllocError),
         }
@@ -120,8 +124,8 @@ fn number_in(text: &str, place: usize) -> u64 {
 fn read_text(alloc: Global, text: &str) -> Configured {
     match read_configs(alloc, text) {
         Ok(mut configs) => match configs.pop() {
-            Some(config) if configs.is_empty() => Configured::One(config),
-            _ => Configured::Others,
+            Some(config) if configs.is_empty() => with_titles(alloc, text, config),
+            _ => Configured::Unfit,
         },
         Err(ConfigFault::Memory) => Configured::Memory,
         Err(fault) => match line_of_fault(alloc, text) {
@@ -133,6 +137,25 @@ fn read_text(alloc: Global, text: &str) -> Configured {
             Err(_) => Configured::Memory,
         },
     }
+}
+
+/// The conference of a text, with the titles that it gives.
+fn with_titles(alloc: Global, text: &str, config: Config) -> Configured {
+    match titles_of(alloc, text, config.conference()) {
+        Ok(Some(titles)) => Configured::One { config, titles },
+        Ok(None) => Configured::Unfit,
+        Err(_) => Configured::Memory,
+    }
+}
+
+/// The titles that a file gives to a conference and its floors.
+pub fn titles_in(alloc: Global, text: &str, conference: u32) -> Result<Words, AllocError> {
+    if text.contains("title") {
+        if let Some(titles) = titles_of(alloc, text, conference)? {
+            return Ok(titles);
+        }
+    }
+    Ok(Words::new(alloc))
 }
 
 /// Bytes that nobody guesses, as the system has them.

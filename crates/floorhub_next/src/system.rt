@@ -2,12 +2,14 @@
 //!
 //! Ports are listened on before the value is told of them, so that where one can't be had nothing is opened.
 
+use crate::clients::ClientSocket;
+use crate::reading::Reader;
 use floor_config::Config;
 use floor_console::BoardRefusal;
 use floor_listen::listening_address;
 use floor_server::{Door, PortFault, Reason, tell};
-use floor_turn::MAX_READ;
-use mio::net::{TcpListener, TcpStream};
+use floor_service::MAX_READ;
+use mio::net::{TcpListener, TcpStream, UnixStream};
 use mio::{Events, Poll};
 use std::alloc::{AllocError, Global};
 use std::mem;
@@ -21,8 +23,12 @@ const MAX_EVENTS: usize = 1_024;
 pub enum Handle {
     None,
     Listener(TcpListener),
+    /// That of control clients.
+    Clients(ClientSocket),
     /// A peer's, and whether a write to it has failed.
     Stream(TcpStream, bool),
+    /// A control client's.
+    Client(UnixStream),
 }
 
 /// A port that is listened on.
@@ -43,6 +49,9 @@ pub struct System {
     pub handles: Vec<Handle>,
     /// What is listened on and isn't the value's yet.
     pub bound: Vec<Bound>,
+    pub control: Option<ClientSocket>,
+    pub observe: Option<ClientSocket>,
+    pub reader: Reader,
     /// What a read gives.
     pub buffer: Vec<u8>,
 }
@@ -54,6 +63,7 @@ impl System {
         let poll = Poll::new(&rt).map_err(|_| AllocError)?;
         let events = Events::with_capacity(alloc, MAX_EVENTS)?;
         let buffer = Vec::from_elem(alloc, 0u8, MAX_READ)?;
+        let reader = Reader::new(alloc, &poll)?;
         Ok(System {
             rt,
             alloc,
@@ -61,6 +71,9 @@ impl System {
             events,
             handles: Vec::new(alloc),
             bound: Vec::new(alloc),
+            control: None,
+            observe: None,
+            reader,
             buffer,
         })
     }
@@ -103,6 +116,32 @@ impl System {
         }
     }
 
+    /// Listens at a path for whom the mode lets in, as this word asks.
+    pub fn bind_path(
+        &self,
+        word: &str,
+        path: &str,
+        mode: u32,
+    ) -> Result<ClientSocket, BoardRefusal> {
+        match ClientSocket::open(&self.rt, String::from_str(self.alloc, path)?, mode) {
+            Ok(socket) => Ok(socket),
+            Err(error) => {
+                let fault = PortFault::System(error);
+                self.checked(Err(fault.at_socket(self.alloc, word, path)))
+            }
+        }
+    }
+
+    /// Lets the control clients' sockets go that didn't become the value's.
+    pub fn let_go(&mut self) {
+        if let Some(socket) = self.control.take() {
+            socket.end(&self.rt);
+        }
+        if let Some(socket) = self.observe.take() {
+            socket.end(&self.rt);
+        }
+    }
+
     /// Where something wasn't done, the ports that were had for it behind the first `count` are let go.
     pub fn unbind(
         &mut self,
@@ -115,8 +154,15 @@ impl System {
         done
     }
 
-    /// What listens on a port.
-    pub fn take_bound(&mut self, port: u16) -> Option<TcpListener> {
+    /// What listens on a port: by now, or from now on.
+    pub fn had(&mut self, port: u16) -> Option<TcpListener> {
+        match self.take_bound(port) {
+            Some(listener) => Some(listener),
+            None => TcpListener::bind(&self.rt, SocketAddr::V4(listening_address(port))).ok(),
+        }
+    }
+
+    fn take_bound(&mut self, port: u16) -> Option<TcpListener> {
         let place = self.bound.iter().position(|bound| bound.port == port)?;
         let Bound { listener, .. } = self.bound.swap_remove(place);
         Some(listener)
