@@ -639,7 +639,11 @@ impl Connections {
 fn remove_from(conferences: &mut Conferences, place: Place, listener: usize) {
     match place {
         Place::Port { conference, .. } => conferences.remove_listener(conference, listener),
-        Place::Door { .. } | Place::Health { .. } | Place::Control | Place::Observe => {}
+        Place::Door { .. }
+        | Place::Health { .. }
+        | Place::Control
+        | Place::Observe
+        | Place::Http { .. } => {}
     }
 }
 
@@ -662,7 +666,11 @@ fn is_port_of(table: &Table, slot: usize, conference: u32) -> bool {
                 conference: other,
                 ..
             } => other == conference,
-            Place::Door { .. } | Place::Health { .. } | Place::Control | Place::Observe => false,
+            Place::Door { .. }
+            | Place::Health { .. }
+            | Place::Control
+            | Place::Observe
+            | Place::Http { .. } => false,
         },
         None => false,
     }

@@ -24,6 +24,10 @@ pub enum Place {
     Control,
     /// That of the control clients that read alone.
     Observe,
+    /// A port at which is answered by HTTP. Whoever connects there is the caller's, as a control client is.
+    Http {
+        port: u16,
+    },
 }
 
 /// Who has connected: where, and from which port of its own, 0 where the system doesn't tell.

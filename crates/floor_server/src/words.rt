@@ -74,8 +74,8 @@ pub struct Program {
     /// Whether it serves by event loops, so that `--loops`, `--longest`, `--door`, `--door-by-id`, `--health`,
     /// `--control`, `--grace`, `--keep` and what goes with these are of its words, and goes by `conference.connections`.
     pub by_loops: bool,
-    /// Whether control clients ask it by JSON-RPC, so that `--control-mode`, `--observe` and `--observe-mode` are of its
-    /// words.
+    /// Whether control clients ask it by JSON-RPC, so that `--control-mode`, `--observe`, `--observe-mode` and `--http`
+    /// are of its words.
     pub by_json: bool,
 }
 
@@ -112,6 +112,8 @@ pub struct Words {
     pub observe: Option<String>,
     /// Who may open its file.
     pub observe_mode: u32,
+    /// The port at which is answered by HTTP, where one is asked for.
+    pub http: Option<u16>,
     /// How many seconds a member outlives its connection, 0 to 600; 0 where nothing is said of them, or the
     /// program has no such word.
     pub grace: u64,
@@ -154,6 +156,7 @@ fn parsed(alloc: Global, words: &[String], program: &Program) -> Result<Words, E
         control_mode: mode_of(&matches, "control-mode"),
         observe: path_of(alloc, &matches, "observe")?,
         observe_mode: mode_of(&matches, "observe-mode"),
+        http: matches.get_one::<u16>("http"),
         grace: matches.get_one::<u64>("grace").unwrap_or(0),
         grace_for_all: matches.get_str("grace-for").is_some(),
         keep: keeping_of(alloc, &matches)?,
@@ -271,6 +274,9 @@ fn with_doors<'a>(alloc: Global, command: Command<'a>) -> Result<Command<'a>, Er
 
 /// The words of a program that control clients ask by JSON-RPC.
 fn with_modes<'a>(alloc: Global, command: Command<'a>) -> Result<Command<'a>, Error> {
+    let http = port(alloc, "http").help(
+        "A port at which is answered by HTTP: /healthz, /readyz, and /metrics for Prometheus",
+    );
     let observe = Arg::new(alloc, "observe")
         .long("observe")
         .value_name("path")
@@ -280,7 +286,8 @@ fn with_modes<'a>(alloc: Global, command: Command<'a>) -> Result<Command<'a>, Er
         command
             .arg(mode(alloc, "control-mode", "control")?)?
             .arg(observe)?
-            .arg(mode(alloc, "observe-mode", "observe")?)?,
+            .arg(mode(alloc, "observe-mode", "observe")?)?
+            .arg(http)?,
     )
 }
 

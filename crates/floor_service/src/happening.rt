@@ -119,6 +119,9 @@ impl Service {
             → Attends beside self.old.desk.callers self.new.desk.callers }
     {
         self.desk.pass(now);
+        if self.is_page(socket) {
+            return self.page_came(socket, bytes, now);
+        }
         if self.is_client(socket) {
             self.client_came(socket, bytes, now);
             return;
@@ -148,6 +151,9 @@ impl Service {
             → Attends beside self.old.desk.callers self.new.desk.callers }
     {
         self.desk.pass(now);
+        if self.is_page(socket) {
+            return self.page_ended(socket, now);
+        }
         if self.is_client(socket) {
             self.client_ended(socket, now);
             return;
@@ -179,6 +185,7 @@ impl Service {
         self.server.shut(socket);
         if !self.is_client(socket) {
             self.desk.callers.remove(socket);
+            let _page = self.pages.remove(&socket);
         }
         self.follow();
     }
@@ -197,6 +204,7 @@ impl Service {
     {
         let mode = match self.server.client(socket) {
             Some(Place::Observe) => Mode::Observer,
+            Some(Place::Http { .. }) => return self.open_page(socket),
             Some(_) => Mode::Control,
             None => return,
         };

@@ -14,6 +14,7 @@ mod deed;
 mod happening;
 mod next;
 mod opening;
+mod paging;
 mod removing;
 mod service;
 mod serving;
@@ -24,6 +25,7 @@ mod writing;
 pub use deed::{Configured, Deed};
 pub use floor_clients::MAX_CLIENTS;
 pub use floor_desk::{Act, Named, Now, Outcome};
+pub use floor_http::Process;
 pub use floor_rpc::{ConfigFault, ErrorName, Method, Stopped, Text};
 pub use floor_shown::{Words, titles_of};
 pub use floor_turn::{

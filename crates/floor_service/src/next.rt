@@ -66,6 +66,7 @@ impl Service {
                 turn()
             }
             floor_turn::Deed::Log(entry) => {
+                self.count(&entry);
                 self.hear(&entry);
                 Deed::Of(deed)
             }

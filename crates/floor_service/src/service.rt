@@ -9,10 +9,12 @@ use crate::deed::Configured;
 use crate::opening::{open_here, open_read};
 use floor_config::Config;
 use floor_desk::{Act, Desk, Now, standing_now};
+use floor_http::{Counts, Page, Process};
 use floor_rpc::Text;
 use floor_shown::{NewConference, Words};
 use floor_turn::{HubRefusal, Loop, Place, Server};
 use std::alloc::{AllocError, Global};
+use std::collections::BTreeMap;
 
 /// A floor control server and its control clients.
 ///
@@ -28,6 +30,11 @@ use std::alloc::{AllocError, Global};
 pub struct Service {
     pub(crate) server: Server,
     pub(crate) desk: Desk,
+    /// Who asks by HTTP, by their sockets.
+    pub(crate) pages: BTreeMap<usize, Page>,
+    pub(crate) counts: Counts,
+    /// When it began, in milliseconds since 1970-01-01T00:00:00Z.
+    pub(crate) since: u64,
 }
 
 impl Service {
@@ -41,7 +48,13 @@ impl Service {
         now: Now,
     ) -> Result<Service, AllocError> {
         let desk = Desk::new(alloc, seed, version, now)?;
-        Ok(Service { server, desk })
+        Ok(Service {
+            server,
+            desk,
+            pages: BTreeMap::new(alloc),
+            counts: Counts::new(alloc),
+            since: now.unix_millis,
+        })
     }
 
     /// Has the control clients' socket listened on, or that of those that read alone.
@@ -102,16 +115,17 @@ impl Service {
         self.end_call(socket, Some(act), done);
     }
 
-    /// The process has so many bytes of memory: whoever asked how the server stands is answered.
-    pub fn figures(&mut self, memory: u64)
+    /// The system says this of the process: whoever asked how the server stands is answered.
+    pub fn figures(&mut self, process: Process)
         ensures meetings { self.new.server.meetings ≡ self.old.server.meetings }
         ensures attends { Attends beside self.old.desk.callers self.new.desk.callers }
     {
         let members = self.server.members_len();
         for index in 0..self.desk.callers.len() {
             let socket = self.desk.callers.slot_of(index);
-            self.tell_figures(socket, members, memory);
+            self.tell_figures(socket, members, process.memory);
         }
+        self.tell_pages(&process);
     }
 
     /// A client is answered how the server stands, where it asked so.

@@ -14,6 +14,7 @@ ghost use Rattle.floor_service.specs.Calls.{FirstAt, Takes};
 
 use crate::service::Service;
 use floor_desk::Now;
+use floor_turn::Place;
 
 impl Service {
     /// What is to be written to a socket, 64 KiB at most: of a client what waits for it, else what is lent to its member.
@@ -24,6 +25,10 @@ impl Service {
             → result.now ≡ lent_to (caller_at self.now.desk.callers socket) }
     {
         match self.server.client(socket) {
+            Some(Place::Http { .. }) => match self.pages.get(&socket) {
+                Some(page) => page.lent(),
+                None => &[],
+            },
             Some(_) => self.desk.callers.lent(socket),
             None => self.server.lent(socket),
         }
@@ -48,6 +53,9 @@ impl Service {
             → Attends beside self.old.desk.callers self.new.desk.callers }
     {
         self.desk.pass(now);
+        if self.is_page(socket) {
+            return self.page_took(socket, count, now);
+        }
         if self.is_client(socket) {
             self.client_took(socket, count, now);
             return;

@@ -102,6 +102,7 @@ where
                 control_mode: _control_mode,
                 observe: _observe,
                 observe_mode: _observe_mode,
+                http: _http,
                 grace: _grace,
                 grace_for_all: _grace_for_all,
                 keep: _keep,

@@ -10,7 +10,7 @@ use Rattle.floor_sockets.specs.declared.deadlines.Deadline.{Deadline}
 use Rattle.floor_sockets.specs.Sockets.{IsDone, Rests, Sockets}
 use Rattle.floor_proxy.specs.declared.header.NamedBy.{NamedBy}
 use Rattle.floor_connections.specs.declared.place.Place.{Place}
-use Rattle.floor_connections.specs.declared.place.Place.TheVariants.{Control, Door, Health, Observe, Port}
+use Rattle.floor_connections.specs.declared.place.Place.TheVariants.{Control, Door, Health, Http, Observe, Port}
 use Rattle.floor_connections.specs.declared.refusal.Refusal.{Refusal}
 use Rattle.floor_connections.specs.declared.table.Listener.{Listener}
 
@@ -67,6 +67,9 @@ not_control c u p same = cc
 
 pub not_observe : (c u p : ℕ) → ◌≡◌ {A = Place} Observe (Port c u p) → ⊥
 not_observe c u p same = cc
+
+pub not_http : (port c u p : ℕ) → ◌≡◌ {A = Place} (Http port) (Port c u p) → ⊥
+not_http port c u p same = cc
 
 -- a port's user is one
 pub port_fields : (c u p d v q : ℕ) → ◌≡◌ {A = Place} (Port c u p) (Port d v q) → (c ≡ d) × (u ≡ v)

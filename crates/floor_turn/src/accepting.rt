@@ -164,6 +164,8 @@ impl Server {
             Place::Health { .. } => self.connections.open_probe(),
             Place::Control => self.connections.open_client(peer.place, Role::Control),
             Place::Observe => self.connections.open_client(peer.place, Role::Observer),
+            // It has as long for its head, and for its answer, as somebody at a door for a header.
+            Place::Http { .. } => self.connections.open_client(peer.place, Role::AtDoor),
         }
     }
 

@@ -65,7 +65,7 @@ impl Shell {
                 let socket = self.system.observe.take();
                 self.listen_for_clients(number, socket)
             }
-            Place::Port { .. } | Place::Door { .. } | Place::Health { .. } => {
+            Place::Port { .. } | Place::Door { .. } | Place::Health { .. } | Place::Http { .. } => {
                 self.listen_at(number, port_of(place))
             }
         };

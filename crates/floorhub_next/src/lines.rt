@@ -88,7 +88,10 @@ pub fn text_of_act(alloc: Global, act: &Asked) -> Result<String, AllocError> {
 /// The port of a place; 0 of the sockets of control clients.
 pub fn port_of(place: Place) -> u16 {
     match place {
-        Place::Port { port, .. } | Place::Door { port, .. } | Place::Health { port } => port,
+        Place::Port { port, .. }
+        | Place::Door { port, .. }
+        | Place::Health { port }
+        | Place::Http { port } => port,
         Place::Control | Place::Observe => 0,
     }
 }
@@ -108,6 +111,7 @@ fn of_place(alloc: Global, place: Place, told: &str) -> Result<String, AllocErro
         Place::Health { port } => format!(in alloc; "health {port} {told}"),
         Place::Control => format!(in alloc; "control {told}"),
         Place::Observe => format!(in alloc; "observe {told}"),
+        Place::Http { port } => format!(in alloc; "http {port} {told}"),
     }
 }
 

@@ -4,7 +4,7 @@
 use crate::shell::Shell;
 use floor_config::{Config, read_configs};
 use floor_diagnosis::line_of_fault;
-use floor_service::{ConfigFault, Configured, Words, titles_of};
+use floor_service::{ConfigFault, Configured, Process, Words, titles_of};
 use mio::{Poll, Token, Waker};
 use std::alloc::{AllocError, Global};
 use std::collections::VecDeque;
@@ -101,18 +101,39 @@ impl Shell {
         }
     }
 
-    /// Says how many bytes of memory the process has.
+    /// Says what the system has of the process.
     pub fn tell_figures(&mut self) {
-        let text = fs::read_to_string(&self.system.rt, "/proc/self/statm");
-        let pages: u64 = match &text {
-            Ok(text) => number_in(text.as_str(), 1),
-            Err(_) => 0,
-        };
-        self.server.figures(pages.saturating_mul(PAGE));
+        let process = process_of(&self.system.rt);
+        self.server.figures(process);
     }
 }
 
-/// The number that is the word at this place.
+/// What the system has of the process; 0 of what it doesn't tell.
+fn process_of(rt: &HostRuntime) -> Process {
+    // Behind the name of the program, which may have spaces, stand the times in user's and system's mode, in hundredths
+    // of a second, as the 12th and 13th words, and the pages of memory as the 22nd.
+    let text = fs::read_to_string(rt, "/proc/self/stat");
+    let stat = match &text {
+        Ok(text) => text.as_str().rsplit_once(") ").map_or("", |parts| parts.1),
+        Err(_) => "",
+    };
+    let ticks = number_in(stat, 11).saturating_add(number_in(stat, 12));
+    Process {
+        memory: number_in(stat, 21).saturating_mul(PAGE),
+        descriptors: descriptors(rt),
+        processor: ticks.saturating_mul(10),
+    }
+}
+
+/// How many descriptors the process has.
+fn descriptors(rt: &HostRuntime) -> u64 {
+    match fs::read_dir(rt, "/proc/self/fd") {
+        Ok(entries) => entries.count() as u64,
+        Err(_) => 0,
+    }
+}
+
+/// The number that is the word at this place, from 0 on.
 fn number_in(text: &str, place: usize) -> u64 {
     match text.split_whitespace().nth(place) {
         Some(word) => word.parse().unwrap_or(0),

@@ -103,6 +103,10 @@ impl Shell {
             self.server.clients(Place::Control)?;
             self.console.may_end = true;
         }
+        if let Some(port) = words.http {
+            self.system.bind_http(port)?;
+            self.server.http(port)?;
+        }
         if let Some(path) = &words.observe {
             let (path, mode) = (path.as_str(), words.observe_mode);
             self.system.observe = Some(self.system.bind_path("--observe", path, mode)?);

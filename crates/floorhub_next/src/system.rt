@@ -104,6 +104,14 @@ impl System {
         }
     }
 
+    /// Listens on the port at which is answered by HTTP.
+    pub fn bind_http(&mut self, port: u16) -> Result<(), BoardRefusal> {
+        match self.bind(port) {
+            Ok(()) => Ok(()),
+            Err(fault) => self.checked(Err(fault.at_http(self.alloc, port))),
+        }
+    }
+
     /// Listens on a port of 127.0.0.1.
     fn bind(&mut self, port: u16) -> Result<(), PortFault> {
         self.bound.reserve(1)?;

@@ -9,9 +9,15 @@
 
 use floor_config::read_configs;
 use floor_service::{
-    Act, Bounds, Configured, Deed, Grace, Now, Place, Server, Service, Text, titles_of,
+    Act, Bounds, Configured, Deed, Grace, Now, Place, Process, Server, Service, Text, titles_of,
 };
 use std::alloc::{AllocError, Global};
+
+const PROCESS: Process = Process {
+    memory: 1_234,
+    descriptors: 5,
+    processor: 67,
+};
 
 const BOUNDS: Bounds = Bounds {
     of_user: 8,
@@ -52,7 +58,10 @@ struct Paged {
     has_ended: bool,
 }
 
-/// A place as a number: a port, or 1 and 2 for the clients' sockets.
+/// The port at which is answered by HTTP.
+const HTTP: u16 = 8_080;
+
+/// A place as a number: a port, or 1, 2 and 3 for those of the clients.
 fn number_of(place: Place) -> u64 {
     match place {
         Place::Port { port, .. } | Place::Door { port, .. } | Place::Health { port } => {
@@ -60,6 +69,7 @@ fn number_of(place: Place) -> u64 {
         }
         Place::Control => 1,
         Place::Observe => 2,
+        Place::Http { .. } => 3,
     }
 }
 
@@ -186,7 +196,7 @@ impl Paged {
                 None => return Ok(()),
                 Some(Deed::Of(deed)) => self.answer(deed)?,
                 Some(Deed::Configure(number)) => self.held.push(number)?,
-                Some(Deed::Figures) => self.service.figures(1_234),
+                Some(Deed::Figures) => self.service.figures(PROCESS),
                 Some(Deed::Tell(act)) => self.log(act)?,
             }
             if !self.is_holding {
@@ -220,6 +230,7 @@ impl Paged {
         let number = match place {
             "control" => 1,
             "observe" => 2,
+            "http" => 3,
             port => port.parse().unwrap_or(0),
         };
         self.peers.push(Peer {
@@ -332,7 +343,7 @@ impl Paged {
         }
         self.logged.clear();
         for peer in self.peers.iter_mut() {
-            if peer.place < 3 {
+            if peer.place < TOLD {
                 tell_peer(text, peer)?;
             }
         }
@@ -344,6 +355,9 @@ impl Paged {
     }
 }
 
+/// Behind the clients' places; a client that is shut is told of no more.
+const TOLD: u64 = 4;
+
 fn tell_peer(text: &mut String, peer: &mut Peer) -> Result<(), AllocError> {
     let name = char::from(peer.name);
     let came = std::str::from_utf8(&peer.came).unwrap_or("not UTF-8\n");
@@ -352,13 +366,13 @@ fn tell_peer(text: &mut String, peer: &mut Peer) -> Result<(), AllocError> {
         peer.is_counted = false;
     } else {
         for line in came.lines() {
-            write!(text, "{name}< {line}\n")?;
+            let between = if line.is_empty() { "" } else { " " };
+            write!(text, "{name}<{between}{line}\n")?;
         }
     }
     peer.came.clear();
-    if peer.is_shut && peer.place < 3 {
-        // It is told once.
-        peer.place = 3;
+    if peer.is_shut && peer.place < TOLD {
+        peer.place = TOLD;
         write!(text, "{name} closed\n")?;
     }
     Ok(())
@@ -379,9 +393,15 @@ fn read_text(alloc: Global, text: &str) -> Result<Configured, AllocError> {
     }
 }
 
-/// What is sent: the text of a client as a line, and of a member the messages that its words say.
+/// What is sent: the text of a client as a line, of `h` by HTTP, with its ends of lines as `|`, and of a member the messages
+/// that its words say.
 fn sent_of(alloc: Global, name: u8, text: &str) -> Result<Vec<u8>, AllocError> {
     let mut bytes = Vec::new(alloc);
+    if name == b'h' {
+        let text = text.replace(alloc, "|", "\r\n")?;
+        bytes.extend_from_slice(text.as_bytes())?;
+        return Ok(bytes);
+    }
     if name < b'u' {
         bytes.extend_from_slice(text.as_bytes())?;
         bytes.push(b'\n')?;
@@ -419,6 +439,7 @@ fn printed(alloc: Global, page: &str) -> Result<String, AllocError> {
     let mut service = Service::new(alloc, server, [0; 32], version, begin)?;
     service.clients(Place::Control)?;
     service.clients(Place::Observe)?;
+    service.http(HTTP)?;
     let mut run = Paged {
         alloc,
         service,

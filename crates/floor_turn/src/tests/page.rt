@@ -257,6 +257,7 @@ fn tell_place(text: &mut String, place: Place) -> Result<(), AllocError> {
         Place::Health { port } => write!(text, "health {port}"),
         Place::Control => text.push_str("control"),
         Place::Observe => text.push_str("observe"),
+        Place::Http { port } => write!(text, "http {port}"),
     }
 }
 

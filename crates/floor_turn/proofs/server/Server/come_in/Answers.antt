@@ -3,7 +3,7 @@ use Rattle.floor_loop.specs.Laws.{IsNew}
 use Rattle.floor_meetings.specs.Meetings.{member_at}
 use Rattle.floor_meetings.specs.declared.members.Member.{Member}
 use Rattle.floor_turn.proofs.Entering.{Declined, at_port_refused, client_there, no_client, no_port_refused, not_clients_door, not_clients_health, not_clients_port}
-use Rattle.floor_turn.proofs.Handing.{at_port, no_port, not_control, not_door, not_health, not_observe}
+use Rattle.floor_turn.proofs.Handing.{at_port, no_port, not_control, not_door, not_health, not_http, not_observe}
 use Rattle.floor_turn.proofs.Moving.{moves_same}
 use Rattle.floor_turn.proofs.server.Server.come_in.Goals as goal
 
@@ -46,8 +46,17 @@ returns-in-Observe-clause-joined c =
     no_port c.open_client-in-Observe.result c.args.peer.place (λ s d u. (m : Member) × (member_at old s ≡ Some m) × (m.conference ≡ d) × (m.user ≡ u) × IsNew old.hub m.number)
     (λ d u p is. not_observe d u p (sym c.in-Observe.is ∙ is))
 
+pub returns-in-Http-clause-joined : goal.returns-in-Http-clause-joined
+returns-in-Http-clause-joined c =
+    let old = c.args.self.now.meetings in
+    no_port c.open_client-in-Http.result c.args.peer.place (λ s d u. (m : Member) × (member_at old s ≡ Some m) × (m.conference ≡ d) × (m.user ≡ u) × IsNew old.hub m.number)
+    (λ d u p is. not_http _ d u p (sym c.in-Http.is ∙ is))
+
 pub returns-in-Observe-clause-moves : goal.returns-in-Observe-clause-moves
 returns-in-Observe-clause-moves c = moves_same c.args.self.now.meetings c.args.self.now.meetings refl
+
+pub returns-in-Http-clause-moves : goal.returns-in-Http-clause-moves
+returns-in-Http-clause-moves c = moves_same c.args.self.now.meetings c.args.self.now.meetings refl
 
 pub returns-in-Port-clause-refused : goal.returns-in-Port-clause-refused
 returns-in-Port-clause-refused c = at_port_refused c.enter_at_port.result c.args.peer.place _ _ _ (Declined c.args.self.now.connections.conferences c.args.self.now.meetings c.enter_at_port.new.self.meetings) c.in-Port.is c.enter_at_port.ensures.refused
@@ -78,3 +87,9 @@ returns-in-Control-clause-client c = client_there c.open_client.result c.open_cl
 
 pub returns-in-Observe-clause-client : goal.returns-in-Observe-clause-client
 returns-in-Observe-clause-client c = client_there c.open_client-in-Observe.result c.open_client-in-Observe.new.self.table c.args.peer.place c.open_client-in-Observe.ensures.there
+
+pub returns-in-Http-clause-refused : goal.returns-in-Http-clause-refused
+returns-in-Http-clause-refused c = no_port_refused c.open_client-in-Http.result c.args.peer.place (Declined c.args.self.now.connections.conferences c.args.self.now.meetings c.args.self.now.meetings) (λ d u p is. not_http _ d u p (sym c.in-Http.is ∙ is))
+
+pub returns-in-Http-clause-client : goal.returns-in-Http-clause-client
+returns-in-Http-clause-client c = client_there c.open_client-in-Http.result c.open_client-in-Http.new.self.table c.args.peer.place c.open_client-in-Http.ensures.there
