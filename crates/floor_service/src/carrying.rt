@@ -4,10 +4,9 @@
 ghost use Rattle.floor_turn.specs.Moves.{Moves, nothing_taken};
 ghost use Rattle.floor_desk.specs.Attending.{Attends, beside, carried};
 
+use crate::draining::{drain_all, may_change};
 use crate::{asking, changing, opening, removing};
-use floor_desk::{
-    Desk, Done, drain, get, journal, list, set_word, status, stop, unwatch, watch, words,
-};
+use floor_desk::{Desk, Done, get, journal, list, set_word, status, stop, unwatch, watch, words};
 use floor_message::Verdict;
 use floor_rpc::{Answer, Call, OfConference};
 use floor_shown::Refused;
@@ -24,6 +23,7 @@ pub(crate) fn carry_out(
     ensures moves { Moves nothing_taken server.old.meetings server.new.meetings }
     ensures attends { Attends (carried socket) desk.old.callers desk.new.callers }
 {
+    may_change(server.hub(), &call)?;
     match call {
         Call::ConferenceOpen(opening) => opening::open(server, desk, opening),
         Call::ConferenceList(listing) => now(list(desk, server.hub(), &listing)),
@@ -47,7 +47,7 @@ pub(crate) fn carry_out(
         Call::Unwatch(unwatching) => now(unwatch(desk, socket, &unwatching)),
         Call::Journal(asked) => now(journal(desk, server.hub(), &asked)),
         Call::ServerStatus => status(desk),
-        Call::ServerDrain => now(drain(desk)),
+        Call::ServerDrain => now(drain_all(server.hub(), desk)),
         Call::ServerStop => stop(desk),
         Call::Help => Ok(Done::Now(Answer::Help)),
     }

@@ -11,6 +11,7 @@ mod asking;
 mod carrying;
 mod changing;
 mod deed;
+mod draining;
 mod happening;
 mod next;
 mod opening;

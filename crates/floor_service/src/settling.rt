@@ -4,6 +4,7 @@
 ghost use Rattle.std.specs.Prelude.{◌≡◌};
 ghost use Rattle.floor_desk.specs.Attending.{Attends, beside};
 
+use crate::draining::see_to_end_of;
 use crate::service::Service;
 use floor_desk::{note, queue_or_close};
 
@@ -14,7 +15,10 @@ impl Service {
         ensures attends { Attends beside self.old.desk.callers self.new.desk.callers }
     {
         match self.server.take_touched() {
-            Some(conference) => note(&mut self.desk, self.server.hub(), conference),
+            Some(conference) => {
+                note(&mut self.desk, self.server.hub(), conference);
+                see_to_end_of(self.server.hub(), &mut self.desk, conference);
+            }
             None => {}
         }
     }
