@@ -1,6 +1,6 @@
 -- A loop moves on with its hub.
 use Rattle.std.proofs.Common.{◌≡◌, ◌≢◌, ◌⊎◌, inl, inr, ℕ, zero, suc, ◌+◌, ◌-◌, ◌≤◌, true, false, List, [], ◌∷◌, ◌++◌, length, take, map, refl, sym, ◌∙◌, ap, subst, arith, append_assoc, append-nil, length-append, Some, None}
-use Rattle.std.specs.Prelude.{Option, IsSome, nat_eq, slice_get}
+use Rattle.std.specs.Prelude.{Option, Result, Ok, Err, IsSome, OnErr, OnOk, nat_eq, slice_get}
 use Rattle.std.specs.Option.{option_map_or}
 use Rattle.std.proofs.lemmas.Bool.Decides.{eqb_tells}
 use Rattle.std.proofs.lemmas.Option.{none-some}
@@ -24,7 +24,7 @@ use Rattle.floor_hub.specs.declared.step.Step.TheVariants.{Piece}
 use Rattle.floor_hub.specs.Connections.{SamePlace, StayLive, connection_at}
 use Rattle.floor_hub.specs.Gathers.{Gathers}
 use Rattle.floor_hub.specs.Hub.{Hub, room_at}
-use Rattle.floor_hub.specs.Rooms.{AddsOwn, Joins, OneRoom, QueuesMore, RoomAfter, RoomAfterIn, RoomOf, taken_of}
+use Rattle.floor_hub.specs.Rooms.{AddsOwn, Joins, OneRoom, Opens, QueuesMore, RoomAfter, RoomAfterIn, RoomOf, SameHub, TakenFrom, taken_of}
 use Rattle.floor_hub.specs.Runs.{run}
 use Rattle.floor_hub.specs.StandsFor.{NumberStands, StandsFor}
 use Rattle.floor_hub.specs.Members.{user_of}
@@ -39,7 +39,7 @@ use Rattle.std.proofs.lemmas.Option.{get_or_from_slice_get, slice_get-get_or, sl
 use Rattle.floor_loop.specs.Away.{Away, stay_of}
 use Rattle.floor_loop.specs.Returned.{StaysAreOwn}
 use Rattle.floor_loop.specs.Loop.{Attended, Loop, Outgoing, outgoing_at, until_of}
-use Rattle.floor_loop.specs.Done.{AtMost, Each, NoSteps, Reads, Steps, Then}
+use Rattle.floor_loop.specs.Done.{AtMost, Each, NoSteps, Reads, Remains, RoomsRemain, StandsStill, Steps, Then}
 use Rattle.floor_loop.specs.Written.{Attends, IsOnItsWay, IsServing, IsTimed, Took, TookNothing, acknowledged, called_for, taken_bytes, written}
 use Rattle.floor_loop.specs.steps.Moved.{FewerStays, Grows, IsLoop, Keeps, KeepsLive, Moved, WasLive, Went}
 use Rattle.floor_loop.proofs.Over.{over-grows}
@@ -48,6 +48,87 @@ use Rattle.floor_loop.proofs.Front.{before, taken-stay, within-more}
 
 some_is : {A : Type 0} (x y : A) → ◌≡◌ {A = Option A} (Some x) (Some y) → x ≡ y
 some_is x y e = cc
+
+-- rooms that remain
+
+pub remains-same : (r s : Room) → s ≡ r → Remains r s
+remains-same r s e = subst (Remains r) (sym e) (record { kept = refl; config = refl; more = []; journal = sym (append-nil r.ledger.journal) })
+
+remains-both : (q r s : Room) → Remains q r → Remains r s → Remains q s
+remains-both q r s a b = record {
+  kept = b.kept ∙ a.kept;
+  config = b.config ∙ a.config;
+  more = a.more ++ b.more;
+  journal = b.journal ∙ ap (λ (es : List Event). es ++ b.more) a.journal ∙ append_assoc q.ledger.journal a.more b.more;
+}
+
+pub remain-same : (old new : Hub) → ((d : ℕ) → room_at new d ≡ room_at old d) → RoomsRemain old new
+remain-same old new same d r is = (r, same d ∙ is, remains-same r r refl)
+
+pub remain-refl : (hub : Hub) → RoomsRemain hub hub
+remain-refl hub = remain-same hub hub (λ d. refl)
+
+pub remain-equal : (old new : Hub) → new ≡ old → RoomsRemain old new
+remain-equal old new same = remain-same old new (λ d. ap (λ (h : Hub). room_at h d) same)
+
+remain-both : (a b c : Hub) → RoomsRemain a b → RoomsRemain b c → RoomsRemain a c
+remain-both a b c f g d r is =
+    let s = f d r is in
+    let t = g d s.0 s.1 in
+    (t.0, t.1, remains-both r s.0 t.0 s.2 t.2)
+
+adds-some : (why : Option HubRefusal) (own old new : List Event) → AddsOwn why own old new → (more : List Event) × (new ≡ old ++ more)
+adds-some None own old new h = (own, h)
+adds-some (Some (ByRoom (room.Refused machine.Memory))) own old new (inl h) = ([], h ∙ sym (append-nil old))
+adds-some (Some (ByRoom (room.Refused machine.Memory))) own old new (inr h) = (own, h)
+adds-some (Some refusal) own old new h = ([], h ∙ sym (append-nil old))
+
+remains-after : (shut why : Option HubRefusal) (own : List Event) (r s : Room) → RoomAfter shut why own r s → Remains r s
+remains-after shut why own r s a =
+    let m = adds-some why own r.ledger.journal s.ledger.journal a.journal in
+    record { kept = a.kept; config = a.config; more = m.0; journal = m.1 }
+
+pub remain-one : (shut why : Option HubRefusal) (own : Room → List Event) (c : ℕ) (old new : Hub) → OneRoom shut why own c old new → RoomsRemain old new
+remain-one shut why own c old new one d r is = by (eqb_tells c d)
+  where
+    here : (y z : Option Room) → RoomAfterIn shut why own y z → y ≡ Some r → (s : Room) × (z ≡ Some s) × Remains r s
+    here None z a e = absurd (none-some r e)
+    here (Some q) None a e = absurd a
+    here (Some q) (Some s) a e = (s, refl, subst (λ (i : Room). Remains i s) (some_is q r e) (remains-after shut why (own q) q s a))
+
+    by : (((nat_eq c d ≡ true) × (c ≡ d)) ⊎ ((nat_eq c d ≡ false) × (c ≢ d))) → (s : Room) × (room_at new d ≡ Some s) × Remains r s
+    by (inl t) = subst (λ (i : ℕ). (s : Room) × (room_at new i ≡ Some s) × Remains r s) t.1 (here (room_at old c) (room_at new c) one.own (ap (room_at old) t.1 ∙ is))
+    by (inr t) = (r, one.others d t.0 ∙ is, remains-same r r refl)
+
+pub remain-of : (shut why : Option HubRefusal) (own : Connection → Room → List Event) (x : Option Connection) (old new : Hub) → RoomOf shut why own x old new → RoomsRemain old new
+remain-of shut why own None old new a = remain-same old new a.0.rooms
+remain-of shut why own (Some x) old new a = remain-one shut why (own x) x.conference old new a
+
+pub remain-open : (config : Configuration) (old new : Hub) (res : Result (Unit {0}) HubRefusal) → OnOk res (Opens config old new) → OnErr res (SameHub old new) → RoomsRemain old new
+remain-open config old new (Err r) opens left = remain-same old new left.rooms
+remain-open config old new (Ok v) opens left = λ d r is. by d r is (eqb_tells config.conference d)
+  where
+    by : (d : ℕ) (r : Room) → room_at old d ≡ Some r → (((nat_eq config.conference d ≡ true) × (config.conference ≡ d)) ⊎ ((nat_eq config.conference d ≡ false) × (config.conference ≢ d))) → (s : Room) × (room_at new d ≡ Some s) × Remains r s
+    by d r is (inl t) = absurd (none-some r (sym opens.absent ∙ ap (room_at old) t.1 ∙ is))
+    by d r is (inr t) = (r, opens.others d t.0 ∙ is, remains-same r r refl)
+
+-- what was taken out of a room leaves it as it was, but for its outboxes
+pub remain-taken : (c n : ℕ) (parcel : Option Parcel) (old new : Hub) → TakenFrom c n parcel old new → RoomsRemain old new
+remain-taken c n parcel old new f d r is = by (eqb_tells c d)
+  where
+    by : (((nat_eq c d ≡ true) × (c ≡ d)) ⊎ ((nat_eq c d ≡ false) × (c ≢ d))) → (s : Room) × (room_at new d ≡ Some s) × Remains r s
+    by (inl t) =
+        let was : f.before ≡ r = some_is f.before r (sym f.was ∙ ap (room_at old) t.1 ∙ is) in (
+          f.after,
+          ap (room_at new) (sym t.1) ∙ f.now,
+          record {
+            kept = ap (λ (z : Room). z.kept) f.gave.same ∙ ap (λ (z : Room). z.kept) was;
+            config = ap (λ (z : Room). z.ledger.config) f.gave.same ∙ ap (λ (z : Room). z.ledger.config) was;
+            more = [];
+            journal = ap (λ (z : Room). z.ledger.journal) f.gave.same ∙ ap (λ (z : Room). z.ledger.journal) was ∙ sym (append-nil r.ledger.journal);
+          },
+        )
+    by (inr t) = (r, f.others d t.0 ∙ is, remains-same r r refl)
 
 -- steps, one after another
 
@@ -83,13 +164,14 @@ steps-both First Next a b c f g = λ w st.
       steps = u.steps ++ v.steps;
       are = record { first = u.steps; next = v.steps; all = refl; are = u.are; follow = v.are };
       stands = subst (StandsFor c) (sym (run-append w u.steps v.steps)) v.stands;
+      remain = remain-both a b c u.remain v.remain;
     }
 
 pub steps-of : (Are Others : List Step → Type 0) (a b : Hub) → ((steps : List Step) → Are steps → Others steps) → Steps Are a b → Steps Others a b
-steps-of Are Others a b f g = λ w st. let u = g w st in record { steps = u.steps; are = f u.steps u.are; stands = u.stands }
+steps-of Are Others a b f g = λ w st. let u = g w st in record { steps = u.steps; are = f u.steps u.are; stands = u.stands; remain = u.remain }
 
-pub steps-none : (Are : List Step → Type 0) (a b : Hub) → Are [] → ((w : World) → StandsFor a w → StandsFor b w) → Steps Are a b
-steps-none Are a b none f = λ w st. record { steps = []; are = none; stands = f w st }
+pub steps-none : (Are : List Step → Type 0) (a b : Hub) → Are [] → RoomsRemain a b → StandsStill a b → Steps Are a b
+steps-none Are a b none remain f = λ w st. record { steps = []; are = none; stands = f w st; remain = remain }
 
 -- bytes alone are read, too
 pub piece-alone : (number : ℕ) (bytes : List ℕ) (most : ℕ) (steps : List Step) → AtMost 1 (Piece number bytes) steps → Reads number bytes most steps
@@ -168,12 +250,6 @@ untaken-more (o ∷ os) (p ∷ ps) (suc k) h = untaken-more os ps k h.2
 untaken-at : (r s : Room) (n : ℕ) → QueuesMore r.outboxes s.outboxes → taken_of s n ≡ taken_of r n
 untaken-at r s zero h = refl
 untaken-at r s (suc k) h = untaken-more r.outboxes s.outboxes k h
-
-adds-some : (why : Option HubRefusal) (own old new : List Event) → AddsOwn why own old new → (more : List Event) × (new ≡ old ++ more)
-adds-some None own old new h = (own, h)
-adds-some (Some (ByRoom (room.Refused machine.Memory))) own old new (inl h) = ([], h ∙ sym (append-nil old))
-adds-some (Some (ByRoom (room.Refused machine.Memory))) own old new (inr h) = (own, h)
-adds-some (Some refusal) own old new h = ([], h ∙ sym (append-nil old))
 
 grows-after : (shut why : Option HubRefusal) (own : List Event) (r s : Room) → RoomAfter shut why own r s → Grows r s
 grows-after shut why own r s a =
@@ -330,7 +406,7 @@ own-same a b same fewer l k s is =
 pub fewer : (a b : Attended) → b.away ≡ a.away → FewerStays a b
 fewer a b same k s is = ap (λ (z : Away). stay_of z k) (sym same) ∙ is
 
-moved-owning : (Are : List Step → Type 0) (old new : Loop) → Steps Are old.hub new.hub → Went old.hub new.hub → KeepsLive new.hub (outgoing_at old) (outgoing_at new) → (IsLoop old → StaysAreOwn new) → (IsLoop old → IsTimed new) → Moved Are old new
+pub moved-owning : (Are : List Step → Type 0) (old new : Loop) → Steps Are old.hub new.hub → Went old.hub new.hub → KeepsLive new.hub (outgoing_at old) (outgoing_at new) → (IsLoop old → StaysAreOwn new) → (IsLoop old → IsTimed new) → Moved Are old new
 moved-owning Are old new steps went keeps own timed = record {
   steps = steps;
   live = went.live;
@@ -399,7 +475,7 @@ moved-before Are a b c f g = moved-of (Then Are NoSteps) Are a c (then-none Are)
 
 -- a loop of which nothing that is on its way has changed, and no mark is gone
 pub moved-same : (a b : Loop) → b.hub ≡ a.hub → KeepsLive b.hub (outgoing_at a) (outgoing_at b) → (IsLoop a → StaysAreOwn b) → Moved NoSteps a b
-moved-same a b same keeps own = moved-owning NoSteps a b (steps-none NoSteps a.hub b.hub refl (λ w st. subst (λ (h : Hub). StandsFor h w) (sym same) st)) went keeps own timed
+moved-same a b same keeps own = moved-owning NoSteps a b (steps-none NoSteps a.hub b.hub refl (remain-equal a.hub b.hub same) (λ w st. subst (λ (h : Hub). StandsFor h w) (sym same) st)) went keeps own timed
   where
     went : Went a.hub b.hub
     went = subst (Went a.hub) (sym same) (record {
