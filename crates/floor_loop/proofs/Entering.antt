@@ -274,11 +274,15 @@ new-passed hub b c number same n = record {
   unacknowledged = n.unacknowledged;
 }
 
+-- what is on its way to each is what it was
+pub kept-still : (hub : Hub) (a b : Attended) → b.outgoing ≡ a.outgoing → (IsLoop (loop_of hub a) → StaysAreOwn (loop_of hub b)) → Moved NoSteps (loop_of hub a) (loop_of hub b)
+kept-still hub a b next own = moved-same (loop_of hub a) (loop_of hub b) refl (keeps-live hub (outgoing_in a) (outgoing_in b) (keeps-passed a b next)) own
+
 -- who was kept may be told something still; who wasn't is as it was
 pub kept-moves : (hub : Hub) (a b : Attended) (number : ℕ) (kept : Bool) → b.outgoing ≡ cond kept (changed unended number a.outgoing) a.outgoing →
     (IsLoop (loop_of hub a) → (x : Connection) (r : Room) → connection_at hub.connections number ≡ Some x → room_at hub x.conference ≡ Some r → ¬ IsOver r x.n) → (IsLoop (loop_of hub a) → StaysAreOwn (loop_of hub b)) → Moved NoSteps (loop_of hub a) (loop_of hub b)
 kept-moves hub a b number true next calm own = moved-unended hub a b number next calm own
-kept-moves hub a b number false next calm own = moved-same (loop_of hub a) (loop_of hub b) refl (keeps-live hub (outgoing_in a) (outgoing_in b) (keeps-passed a b next)) own
+kept-moves hub a b number false next calm own = kept-still hub a b next own
 
 -- nobody comes, and nobody leaves
 pub returns-none : (conference user : ℕ) (hub : Hub) → Steps (Returns conference user []) hub hub

@@ -1,5 +1,5 @@
 -- A loop moves on with its hub.
-use Rattle.std.proofs.Common.{◌≡◌, ◌≢◌, ◌⊎◌, inl, inr, ℕ, zero, suc, ◌+◌, ◌-◌, ◌≤◌, true, false, List, [], ◌∷◌, ◌++◌, length, take, map, refl, sym, ◌∙◌, ap, subst, arith, append_assoc, append-nil, length-append, Some, None}
+use Rattle.std.proofs.Common.{◌≡◌, ◌≢◌, ◌⊎◌, inl, inr, ℕ, zero, suc, ◌+◌, ◌-◌, ◌≤◌, true, false, List, [], ◌∷◌, ◌++◌, length, take, drop, map, refl, sym, ◌∙◌, ap, subst, arith, append_assoc, append-nil, length-append, Some, None}
 use Rattle.std.specs.Prelude.{Option, Result, Ok, Err, IsSome, OnErr, OnOk, nat_eq, slice_get}
 use Rattle.std.specs.Option.{option_map_or}
 use Rattle.std.proofs.lemmas.Bool.Decides.{eqb_tells}
@@ -15,7 +15,7 @@ use Rattle.floor_machine.specs.declared.machine.Refusal.TheVariants as machine
 use Rattle.floor_room.specs.declared.refusal.RoomRefusal.TheVariants as room
 use Rattle.floor_room.specs.Outbox.{Outbox}
 use Rattle.floor_room.specs.Replay.{bytes_of}
-use Rattle.floor_room.specs.Room.{Room}
+use Rattle.floor_room.specs.Room.{Room, parcels_to}
 use Rattle.floor_hub.specs.declared.connection.Connection.{Connection}
 use Rattle.floor_hub.specs.declared.refusal.HubRefusal.{HubRefusal}
 use Rattle.floor_hub.specs.declared.refusal.HubRefusal.TheVariants.{ByRoom}
@@ -24,7 +24,7 @@ use Rattle.floor_hub.specs.declared.step.Step.TheVariants.{Piece}
 use Rattle.floor_hub.specs.Connections.{SamePlace, StayLive, connection_at}
 use Rattle.floor_hub.specs.Gathers.{Gathers}
 use Rattle.floor_hub.specs.Hub.{Hub, room_at}
-use Rattle.floor_hub.specs.Rooms.{AddsOwn, Joins, OneRoom, Opens, QueuesMore, RoomAfter, RoomAfterIn, RoomOf, SameHub, TakenFrom, taken_of}
+use Rattle.floor_hub.specs.Rooms.{AddsOwn, Joins, OneRoom, Opens, QueuesMore, RoomAfter, RoomAfterIn, RoomOf, SameHub, TakenEach, TookEach, taken_of}
 use Rattle.floor_hub.specs.Runs.{run}
 use Rattle.floor_hub.specs.StandsFor.{NumberStands, StandsFor}
 use Rattle.floor_hub.specs.Members.{user_of}
@@ -33,14 +33,14 @@ use Rattle.floor_hub.specs.declared.step.Answer.TheVariants as answer
 use Rattle.floor_hub.specs.World.{Aim, Place, World, aimed, places_after, turn, turn_at, offer}
 use Rattle.floor_machine.specs.Events.{joiner}
 use Rattle.std.specs.Prelude.{filter_map}
-use Rattle.std.proofs.lemmas.List.{get_or_append_left}
+use Rattle.std.proofs.lemmas.List.{get_or_append_left, take-append-drop}
 use Rattle.std.proofs.lemmas.List.Elements.{filter_map-append}
 use Rattle.std.proofs.lemmas.Option.{get_or_from_slice_get, slice_get-get_or, slice_get_within}
 use Rattle.floor_loop.specs.Away.{Away, stay_of}
 use Rattle.floor_loop.specs.Returned.{StaysAreOwn}
 use Rattle.floor_loop.specs.Loop.{Attended, Loop, Outgoing, outgoing_at, until_of}
 use Rattle.floor_loop.specs.Done.{AtMost, Each, NoSteps, Reads, Remains, RoomsRemain, StandsStill, Steps, Then}
-use Rattle.floor_loop.specs.Written.{Attends, IsOnItsWay, IsServing, IsTimed, Took, TookNothing, acknowledged, called_for, taken_bytes, written}
+use Rattle.floor_loop.specs.Written.{Attends, IsOnItsWay, IsServing, IsTimed, Took, TookNothing, acknowledged, called_for, kept_for, taken_bytes, written}
 use Rattle.floor_loop.specs.steps.Moved.{FewerStays, Grows, IsLoop, Keeps, KeepsLive, Moved, WasLive, Went}
 use Rattle.floor_loop.proofs.Over.{over-grows}
 use Rattle.floor_loop.proofs.Watching.{gathers-both, gathers-ledgers, gathers-refl}
@@ -113,21 +113,24 @@ remain-open config old new (Ok v) opens left = λ d r is. by d r is (eqb_tells c
     by d r is (inr t) = (r, opens.others d t.0 ∙ is, remains-same r r refl)
 
 -- what was taken out of a room leaves it as it was, but for its outboxes
-pub remain-taken : (c n : ℕ) (parcel : Option Parcel) (old new : Hub) → TakenFrom c n parcel old new → RoomsRemain old new
-remain-taken c n parcel old new f d r is = by (eqb_tells c d)
+remains-taken : (r s : Room) (n : ℕ) (parcels : List Parcel) → TookEach r s n parcels → Remains r s
+remains-taken r s n [] h = remains-same r s h
+remains-taken r s n (p ∷ ps) h =
+    let t = remains-taken h.0 s n ps h.3 in
+    record {
+      kept = t.kept ∙ ap (λ (z : Room). z.kept) h.2.same;
+      config = t.config ∙ ap (λ (z : Room). z.ledger.config) h.2.same;
+      more = t.more;
+      journal = t.journal ∙ ap (λ (z : Room). z.ledger.journal ++ t.more) h.2.same;
+    }
+
+pub remain-taken : (c n : ℕ) (parcels : List Parcel) (old new : Hub) → TakenEach c n parcels old new → RoomsRemain old new
+remain-taken c n parcels old new f d r is = by (eqb_tells c d)
   where
     by : (((nat_eq c d ≡ true) × (c ≡ d)) ⊎ ((nat_eq c d ≡ false) × (c ≢ d))) → (s : Room) × (room_at new d ≡ Some s) × Remains r s
     by (inl t) =
-        let was : f.before ≡ r = some_is f.before r (sym f.was ∙ ap (room_at old) t.1 ∙ is) in (
-          f.after,
-          ap (room_at new) (sym t.1) ∙ f.now,
-          record {
-            kept = ap (λ (z : Room). z.kept) f.gave.same ∙ ap (λ (z : Room). z.kept) was;
-            config = ap (λ (z : Room). z.ledger.config) f.gave.same ∙ ap (λ (z : Room). z.ledger.config) was;
-            more = [];
-            journal = ap (λ (z : Room). z.ledger.journal) f.gave.same ∙ ap (λ (z : Room). z.ledger.journal) was ∙ sym (append-nil r.ledger.journal);
-          },
-        )
+        let was : f.before ≡ r = some_is f.before r (sym f.was ∙ ap (room_at old) t.1 ∙ is) in
+        (f.after, ap (room_at new) (sym t.1) ∙ f.now, subst (λ (z : Room). Remains z f.after) was (remains-taken f.before f.after n parcels f.took))
     by (inr t) = (r, f.others d t.0 ∙ is, remains-same r r refl)
 
 -- steps, one after another
@@ -191,13 +194,47 @@ map-append : (f : Message → Parcel) (xs ys : List Message) → map f (xs ++ ys
 map-append f [] ys = refl
 map-append f (x ∷ xs) ys = ap (λ (z : List Parcel). f x ∷ z) (map-append f xs ys)
 
+-- more events call for what was called for, and more
+pub parcels-more : (config : Configuration) (es more : List Event) (n : ℕ) → (later : List Parcel) × (parcels_to config (es ++ more) n ≡ parcels_to config es n ++ later)
+parcels-more config es more n = (
+  map (parcel n) (told_from (after_from (opening config) es) more n),
+  ap (map (parcel n)) (told-both (opening config) es more n) ∙ map-append (parcel n) (told_from (opening config) es n) (told_from (after_from (opening config) es) more n),
+)
+
 called-more : (r s : Room) (n : ℕ) → Grows r s → (more : List Parcel) × (called_for s n ≡ called_for r n ++ more)
 called-more r s n g =
-    let told : told_from (opening s.ledger.config) s.ledger.journal n ≡ told_from (opening r.ledger.config) r.ledger.journal n ++ told_from (after_from (opening r.ledger.config) r.ledger.journal) g.more n =
-    ap (λ (c : Configuration). told_from (opening c) s.ledger.journal n) g.config ∙ ap (λ (es : List Event). told_from (opening r.ledger.config) es n) g.journal ∙ told-both (opening r.ledger.config) r.ledger.journal g.more n in (
-      map (parcel n) (told_from (after_from (opening r.ledger.config) r.ledger.journal) g.more n),
-      ap (map (parcel n)) told ∙ map-append (parcel n) (told_from (opening r.ledger.config) r.ledger.journal n) (told_from (after_from (opening r.ledger.config) r.ledger.journal) g.more n),
-    )
+    let m = parcels-more r.ledger.config r.ledger.journal g.more n in
+    (m.0, ap (λ (c : Configuration). parcels_to c s.ledger.journal n) g.config ∙ ap (λ (es : List Event). parcels_to r.ledger.config es n) g.journal ∙ m.1)
+
+kept-more : (r s : Room) (n : ℕ) → Grows r s → (more : List Parcel) × (kept_for s n ≡ kept_for r n ++ more)
+kept-more r s n g =
+    let m = parcels-more r.ledger.config (take r.kept r.ledger.journal) g.later n in
+    (m.0, ap (λ (c : Configuration). parcels_to c (take s.kept s.ledger.journal) n) g.config ∙ ap (λ (es : List Event). parcels_to r.ledger.config es n) g.kept ∙ m.1)
+
+-- what the events that are kept call for is a front of what all do
+pub kept-front : (r : Room) (n : ℕ) → (more : List Parcel) × (called_for r n ≡ kept_for r n ++ more)
+kept-front r n =
+    let m = parcels-more r.ledger.config (take r.kept r.ledger.journal) (drop r.kept r.ledger.journal) n in
+    (m.0, ap (λ (es : List Event). parcels_to r.ledger.config es n) (sym (take-append-drop r.kept r.ledger.journal)) ∙ m.1)
+
+pub called-within : (r : Room) (n k : ℕ) → k ≤ length (kept_for r n) → k ≤ length (called_for r n)
+called-within r n k within = let m = kept-front r n in within-more (kept_for r n) (called_for r n) m.0 k m.1 within
+
+-- so many of some events are some of these and more
+pub take-grown : (k : ℕ) (es more : List Event) → (later : List Event) × (take k (es ++ more) ≡ take k es ++ later)
+take-grown zero es more = ([], refl)
+take-grown (suc k) [] more = (take (suc k) more, refl)
+take-grown (suc k) (e ∷ es) more = let t = take-grown k es more in (t.0, ap (λ (z : List Event). e ∷ z) t.1)
+
+-- and more of them are those and more
+pub take-more : (k j : ℕ) (es : List Event) → k ≤ j → (later : List Event) × (take j es ≡ take k es ++ later)
+take-more zero j es le = (take j es, refl)
+take-more (suc k) zero es le = absurd (not-below k le)
+  where
+    not-below : (i : ℕ) → suc i ≤ zero → ⊥
+    not-below i e = omega (arith, e)
+take-more (suc k) (suc j) [] le = ([], refl)
+take-more (suc k) (suc j) (e ∷ es) le = let t = take-more k j es (omega (arith, le)) in (t.0, ap (λ (z : List Event). e ∷ z) t.1)
 
 -- what was taken from a room stays when it grows
 pub taken-same : (r s : Room) (n : ℕ) → Grows r s → taken_of r n ≤ length (called_for r n) → taken_bytes s n ≡ taken_bytes r n
@@ -221,23 +258,26 @@ ack-same r s n parcels g within =
 
 pub way-grows : (r s : Room) (n : ℕ) (rest : List ℕ) (parcels : ℕ) → Grows r s → IsOnItsWay r n rest parcels → IsOnItsWay s n rest parcels
 way-grows r s n rest parcels g h =
-    let m = called-more r s n g in
+    let m = kept-more r s n g in
+    let within = called-within r n (taken_of r n) h.within in
     record {
-      within = subst (λ (k : ℕ). k ≤ length (called_for s n)) (sym (g.taken n)) (within-more (called_for r n) (called_for s n) m.0 (taken_of r n) m.1 h.within);
+      within = subst (λ (k : ℕ). k ≤ length (kept_for s n)) (sym (g.taken n)) (within-more (kept_for r n) (kept_for s n) m.0 (taken_of r n) m.1 h.within);
       sent = h.sent;
-      all = taken-same r s n g h.within ∙ h.all;
+      all = taken-same r s n g within ∙ h.all;
       fewer = subst (λ (k : ℕ). parcels ≤ k) (sym (g.taken n)) h.fewer;
       later = h.later;
-      whole = h.whole ∙ ap (λ (z : List ℕ). z ++ h.later) (sym (ack-same r s n parcels g h.within));
+      whole = h.whole ∙ ap (λ (z : List ℕ). z ++ h.later) (sym (ack-same r s n parcels g within));
     }
 
 pub written-grows : (r s : Room) (n : ℕ) (rest : List ℕ) (parcels : ℕ) → Grows r s → IsOnItsWay r n rest parcels → written s n rest ≡ written r n rest
-written-grows r s n rest parcels g h = ap (λ (z : List ℕ). before z rest) (taken-same r s n g h.within)
+written-grows r s n rest parcels g h = ap (λ (z : List ℕ). before z rest) (taken-same r s n g (called-within r n (taken_of r n) h.within))
 
 -- rooms after the calls of a hub
 
 pub grows-same : (r s : Room) → s ≡ r → Grows r s
-grows-same r s e = subst (Grows r) (sym e) (record { config = refl; more = []; journal = sym (append-nil r.ledger.journal); taken = λ n. refl; broken = λ h. h })
+grows-same r s e =
+    subst (Grows r) (sym e)
+    (record { config = refl; more = []; journal = sym (append-nil r.ledger.journal); later = []; kept = sym (append-nil (take r.kept r.ledger.journal)); taken = λ n. refl; broken = λ h. h })
 
 untaken-more : (os ps : List Outbox) (k : ℕ) → QueuesMore os ps → option_map_or (λ o. o.taken) (slice_get ps k) 0 ≡ option_map_or (λ o. o.taken) (slice_get os k) 0
 untaken-more [] [] k h = refl
@@ -254,7 +294,16 @@ untaken-at r s (suc k) h = untaken-more r.outboxes s.outboxes k h
 grows-after : (shut why : Option HubRefusal) (own : List Event) (r s : Room) → RoomAfter shut why own r s → Grows r s
 grows-after shut why own r s a =
     let m = adds-some why own r.ledger.journal s.ledger.journal a.journal in
-    record { config = a.config; more = m.0; journal = m.1; taken = λ n. untaken-at r s n a.outboxes; broken = λ h. a.broken.1 (inl h) }
+    let t = take-grown r.kept r.ledger.journal m.0 in
+    record {
+      config = a.config;
+      more = m.0;
+      journal = m.1;
+      later = t.0;
+      kept = ap (λ (k : ℕ). take k s.ledger.journal) a.kept ∙ ap (take r.kept) m.1 ∙ t.1;
+      taken = λ n. untaken-at r s n a.outboxes;
+      broken = λ h. a.broken.1 (inl h);
+    }
 
 pub rooms-one : (shut why : Option HubRefusal) (own : Room → List Event) (c : ℕ) (old new : Hub) → OneRoom shut why own c old new → (d : ℕ) (r : Room) → room_at old d ≡ Some r →
     (s : Room) × (room_at new d ≡ Some s) × Grows r s

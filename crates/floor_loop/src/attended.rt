@@ -154,14 +154,32 @@ impl Attended {
             &mut self.ending,
             &mut self.failed,
         )?;
+        self.put_away(number, user, millis)?;
+        unend_in(&mut self.outgoing, number);
+        Ok(())
+    }
+
+    /// The same, where it is to be shut down as it was. After an error nothing has changed.
+    pub(crate) fn put_away(
+        &mut self,
+        number: ConnNo,
+        user: u16,
+        millis: u64,
+    ) -> Result<(), AllocError>
+        ensures away { OnOk result (stay_of self.new.away number
+            ≡ Some (stay_from user self.old.time millis)) }
+        ensures others { (k : ℕ) → nat_eq number k ≡ false
+            → stay_of self.new.away k ≡ stay_of self.old.away k }
+        ensures left { OnErr result (self.new.away ≡ self.old.away) }
+        ensures outgoing { self.new.outgoing ≡ self.old.outgoing }
+        ensures time { self.new.time ≡ self.old.time }
+    {
         let stay = Stay {
             user,
             since: self.time,
             until: self.time.saturating_add(millis),
         };
-        self.away.put(number, stay)?;
-        unend_in(&mut self.outgoing, number);
-        Ok(())
+        self.away.put(number, stay)
     }
 
     /// How long the member of a connection stays that is lost.

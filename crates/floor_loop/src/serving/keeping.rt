@@ -67,6 +67,8 @@ impl Loop {
         ensures spares { Spares self.old self.new }
         ensures gathered { Gathers self.old.hub self.new.hub }
     {
+        // What its contract says of the room is handed out.
+        let _journal = self.hub.journal(conference);
         let done = self.hub.end_keeping(conference);
         wake_handed(&self.hub, &mut self.attended, conference);
         done

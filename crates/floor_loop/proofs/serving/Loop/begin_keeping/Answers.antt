@@ -1,5 +1,5 @@
 use Rattle.floor_hub.specs.Gathers.{Gathers}
-use Rattle.std.proofs.Common.{◌≡◌, subst, None}
+use Rattle.std.proofs.Common.{◌≡◌, length, subst, None}
 use Rattle.std.specs.Prelude.{IfErr, OnErr, OnOk}
 use Rattle.floor_hub.specs.Hub.{is_forgotten, room_at}
 use Rattle.floor_hub.specs.Rooms.{KeepsIn, SameHub, all_so_far, forgotten_or_none}
@@ -8,7 +8,7 @@ use Rattle.floor_loop.specs.Loop.{Loop}
 use Rattle.floor_loop.specs.Written.{Spares, TookNothing}
 use Rattle.floor_loop.specs.steps.Moved.{IsLoop, loop_of}
 use Rattle.floor_loop.proofs.Moving.{fewer}
-use Rattle.floor_loop.proofs.Released.{Freed, freed, loop-freed}
+use Rattle.floor_loop.proofs.Released.{Freed, freed, loop-freed, reaches-all}
 use Rattle.floor_loop.proofs.Sparing.{spares-same}
 use Rattle.floor_loop.proofs.serving.Loop.begin_keeping.Goals as goal
 
@@ -20,7 +20,7 @@ new c = loop_of c.begin_keeping-done.new.self c.wake_handed.new.attended
 
 still : (c : goal.After-wake_handed) (l : IsLoop (old c)) → Freed (old c) (new c)
 still c l =
-    freed all_so_far c.args.conference (old c) (new c) c.begin_keeping-done.result c.begin_keeping-done.ensures.kept c.begin_keeping-done.ensures.left c.wake_handed.ensures.kept
+    freed all_so_far c.args.conference (old c) (new c) c.begin_keeping-done.result (λ r is. reaches-all r (length r.ledger.journal) (omega arith)) c.begin_keeping-done.ensures.kept c.begin_keeping-done.ensures.left c.begin_keeping-done.ensures.gathered c.wake_handed.ensures.kept
     (fewer c.self.inside.attended c.wake_handed.new.attended c.wake_handed.ensures.away) l
 
 pub invariant_of-self : goal.invariant_of-self
@@ -30,7 +30,7 @@ pub returns-clause-stands : goal.returns-clause-stands
 returns-clause-stands c = subst (λ (l : Loop). StandsStill l.hub (new c).hub) c.self.view_is c.begin_keeping-done.ensures.stands
 
 pub returns-clause-gathered : goal.returns-clause-gathered
-returns-clause-gathered c = subst (λ (l : Loop). Gathers l.hub (new c).hub) c.self.view_is (moved c).gathered
+returns-clause-gathered c = subst (λ (l : Loop). Gathers l.hub (new c).hub) c.self.view_is (still c c.self.invariant).gathered
 
 pub returns-clause-took : goal.returns-clause-took
 returns-clause-took c = subst (λ (l : Loop). TookNothing l (new c)) c.self.view_is (still c c.self.invariant).took

@@ -1,6 +1,7 @@
 use Rattle.floor_hub.specs.Gathers.{Gathers}
 use Rattle.std.proofs.Common.{◌≡◌, subst, None}
 use Rattle.std.specs.Prelude.{IfErr, OnErr, OnOk}
+use Rattle.floor_machine.specs.Journal.{MAX_EVENTS}
 use Rattle.floor_hub.specs.Hub.{is_forgotten, room_at}
 use Rattle.floor_hub.specs.Rooms.{KeepsIn, SameHub, all_to_come, forgotten_or_none}
 use Rattle.floor_loop.specs.Done.{StandsStill}
@@ -8,7 +9,7 @@ use Rattle.floor_loop.specs.Loop.{Loop}
 use Rattle.floor_loop.specs.Written.{Spares, TookNothing}
 use Rattle.floor_loop.specs.steps.Moved.{IsLoop, loop_of}
 use Rattle.floor_loop.proofs.Moving.{fewer}
-use Rattle.floor_loop.proofs.Released.{Freed, freed, loop-freed}
+use Rattle.floor_loop.proofs.Released.{Freed, freed, loop-freed, reaches-all}
 use Rattle.floor_loop.proofs.Sparing.{spares-same}
 use Rattle.floor_loop.proofs.serving.Loop.end_keeping.Goals as goal
 
@@ -20,7 +21,7 @@ new c = loop_of c.end_keeping-done.new.self c.wake_handed.new.attended
 
 still : (c : goal.After-wake_handed) (l : IsLoop (old c)) → Freed (old c) (new c)
 still c l =
-    freed all_to_come c.args.conference (old c) (new c) c.end_keeping-done.result c.end_keeping-done.ensures.kept c.end_keeping-done.ensures.left c.wake_handed.ensures.kept
+    freed all_to_come c.args.conference (old c) (new c) c.end_keeping-done.result (λ r is. reaches-all r MAX_EVENTS (c.journal-_journal.ensures.kept r is).journal.count) c.end_keeping-done.ensures.kept c.end_keeping-done.ensures.left c.end_keeping-done.ensures.gathered c.wake_handed.ensures.kept
     (fewer c.self.inside.attended c.wake_handed.new.attended c.wake_handed.ensures.away) l
 
 pub invariant_of-self : goal.invariant_of-self
@@ -30,7 +31,7 @@ pub returns-clause-stands : goal.returns-clause-stands
 returns-clause-stands c = subst (λ (l : Loop). StandsStill l.hub (new c).hub) c.self.view_is c.end_keeping-done.ensures.stands
 
 pub returns-clause-gathered : goal.returns-clause-gathered
-returns-clause-gathered c = subst (λ (l : Loop). Gathers l.hub (new c).hub) c.self.view_is (moved c).gathered
+returns-clause-gathered c = subst (λ (l : Loop). Gathers l.hub (new c).hub) c.self.view_is (still c c.self.invariant).gathered
 
 pub returns-clause-took : goal.returns-clause-took
 returns-clause-took c = subst (λ (l : Loop). TookNothing l (new c)) c.self.view_is (still c c.self.invariant).took
